@@ -1,0 +1,136 @@
+//! Names of namespaces and relations.
+ghost use Rattle.std.specs.Prelude.{◌≡◌, IsTrue, Some, IfOk, IfErr, nat_eq, refl, false};
+ghost use Rattle.std.specs.Ordering.{nat_cmp};
+ghost use Rattle.std.specs.List.{list_all};
+ghost use Rattle.std.specs.Cmp.Lexicographic.{pointwise, slice_cmp, nat_list_eq_equiv, nat_list_cmp_total, texts_ties, texts_po};
+ghost use Rattle.std.specs.Cmp.{partial_equiv_from_equiv};
+ghost use Rattle.names.specs.Refusals.{ReadCause};
+ghost use Rattle.names.specs.Names.{is_name, is_name_byte, is_lower};
+
+use crate::Refusal;
+use std::alloc::{AllocError, Global};
+use std::cmp::Ordering;
+use std::fmt;
+use std::marker::Model;
+
+/// The name of a namespace or a relation: a small letter, and then up to 31 small letters, digits and
+/// underscores. Names are ordered by their bytes.
+#[derive(Debug, Drop)]
+pub struct Name {
+    text: String,
+}
+
+impl Model for Name {
+    ghost use Rattle.std.specs.Prelude.{ℕ, List, IsTrue, string_bytes};
+    ghost use Rattle.names.specs.Names.{is_name};
+
+    ghost Value = { List ℕ };
+
+    ghost view = { λ n. string_bytes n.text };
+
+    ghost invariant = { λ n. IsTrue (is_name (string_bytes n.text)) };
+}
+
+impl Name {
+    /// Reads a name. The text is refused as malformed exactly where it is none.
+    pub fn parse(alloc: Global, text: &str) -> Result<Name, Refusal>
+        ensures ok { IfOk result (λ n. (n ≡ text.now) × IsTrue (is_name text.now)) }
+        ensures err { IfErr result (λ e. ReadCause (is_name text.now ≡ false) e) }
+    {
+        if !is_spelled(text.as_bytes()) {
+            return Err(Refusal::Malformed);
+        }
+        let text = String::from_str(alloc, text)?;
+        Ok(Name { text })
+    }
+
+    pub fn as_str(&self) -> &str
+        ensures text { result.now ≡ self.now }
+        ensures spelled { IsTrue (is_name self.now) }
+    {
+        self.text.as_str()
+    }
+}
+
+impl Clone for Name {
+    ghost is_clone = { λ x y. y ≡ x };
+
+    fn clone(&self) -> Result<Name, AllocError> {
+        let text = self.text.clone()?;
+        Ok(Name { text })
+    }
+}
+
+impl PartialEq for Name {
+    ghost eq = { pointwise nat_eq };
+
+    ghost laws = { partial_equiv_from_equiv nat_list_eq_equiv };
+
+    fn eq(&self, other: &Name) -> bool {
+        self.as_str() == other.as_str()
+    }
+}
+
+impl Eq for Name {
+    ghost laws = { nat_list_eq_equiv };
+}
+
+impl PartialOrd for Name {
+    ghost partial_cmp = { λ x y. Some (slice_cmp nat_cmp x y) };
+
+    ghost laws = { texts_po };
+
+    fn partial_cmp(&self, other: &Name) -> Option<Ordering> {
+        Some(self.cmp(other))
+    }
+}
+
+impl Ord for Name {
+    ghost cmp = { slice_cmp nat_cmp };
+
+    ghost total = { nat_list_cmp_total };
+
+    ghost matches_partial_cmp = { λ x y. refl };
+
+    ghost matches_eq = { texts_ties };
+
+    fn cmp(&self, other: &Name) -> Ordering {
+        self.as_str().cmp(other.as_str())
+    }
+}
+
+impl fmt::Display for Name {
+    ghost output = { λ n. Some n };
+
+    fn fmt<W: fmt::Write>(&self, f: &mut fmt::Formatter<W>) -> fmt::Result {
+        f.write_str(self.as_str())
+    }
+}
+
+fn is_spelled(text: &[u8]) -> bool
+    ensures { result ≡ is_name text.now }
+{
+    if text.is_empty() || text.len() > 32 {
+        return false;
+    }
+    is_lower_code(text[0]) && are_allowed(text)
+}
+
+fn are_allowed(text: &[u8]) -> bool
+    ensures { result ≡ list_all is_name_byte text.now }
+{
+    text.iter().all(|b| is_name_code(*b))
+}
+
+fn is_lower_code(b: u8) -> bool
+    ensures { result ≡ is_lower b }
+{
+    97 <= b && b <= 122
+}
+
+/// Whether a name may have the byte.
+pub(crate) fn is_name_code(b: u8) -> bool
+    ensures { result ≡ is_name_byte b }
+{
+    is_lower_code(b) || (48 <= b && b <= 57) || b == 95
+}

@@ -1,0 +1,45 @@
+//! Nodes.
+ghost use Rattle.std.specs.Prelude.{◌≡◌, Some, IfOk, IfErr};
+ghost use Rattle.names.specs.Refusals.{ReadCause};
+
+use crate::{Name, Object, Refusal};
+use std::alloc::Global;
+use std::fmt;
+
+/// A relation of an object, spelled `namespace:id#relation`. Nodes are ordered by object, then by
+/// relation.
+#[derive(Clone, Debug, PartialEq, Eq, PartialOrd, Ord, Drop)]
+pub struct Node {
+    pub object: Object,
+    pub relation: Name,
+}
+
+impl Node {
+    ghost use Rattle.names.specs.declared.node.Node.{Node};
+    ghost use Rattle.names.specs.Spelling.{SpellsNode};
+
+    /// Reads a node's spelling.
+    pub fn parse(alloc: Global, text: &str) -> Result<Node, Refusal>
+        ensures ok { IfOk result (λ n. SpellsNode text.now n) }
+        ensures err { IfErr result (λ e. ReadCause ((n : Node) → ¬ (SpellsNode text.now n)) e) }
+    {
+        let Some((object, relation)) = text.split_once('#') else {
+            return Err(Refusal::Malformed);
+        };
+        let object = Object::parse(alloc, object)?;
+        let relation = Name::parse(alloc, relation)?;
+        Ok(Node { object, relation })
+    }
+}
+
+impl fmt::Display for Node {
+    ghost use Rattle.names.specs.Spelling.{node_text};
+
+    ghost output = { λ n. Some (node_text n) };
+
+    fn fmt<W: fmt::Write>(&self, f: &mut fmt::Formatter<W>) -> fmt::Result {
+        let object = &self.object;
+        let relation = self.relation.as_str();
+        write!(f, "{object}#{relation}")
+    }
+}

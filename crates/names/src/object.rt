@@ -1,0 +1,53 @@
+//! Objects.
+ghost use Rattle.std.specs.Prelude.{◌≡◌, Some, IfOk, IfErr, false};
+ghost use Rattle.names.specs.Refusals.{ReadCause};
+
+use crate::{Name, ObjectId, Refusal};
+use std::alloc::Global;
+use std::fmt;
+
+/// An object, spelled `namespace:id`. Objects are ordered by namespace, then by id.
+#[derive(Clone, Debug, PartialEq, Eq, PartialOrd, Ord, Drop)]
+pub struct Object {
+    pub namespace: Name,
+    pub id: ObjectId,
+}
+
+impl Object {
+    ghost use Rattle.names.specs.declared.object.Object.{Object};
+    ghost use Rattle.names.specs.Names.{is_id};
+    ghost use Rattle.names.specs.Spelling.{SpellsObject};
+
+    /// Reads an object's spelling.
+    pub fn parse(alloc: Global, text: &str) -> Result<Object, Refusal>
+        ensures ok { IfOk result (λ o. SpellsObject text.now o) }
+        ensures err { IfErr result (λ e. ReadCause ((o : Object) → ¬ (SpellsObject text.now o)) e) }
+    {
+        let Some((namespace, id)) = text.split_once(':') else {
+            return Err(Refusal::Malformed);
+        };
+        let namespace = Name::parse(alloc, namespace)?;
+        Object::of(alloc, namespace, id)
+    }
+
+    /// The object of a namespace with this id.
+    pub fn of(alloc: Global, namespace: Name, id: &str) -> Result<Object, Refusal>
+        ensures ok { IfOk result (λ o. (o.namespace ≡ namespace) × (o.id ≡ id.now)) }
+        ensures err { IfErr result (λ e. ReadCause (is_id id.now ≡ false) e) }
+    {
+        let id = ObjectId::parse(alloc, id)?;
+        Ok(Object { namespace, id })
+    }
+}
+
+impl fmt::Display for Object {
+    ghost use Rattle.names.specs.Spelling.{object_text};
+
+    ghost output = { λ o. Some (object_text o) };
+
+    fn fmt<W: fmt::Write>(&self, f: &mut fmt::Formatter<W>) -> fmt::Result {
+        let namespace = self.namespace.as_str();
+        let id = self.id.as_str();
+        write!(f, "{namespace}:{id}")
+    }
+}

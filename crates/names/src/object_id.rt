@@ -1,0 +1,130 @@
+//! Ids of objects in their namespaces.
+ghost use Rattle.std.specs.Prelude.{◌≡◌, IsTrue, Some, IfOk, IfErr, nat_eq, refl, false};
+ghost use Rattle.std.specs.Ordering.{nat_cmp};
+ghost use Rattle.std.specs.List.{list_all};
+ghost use Rattle.std.specs.Cmp.Lexicographic.{pointwise, slice_cmp, nat_list_eq_equiv, nat_list_cmp_total, texts_ties, texts_po};
+ghost use Rattle.std.specs.Cmp.{partial_equiv_from_equiv};
+ghost use Rattle.names.specs.Refusals.{ReadCause};
+ghost use Rattle.names.specs.Names.{is_id, is_id_byte};
+
+use crate::Refusal;
+use crate::name::is_name_code;
+use std::alloc::{AllocError, Global};
+use std::cmp::Ordering;
+use std::fmt;
+use std::marker::Model;
+
+/// The id of an object in its namespace: 1 to 64 letters, digits, underscores, dots and dashes. Ids are
+/// ordered by their bytes.
+#[derive(Debug, Drop)]
+pub struct ObjectId {
+    text: String,
+}
+
+impl Model for ObjectId {
+    ghost use Rattle.std.specs.Prelude.{ℕ, List, IsTrue, string_bytes};
+    ghost use Rattle.names.specs.Names.{is_id};
+
+    ghost Value = { List ℕ };
+
+    ghost view = { λ n. string_bytes n.text };
+
+    ghost invariant = { λ n. IsTrue (is_id (string_bytes n.text)) };
+}
+
+impl ObjectId {
+    /// Reads an object's id. The text is refused as malformed exactly where it is none.
+    pub fn parse(alloc: Global, text: &str) -> Result<ObjectId, Refusal>
+        ensures ok { IfOk result (λ n. (n ≡ text.now) × IsTrue (is_id text.now)) }
+        ensures err { IfErr result (λ e. ReadCause (is_id text.now ≡ false) e) }
+    {
+        if !is_spelled(text.as_bytes()) {
+            return Err(Refusal::Malformed);
+        }
+        let text = String::from_str(alloc, text)?;
+        Ok(ObjectId { text })
+    }
+
+    pub fn as_str(&self) -> &str
+        ensures text { result.now ≡ self.now }
+        ensures spelled { IsTrue (is_id self.now) }
+    {
+        self.text.as_str()
+    }
+}
+
+impl Clone for ObjectId {
+    ghost is_clone = { λ x y. y ≡ x };
+
+    fn clone(&self) -> Result<ObjectId, AllocError> {
+        let text = self.text.clone()?;
+        Ok(ObjectId { text })
+    }
+}
+
+impl PartialEq for ObjectId {
+    ghost eq = { pointwise nat_eq };
+
+    ghost laws = { partial_equiv_from_equiv nat_list_eq_equiv };
+
+    fn eq(&self, other: &ObjectId) -> bool {
+        self.as_str() == other.as_str()
+    }
+}
+
+impl Eq for ObjectId {
+    ghost laws = { nat_list_eq_equiv };
+}
+
+impl PartialOrd for ObjectId {
+    ghost partial_cmp = { λ x y. Some (slice_cmp nat_cmp x y) };
+
+    ghost laws = { texts_po };
+
+    fn partial_cmp(&self, other: &ObjectId) -> Option<Ordering> {
+        Some(self.cmp(other))
+    }
+}
+
+impl Ord for ObjectId {
+    ghost cmp = { slice_cmp nat_cmp };
+
+    ghost total = { nat_list_cmp_total };
+
+    ghost matches_partial_cmp = { λ x y. refl };
+
+    ghost matches_eq = { texts_ties };
+
+    fn cmp(&self, other: &ObjectId) -> Ordering {
+        self.as_str().cmp(other.as_str())
+    }
+}
+
+impl fmt::Display for ObjectId {
+    ghost output = { λ n. Some n };
+
+    fn fmt<W: fmt::Write>(&self, f: &mut fmt::Formatter<W>) -> fmt::Result {
+        f.write_str(self.as_str())
+    }
+}
+
+fn is_spelled(text: &[u8]) -> bool
+    ensures { result ≡ is_id text.now }
+{
+    if text.is_empty() || text.len() > 64 {
+        return false;
+    }
+    are_allowed(text)
+}
+
+fn are_allowed(text: &[u8]) -> bool
+    ensures { result ≡ list_all is_id_byte text.now }
+{
+    text.iter().all(|b| is_id_code(*b))
+}
+
+fn is_id_code(b: u8) -> bool
+    ensures { result ≡ is_id_byte b }
+{
+    is_name_code(b) || (65 <= b && b <= 90) || b == 46 || b == 45
+}

@@ -1,0 +1,45 @@
+//! Tuples.
+ghost use Rattle.std.specs.Prelude.{◌≡◌, Some, IfOk, IfErr};
+ghost use Rattle.names.specs.Refusals.{ReadCause};
+
+use crate::{Node, Refusal, Subject};
+use std::alloc::Global;
+use std::fmt;
+
+/// That a subject has a relation to an object, spelled `node@subject`. Tuples are ordered by node, then
+/// by subject.
+#[derive(Clone, Debug, PartialEq, Eq, PartialOrd, Ord, Drop)]
+pub struct Tuple {
+    pub node: Node,
+    pub subject: Subject,
+}
+
+impl Tuple {
+    ghost use Rattle.names.specs.declared.tuple.Tuple.{Tuple};
+    ghost use Rattle.names.specs.Spelling.{SpellsTuple};
+
+    /// Reads a tuple's spelling.
+    pub fn parse(alloc: Global, text: &str) -> Result<Tuple, Refusal>
+        ensures ok { IfOk result (λ t. SpellsTuple text.now t) }
+        ensures err { IfErr result (λ e. ReadCause ((t : Tuple) → ¬ (SpellsTuple text.now t)) e) }
+    {
+        let Some((node, subject)) = text.split_once('@') else {
+            return Err(Refusal::Malformed);
+        };
+        let node = Node::parse(alloc, node)?;
+        let subject = Subject::parse(alloc, subject)?;
+        Ok(Tuple { node, subject })
+    }
+}
+
+impl fmt::Display for Tuple {
+    ghost use Rattle.names.specs.Spelling.{tuple_text};
+
+    ghost output = { λ t. Some (tuple_text t) };
+
+    fn fmt<W: fmt::Write>(&self, f: &mut fmt::Formatter<W>) -> fmt::Result {
+        let node = &self.node;
+        let subject = &self.subject;
+        write!(f, "{node}@{subject}")
+    }
+}
