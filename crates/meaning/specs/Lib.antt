@@ -1,0 +1,10 @@
+pub mod Least
+pub mod Form
+pub mod Levels
+pub mod Config
+pub mod Snap
+pub mod Admits
+pub mod Membership
+pub mod Reads
+pub mod History
+pub mod Verdict
