@@ -5,3 +5,4 @@ pub mod KnownLemmas
 pub mod LevelLemmas
 pub mod ReadsLemmas
 pub mod RegionLemmas
+pub mod TupleSets

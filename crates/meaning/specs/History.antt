@@ -1,6 +1,6 @@
 -- The history of a store, and what each revision of it holds: the snapshots of Zanzibar, section 2.2.
 use Rattle.std.specs.Prelude.{ℕ, ◌+◌, List, [], ◌∷◌, take, length}
-use Rattle.std.specs.FinSet as set
+use Rattle.meaning.specs.TupleSet as set
 use Rattle.names.specs.declared.tuple.Tuple.{Tuple}
 use Rattle.names.specs.declared.commit.Event.{Event}
 use Rattle.names.specs.declared.commit.EventKind.{EventKind}

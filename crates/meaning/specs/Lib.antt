@@ -2,6 +2,7 @@ pub mod Least
 pub mod Form
 pub mod Levels
 pub mod Config
+pub mod TupleSet
 pub mod Snap
 pub mod Admits
 pub mod Membership

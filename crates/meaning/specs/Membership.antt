@@ -1,6 +1,6 @@
 -- What a rewrite gives, and which users are members of which nodes (Zanzibar, sections 2.3 and 2.4): the least sets, level by level.
 use Rattle.std.specs.Prelude.{◌≡◌, List, ◌⊎◌, Contains}
-use Rattle.std.specs.FinSet as set
+use Rattle.meaning.specs.TupleSet as set
 use Rattle.names.specs.declared.object.Object.{Object}
 use Rattle.names.specs.declared.node.Node.{Node}
 use Rattle.names.specs.declared.tuple.Tuple.{Tuple}

@@ -1,6 +1,6 @@
 -- Which nodes a rewrite looks up, and valid snapshots.
 use Rattle.std.specs.Prelude.{◌≡◌, ℕ, List, Bool, true, false, ◌⊎◌, Contains}
-use Rattle.std.specs.FinSet as set
+use Rattle.meaning.specs.TupleSet as set
 use Rattle.names.specs.declared.object.Object.{Object}
 use Rattle.names.specs.declared.node.Node.{Node}
 use Rattle.names.specs.declared.tuple.Tuple.{Tuple}

@@ -1,15 +1,11 @@
 -- A configuration and the tuples of one revision.
 use Rattle.std.specs.Prelude.{Some, None}
-use Rattle.std.specs.FinSet as set
-use Rattle.names.specs.Order.{tuple_cmp}
+use Rattle.meaning.specs.TupleSet as set
+pub use Rattle.meaning.specs.TupleSet.{Tuples}
 use Rattle.names.specs.declared.object.Object.{Object}
 use Rattle.names.specs.declared.node.Node.{Node}
 use Rattle.names.specs.declared.subject.Subject.{Subject}
 use Rattle.meaning.specs.Config.{Configured, empty_config}
-
--- a set of tuples, equal to another where the two have the same members; its items are in the order of tuples
-abbrev pub Tuples : Type 0
-Tuples = set.FinSet tuple_cmp
 
 pub record Snap : Type 0 where
   pub config : Configured

@@ -1,7 +1,7 @@
 -- Why a write or a configuration is refused: each cause is looked for over the whole request before the next.
 use Rattle.std.specs.Prelude.{◌≡◌, ℕ, ◌+◌, ◌==◌, ◌&&◌, ◌||◌, List, [], ◌∷◌, map, length, Bool, true, false, cond, not, Option, Some, None, nat_lt, nat_le, IsPermutation}
 use Rattle.std.specs.List.{list_any, find}
-use Rattle.std.specs.FinSet as set
+use Rattle.meaning.specs.TupleSet as set
 use Rattle.names.specs.Order.{tuple_cmp, is_same_tuple}
 use Rattle.names.specs.declared.tuple.Tuple.{Tuple}
 use Rattle.names.specs.declared.write.Op.{Op}

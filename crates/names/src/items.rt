@@ -35,7 +35,7 @@ impl<T> Items<T> {
     pub fn into_vec(self) -> Vec<T>
         ensures { result.items ≡ self }
     {
-        let Items { items } = self;
-        items
+        let Items { items: vector } = self;
+        vector
     }
 }

@@ -1,5 +1,5 @@
 //! Objects.
-ghost use Rattle.std.specs.Prelude.{◌≡◌, Some, IfOk, IfErr, false};
+ghost use Rattle.std.specs.Prelude.{◌≡◌, Some, IsTrue, IfOk, IfErr, false};
 ghost use Rattle.names.specs.Refusals.{ReadCause};
 
 use crate::{Name, ObjectId, Refusal};
@@ -32,7 +32,7 @@ impl Object {
 
     /// The object of a namespace with this id.
     pub fn of(alloc: Global, namespace: Name, id: &str) -> Result<Object, Refusal>
-        ensures ok { IfOk result (λ o. (o.namespace ≡ namespace) × (o.id ≡ id.now)) }
+        ensures ok { IfOk result (λ o. (o.namespace ≡ namespace) × (o.id ≡ id.now) × IsTrue (is_id id.now)) }
         ensures err { IfErr result (λ e. ReadCause (is_id id.now ≡ false) e) }
     {
         let id = ObjectId::parse(alloc, id)?;
