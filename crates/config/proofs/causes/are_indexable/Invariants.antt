@@ -1,0 +1,9 @@
+use Rattle.std.proofs.Common.{◌≡◌, drop, map}
+use Rattle.std.specs.List.{list_all}
+use Rattle.config.specs.Valid.{is_indexable}
+use Rattle.config.specs.Parts.{configured}
+use Rattle.config.specs.Forms.{defined_of}
+use Rattle.config.proofs.causes.are_indexable.Given as goal
+
+abbrev pub invariant-loop-relation : goal.invariant-loop-relation
+invariant-loop-relation l = list_all (is_indexable (configured l.namespaces l.all)) (map defined_of (drop l.relation-index l.relations)) ≡ list_all (is_indexable (configured l.namespaces l.all)) (map defined_of l.relations)

@@ -1,0 +1,12 @@
+pub mod Canonical
+pub mod Causes
+pub mod Codes
+pub mod Forms
+pub mod Levels
+pub mod Order
+pub mod Parts
+pub mod Refused
+pub mod Shape
+pub mod Spelling
+pub mod Texts
+pub mod Valid

@@ -1,0 +1,174 @@
+//! Configurations.
+ghost use Rattle.std.specs.Prelude.{◌≡◌, ◌&&◌, ℕ, ◌<◌, ◌^◌, All, map, IfOk, IfErr, OnOk, true, false, Contains, string_bytes};
+ghost use Rattle.std.specs.List.{list_any};
+ghost use Rattle.meaning.specs.Admits.{is_relation, declares};
+ghost use Rattle.meaning.specs.Config.{rel_of};
+ghost use Rattle.config.specs.Forms.{defined_of};
+
+use crate::canonical::text_of;
+use crate::causes::first_cause;
+use crate::levels::no_levels;
+use crate::parts::Parts;
+use crate::reading::read_configuration;
+use crate::relation::Relation;
+use names::{Name, Node, Refusal, Tuple};
+use std::alloc::{AllocError, Global};
+use std::marker::Model;
+
+/// A valid configuration. Contracts see its namespaces and the definitions of its relations, both in
+/// byte order.
+#[derive(Debug, Drop)]
+pub struct Config {
+    namespaces: Vec<Name>,
+    relations: Vec<Relation>,
+    levels: Vec<usize>,
+}
+
+impl Model for Config {
+    ghost use Rattle.std.specs.Prelude.{◌<◌, ◌^◌, map, All, Contains};
+    ghost use Rattle.meaning.specs.Config.{Configured, IsWhole};
+    ghost use Rattle.config.specs.Codes.{coded_config};
+    ghost use Rattle.config.specs.Forms.{defined_of};
+    ghost use Rattle.config.specs.Levels.{AreLevels};
+
+    ghost Value = { Configured };
+
+    ghost coded = { coded_config };
+
+    ghost view = { λ c. record { namespaces = c.namespaces.items; relations = map defined_of c.relations.items } };
+
+    ghost invariant = { λ c.
+        AreLevels (record { namespaces = c.namespaces.items; relations = map defined_of c.relations.items }) c.levels.items
+        × All (λ l. l < 2 ^ 32) c.levels.items
+        × All (λ d. IsWhole d.form) (map defined_of c.relations.items) };
+}
+
+impl Config {
+    ghost use Rattle.meaning.specs.Config.{IsWhole, empty_config};
+    ghost use Rattle.meaning.specs.Admits.{has_relation, admits};
+    ghost use Rattle.meaning.specs.Config.{rel_of};
+    ghost use Rattle.names.specs.declared.refusal.Refusal.TheVariants.{UnknownRelation, TypeRefused};
+    ghost use Rattle.config.specs.Forms.{defined_of};
+    ghost use Rattle.config.specs.Levels.{AreLevels};
+    ghost use Rattle.serde_json.specs.Written.{compact_text};
+    ghost use Rattle.config.specs.Canonical.{config_data};
+    ghost use Rattle.config.specs.Causes.{Accepts, ConfigCause};
+    ghost use Rattle.config.specs.Refused.{AdmitCause};
+
+    /// The configuration of revision 0. It takes no memory.
+    pub fn empty(alloc: Global) -> Config
+        ensures { result ≡ empty_config }
+    {
+        Config {
+            namespaces: Vec::new(alloc),
+            relations: Vec::new(alloc),
+            levels: Vec::new(alloc),
+        }
+    }
+
+    /// Reads a configuration's JSON. It is refused with the first cause that applies, in the order of
+    /// `Cause`. The only rewrite that is read is `this`; any other is of another shape.
+    pub fn from_json(alloc: Global, bytes: &[u8]) -> Result<Config, Refusal>
+        ensures ok { IfOk result (λ c. Accepts bytes.now c) }
+        ensures err { IfErr result (λ e. ConfigCause bytes.now e) }
+    {
+        let parts = read_configuration(alloc, bytes)?;
+        if let Some(cause) = first_cause(&parts) {
+            return Err(Refusal::ConfigRefused(cause));
+        }
+        let levels = no_levels(alloc, &parts.relations)?;
+        let Parts {
+            namespaces,
+            relations,
+        } = parts;
+        Ok(Config {
+            namespaces,
+            relations,
+            levels,
+        })
+    }
+
+    /// The relations, by namespace and then by name.
+    pub fn relations(&self) -> &[Relation]
+        ensures relations { map defined_of result.now ≡ self.now.relations }
+        ensures whole { All (λ d. IsWhole d.form) self.now.relations }
+    {
+        &self.relations
+    }
+
+    /// The level of each relation, in the same order.
+    pub fn levels(&self) -> &[usize]
+        ensures levels { AreLevels self.now result.now }
+        ensures small { All (λ l. l < 2 ^ 32) result.now }
+    {
+        &self.levels
+    }
+
+    /// Whether the tuple is valid: its relation is there, and declares the type of its subject.
+    pub fn admits(&self, tuple: &Tuple) -> Result<(), Refusal>
+        ensures ok { OnOk result (admits self.now tuple.now ≡ true) }
+        ensures err { IfErr result (AdmitCause self.now tuple.now) }
+    {
+        if is_declared(&self.relations, tuple) {
+            return Ok(());
+        }
+        if has_node(&self.relations, &tuple.node) {
+            return Err(Refusal::TypeRefused);
+        }
+        Err(Refusal::UnknownRelation)
+    }
+
+    /// The canonical text: members in byte order, types in the order given, and no member that says what
+    /// holds without it.
+    pub fn to_json(&self, alloc: Global) -> Result<String, AllocError>
+        ensures text { IfOk result (λ s. string_bytes s ≡ compact_text (config_data self.now)) }
+    {
+        text_of(alloc, &self.namespaces, &self.relations)
+    }
+
+    /// A copy of the configuration.
+    pub fn again(&self, alloc: Global) -> Result<Config, AllocError>
+        ensures { IfOk result (λ c. c ≡ self.now) }
+    {
+        let namespaces = self.namespaces.as_slice().to_vec(alloc)?;
+        let relations = copies(alloc, &self.relations)?;
+        let levels = self.levels.as_slice().to_vec(alloc)?;
+        Ok(Config {
+            namespaces,
+            relations,
+            levels,
+        })
+    }
+}
+
+fn has_node(relations: &[Relation], node: &Node) -> bool
+    ensures { result ≡ list_any (is_relation (rel_of node.now)) (map defined_of relations.now) }
+{
+    for relation in relations {
+        if relation.is_of(node) {
+            return true;
+        }
+    }
+    false
+}
+
+fn is_declared(relations: &[Relation], tuple: &Tuple) -> bool
+    ensures { result ≡ list_any (λ d. is_relation (rel_of tuple.now.node) d && declares tuple.now.subject d) (map defined_of relations.now) }
+{
+    for relation in relations {
+        if relation.is_of(&tuple.node) && relation.declares(&tuple.subject) {
+            return true;
+        }
+    }
+    false
+}
+
+fn copies(alloc: Global, relations: &[Relation]) -> Result<Vec<Relation>, AllocError>
+    ensures { IfOk result (λ v. map defined_of v.items ≡ map defined_of relations.now) }
+{
+    let mut copies = Vec::new(alloc);
+    for relation in relations {
+        copies.push(relation.again(alloc)?)?;
+    }
+    Ok(copies)
+}

@@ -1,0 +1,33 @@
+-- The replies to refusals that have members of their own.
+use Rattle.std.proofs.Common.{◌≡◌, ℕ, Bool, true, false, List, [], ◌∷◌, ◌||◌, Option, Result, Ok, Err, IfOk, map, refl, sym, ap, ◌∙◌}
+use Rattle.std.specs.declared.alloc.AllocError.{AllocError}
+use Rattle.names.specs.Refusals.{status_of}
+use Rattle.names.specs.declared.refusal.Refusal.{Refusal}
+use Rattle.names.specs.declared.refusal.Refusal.TheVariants.{ConditionFailed, AlreadyThere, NotThere, ConfigRefused}
+use Rattle.names.specs.declared.cause.Cause.TheVariants.{Cycle}
+use Rattle.names.specs.declared.cause.CycleStep.{CycleStep}
+use Rattle.serde_json.specs.Data.{Data, string}
+use Rattle.serde_json.specs.View.{view, items_of}
+use Rattle.serde_json.specs.Written.{has_float, items_have_float}
+use Rattle.serde_json.specs.declared.value.Value.{Value}
+use Rattle.keeper.specs.Replies.{Says, SaysRefusal, error_data, indexed, refusal_members, signed_text}
+
+pub failed_condition : (told : Option (ℕ × List ℕ)) (why : Refusal) (index : ℕ) → why ≡ ConditionFailed index → Says told (status_of why) (error_data (indexed why index)) → SaysRefusal told why
+failed_condition told why index is says = let s = rw is at says in rw is s
+
+pub already_there : (told : Option (ℕ × List ℕ)) (why : Refusal) (index : ℕ) → why ≡ AlreadyThere index → Says told (status_of why) (error_data (indexed why index)) → SaysRefusal told why
+already_there told why index is says = let s = rw is at says in rw is s
+
+pub not_there : (told : Option (ℕ × List ℕ)) (why : Refusal) (index : ℕ) → why ≡ NotThere index → Says told (status_of why) (error_data (indexed why index)) → SaysRefusal told why
+not_there told why index is says = let s = rw is at says in rw is s
+
+signed_plain : (steps : List CycleStep) → items_have_float (items_of (map (λ s. string (signed_text s)) steps)) ≡ false
+signed_plain [] = refl
+signed_plain (s ∷ ss) = signed_plain ss
+
+cycle_plain : (steps : List CycleStep) → has_float (error_data (refusal_members (ConfigRefused (Cycle steps)))) ≡ false
+cycle_plain steps = rw (signed_plain steps) refl
+
+pub value_plain : (steps : List CycleStep) (r : Result Value AllocError) → IfOk r (λ v. view v ≡ error_data (refusal_members (ConfigRefused (Cycle steps)))) → IfOk r (λ v. has_float (view v) ≡ false)
+value_plain steps (Ok v) is = ap has_float is ∙ cycle_plain steps
+value_plain steps (Err e) is = is

@@ -1,0 +1,89 @@
+-- The bodies of the replies.
+use Rattle.std.specs.Prelude.{ℕ, ◌≡◌, ◌++◌, ◌∷◌, [], List, Bool, true, false, cond, Option, Some, None, MatchOption, ⊤, codes, length, map, ◌-◌}
+use Rattle.std.specs.List.{slice_get}
+use Rattle.names.specs.Refusals.{number_of, name_of, status_of, cause_name_of}
+use Rattle.names.specs.Spelling.{tuple_text, relation_text}
+use Rattle.names.specs.declared.refusal.Refusal.{Refusal}
+use Rattle.names.specs.declared.refusal.Refusal.TheVariants.{ConditionFailed, AlreadyThere, NotThere, ConfigRefused, TupleInTheWay, Memory}
+use Rattle.names.specs.declared.tuple.Tuple.{Tuple}
+use Rattle.names.specs.declared.cause.Cause.{Cause}
+use Rattle.names.specs.declared.cause.Cause.TheVariants.{Cycle}
+use Rattle.names.specs.declared.cause.CycleStep.{CycleStep}
+use Rattle.serde_json.specs.Data.{Data, boolean, number, unsigned, string, array, object, Items, no_items, item, Members, no_members, member}
+use Rattle.serde_json.specs.View.{items_of}
+use Rattle.serde_json.specs.Written.{compact_text}
+
+-- `{"shown": .., "zookie": ..}`
+abbrev pub receipt_data : Bool → List ℕ → Data
+receipt_data shown zookie = object (member (codes "shown") (boolean shown) (member (codes "zookie") (string zookie) no_members))
+
+-- `{"allowed": .., "zookie": ..}`
+abbrev pub answer_data : Bool → List ℕ → Data
+answer_data allowed zookie = object (member (codes "allowed") (boolean allowed) (member (codes "zookie") (string zookie) no_members))
+
+-- `{"error": {..}}`
+abbrev pub error_data : Members → Data
+error_data members = object (member (codes "error") (object members) no_members)
+
+-- The members of an error are in byte order: cause, code, cycle, index, name, tuple, zookie.
+abbrev pub named : Refusal → Members → Members
+named why rest = member (codes "code") (number (unsigned (number_of why))) (member (codes "name") (string (name_of why)) rest)
+
+abbrev pub indexed : Refusal → ℕ → Members
+indexed why index = member (codes "code") (number (unsigned (number_of why))) (member (codes "index") (number (unsigned index)) (member (codes "name") (string (name_of why)) no_members))
+
+-- a relation of a cycle, after `-` where the step to it is subtracted, and after `+` where it is plain
+abbrev pub signed_text : CycleStep → List ℕ
+signed_text s = cond s.subtracted 45 43 ∷ relation_text s.to
+
+-- the relation at which a cycle begins and ends: the one to which its last step leads
+abbrev pub to_text : Option CycleStep → List ℕ
+to_text None = []
+to_text (Some s) = relation_text s.to
+
+abbrev pub start_text : List CycleStep → List ℕ
+start_text steps = to_text (slice_get steps (length steps - 1))
+
+-- where the cycle begins, and then each relation with its sign
+abbrev pub cycle_items : List CycleStep → Items
+cycle_items steps = items_of (string (start_text steps) ∷ map (λ s. string (signed_text s)) steps)
+
+abbrev pub cause_members : Refusal → Cause → Members
+cause_members why (Cycle steps) = member (codes "cause") (string (codes "cycle")) (member (codes "code") (number (unsigned (number_of why))) (member (codes "cycle") (array (cycle_items steps)) (member (codes "name") (string (name_of why)) no_members)))
+cause_members why cause = member (codes "cause") (string (cause_name_of cause)) (named why no_members)
+
+abbrev pub tuple_members : Tuple → Members
+tuple_members tuple = named (TupleInTheWay tuple) (member (codes "tuple") (string (tuple_text tuple)) no_members)
+
+abbrev pub refusal_members : Refusal → Members
+refusal_members (ConditionFailed index) = indexed (ConditionFailed index) index
+refusal_members (AlreadyThere index) = indexed (AlreadyThere index) index
+refusal_members (NotThere index) = indexed (NotThere index) index
+refusal_members (ConfigRefused cause) = cause_members (ConfigRefused cause) cause
+refusal_members (TupleInTheWay tuple) = tuple_members tuple
+refusal_members why = named why no_members
+
+-- a refusal at a chosen revision has its zookie
+abbrev pub refusal_members_at : Refusal → List ℕ → Members
+refusal_members_at why zookie = named why (member (codes "zookie") (string zookie) no_members)
+
+-- the answer to a call that is not served
+abbrev pub no_route_data : Data
+no_route_data = error_data (member (codes "code") (number (unsigned 0)) (member (codes "name") (string (codes "NoRoute")) no_members))
+
+-- the reply has this status and this text, or there was no memory for it
+abbrev pub SaysText : Option (ℕ × List ℕ) → ℕ → List ℕ → Type 0
+SaysText told status text = MatchOption told ⊤ (λ said. (said.0 ≡ status) × (said.1 ≡ text))
+
+-- the reply says this, or there was no memory for it
+abbrev pub Says : Option (ℕ × List ℕ) → ℕ → Data → Type 0
+Says told status d = SaysText told status (compact_text d)
+
+-- the reply says this refusal; for want of memory there is the one reply that takes none
+abbrev pub SaysRefusal : Option (ℕ × List ℕ) → Refusal → Type 0
+SaysRefusal told Memory = told ≡ None
+SaysRefusal told why = Says told (status_of why) (error_data (refusal_members why))
+
+abbrev pub SaysRefusalAt : Option (ℕ × List ℕ) → Refusal → Option (List ℕ) → Type 0
+SaysRefusalAt told why None = SaysRefusal told why
+SaysRefusalAt told why (Some zookie) = Says told (status_of why) (error_data (refusal_members_at why zookie))

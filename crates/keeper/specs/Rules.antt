@@ -1,0 +1,56 @@
+-- What the desk may answer to a call, and what it holds after that.
+use Rattle.std.specs.Prelude.{ℕ, ◌≡◌, List, Bool, Option, Some, None, option_map}
+use Rattle.names.specs.declared.call.Call.{Call}
+use Rattle.names.specs.declared.call.Call.TheVariants.{Write, Config, Check}
+use Rattle.names.specs.declared.node.Node.{Node}
+use Rattle.names.specs.declared.object.Object.{Object}
+use Rattle.names.specs.declared.write.Op.{Op}
+use Rattle.names.specs.declared.cause.Cause.{Cause}
+use Rattle.names.specs.declared.refusal.Refusal.{Refusal}
+use Rattle.names.specs.declared.refusal.Refusal.TheVariants.{Malformed, ConfigRefused}
+use Rattle.meaning.specs.Config.{Configured}
+use Rattle.config.specs.Causes.{Accepts, IsCause}
+use Rattle.zookie.specs.Text.{zookie_text}
+use Rattle.shown.specs.Standing.{standing}
+use Rattle.shown.specs.Answers.{IsChecked, CheckRefused}
+use Rattle.shown.specs.Judged.{WriteRefused, ConfigRefused as ConfigJudged}
+use Rattle.keeper_core.specs.Posts.{Posts, newest_posted, newest_shown}
+use Rattle.keeper_core.specs.Changes.{Told, WriteAccepted, ConfigAccepted, IsRefused}
+use Rattle.keeper.specs.Bodies.{AsksWrite, AsksCheck, unconditional}
+use Rattle.keeper.specs.Replies.{Says, SaysRefusal, SaysRefusalAt, receipt_data, answer_data, no_route_data}
+
+-- `write`: the body asks for no write; its operations are done, as one commit; or they are refused; or there was no memory to read it
+pub data WriteStep {T : Type 0} (old : Posts T) (body : List ℕ) (told : Option (ℕ × List ℕ)) (new : Posts T) : Type 0 where
+  write_malformed : ((ops : List Op) → ¬ (AsksWrite body ops)) → SaysRefusal told Malformed → new ≡ old → WriteStep old body told new
+  write_accepted : (ops : List Op) (receipt : Told) → AsksWrite body ops → WriteAccepted old (unconditional ops) receipt new
+      → Says told 200 (receipt_data receipt.shown (zookie_text receipt.number receipt.rev)) → WriteStep old body told new
+  write_refused : (ops : List Op) (why : Refusal) → AsksWrite body ops → IsRefused old (WriteRefused (newest_posted old) ops) why new → SaysRefusal told why → WriteStep old body told new
+  write_unread : told ≡ None → new ≡ old → WriteStep old body told new
+
+-- `config`: the body is no valid configuration, for the first cause that applies; it is taken; or it is refused; or there was no memory to read it
+pub data ConfigStep {T : Type 0} (old : Posts T) (body : List ℕ) (told : Option (ℕ × List ℕ)) (new : Posts T) : Type 0 where
+  config_invalid : (cause : Cause) → IsCause body cause → SaysRefusal told (ConfigRefused cause) → new ≡ old → ConfigStep old body told new
+  config_accepted : (config : Configured) (receipt : Told) → Accepts body config → ConfigAccepted old config receipt new
+      → Says told 200 (receipt_data receipt.shown (zookie_text receipt.number receipt.rev)) → ConfigStep old body told new
+  config_refused : (config : Configured) (why : Refusal) → Accepts body config → IsRefused old (ConfigJudged (newest_posted old) config) why new → SaysRefusal told why → ConfigStep old body told new
+  config_unread : told ≡ None → new ≡ old → ConfigStep old body told new
+
+-- the zookie of a revision of the desk's store
+abbrev pub zookie_at : {T : Type 0} → Posts T → ℕ → List ℕ
+zookie_at desk rev = zookie_text (standing desk.posted).number rev
+
+-- `check`: the body asks no question; it is answered, or refused, at the newest shown revision; or there was no memory to read it
+pub data CheckStep {T : Type 0} (old : Posts T) (body : List ℕ) (told : Option (ℕ × List ℕ)) (new : Posts T) : Type 0 where
+  check_malformed : ((node : Node) (user : Object) → ¬ (AsksCheck body node user)) → SaysRefusal told Malformed → new ≡ old → CheckStep old body told new
+  check_answered : (node : Node) (user : Object) (rev : ℕ) (allowed : Bool) → AsksCheck body node user → IsChecked (newest_shown old) node user rev allowed
+      → Says told 200 (answer_data allowed (zookie_at old rev)) → new ≡ old → CheckStep old body told new
+  check_refused : (node : Node) (user : Object) (why : Refusal) (at : Option ℕ) → AsksCheck body node user → CheckRefused (newest_shown old) node why at
+      → SaysRefusalAt told why (option_map (zookie_at old) at) → new ≡ old → CheckStep old body told new
+  check_unread : told ≡ None → new ≡ old → CheckStep old body told new
+
+-- from old, the desk may tell this to the call with this body, and go on to new
+abbrev pub DeskStep : {T : Type 0} → Posts T → Call → List ℕ → Option (ℕ × List ℕ) → Posts T → Type 0
+DeskStep old Write body told new = WriteStep old body told new
+DeskStep old Config body told new = ConfigStep old body told new
+DeskStep old Check body told new = CheckStep old body told new
+DeskStep old _ body told new = Says told 404 no_route_data × (new ≡ old)

@@ -1,0 +1,99 @@
+-- A change, from the readiness for it on.
+use Rattle.std.proofs.Common.{◌≡◌, Bool, true, false, List, [], ◌∷◌, ◌++◌, refl, ap, sym, ◌∙◌, subst}
+use Rattle.std.specs.Prelude.{Result, Ok, Err, IfOk, IfErr, Option, None}
+use mathlib.Core.List.{IsPrefix}
+use Rattle.logbook.specs.Pages.{Book}
+use Rattle.names.specs.declared.write.Op.{Op}
+use Rattle.names.specs.declared.write.Condition.{Condition}
+use Rattle.names.specs.declared.write.Write.{Write}
+use Rattle.names.specs.declared.commit.Event.{Event}
+use Rattle.names.specs.declared.commit.Commit.TheVariants.{Tuples, Config}
+use Rattle.names.specs.declared.refusal.Refusal.{Refusal}
+use Rattle.names.specs.declared.refusal.Refusal.TheVariants.{Memory, StoreFault}
+use Rattle.meaning.specs.Config.{Configured}
+use Rattle.meaning.specs.Verdict.{Newest, config_cause}
+use Rattle.zookie.specs.declared.Zookie.{Zookie}
+use Rattle.shown.specs.declared.step.Step.{Step}
+use Rattle.shown.specs.declared.step.Step.TheVariants.{Commit}
+use Rattle.shown.specs.Standing.{Kept, standing, kept_of, newest_of}
+use Rattle.shown.specs.Judged.{AreEventsOf, IsAccepted}
+use Rattle.keeper_core.specs.Posts.{Posts, ShowsMore, PostsStep, newest_posted, newest_shown}
+use Rattle.keeper_core.specs.Changes.{Told, Tells, WriteAccepted, ConfigAccepted, JudgedWith, IsRefused}
+use Rattle.keeper_core.specs.Posting.{NotPosted}
+use Rattle.keeper_core.proofs.Fronts.{prefix_self, prefix_trans}
+
+module _ {T : Type 0} (old mid new : Posts T) (more : ShowsMore old mid) (works : old.failed ≡ false) where
+  pub posts_on : (step : Step) → PostsStep mid step new → PostsStep old step new
+  posts_on step posts =
+      record {
+        posted = posts.posted ∙ ap (λ (steps : List Step). steps ++ step ∷ []) more.posted;
+        book = posts.book ∙ more.book;
+        later = prefix_trans old.shown mid.shown new.shown more.later posts.later;
+        beginning = posts.beginning;
+      }
+
+  pub shows_on : ShowsMore mid new → ShowsMore old new
+  shows_on shows =
+      record {
+        posted = shows.posted ∙ more.posted;
+        book = shows.book ∙ more.book;
+        later = prefix_trans old.shown mid.shown new.shown more.later shows.later;
+        beginning = shows.beginning;
+      }
+
+  -- what is shown then is what was posted before
+  pub all_shown : mid.shown ≡ mid.posted → mid.shown ≡ old.posted
+  all_shown all = all ∙ more.posted
+
+  pub write_accepted : (write : Write Zookie) (events : List Event) (r : Result Told Refusal) → mid.shown ≡ mid.posted → write.conditions ≡ []
+      → IsAccepted (newest_shown mid) write.ops → AreEventsOf write.ops events
+      → IfOk r (λ told. PostsStep mid (Commit (Tuples events)) new × Tells told new × (new.failed ≡ false)) → IfOk r (λ told. WriteAccepted old write told new)
+  write_accepted write events (Ok told) all plain accepted are posts =
+      record {
+        works = works;
+        plain = plain;
+        accepted = subst (λ (steps : List Step). IsAccepted (newest_of (standing steps).history) write.ops) (all_shown all) accepted;
+        events = events;
+        events_of = are;
+        posts = posts_on (Commit (Tuples events)) posts.0;
+        stored = posts.2;
+        tells = posts.1;
+      }
+  write_accepted write events (Err why) all plain accepted are posts = tt
+
+  pub config_accepted : (config : Configured) (r : Result Told Refusal) → mid.shown ≡ mid.posted → config_cause (newest_shown mid) config ≡ Option.None
+      → IfOk r (λ told. PostsStep mid (Commit (Config config)) new × Tells told new × (new.failed ≡ false)) → IfOk r (λ told. ConfigAccepted old config told new)
+  config_accepted config (Ok told) all accepted posts =
+      record {
+        works = works;
+        accepted = subst (λ (steps : List Step). config_cause (newest_of (standing steps).history) config ≡ Option.None) (all_shown all) accepted;
+        posts = posts_on (Commit (Config config)) posts.0;
+        stored = posts.2;
+        tells = posts.1;
+      }
+  config_accepted config (Err why) all accepted posts = tt
+
+  not_posted : (judged : Refusal → Type 0) (why : Refusal) → judged Memory → NotPosted why mid new → IsRefused old judged why new
+  not_posted judged Memory memory not = record { shows = shows_on not.0; cause = (works, memory, not.1) }
+  not_posted judged StoreFault memory not = record { shows = shows_on not.0; cause = (works, not.1) }
+  not_posted judged _ memory not = absurd not
+
+  pub refused : (judged : Refusal → Type 0) (r : Result Told Refusal) → judged Memory → IfErr r (λ why. NotPosted why mid new) → IfErr r (λ why. IsRefused old judged why new)
+  refused judged (Ok told) memory not = tt
+  refused judged (Err why) memory not = not_posted judged why memory not
+
+-- a desk at which nothing happens
+pub shows_itself : {T : Type 0} (tables : T) (b : Book) (front : List Step) (waiting : List Step) (failed : Bool)
+    → ShowsMore (record { tables = tables; book = b; posted = front ++ waiting; shown = front; failed = failed }) (record { tables = tables; book = b; posted = front ++ waiting; shown = front; failed = failed })
+shows_itself tables b front waiting failed = record { posted = refl; book = refl; later = prefix_self front; beginning = (waiting, refl) }
+
+-- want of memory is never the write's fault
+pub memory_judged : (newest : Newest) (ops : List Op) (conditions : List (Condition Zookie)) → JudgedWith newest ops conditions Memory
+memory_judged newest ops [] = tt
+memory_judged newest ops (condition ∷ conditions) = tt
+
+-- what was judged on the kept state was judged on what is shown
+pub config_judged : {T : Type 0} (kept : Kept) (steps : List Step) (config : Configured) (d : Posts T) → kept ≡ kept_of (standing steps) → config_cause kept.newest config ≡ Option.None
+    → d.shown ≡ steps → config_cause (newest_shown d) config ≡ Option.None
+config_judged kept steps config d is judged shown =
+    subst (λ (xs : List Step). config_cause (newest_of (standing xs).history) config ≡ Option.None) (sym shown) (subst (λ (k : Kept). config_cause k.newest config ≡ Option.None) is judged)

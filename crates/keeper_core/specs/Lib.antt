@@ -1,0 +1,10 @@
+pub mod Book
+pub mod Known
+pub mod Codes
+pub mod Stored
+pub mod Watching
+pub mod Posts
+pub mod Changes
+pub mod Keeps
+pub mod DeskCodes
+pub mod Posting

@@ -1,0 +1,18 @@
+//! The desk of one store: changes are judged, stored and posted, and questions are answered from what
+//! is shown of the posted steps.
+#![tactic(auto)]
+
+mod book;
+mod copy;
+mod desk;
+mod listed;
+mod receipt;
+mod showing;
+mod tables;
+mod watched;
+
+pub use book::{Book, Front, Naming, Opened};
+pub use desk::Desk;
+pub use listed::Listed;
+pub use receipt::Receipt;
+pub use tables::{Tables, TablesError};

@@ -1,0 +1,60 @@
+//! Receipts.
+ghost use Rattle.std.specs.Prelude.{◌≡◌};
+
+use crate::book::Front;
+use std::marker::Model;
+use zookie::Zookie;
+
+/// What a caller is told of an accepted change: the zookie of the newest posted revision, whether all
+/// that is posted is shown, and the shown steps, which exist in proofs alone.
+#[derive(Drop)]
+pub struct Receipt {
+    zookie: Zookie,
+    shown: bool,
+    published: Front,
+}
+
+impl Model for Receipt {
+    ghost use Rattle.keeper_core.specs.Changes.{Told};
+    ghost use Rattle.keeper_core.specs.DeskCodes.{coded_told};
+
+    ghost Value = { Told };
+
+    ghost coded = { coded_told };
+
+    ghost view = { λ r. record { number = r.zookie.store; rev = r.zookie.rev; shown = r.shown; published = r.published } };
+}
+
+impl Receipt {
+    /// A receipt that says this.
+    pub(crate) fn new(zookie: Zookie, shown: bool, published: Front) -> Receipt
+        ensures { result ≡ record { number = zookie.store; rev = zookie.rev; shown = shown; published = published } }
+    {
+        Receipt {
+            zookie,
+            shown,
+            published,
+        }
+    }
+
+    /// The zookie of the newest posted revision.
+    pub fn zookie(&self) -> Zookie
+        ensures { result ≡ record { store = self.now.number; rev = self.now.rev } }
+    {
+        self.zookie
+    }
+
+    /// Whether all that is posted is shown.
+    pub fn shown(&self) -> bool
+        ensures { result ≡ self.now.shown }
+    {
+        self.shown
+    }
+
+    /// The shown steps.
+    pub fn published(&self) -> &Front
+        ensures { result.now ≡ self.now.published }
+    {
+        &self.published
+    }
+}

@@ -1,0 +1,124 @@
+-- Sets of tuples and of objects as ordered lists.
+use Rattle.std.proofs.Common.{◌≡◌, ℕ, List, [], ◌∷◌, Bool, true, false, cond, length, refl, ap, ◌∙◌, sym, subst, inl, inr, ⊎_elim}
+use Rattle.std.specs.Prelude.{◌↔◌, ◌⊎◌, ◌&&◌, ◌||◌, not, Option, Some, None, is_some, Any, Contains}
+use Rattle.std.specs.List.{list_any}
+use Rattle.std.specs.Cmp.{eq_by_cmp_equiv}
+use Rattle.std.specs.Ordering.{eq_by_cmp}
+use Rattle.std.proofs.lemmas.Map.Views.{tells_apart, Contains-from_any, list_any-from_Contains}
+use Rattle.names.specs.Order.{object_cmp, tuple_cmp}
+use Rattle.names.specs.declared.object.Object.{Object}
+use Rattle.names.specs.declared.node.Node.{Node}
+use Rattle.names.specs.declared.tuple.Tuple.{Tuple}
+use Rattle.names.specs.declared.refusal.Refusal.{Refusal}
+use Rattle.names.specs.declared.refusal.Refusal.TheVariants.{UnknownRelation, TypeRefused}
+use Rattle.meaning.specs.TupleSet as set
+use Rattle.meaning.specs.Config.{Configured, Defined, rel_of}
+use Rattle.meaning.specs.Admits.{is_relation, declares, has_relation, admits}
+use Rattle.meaning.specs.Snap.{Snap, one}
+use Rattle.meaning.specs.Membership.{IsMember}
+use Rattle.meaning.proofs.TupleSets.{tuples_total, objects_total, exact_objects, contains_from_list, contains_insert, contains_remove, same_tuples}
+use Rattle.meaning.proofs.KnownLemmas.{below_user}
+use Rattle.config.specs.Refused.{AdmitCause}
+use Rattle.plain.specs.declared.source.Source.{Source}
+use Rattle.plain.specs.Source.{snap_of, IsSourceOf, Names}
+use Rattle.plain.proofs.Alike.{AreAlike, member_alike}
+use Rattle.plain.proofs.LevelSteps.{all_whole}
+use Rattle.plain.proofs.Looks.{named_user}
+
+or_put : (b x : Bool) → cond b true x ≡ (b || x)
+or_put true x = refl
+or_put false x = refl
+
+and_drop : (b x : Bool) → cond b false x ≡ (not b && x)
+and_drop true x = refl
+and_drop false x = refl
+
+module _ (old new : List Tuple) (t : Tuple) where
+  swapped : (q : Tuple) → eq_by_cmp tuple_cmp t q ≡ eq_by_cmp tuple_cmp q t
+  swapped q = (eq_by_cmp_equiv tuples_total).symm t q
+
+  -- a list that has one tuple more
+  pub put_tuple : ((q : Tuple) → list_any (eq_by_cmp tuple_cmp q) new ≡ cond (eq_by_cmp tuple_cmp t q) true (list_any (eq_by_cmp tuple_cmp q) old)) → set.from_list new ≡ set.insert (set.from_list old) t
+  put_tuple h = same_tuples _ _ (λ q.
+      contains_from_list new q ∙ h q ∙ ap (λ b. cond b true (list_any (eq_by_cmp tuple_cmp q) old)) (swapped q) ∙ or_put (eq_by_cmp tuple_cmp q t) (list_any (eq_by_cmp tuple_cmp q) old)
+      ∙ ap (λ b. eq_by_cmp tuple_cmp q t || b) (sym (contains_from_list old q)) ∙ sym (contains_insert (set.from_list old) t q))
+
+  -- a list without one tuple
+  pub drop_tuple : ((q : Tuple) → list_any (eq_by_cmp tuple_cmp q) new ≡ cond (eq_by_cmp tuple_cmp t q) false (list_any (eq_by_cmp tuple_cmp q) old)) → set.from_list new ≡ set.remove (set.from_list old) t
+  drop_tuple h = same_tuples _ _ (λ q.
+      contains_from_list new q ∙ h q ∙ ap (λ b. cond b false (list_any (eq_by_cmp tuple_cmp q) old)) (swapped q) ∙ and_drop (eq_by_cmp tuple_cmp q t) (list_any (eq_by_cmp tuple_cmp q) old)
+      ∙ ap (λ b. not (eq_by_cmp tuple_cmp q t) && b) (sym (contains_from_list old q)) ∙ sym (contains_remove (set.from_list old) t q))
+
+-- what the keys of a set of objects have
+has_object : (keys : List Object) (o : Object) → list_any (eq_by_cmp object_cmp o) keys ≡ true → Contains keys o
+has_object keys o e = Contains-from_any (tells_apart exact_objects) o keys e
+
+finds_object : (keys : List Object) (o : Object) → Contains keys o → list_any (eq_by_cmp object_cmp o) keys ≡ true
+finds_object keys o c = list_any-from_Contains (eq_by_cmp_equiv objects_total) o keys c
+
+pub had_object : (keys : List Object) (o : Object) → true ≡ list_any (eq_by_cmp object_cmp o) keys → Contains keys o
+had_object keys o e = has_object keys o (sym e)
+
+-- a set of objects that has one more
+pub put_object : (old new : List Object) (key object : Object) → key ≡ object → ((q : Object) → list_any (eq_by_cmp object_cmp q) new ≡ cond (eq_by_cmp object_cmp key q) true (list_any (eq_by_cmp object_cmp q) old)) → (o : Object) → Contains new o ↔ (Contains old o ⊎ (object ≡ o))
+put_object old new key object is h o = (
+  λ c.
+      let found : cond (eq_by_cmp object_cmp key o) true (list_any (eq_by_cmp object_cmp o) old) ≡ true = sym (h o) ∙ finds_object new o c in
+      elim (eq_by_cmp object_cmp key o) as (λ b. eq_by_cmp object_cmp key o ≡ b → cond b true (list_any (eq_by_cmp object_cmp o) old) ≡ true → Contains old o ⊎ (object ≡ o)) [
+        | true ↦ λ same _. inr (sym is ∙ tells_apart exact_objects key o same)
+        | false ↦ λ _ e. inl (has_object old o e)
+      ] refl found,
+  λ have. has_object new o (h o ∙ ⊎_elim
+      (λ c. ap (λ b. cond (eq_by_cmp object_cmp key o) true b) (finds_object old o c) ∙ both (eq_by_cmp object_cmp key o))
+      (λ e. ap (λ b. cond b true (list_any (eq_by_cmp object_cmp o) old)) (ap (λ q. eq_by_cmp object_cmp key q) (sym (is ∙ e)) ∙ (eq_by_cmp_equiv objects_total).refl key))
+      have),
+)
+  where
+    both : (b : Bool) → cond b true true ≡ true
+    both true = refl
+    both false = refl
+
+-- why a tuple is not admitted
+none_there : (r : List Defined) (p q : Defined → Bool) → list_any p r ≡ false → list_any (λ d. p d && q d) r ≡ false
+none_there [] p q e = refl
+none_there (d ∷ ds) p q e =
+    elim (p d) as (λ b. (b || list_any p ds) ≡ false → ((b && q d) || list_any (λ x. p x && q x) ds) ≡ false) [
+      | true ↦ λ h. cc
+      | false ↦ λ h. none_there ds p q h
+    ] e
+
+pub not_admitted : (config : Configured) (t : Tuple) (e : Refusal) → AdmitCause config t e → admits config t ≡ false
+not_admitted config t UnknownRelation h = none_there config.relations (is_relation (rel_of t.node)) (declares t.subject) h
+not_admitted config t TypeRefused h = h.1
+not_admitted config t _ h = absurd h
+
+-- a source has the members of its snapshot
+pub source_alike : (S : Snap) (s : Source) → IsSourceOf S s → AreAlike (snap_of s) S
+source_alike S s of = record { relations = of.relations; tuples = of.tuples }
+
+pub members_all : (S : Snap) (s : Source) → IsSourceOf S s → (n : Node) (users members : List Object) → ((u : Object) → Contains users u ↔ Any (Names u) s.tuples.now.keys) → ((u : Object) → Contains members u ↔ (Contains users u × IsMember (snap_of s) u n)) → (u : Object) → Contains members u ↔ IsMember S u n
+members_all S s of n users members named among u =
+    let alike = member_alike (snap_of s) S (source_alike S s of) u n in (
+      λ c. alike.0 ((among u).0 c).1,
+      λ member.
+          let m = alike.1 member in
+          (among u).1 ((named u).1 ((named_user s u).1 (below_user (snap_of s) u (all_whole s of.ready) m.0 n m.1)), m),
+    )
+
+-- a tuple that names an object
+pub names_one : (t : Tuple) (u : Object) → t.subject.relation ≡ None → t.subject.object ≡ u → t.subject ≡ one u
+names_one t u none is = ap (λ o. record { object = o; relation = t.subject.relation }) is ∙ ap (λ r. record { object = u; relation = r }) none
+
+pub none_from : (r : Option (List ℕ)) → is_some r ≡ false → r ≡ None
+none_from None e = refl
+none_from (Some n) e = cc
+
+-- that x is the user, and a member of the node
+abbrev pub Joins : Snap → Node → Object → Object → Type 0
+Joins S n u x = (x ≡ u) × IsMember S u n
+
+pub joins_any : (S : Snap) (n : Node) (users : List Object) (u : Object) → Any (Joins S n u) users ↔ (Contains users u × IsMember S u n)
+joins_any S n users u = (
+  λ (k, x, lt, e, (is, member)). (subst (Contains users) is (k, lt, e), member),
+  λ ((k, lt, e), member). (k, u, lt, e, (refl, member)),
+)

@@ -1,0 +1,7 @@
+pub mod Looks
+pub mod Fill
+pub mod Candidates
+pub mod Alike
+pub mod Gather
+pub mod LevelSteps
+pub mod Kept

@@ -1,0 +1,5 @@
+pub mod Codes
+pub mod Source
+pub mod Rounds
+pub mod Candidates
+pub mod Causes

@@ -1,0 +1,95 @@
+//! What a rewrite gives a node.
+ghost use Rattle.std.specs.Prelude.{◌↔◌, Contains, IsTrue, map};
+ghost use Rattle.meaning.specs.Membership.{Gives, SomeGives, EachGives, RelationGives};
+ghost use Rattle.config.specs.Forms.{form_of, forms_of};
+ghost use Rattle.plain.specs.Source.{snap_of};
+
+use crate::source::{Source, holds, is_direct, is_through};
+use config::Rewrite;
+use names::{Node, Object};
+
+/// Whether the rewrite gives the node the user, where `held` are the nodes that have the user so far,
+/// and `lower` those of the finished lower levels.
+#[cycle(gives)]
+fn gives(
+    source: &Source,
+    user: &Object,
+    node: &Node,
+    rewrite: &Rewrite,
+    held: &[Node],
+    lower: &[Node],
+) -> bool
+    ensures { IsTrue result ↔ Gives (snap_of source.now) user.now node.now (form_of rewrite.now) (Contains held.now) (Contains lower.now) }
+{
+    match rewrite {
+        Rewrite::This => is_direct(source, node, user, held),
+        Rewrite::Computed(relation) => holds(held, &node.object, relation),
+        Rewrite::TupleTo { tupleset, relation } => {
+            is_through(source, node, user, tupleset, relation, held)
+        }
+        Rewrite::Union(parts) => some_gives(source, user, node, parts, held, lower),
+        Rewrite::Intersection(parts) => each_gives(source, user, node, parts, held, lower),
+        Rewrite::Exclusion(base, less) => {
+            gives(source, user, node, base, held, lower)
+                && !gives(source, user, node, less, lower, lower)
+        }
+    }
+}
+
+/// Whether some part gives the node the user.
+#[cycle(gives)]
+fn some_gives(
+    source: &Source,
+    user: &Object,
+    node: &Node,
+    parts: &[Rewrite],
+    held: &[Node],
+    lower: &[Node],
+) -> bool
+    ensures { IsTrue result ↔ SomeGives (snap_of source.now) user.now node.now (forms_of (map form_of parts.now)) (Contains held.now) (Contains lower.now) }
+{
+    for part in parts {
+        if gives(source, user, node, part, held, lower) {
+            return true;
+        }
+    }
+    false
+}
+
+/// Whether each part gives the node the user.
+#[cycle(gives)]
+fn each_gives(
+    source: &Source,
+    user: &Object,
+    node: &Node,
+    parts: &[Rewrite],
+    held: &[Node],
+    lower: &[Node],
+) -> bool
+    ensures { IsTrue result ↔ EachGives (snap_of source.now) user.now node.now (forms_of (map form_of parts.now)) (Contains held.now) (Contains lower.now) }
+{
+    for part in parts {
+        if !gives(source, user, node, part, held, lower) {
+            return false;
+        }
+    }
+    true
+}
+
+/// Whether the rewrite of the node's own relation gives it the user.
+pub(crate) fn relation_gives(
+    source: &Source,
+    user: &Object,
+    node: &Node,
+    held: &[Node],
+    lower: &[Node],
+) -> bool
+    ensures { IsTrue result ↔ RelationGives (snap_of source.now) user.now node.now (Contains held.now) (Contains lower.now) }
+{
+    for relation in source.relations {
+        if relation.is_of(node) && gives(source, user, node, &relation.rewrite, held, lower) {
+            return true;
+        }
+    }
+    false
+}

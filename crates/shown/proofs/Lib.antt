@@ -1,0 +1,5 @@
+pub mod Replays
+pub mod Fullness
+pub mod Admitted
+pub mod Growth
+pub mod Room

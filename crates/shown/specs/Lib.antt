@@ -1,0 +1,5 @@
+pub mod Standing
+pub mod Answers
+pub mod Judged
+pub mod Codes
+pub mod Replayed

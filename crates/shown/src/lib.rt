@@ -1,0 +1,15 @@
+//! The state that questions are asked of: what a list of steps leaves, how a step changes it, and how a
+//! change is judged on it.
+#![tactic(auto)]
+
+mod answer;
+mod causes;
+mod events;
+mod replay;
+mod shown;
+mod step;
+
+pub use answer::{Answer, Refused};
+pub use events::events_of;
+pub use shown::Shown;
+pub use step::{Loaded, Step};

@@ -1,0 +1,67 @@
+//! Why the program ends before its work is done.
+ghost use Rattle.std.specs.Prelude.{◌≡◌};
+ghost use Rattle.zanz.specs.Faults.{fault_status};
+
+use names::Refusal;
+use std::alloc::AllocError;
+use std::fmt;
+use std::fmt::{Display, Formatter};
+
+/// Why the program ends before its work is done. Its text is the line on standard error.
+#[derive(Debug, Drop)]
+pub enum Fault {
+    /// The command line is none of the program's.
+    CommandLine,
+    /// The store refused to open, or memory was refused.
+    Refused(Refusal),
+    /// The reader failed.
+    CannotRead,
+    /// The writer failed.
+    CannotWrite,
+}
+
+impl Fault {
+    /// The exit status.
+    pub fn status(&self) -> u8
+        ensures { result ≡ fault_status self.now }
+    {
+        match self {
+            Fault::CommandLine => 2,
+            Fault::Refused(_) => 1,
+            Fault::CannotRead => 1,
+            Fault::CannotWrite => 1,
+        }
+    }
+}
+
+impl Display for Fault {
+    ghost use Rattle.std.specs.Prelude.{Some};
+    ghost use Rattle.zanz.specs.Faults.{fault_text};
+
+    ghost output = { λ f. Some (fault_text f) };
+
+    fn fmt<W: fmt::Write>(&self, f: &mut Formatter<W>) -> fmt::Result {
+        match self {
+            Fault::CommandLine => f.write_str("zanz: bad command line"),
+            Fault::Refused(refusal) => {
+                let number = refusal.number();
+                let name = refusal.name();
+                write!(f, "zanz: refused {number} {name}")
+            }
+            Fault::CannotRead => f.write_str("zanz: cannot read"),
+            Fault::CannotWrite => f.write_str("zanz: cannot write"),
+        }
+    }
+}
+
+impl From<AllocError> for Fault {
+    ghost use Rattle.std.specs.Prelude.{◌≡◌};
+    ghost use Rattle.names.specs.declared.refusal.Refusal.TheVariants.{Memory};
+    ghost use Rattle.zanz.specs.declared.fault.Fault.TheVariants.{Refused};
+
+    ghost from_gives = { λ _ f. f ≡ Refused Memory };
+
+    fn from(_e: AllocError) -> Fault {
+        Fault::Refused(Refusal::Memory)
+    }
+}

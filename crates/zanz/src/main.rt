@@ -1,0 +1,52 @@
+//! The program: `zanz run [--store N]` answers the lines of its input, each by a line.
+#![tactic(auto)]
+
+mod command;
+mod fault;
+mod lent;
+mod run;
+mod words;
+
+use command::{command, tell};
+use fault::Fault;
+use names::Refusal;
+use std::io;
+use std::io::{BufWriter, ErrorKind};
+use std::process::ExitCode;
+use zanz_core::{Watched, WatchedWriter};
+
+fn main(rt: HostRuntime) -> ExitCode {
+    let status = match start(&rt) {
+        Ok(status) => status,
+        Err(fault) => tell(&mut rt.stderr(), &fault),
+    };
+    ExitCode::from(status)
+}
+
+// Hands on the process's words and streams.
+fn start(rt: &HostRuntime) -> Result<u8, Fault> {
+    let alloc = rt.alloc();
+    let words = words_of(rt)?;
+    let Ok(out) = BufWriter::new(alloc, io::writer(rt)) else {
+        return Err(Fault::Refused(Refusal::Memory));
+    };
+    let mut reader = Watched::new(rt.reader());
+    let mut writer = WatchedWriter::new(out);
+    let mut errors = rt.stderr();
+    Ok(command(
+        alloc,
+        words.as_slice(),
+        &mut reader,
+        &mut writer,
+        &mut errors,
+    ))
+}
+
+// The words of the command line. One that is no text is on no command line of the program's.
+fn words_of(rt: &HostRuntime) -> Result<Vec<String>, Fault> {
+    match std::env::args(rt) {
+        Ok(words) => Ok(words.collect(rt.alloc())?),
+        Err(e) if e.kind() == ErrorKind::OutOfMemory => Err(Fault::Refused(Refusal::Memory)),
+        Err(_) => Err(Fault::CommandLine),
+    }
+}

@@ -1,0 +1,13 @@
+-- What was read is answered so far, and nothing failed.
+use Rattle.std.proofs.Common.{ℕ, ◌≡◌, ◌-◌, ◌^◌, List, false}
+use Rattle.std.specs.Io.KnownBytes.{Consumes}
+use Rattle.zanz_core.specs.Going.{Going}
+use Rattle.zanz_core.proofs.served.lines.Given as goal
+
+abbrev pub invariant-loop-chunk : goal.invariant-loop-chunk
+invariant-loop-chunk g l = ((input : List ℕ) × Consumes (g.R.Read.remaining l.fn.reader.inner) (g.R.Read.remaining l.reader.inner) input
+    × Going g.A.Answers.step l.fn.answers (g.W.Write.contents l.fn.writer.inner) input l.line l.answers (g.W.Write.contents l.writer.inner))
+    × (l.reader.failed ≡ false) × (l.writer.failed ≡ false)
+
+abbrev pub decreases-loop-chunk : goal.decreases-loop-chunk
+decreases-loop-chunk g l = (2 ^ 64 - 1) - l.reader.turns

@@ -1,0 +1,4 @@
+pub mod Watching
+pub mod Kept
+pub mod Going
+pub mod Ends

@@ -1,0 +1,103 @@
+//! Bytes that are fed to a line, and lines that are answered.
+ghost use Rattle.std.specs.Prelude.{ℕ, ◌≡◌, List, [], ◌∷◌, length, nat_le, true, OnOk};
+ghost use Rattle.names.specs.Calls.{call_of};
+ghost use Rattle.http_api.specs.Machine.{IsAnswer, max_body};
+ghost use Rattle.http_api.specs.Wrote.{Wrote};
+ghost use Rattle.zanz_core.specs.Going.{GoesOn, ServesRest};
+ghost use Rattle.zanz_core.specs.Watching.{FailsWith};
+
+use crate::pending::Pending;
+use crate::put::{put, put_reply};
+use crate::watched_writer::WatchedWriter;
+use http_api::Answers;
+use std::io;
+use std::io::Write;
+
+const TOO_LARGE: &[u8] = b"413 {\"error\":{\"code\":0,\"name\":\"BodyTooLarge\"}}\n";
+
+const NO_ROUTE: &[u8] = b"404 {\"error\":{\"code\":0,\"name\":\"NoRoute\"}}\n";
+
+// Answers a line.
+fn answer_line<W: Write, A: Answers>(
+    writer: &mut WatchedWriter<W>,
+    answers: &mut A,
+    line: &Pending,
+) -> io::Result<()>
+    ensures answered { (text : List ℕ)
+        × IsAnswer A.step answers.old (nat_le (length line.now.body) max_body) (call_of line.now.word) line.now.body text answers.new
+        × Wrote result (W.contents writer.old.inner) (W.contents writer.new.inner) text }
+    ensures failed { FailsWith result writer.old.failed writer.new.failed }
+{
+    if !line.fits() {
+        return put(writer, TOO_LARGE);
+    }
+    let Some(call) = line.call() else {
+        return put(writer, NO_ROUTE);
+    };
+    let reply = answers.answer(call, line.body());
+    put_reply(writer, &reply)
+}
+
+// Takes the next byte, and answers the line that it ends.
+fn feed<W: Write, A: Answers>(
+    writer: &mut WatchedWriter<W>,
+    answers: &mut A,
+    line: &mut Pending,
+    b: u8,
+) -> io::Result<()>
+    ensures goes_on { GoesOn A.step result line.old line.new answers.old answers.new (W.contents writer.old.inner) (W.contents writer.new.inner) (b ∷ []) }
+    ensures failed { FailsWith result writer.old.failed writer.new.failed }
+{
+    if b == b'\n' {
+        let written = answer_line(writer, answers, line);
+        line.clear();
+        return written;
+    }
+    line.push(b);
+    Ok(())
+}
+
+/// Takes the next bytes, and answers the lines that they end.
+pub fn feed_all<W: Write, A: Answers>(
+    writer: &mut WatchedWriter<W>,
+    answers: &mut A,
+    line: &mut Pending,
+    bytes: &[u8],
+) -> io::Result<()>
+    ensures goes_on { GoesOn A.step result line.old line.new answers.old answers.new (W.contents writer.old.inner) (W.contents writer.new.inner) bytes.now }
+    ensures failed { FailsWith result writer.old.failed writer.new.failed }
+{
+    for b in bytes {
+        feed(writer, answers, line, *b)?;
+    }
+    Ok(())
+}
+
+// Answers the last line, where the input ends inside it.
+fn answer_rest<W: Write, A: Answers>(
+    writer: &mut WatchedWriter<W>,
+    answers: &mut A,
+    line: &Pending,
+) -> io::Result<()>
+    ensures served { ServesRest A.step result line.now answers.old answers.new (W.contents writer.old.inner) (W.contents writer.new.inner) }
+    ensures failed { FailsWith result writer.old.failed writer.new.failed }
+{
+    if line.is_empty() {
+        return Ok(());
+    }
+    answer_line(writer, answers, line)
+}
+
+/// Answers the last line, where the input ends inside it, and hands on what was written.
+pub fn finish<W: Write, A: Answers>(
+    writer: &mut WatchedWriter<W>,
+    answers: &mut A,
+    line: &Pending,
+) -> io::Result<()>
+    ensures served { ServesRest A.step result line.now answers.old answers.new (W.contents writer.old.inner) (W.contents writer.new.inner) }
+    ensures failed { FailsWith result writer.old.failed writer.new.failed }
+    ensures flushed { OnOk result (writer.new.flushed ≡ true) }
+{
+    answer_rest(writer, answers, line)?;
+    writer.flush()
+}

@@ -1,0 +1,20 @@
+//! The loop of the program: it reads calls as lines, has each answered, and writes a line for each.
+//!
+//! A line is a call's word, a space and a body; a reply's line is its status, a space and its body. What is
+//! written is stated as a function of what is read and of what the machine may answer, for any reader, any
+//! writer and any machine. The reader and the writer are watched, so that a fault is told exactly where one
+//! of them failed, and nothing is waited for while an answer is held back.
+#![tactic(auto)]
+
+mod feed;
+mod pending;
+mod put;
+mod served;
+#[cfg(test)]
+mod tests;
+mod watched;
+mod watched_writer;
+
+pub use served::lines;
+pub use watched::Watched;
+pub use watched_writer::WatchedWriter;

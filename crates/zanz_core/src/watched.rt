@@ -1,0 +1,81 @@
+//! A reader of which it is known whether it failed.
+ghost use Rattle.std.specs.Prelude.{◌≡◌, ◌≢◌, ◌^◌, ◌<◌, false, true, IfErr, OnOk};
+ghost use Rattle.std.specs.IoError.{error_kind};
+ghost use Rattle.std.specs.Io.{ReadsAtMost};
+ghost use Rattle.std.specs.Io.KnownBytes.{ReadConsumes};
+ghost use Rattle.zanz_core.specs.Watching.{FailsWith};
+
+use crate::watched_writer::WatchedWriter;
+use std::io;
+use std::io::{ErrorKind, Read};
+use std::marker::Model;
+
+/// A reader that remembers whether a read failed.
+#[derive(Drop)]
+pub struct Watched<R> {
+    inner: R,
+    failed: bool,
+    turns: u64,
+}
+
+impl<R> Model for Watched<R> {
+    ghost use Rattle.zanz_core.specs.Watching.{WatchedReading};
+
+    ghost Value = { WatchedReading R };
+
+    ghost view = { λ w. record { inner = w.inner; failed = w.failed; turns = w.turns } };
+}
+
+impl<R> Watched<R> {
+    /// A reader that has not failed.
+    pub fn new(inner: R) -> Watched<R>
+        ensures inner { result.inner ≡ inner }
+        ensures failed { result.failed ≡ false }
+    {
+        Watched {
+            inner,
+            failed: false,
+            turns: 0,
+        }
+    }
+
+    /// Whether a read failed.
+    pub fn has_failed(&self) -> bool
+        ensures { result ≡ self.now.failed }
+    {
+        self.failed
+    }
+}
+
+impl<R: Read> Watched<R> {
+    /// One read, while no answer is held back. A read that is interrupted is tried again; after 2^64 - 1
+    /// tries in all it fails.
+    pub(crate) fn read<W>(
+        &mut self,
+        answered: &WatchedWriter<W>,
+        buf: &mut [u8],
+    ) -> io::Result<usize>
+        requires { answered.now.flushed ≡ true }
+        ensures bound { ReadsAtMost result buf.new }
+        ensures bytes { ReadConsumes (R.remaining self.old.inner) (R.remaining self.new.inner) result buf.new }
+        ensures failed { FailsWith result self.old.failed self.new.failed }
+        ensures retried { IfErr result (λ e. error_kind e ≢ ErrorKind.Interrupted) }
+        ensures turns { OnOk result (self.old.turns < self.new.turns) }
+        ensures room { OnOk result (self.new.turns < 2 ^ 64) }
+    {
+        while self.turns < u64::MAX {
+            self.turns += 1;
+            match self.inner.read(buf) {
+                Ok(n) => return Ok(n),
+                Err(e) => {
+                    if e.kind() != ErrorKind::Interrupted {
+                        self.failed = true;
+                        return Err(e);
+                    }
+                }
+            }
+        }
+        self.failed = true;
+        Err(io::Error::from(ErrorKind::TimedOut))
+    }
+}
