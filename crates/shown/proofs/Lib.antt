@@ -2,4 +2,3 @@ pub mod Replays
 pub mod Fullness
 pub mod Admitted
 pub mod Growth
-pub mod Room
