@@ -5,6 +5,8 @@ mod command;
 mod fault;
 mod lent;
 mod run;
+#[cfg(test)]
+mod tests;
 mod words;
 
 use command::{command, tell};

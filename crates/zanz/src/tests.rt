@@ -1,0 +1,321 @@
+ghost use Rattle.std.specs.Prelude.{◌≡◌, false};
+
+use crate::command::{command, tell};
+use crate::fault::Fault;
+use names::Refusal;
+use std::alloc::{AllocError, Global};
+use std::io;
+use std::io::{ErrorKind, Read, Write};
+use std::test::Fail;
+use zanz_core::{Watched, WatchedWriter};
+
+/// The words of a command line, of which the first is the program's.
+fn words_of(alloc: Global, line: &str) -> Result<Vec<String>, AllocError> {
+    let mut all = Vec::new(alloc);
+    all.push(String::from_str(alloc, "zanz")?)?;
+    for word in line.split_ascii_whitespace() {
+        all.push(String::from_str(alloc, word)?)?;
+    }
+    Ok(all)
+}
+
+/// How the program ends for a command line and an input: its status, what it writes, and what it tells.
+fn ends(
+    alloc: Global,
+    line: &str,
+    input: &str,
+    status: u8,
+    output: &str,
+    told: &str,
+) -> Result<bool, AllocError> {
+    let words = words_of(alloc, line)?;
+    let mut reader = Watched::new(input.as_bytes());
+    let mut writer = WatchedWriter::new(Vec::new(alloc));
+    let mut errors = Vec::new(alloc);
+    let ended = command(
+        alloc,
+        words.as_slice(),
+        &mut reader,
+        &mut writer,
+        &mut errors,
+    );
+    let written = writer.inner().as_slice() == output.as_bytes();
+    Ok(ended == status && written && errors.as_slice() == told.as_bytes())
+}
+
+/// Whether a new store 1 answers these lines so.
+fn answers(alloc: Global, input: &str, output: &str) -> Result<bool, AllocError> {
+    ends(alloc, "run", input, 0, output, "")
+}
+
+const QUESTION: &str = "check {\"node\":\"doc:1#viewer\",\"user\":\"user:ann\"}\n";
+
+#[test]
+fn a_fresh_store_knows_no_relation(rt: HostRuntime) -> Result<(), Fail> {
+    let first =
+        "400 {\"error\":{\"code\":2,\"name\":\"UnknownRelation\",\"zookie\":\"AQAAAAAAAAABAAAAAAAAAAA\"}}\n";
+    let second =
+        "400 {\"error\":{\"code\":2,\"name\":\"UnknownRelation\",\"zookie\":\"AQAAAAAAAAACAAAAAAAAAAA\"}}\n";
+    let last =
+        "400 {\"error\":{\"code\":2,\"name\":\"UnknownRelation\",\"zookie\":\"AX__________AAAAAAAAAAA\"}}\n";
+    let alloc = rt.alloc();
+    assert!(rt; ends(alloc, "run", QUESTION, 0, first, "")?);
+    assert!(rt; ends(alloc, "run --store=2", QUESTION, 0, second, "")?);
+    let greatest = "run --store 9223372036854775807";
+    assert!(rt; ends(alloc, greatest, QUESTION, 0, last, "")?);
+    Ok(())
+}
+
+#[test]
+fn other_command_lines_are_refused(rt: HostRuntime) -> Result<(), Fail> {
+    for line in [
+        "",
+        "serve",
+        "help",
+        "--help",
+        "-h",
+        "--version",
+        "-V",
+        "run --help",
+        "run -h",
+        "run --store",
+        "run --store 0",
+        "run --store -1",
+        "run --store 9223372036854775808",
+        "run --store one",
+        "run --store 1 --store 1",
+        "run x",
+    ] {
+        assert!(rt;
+            ends(
+                rt.alloc(),
+                line,
+                QUESTION,
+                2,
+                "",
+                "zanz: bad command line\n"
+            )?,
+            "at {line}"
+        );
+    }
+    Ok(())
+}
+
+#[test]
+fn groups_that_only_hold_each_other_are_empty(rt: HostRuntime) -> Result<(), Fail> {
+    assert!(rt; answers(rt.alloc(), NESTED, NESTED_ANSWERS)?);
+    Ok(())
+}
+
+#[test]
+fn each_cause_is_looked_for_over_the_whole_write(rt: HostRuntime) -> Result<(), Fail> {
+    assert!(rt; answers(rt.alloc(), CAUSES, CAUSES_ANSWERS)?);
+    Ok(())
+}
+
+#[test]
+fn malformed_bodies_are_refused(rt: HostRuntime) -> Result<(), Fail> {
+    for body in MALFORMED {
+        assert!(rt; answers(rt.alloc(), body, MALFORMED_ANSWER)?, "at {body}");
+    }
+    Ok(())
+}
+
+#[test]
+fn configurations_are_refused_with_their_cause(rt: HostRuntime) -> Result<(), Fail> {
+    assert!(rt; answers(rt.alloc(), CONFIGURATIONS, CONFIGURATION_ANSWERS)?);
+    Ok(())
+}
+
+#[test]
+fn other_calls_have_no_route(rt: HostRuntime) -> Result<(), Fail> {
+    for line in [
+        "read {}\n",
+        "state\n",
+        "hot\n",
+        "state\r\n",
+        "nope x\n",
+        "\n",
+        "Check {}",
+    ] {
+        assert!(rt;
+            answers(
+                rt.alloc(),
+                line,
+                "404 {\"error\":{\"code\":0,\"name\":\"NoRoute\"}}\n"
+            )?,
+            "at {line}"
+        );
+    }
+    Ok(())
+}
+
+/// A reader and a writer that fail.
+#[derive(Drop)]
+struct Broken;
+
+impl Read for Broken {
+    fn read(&mut self, _buf: &mut [u8]) -> io::Result<usize> {
+        Err(io::Error::from(ErrorKind::BrokenPipe))
+    }
+}
+
+impl Write for Broken {
+    fn write(&mut self, _buf: &[u8]) -> io::Result<usize> {
+        Err(io::Error::from(ErrorKind::BrokenPipe))
+    }
+
+    fn flush(&mut self) -> io::Result<()> {
+        Ok(())
+    }
+}
+
+fn tells<R: Read, W: Write>(
+    alloc: Global,
+    reader: &mut Watched<R>,
+    writer: &mut WatchedWriter<W>,
+    told: &str,
+) -> Result<bool, AllocError>
+    requires unbroken_reader { reader.old.failed ≡ false }
+    requires unbroken_writer { writer.old.failed ≡ false }
+{
+    let words = words_of(alloc, "run")?;
+    let mut errors = Vec::new(alloc);
+    let status = command(alloc, words.as_slice(), reader, writer, &mut errors);
+    Ok(status == 1 && errors.as_slice() == told.as_bytes())
+}
+
+#[test]
+fn streams_that_fail_are_told(rt: HostRuntime) -> Result<(), Fail> {
+    let alloc = rt.alloc();
+    let mut reader = Watched::new(Broken);
+    let mut writer = WatchedWriter::new(Vec::new(alloc));
+    assert!(rt; tells(alloc, &mut reader, &mut writer, "zanz: cannot read\n")?);
+    let mut reader = Watched::new(QUESTION.as_bytes());
+    let mut writer = WatchedWriter::new(Broken);
+    assert!(rt; tells(alloc, &mut reader, &mut writer, "zanz: cannot write\n")?);
+    Ok(())
+}
+
+#[test]
+fn refusals_are_told(rt: HostRuntime) {
+    let mut errors = Vec::new(rt.alloc());
+    assert_eq!(rt; tell(&mut errors, &Fault::Refused(Refusal::Memory)), 1);
+    assert_eq!(rt; tell(&mut errors, &Fault::Refused(Refusal::StoreFault)), 1);
+    let told = "zanz: refused 21 Memory\nzanz: refused 22 StoreFault\n";
+    assert_eq!(rt; errors.as_slice(), told.as_bytes());
+}
+
+const NESTED: &str =
+    r#"config {"namespaces":{"group":{"member":{"types":["user","group#member"]}},"user":{}}}
+write {"ops":[{"op":"insert","tuple":"group:a#member@group:b#member"},{"op":"insert","tuple":"group:b#member@group:a#member"},{"op":"insert","tuple":"group:b#member@user:ann"}]}
+check {"node":"group:a#member","user":"user:ann"}
+check {"node":"group:b#member","user":"user:ann"}
+check {"node":"group:a#member","user":"user:bob"}
+write {"ops":[{"op":"delete","tuple":"group:b#member@user:ann"}]}
+check {"node":"group:a#member","user":"user:ann"}
+check {"node":"group:b#member","user":"user:ann"}
+write {"ops":[{"op":"insert","tuple":"group:c#member@group:c#member"}]}
+check {"node":"group:c#member","user":"user:ann"}
+"#;
+
+const NESTED_ANSWERS: &str = r#"200 {"shown":true,"zookie":"AQAAAAAAAAABAAAAAAAAAAE"}
+200 {"shown":true,"zookie":"AQAAAAAAAAABAAAAAAAAAAI"}
+200 {"allowed":true,"zookie":"AQAAAAAAAAABAAAAAAAAAAI"}
+200 {"allowed":true,"zookie":"AQAAAAAAAAABAAAAAAAAAAI"}
+200 {"allowed":false,"zookie":"AQAAAAAAAAABAAAAAAAAAAI"}
+200 {"shown":true,"zookie":"AQAAAAAAAAABAAAAAAAAAAM"}
+200 {"allowed":false,"zookie":"AQAAAAAAAAABAAAAAAAAAAM"}
+200 {"allowed":false,"zookie":"AQAAAAAAAAABAAAAAAAAAAM"}
+200 {"shown":true,"zookie":"AQAAAAAAAAABAAAAAAAAAAQ"}
+200 {"allowed":false,"zookie":"AQAAAAAAAAABAAAAAAAAAAQ"}
+"#;
+
+const CAUSES: &str =
+    r#"config {"namespaces":{"doc":{"parent":{"types":["folder"]}},"folder":{},"group":{"member":{"types":["user","group#member"]}},"user":{}}}
+write {"ops":[{"op":"insert","tuple":"group:a#member@user:ann"},{"op":"delete","tuple":"group:a#member@user:ann"}]}
+write {"ops":[{"op":"delete","tuple":"group:a#member@user:ann"},{"op":"insert","tuple":"doc:1#parent@user:ann"}]}
+write {"ops":[{"op":"insert","tuple":"doc:1#parent@user:ann"},{"op":"insert","tuple":"doc:1#none@user:ann"}]}
+write {"ops":[{"op":"insert","tuple":"group:a#member@user:ann"}]}
+write {"ops":[{"op":"delete","tuple":"group:a#member@user:bob"},{"op":"insert","tuple":"group:a#member@user:ann"}]}
+write {"ops":[{"op":"delete","tuple":"group:a#member@user:bob"}]}
+check {"node":"group:a#member","user":"user:ann"}
+check {"node":"doc:1#none","user":"user:ann"}
+config {"namespaces":{"group":{"member":{"types":["group#member"]}}}}
+check {"node":"group:a#member","user":"user:ann"}
+write {"ops":[{"op":"delete","tuple":"group:a#member@user:ann"}]}
+config {"namespaces":{"group":{"member":{"types":["group#member"]}}}}
+write {"ops":[{"op":"insert","tuple":"group:a#member@user:ann"}]}
+"#;
+
+const CAUSES_ANSWERS: &str = r#"200 {"shown":true,"zookie":"AQAAAAAAAAABAAAAAAAAAAE"}
+400 {"error":{"code":4,"name":"TwiceInOneWrite"}}
+400 {"error":{"code":3,"name":"TypeRefused"}}
+400 {"error":{"code":2,"name":"UnknownRelation"}}
+200 {"shown":true,"zookie":"AQAAAAAAAAABAAAAAAAAAAI"}
+409 {"error":{"code":6,"index":1,"name":"AlreadyThere"}}
+409 {"error":{"code":7,"index":0,"name":"NotThere"}}
+200 {"allowed":true,"zookie":"AQAAAAAAAAABAAAAAAAAAAI"}
+400 {"error":{"code":2,"name":"UnknownRelation","zookie":"AQAAAAAAAAABAAAAAAAAAAI"}}
+409 {"error":{"code":10,"name":"TupleInTheWay","tuple":"group:a#member@user:ann"}}
+200 {"allowed":true,"zookie":"AQAAAAAAAAABAAAAAAAAAAI"}
+200 {"shown":true,"zookie":"AQAAAAAAAAABAAAAAAAAAAM"}
+200 {"shown":true,"zookie":"AQAAAAAAAAABAAAAAAAAAAQ"}
+400 {"error":{"code":3,"name":"TypeRefused"}}
+"#;
+
+const CONFIGURATIONS: &str = r#"config {"namespaces"
+config {
+config
+config []
+config 1
+config {}
+config {"namespaces":{"a":{"b":{"rewrite":{"computed":"c"},"types":["a"]}}}}
+config {"namespaces":{"a":{"b":{"indexed":null,"types":["a"]}}}}
+config {"namespaces":{"A":{}}}
+config {"namespaces":{"a":{"b":{"types":["a#b#c"]}}}}
+config {"namespaces":{"a":{"b":{"types":["c"]}}}}
+config {"namespaces":{"a":{"b":{"types":["a","a"]}}}}
+config {"namespaces":{"a":{"b":{}}}}
+config {"namespaces":{"a":{"b":{"indexed":true,"types":["a#c"]},"c":{"types":["a"]}}}}
+"#;
+
+const CONFIGURATION_ANSWERS: &str =
+    r#"400 {"error":{"cause":"json","code":9,"name":"ConfigRefused"}}
+400 {"error":{"cause":"json","code":9,"name":"ConfigRefused"}}
+400 {"error":{"cause":"json","code":9,"name":"ConfigRefused"}}
+400 {"error":{"cause":"shape","code":9,"name":"ConfigRefused"}}
+400 {"error":{"cause":"shape","code":9,"name":"ConfigRefused"}}
+400 {"error":{"cause":"shape","code":9,"name":"ConfigRefused"}}
+400 {"error":{"cause":"shape","code":9,"name":"ConfigRefused"}}
+400 {"error":{"cause":"shape","code":9,"name":"ConfigRefused"}}
+400 {"error":{"cause":"name","code":9,"name":"ConfigRefused"}}
+400 {"error":{"cause":"name","code":9,"name":"ConfigRefused"}}
+400 {"error":{"cause":"type","code":9,"name":"ConfigRefused"}}
+400 {"error":{"cause":"type","code":9,"name":"ConfigRefused"}}
+400 {"error":{"cause":"this","code":9,"name":"ConfigRefused"}}
+400 {"error":{"cause":"indexed","code":9,"name":"ConfigRefused"}}
+"#;
+
+const MALFORMED: [&str; 18] = [
+    "write\n",
+    "write {\"ops\":[]}\n",
+    "write []\n",
+    "write {\"ops\":1}\n",
+    "write {\"ops\":[{\"op\":\"touch\",\"tuple\":\"group:a#member@user:ann\"}]}\n",
+    "write {\"conditions\":[],\"ops\":[{\"op\":\"insert\",\"tuple\":\"group:a#member@user:ann\"}]}\n",
+    "write {\"ops\":[{\"op\":\"insert\",\"tuple\":\"group:a#member@user:\"}]}\n",
+    "write {\"ops\":[{\"op\":\"insert\",\"tuple\":\"doc:1#viewer\"}]}\n",
+    "write {\"ops\":[{\"op\":\"insert\",\"tuple\":\"doc:1#viewer@group:a#member#x\"}]}\n",
+    "write {\"ops\":[{\"op\":\"insert\",\"tuple\":\"\"}]}\n",
+    "write {\"ops\":[{\"op\":\"insert\"}]}\n",
+    "write {\"ops\":[{\"op\":\"insert\",\"tuple\":\"group:a#member@user:ann\",\"x\":1}]}\n",
+    "check {\"node\":\"doc:1\",\"user\":\"user:ann\"}\n",
+    "check {\"node\":\"doc:1#viewer\",\"user\":\"group:a#member\"}\n",
+    "check {\"at\":null,\"node\":\"doc:1#viewer\",\"user\":\"user:ann\"}\n",
+    "check {\"at\":{\"exactly\":\"AQAAAAAAAAABAAAAAAAAAAA\"},\"node\":\"doc:1#viewer\",\"user\":\"user:ann\"}\n",
+    "check {\"node\":\"doc:1#viewer\"}\n",
+    "check {\"node\":\"doc:1#viewer\",\"user\":\"user:ann\"",
+];
+
+const MALFORMED_ANSWER: &str = "400 {\"error\":{\"code\":1,\"name\":\"Malformed\"}}\n";
