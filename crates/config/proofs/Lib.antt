@@ -1,7 +1,6 @@
-pub mod Naming
-pub mod ByItem
-pub mod Sections
-pub mod Spelt
-pub mod Zeros
-pub mod Written
-pub mod Plain
+pub mod ByName
+pub mod Distinct
+pub mod Keeping
+pub mod Places
+pub mod StepLemmas
+pub mod Tested

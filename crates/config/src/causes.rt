@@ -1,23 +1,23 @@
 //! The tests for the causes for which a configuration is refused.
-ghost use Rattle.std.specs.Prelude.{◌≡◌, ℕ, ◌&&◌, List, Option, length, map, nat_eq, nat_le};
+ghost use Rattle.std.specs.Prelude.{◌≡◌, ◌&&◌, Option, map, nat_eq};
 ghost use Rattle.std.specs.List.{list_any, list_all};
 ghost use Rattle.std.specs.Cmp.Lexicographic.{pointwise};
 ghost use Rattle.names.specs.declared.relation.SubjectType.{SubjectType};
 ghost use Rattle.meaning.specs.Admits.{is_relation, is_type, has_relation};
-ghost use Rattle.config.specs.Forms.{form_of, forms_of, defined_of};
-ghost use Rattle.config.specs.Parts.{configured, parts_of};
-ghost use Rattle.config.specs.Valid.{is_within, has_namespace, has_type, is_twice, types_stand, uses_this, some_use_this, types_used, is_indexed, form_indexable, forms_indexable, type_indexed, is_indexable, cause_of};
+ghost use Rattle.config_core.specs.Forms.{form_of, forms_of, defined_of};
+ghost use Rattle.config_core.specs.Parts.{configured, parts_of};
+ghost use Rattle.config.specs.Valid.{is_small, is_within, has_namespace, has_type, is_twice, types_stand, uses_this, some_use_this, types_used, is_indexed, form_indexable, forms_indexable, type_indexed, is_indexable, cause_of};
 
-use crate::parts::Parts;
-use crate::relation::Relation;
-use crate::rewrite::Rewrite;
+use crate::rewrites::{all_compute, all_have_tuplesets};
+use crate::sizes::is_small;
+use config_core::{Parts, Relation, Rewrite};
 use names::{Cause, Name, SubjectType};
 
-fn types_are_few(relations: &[Relation]) -> bool
-    ensures { result ≡ list_all (λ d. nat_le (length d.types) 32) (map defined_of relations.now) }
+fn are_small(relations: &[Relation]) -> bool
+    ensures { result ≡ list_all is_small (map defined_of relations.now) }
 {
     for relation in relations {
-        if relation.types.as_slice().len() > 32 {
+        if relation.types.as_slice().len() > 32 || !is_small(&relation.rewrite) {
             return false;
         }
     }
@@ -30,7 +30,7 @@ fn are_within(namespaces: &[Name], relations: &[Relation]) -> bool
     if namespaces.len() > 64 || relations.len() > 256 {
         return false;
     }
-    types_are_few(relations)
+    are_small(relations)
 }
 
 fn has_namespace(namespaces: &[Name], namespace: &Name) -> bool
@@ -44,7 +44,7 @@ fn has_namespace(namespaces: &[Name], namespace: &Name) -> bool
     false
 }
 
-fn has_relation(relations: &[Relation], namespace: &Name, relation: &Name) -> bool
+pub(crate) fn has_relation(relations: &[Relation], namespace: &Name, relation: &Name) -> bool
     ensures { result ≡ list_any (is_relation (record { namespace = namespace.now; relation = relation.now })) (map defined_of relations.now) }
 {
     for other in relations {
@@ -228,7 +228,7 @@ fn are_indexable(namespaces: &[Name], all: &[Relation], relations: &[Relation]) 
     true
 }
 
-/// The first cause that applies to a configuration whose names are names.
+/// The first cause before `Cycle` that applies to a configuration whose names are names.
 pub fn first_cause(parts: &Parts) -> Option<Cause>
     ensures { result ≡ cause_of (parts_of parts.now) }
 {
@@ -242,6 +242,12 @@ pub fn first_cause(parts: &Parts) -> Option<Cause>
     }
     if !types_used(relations) {
         return Some(Cause::This);
+    }
+    if !all_compute(namespaces, relations, relations) {
+        return Some(Cause::Computed);
+    }
+    if !all_have_tuplesets(namespaces, relations, relations) {
+        return Some(Cause::Tupleset);
     }
     if !are_indexable(namespaces, relations, relations) {
         return Some(Cause::Indexed);

@@ -1,16 +1,17 @@
 //! Configurations.
-ghost use Rattle.std.specs.Prelude.{◌≡◌, ◌&&◌, ℕ, ◌<◌, ◌^◌, All, map, IfOk, IfErr, OnOk, true, false, Contains, string_bytes};
+ghost use Rattle.std.specs.Prelude.{◌≡◌, ◌&&◌, ◌<◌, ◌≤◌, ◌^◌, All, map, IfOk, IfErr, OnOk, IsTrue, true, false, string_bytes, length};
 ghost use Rattle.std.specs.List.{list_any};
+ghost use Rattle.serde_json.specs.Written.{compact_text};
 ghost use Rattle.meaning.specs.Admits.{is_relation, declares};
 ghost use Rattle.meaning.specs.Config.{rel_of};
-ghost use Rattle.config.specs.Forms.{defined_of};
+ghost use Rattle.config_core.specs.Canonical.{config_data};
+ghost use Rattle.config_core.specs.Forms.{defined_of};
+ghost use Rattle.config_core.specs.Parts.{configured};
+ghost use Rattle.config_core.specs.Reading.{max_size};
 
-use crate::canonical::text_of;
 use crate::causes::first_cause;
-use crate::levels::no_levels;
-use crate::parts::Parts;
-use crate::reading::read_configuration;
-use crate::relation::Relation;
+use crate::levels::levels_of;
+use config_core::{Parts, Relation, read_configuration, text_of};
 use names::{Name, Node, Refusal, Tuple};
 use std::alloc::{AllocError, Global};
 use std::marker::Model;
@@ -25,11 +26,11 @@ pub struct Config {
 }
 
 impl Model for Config {
-    ghost use Rattle.std.specs.Prelude.{◌<◌, ◌^◌, map, All, Contains};
-    ghost use Rattle.meaning.specs.Config.{Configured, IsWhole};
+    ghost use Rattle.std.specs.Prelude.{map};
+    ghost use Rattle.meaning.specs.Config.{Configured};
     ghost use Rattle.config.specs.Codes.{coded_config};
-    ghost use Rattle.config.specs.Forms.{defined_of};
-    ghost use Rattle.config.specs.Levels.{AreLevels};
+    ghost use Rattle.config.specs.Kept.{IsKept};
+    ghost use Rattle.config_core.specs.Forms.{defined_of};
 
     ghost Value = { Configured };
 
@@ -37,21 +38,14 @@ impl Model for Config {
 
     ghost view = { λ c. record { namespaces = c.namespaces.items; relations = map defined_of c.relations.items } };
 
-    ghost invariant = { λ c.
-        AreLevels (record { namespaces = c.namespaces.items; relations = map defined_of c.relations.items }) c.levels.items
-        × All (λ l. l < 2 ^ 32) c.levels.items
-        × All (λ d. IsWhole d.form) (map defined_of c.relations.items) };
+    ghost invariant = { λ c. IsKept (record { namespaces = c.namespaces.items; relations = map defined_of c.relations.items }) c.levels.items };
 }
 
 impl Config {
     ghost use Rattle.meaning.specs.Config.{IsWhole, empty_config};
-    ghost use Rattle.meaning.specs.Admits.{has_relation, admits};
-    ghost use Rattle.meaning.specs.Config.{rel_of};
+    ghost use Rattle.meaning.specs.Admits.{admits};
     ghost use Rattle.names.specs.declared.refusal.Refusal.TheVariants.{UnknownRelation, TypeRefused};
-    ghost use Rattle.config.specs.Forms.{defined_of};
     ghost use Rattle.config.specs.Levels.{AreLevels};
-    ghost use Rattle.serde_json.specs.Written.{compact_text};
-    ghost use Rattle.config.specs.Canonical.{config_data};
     ghost use Rattle.config.specs.Causes.{Accepts, ConfigCause};
     ghost use Rattle.config.specs.Refused.{AdmitCause};
 
@@ -67,7 +61,7 @@ impl Config {
     }
 
     /// Reads a configuration's JSON. It is refused with the first cause that applies, in the order of
-    /// `Cause`. The only rewrite that is read is `this`; any other is of another shape.
+    /// `Cause`.
     pub fn from_json(alloc: Global, bytes: &[u8]) -> Result<Config, Refusal>
         ensures ok { IfOk result (λ c. Accepts bytes.now c) }
         ensures err { IfErr result (λ e. ConfigCause bytes.now e) }
@@ -76,7 +70,11 @@ impl Config {
         if let Some(cause) = first_cause(&parts) {
             return Err(Refusal::ConfigRefused(cause));
         }
-        let levels = no_levels(alloc, &parts.relations)?;
+        let levels = levels_of(alloc, &parts)?;
+        // Never taken: the canonical text is no longer than the one that was read.
+        if !is_short(alloc, &parts.namespaces, &parts.relations)? {
+            return Err(Refusal::Memory);
+        }
         let Parts {
             namespaces,
             relations,
@@ -122,6 +120,7 @@ impl Config {
     /// holds without it.
     pub fn to_json(&self, alloc: Global) -> Result<String, AllocError>
         ensures text { IfOk result (λ s. string_bytes s ≡ compact_text (config_data self.now)) }
+        ensures read_back { IfOk result (λ s. Accepts (string_bytes s) self.now) }
     {
         text_of(alloc, &self.namespaces, &self.relations)
     }
@@ -139,6 +138,14 @@ impl Config {
             levels,
         })
     }
+}
+
+/// Whether the canonical text can be read again.
+fn is_short(alloc: Global, namespaces: &[Name], relations: &[Relation]) -> Result<bool, AllocError>
+    ensures { IfOk result (λ short. IsTrue short → length (compact_text (config_data (configured namespaces.now relations.now))) ≤ max_size) }
+{
+    let text = text_of(alloc, namespaces, relations)?;
+    Ok(text.len() <= 65_536)
 }
 
 fn has_node(relations: &[Relation], node: &Node) -> bool

@@ -2,19 +2,15 @@
 //! refused with the first cause that applies, and written canonically.
 #![tactic(auto)]
 
-mod canonical;
 mod causes;
 mod config;
-mod draft;
+mod graph;
 mod levels;
-mod parts;
-mod reading;
-mod relation;
-mod rewrite;
-mod shape;
+mod rewrites;
+mod sizes;
+mod steps;
 #[cfg(test)]
 mod tests;
 
 pub use config::Config;
-pub use relation::Relation;
-pub use rewrite::Rewrite;
+pub use config_core::{Relation, Rewrite};

@@ -37,7 +37,7 @@ fn tuple_refusal(alloc: Global, tuple: &Tuple) -> Reply
 }
 
 /// A relation of a cycle, after the sign of the step to it.
-fn signed(alloc: Global, step: &CycleStep) -> Result<String, AllocError>
+pub fn signed(alloc: Global, step: &CycleStep) -> Result<String, AllocError>
     ensures { IfOk result (λ s. string_bytes s ≡ signed_text step.now) }
 {
     let to = &step.to;
@@ -49,7 +49,7 @@ fn signed(alloc: Global, step: &CycleStep) -> Result<String, AllocError>
 }
 
 /// The relation at which a cycle begins and ends.
-fn start_of(alloc: Global, steps: &[CycleStep]) -> Result<String, AllocError>
+pub fn start_of(alloc: Global, steps: &[CycleStep]) -> Result<String, AllocError>
     ensures { IfOk result (λ s. string_bytes s ≡ start_text steps.now) }
 {
     match steps.last() {

@@ -97,7 +97,10 @@ pub struct Opened {
 }
 
 impl Opened {
-    pub fn new() -> Opened {
+    /// A new book, and the front that has seen nothing of it.
+    pub fn new() -> Opened
+        ensures { result.front ≡ start_of result.book }
+    {
         let (book, front) = open();
         Opened { book, front }
     }

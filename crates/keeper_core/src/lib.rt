@@ -9,6 +9,8 @@ mod listed;
 mod receipt;
 mod showing;
 mod tables;
+#[cfg(test)]
+mod tests;
 mod watched;
 
 pub use book::{Book, Front, Naming, Opened};

@@ -14,7 +14,7 @@ use Rattle.meaning.specs.Snap.{one}
 use Rattle.meaning.specs.Membership.{Gives, RelationGives, IsUser}
 use Rattle.meaning.proofs.Lists.{contains_map, contains_map_back, contains_here, contains_there, contains_cases, contains_none}
 use Rattle.meaning.proofs.TupleSets.{items_contain}
-use Rattle.config.specs.declared.relation.Relation.{Relation}
+use Rattle.config_core.specs.declared.relation.Relation.{Relation}
 use Rattle.config.specs.Forms.{defined_of, form_of}
 use Rattle.plain.specs.declared.source.Source.{Source}
 use Rattle.plain.specs.Source.{snap_of, config_of, GrantsBy, Grants, LeadsBy, LeadsOn, Names}

@@ -1,5 +1,5 @@
 -- A history that is longer by one commit.
-use Rattle.std.proofs.Common.{◌≡◌, ℕ, ◌+◌, List, [], ◌∷◌, ◌++◌, length, take, refl, sym, ap, ◌∙◌, arith, length-append}
+use Rattle.std.proofs.Common.{◌≡◌, ℕ, ◌+◌, [], ◌∷◌, ◌++◌, length, refl, sym, ap, ◌∙◌, arith, length-append}
 use Rattle.std.proofs.Math.Seq.{take-length}
 use Rattle.names.specs.declared.commit.Commit.{Commit}
 use Rattle.meaning.specs.Config.{Configured}

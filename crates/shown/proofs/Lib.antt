@@ -2,3 +2,9 @@ pub mod Replays
 pub mod Fullness
 pub mod Admitted
 pub mod Growth
+pub mod Waiting
+pub mod Admission
+pub mod Happened
+pub mod Rising
+pub mod InOrder
+pub mod Written

@@ -3,3 +3,8 @@ pub mod Answers
 pub mod Judged
 pub mod Codes
 pub mod Replayed
+pub mod Refusing
+pub mod World
+pub mod WorldParts
+pub mod WorldCodes
+pub mod Runs

@@ -4,12 +4,22 @@
 
 mod answer;
 mod causes;
+mod event;
 mod events;
+mod law;
+mod refusing;
 mod replay;
 mod shown;
 mod step;
+#[cfg(test)]
+mod tests;
+mod within;
+mod world;
 
 pub use answer::{Answer, Refused};
+pub use event::{Event, Outcome, Posting, Question};
 pub use events::events_of;
+pub use law::{answers_rise, posts_stored, refuses_what_no_write_gives};
 pub use shown::Shown;
 pub use step::{Loaded, Step};
+pub use world::World;

@@ -1,8 +1,10 @@
 //! The published state.
-ghost use Rattle.std.specs.Prelude.{◌≡◌, ◌≤◌, ◌+◌, length, map, None, false, IfOk, IfErr, OnOk, OnErr};
+ghost use Rattle.std.specs.Prelude.{◌≡◌, ◌≤◌, ◌+◌, length, map, is_some, None, false, IfOk, IfErr, OnOk, OnErr};
 ghost use Rattle.meaning.specs.Verdict.{write_cause, config_cause, is_full, is_twice, event_of, max_ops};
 ghost use Rattle.shown.specs.Standing.{nothing, kept_of, AddsStep, HasRoom};
 ghost use Rattle.shown.specs.Answers.{IsChecked, CheckRefused};
+ghost use Rattle.names.specs.declared.commit.Commit.TheVariants.{Tuples};
+ghost use Rattle.shown.specs.Refusing.{commit_cause};
 ghost use Rattle.shown.specs.Judged.{IsAccepted, WriteRefused, ConfigRefused};
 
 use crate::answer::{Answer, Refused};
@@ -11,10 +13,11 @@ use crate::causes::{
     some_untyped,
 };
 use crate::events::{commit_rows, rows_in};
+use crate::refusing::{is_in_order, touches_of};
 use crate::replay::{add_commit, snapshot_of};
 use crate::step::{Loaded, Step};
 use config::Config;
-use names::{Commit, Node, Object, Op, Refusal};
+use names::{Commit, Event, Node, Object, Op, Refusal};
 use plain::Snapshot;
 use std::alloc::{AllocError, Global};
 use std::marker::Model;
@@ -24,9 +27,9 @@ const MAX_OPS: usize = 256;
 /// The most current tuples.
 const MAX_TUPLES: usize = 1_000_000;
 /// The most rows of a history.
-const MAX_ROWS: u64 = 4_000_000;
+pub(crate) const MAX_ROWS: u64 = 4_000_000;
 /// The most revisions.
-const MAX_REV: u64 = 1_000_000_000_000;
+pub(crate) const MAX_REV: u64 = 1_000_000_000_000;
 
 /// The state that questions are asked of. It keeps the newest revision alone.
 #[derive(Drop)]
@@ -138,7 +141,7 @@ impl Shown {
         Ok(())
     }
 
-    fn open(&mut self, loaded: &Loaded) -> Result<(), AllocError>
+    pub(crate) fn open(&mut self, loaded: &Loaded) -> Result<(), AllocError>
         requires { HasRoom self.old (Step.Open loaded.now) }
         ensures ok { OnOk result (AddsStep self.old (Step.Open loaded.now) self.new) }
         ensures err { OnErr result (self.new ≡ self.old) }
@@ -152,7 +155,7 @@ impl Shown {
         Ok(())
     }
 
-    fn commit(&mut self, commit: &Commit<Config>) -> Result<(), AllocError>
+    pub(crate) fn commit(&mut self, commit: &Commit<Config>) -> Result<(), AllocError>
         requires { HasRoom self.old (Step.Commit commit.now) }
         ensures ok { OnOk result (AddsStep self.old (Step.Commit commit.now) self.new) }
         ensures err { OnErr result (self.new ≡ self.old) }
@@ -161,6 +164,32 @@ impl Shown {
         self.rev += 1;
         self.rows += commit_rows(commit);
         Ok(())
+    }
+
+    /// Whether no write and no configuration that is accepted gives the commit.
+    pub(crate) fn refuses(&self, commit: &Commit<Config>) -> Result<bool, AllocError>
+        ensures { IfOk result (λ yes. yes ≡ is_some (commit_cause self.now.newest commit.now)) }
+    {
+        match commit {
+            Commit::Tuples(events) => self.refuses_events(events.as_slice()),
+            Commit::Config(config) => Ok(self.refuses_config(config)),
+        }
+    }
+
+    fn refuses_events(&self, events: &[Event]) -> Result<bool, AllocError>
+        ensures { IfOk result (λ yes. yes ≡ is_some (commit_cause self.now.newest (Tuples events.now))) }
+    {
+        if !is_in_order(events) {
+            return Ok(true);
+        }
+        let ops = touches_of(self.alloc, events)?;
+        Ok(self.write_cause(&ops).is_some())
+    }
+
+    fn refuses_config(&self, config: &Config) -> bool
+        ensures { result ≡ is_some (config_cause self.now.newest config.now) }
+    {
+        self.snapshot.first_not_admitted(config).is_some() || self.rev + 1 > MAX_REV
     }
 
     /// The first cause, each looked for over the whole write before the next.

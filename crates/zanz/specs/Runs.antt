@@ -4,7 +4,7 @@ use Rattle.shown.specs.Standing.{Standing}
 use Rattle.keeper_core.specs.Posts.{Posts, opening}
 use Rattle.keeper_core.specs.Changes.{CannotOpen}
 use Rattle.keeper.specs.Rules.{DeskStep}
-use Rattle.http_api.specs.Served.{Served, Paused, Cut}
+use Rattle.http_api.specs.Served.{ReadAll, Served, Paused, Cut}
 use Rattle.zanz.specs.declared.fault.Fault.{Fault}
 use Rattle.zanz.specs.declared.fault.Fault.TheVariants.{CommandLine, Refused, CannotRead, CannotWrite}
 
@@ -34,6 +34,10 @@ CutBy {T} first held input holds = (last : Posts T) × Cut DeskStep first held i
 -- what a fresh desk did
 abbrev pub Freshly : ℕ → (Posts Standing → Type 0) → Type 0
 Freshly number Did = (first : Posts Standing) × IsFresh number first × Did first
+
+-- all of the input was read, each line answered, and the answers written, from a store that was empty
+abbrev pub Ran : Option (List ℕ) → Option (List ℕ) → Option (List ℕ) → Option (List ℕ) → Type 0
+Ran left left_after held holds = (number : ℕ) × (input : List ℕ) × ReadAll left left_after input × Freshly number (λ first. ServedBy first held input holds)
 
 -- which results tell that the reader, or the writer, failed
 abbrev pub is_read_fault : {T : Type 0} → Result T Fault → Bool

@@ -1,37 +1,71 @@
 //! The program, but for its process.
-ghost use Rattle.std.specs.Prelude.{ℕ, ◌≡◌, ◌≤◌, ◌||◌, List, true, false, IfErr, OnOk};
-ghost use Rattle.http_api.specs.Served.{ReadAll};
+ghost use Rattle.std.specs.Prelude.{◌≡◌, ◌≢◌, ◌≤◌, ◌⊎◌, true, false, IfOk, IfErr};
 ghost use Rattle.zanz.specs.Faults.{fault_status};
-ghost use Rattle.zanz.specs.Runs.{Freshly, ServedBy};
+ghost use Rattle.zanz.specs.Runs.{Ran};
+ghost use Rattle.zanz.specs.Report.{Reported};
 
 use crate::fault::Fault;
+use crate::file::read_file;
+use crate::report::report_of;
 use crate::run::run;
-use crate::words::store_of;
+use crate::words::{Task, task_of};
 use std::alloc::Global;
 use std::io::{Read, Write};
-use zanz_core::{Watched, WatchedWriter};
+use std::rt::Files;
+use zanz_core::{Watched, WatchedWriter, say};
 
-// Does what the words say.
-fn obey<R: Read, W: Write>(
+// Prints what there is to say of a file's configuration, and answers the status that the process ends with.
+fn report<F: Files, W: Write>(
     alloc: Global,
+    files: &F,
+    path: &str,
+    writer: &mut WatchedWriter<W>,
+) -> Result<u8, Fault>
+    requires unbroken_writer { writer.old.failed ≡ false }
+    ensures accepted { IfOk result (λ status. status ≡ 0 → Reported true (W.contents writer.old.inner) (W.contents writer.new.inner)) }
+    ensures refused { IfOk result (λ status. status ≡ 1 → Reported false (W.contents writer.old.inner) (W.contents writer.new.inner)) }
+    ensures whole { IfOk result (λ _. (writer.new.failed ≡ false) × (writer.new.flushed ≡ true)) }
+    ensures status { IfOk result (λ status. status ≤ 1) }
+    ensures line { IfErr result (λ fault. fault ≢ Fault.CommandLine) }
+{
+    let bytes = read_file(alloc, files, path)?;
+    let report = report_of(alloc, &bytes)?;
+    let Ok(()) = say(writer, report.text.as_bytes()) else {
+        return Err(Fault::CannotWrite);
+    };
+    if report.accepted { Ok(0) } else { Ok(1) }
+}
+
+// Does what the words say, and answers the status that the process ends with.
+fn obey<F: Files, R: Read, W: Write>(
+    alloc: Global,
+    files: &F,
     words: &[String],
     reader: &mut Watched<R>,
     writer: &mut WatchedWriter<W>,
-) -> Result<(), Fault>
+) -> Result<u8, Fault>
     requires unbroken_reader { reader.old.failed ≡ false }
     requires unbroken_writer { writer.old.failed ≡ false }
-    ensures ok { OnOk result ((number : ℕ) × (input : List ℕ) × ReadAll (R.remaining reader.old.inner) (R.remaining reader.new.inner) input
-        × Freshly number (λ first. ServedBy first (W.contents writer.old.inner) input (W.contents writer.new.inner))) }
-    ensures whole { OnOk result ((reader.new.failed ≡ false) × (writer.new.failed ≡ false) × (writer.new.flushed ≡ true)) }
+    ensures done { IfOk result (λ status. status ≡ 0 → Ran (R.remaining reader.old.inner) (R.remaining reader.new.inner) (W.contents writer.old.inner) (W.contents writer.new.inner)
+        ⊎ ((reader.new ≡ reader.old) × Reported true (W.contents writer.old.inner) (W.contents writer.new.inner))) }
+    ensures told { IfOk result (λ status. status ≡ 1 → (reader.new ≡ reader.old) × Reported false (W.contents writer.old.inner) (W.contents writer.new.inner)) }
+    ensures whole { IfOk result (λ _. (reader.new.failed ≡ false) × (writer.new.failed ≡ false) × (writer.new.flushed ≡ true)) }
+    ensures status { IfOk result (λ status. status ≤ 1) }
     ensures refused { IfErr result (λ fault. fault ≡ Fault.CommandLine → (reader.new ≡ reader.old) × (writer.new ≡ writer.old)) }
 {
-    let store = store_of(alloc, words)?;
-    run(alloc, store, reader, writer)
+    match task_of(alloc, words)? {
+        Task::Run { store } => {
+            run(alloc, store, reader, writer)?;
+            Ok(0)
+        }
+        Task::Config { file } => report(alloc, files, file.as_str(), writer),
+    }
 }
 
 /// Does what the words say, tells of a fault on `errors`, and answers the status that the process ends with.
-pub fn command<R: Read, W: Write, E: Write>(
+pub fn command<F: Files, R: Read, W: Write, E: Write>(
     alloc: Global,
+    files: &F,
     words: &[String],
     reader: &mut Watched<R>,
     writer: &mut WatchedWriter<W>,
@@ -40,9 +74,10 @@ pub fn command<R: Read, W: Write, E: Write>(
     requires unbroken_reader { reader.old.failed ≡ false }
     requires unbroken_writer { writer.old.failed ≡ false }
 
-    // All that was there was read, each line answered, the answers handed on, and nothing told.
-    ensures done { result ≡ 0 → (number : ℕ) × (input : List ℕ) × ReadAll (R.remaining reader.old.inner) (R.remaining reader.new.inner) input
-        × Freshly number (λ first. ServedBy first (W.contents writer.old.inner) input (W.contents writer.new.inner)) }
+    // All that was there was read, each line answered, and the answers handed on; or the levels of a valid
+    // configuration were printed, and nothing was read.
+    ensures done { result ≡ 0 → Ran (R.remaining reader.old.inner) (R.remaining reader.new.inner) (W.contents writer.old.inner) (W.contents writer.new.inner)
+        ⊎ ((reader.new ≡ reader.old) × Reported true (W.contents writer.old.inner) (W.contents writer.new.inner)) }
     ensures whole { result ≡ 0 → (reader.new.failed ≡ false) × (writer.new.failed ≡ false) × (writer.new.flushed ≡ true) }
     ensures quiet { result ≡ 0 → errors.new ≡ errors.old }
 
@@ -50,8 +85,8 @@ pub fn command<R: Read, W: Write, E: Write>(
     ensures refused { result ≡ 2 → (reader.new ≡ reader.old) × (writer.new ≡ writer.old) }
     ensures status { result ≤ 2 }
 {
-    match obey(alloc, words, reader, writer) {
-        Ok(()) => 0,
+    match obey(alloc, files, words, reader, writer) {
+        Ok(status) => status,
         Err(fault) => tell(errors, &fault),
     }
 }

@@ -1,9 +1,12 @@
-//! The program: `zanz run [--store N]` answers the lines of its input, each by a line.
+//! The program: `zanz run [--store N]` answers the lines of its input, each by a line; `zanz config FILE`
+//! prints the level of each relation of a configuration, or why it is refused.
 #![tactic(auto)]
 
 mod command;
 mod fault;
+mod file;
 mod lent;
+mod report;
 mod run;
 #[cfg(test)]
 mod tests;
@@ -37,6 +40,7 @@ fn start(rt: &HostRuntime) -> Result<u8, Fault> {
     let mut errors = rt.stderr();
     Ok(command(
         alloc,
+        rt,
         words.as_slice(),
         &mut reader,
         &mut writer,

@@ -2,11 +2,13 @@ ghost use Rattle.std.specs.Prelude.{◌≡◌, false};
 
 use crate::command::{command, tell};
 use crate::fault::Fault;
+use crate::report::report_of;
 use names::Refusal;
 use std::alloc::{AllocError, Global};
-use std::io;
 use std::io::{ErrorKind, Read, Write};
+use std::rt::Files;
 use std::test::Fail;
+use std::{fs, io};
 use zanz_core::{Watched, WatchedWriter};
 
 /// The words of a command line, of which the first is the program's.
@@ -20,20 +22,22 @@ fn words_of(alloc: Global, line: &str) -> Result<Vec<String>, AllocError> {
 }
 
 /// How the program ends for a command line and an input: its status, what it writes, and what it tells.
-fn ends(
-    alloc: Global,
+fn ends<R: Files + AllocGlobal>(
+    rt: &R,
     line: &str,
     input: &str,
     status: u8,
     output: &str,
     told: &str,
 ) -> Result<bool, AllocError> {
+    let alloc = rt.alloc();
     let words = words_of(alloc, line)?;
     let mut reader = Watched::new(input.as_bytes());
     let mut writer = WatchedWriter::new(Vec::new(alloc));
     let mut errors = Vec::new(alloc);
     let ended = command(
         alloc,
+        rt,
         words.as_slice(),
         &mut reader,
         &mut writer,
@@ -44,8 +48,19 @@ fn ends(
 }
 
 /// Whether a new store 1 answers these lines so.
-fn answers(alloc: Global, input: &str, output: &str) -> Result<bool, AllocError> {
-    ends(alloc, "run", input, 0, output, "")
+fn answers<R: Files + AllocGlobal>(rt: &R, input: &str, output: &str) -> Result<bool, AllocError> {
+    ends(rt, "run", input, 0, output, "")
+}
+
+/// Whether a new store 1 answers so: first the configuration, then these lines.
+fn answers_with<R: Files + AllocGlobal>(
+    rt: &R,
+    config: &str,
+    input: &str,
+    output: &str,
+) -> Result<bool, AllocError> {
+    let all = format!(in rt.alloc(); "config {config}\n{input}")?;
+    ends(rt, "run", all.as_str(), 0, output, "")
 }
 
 const QUESTION: &str = "check {\"node\":\"doc:1#viewer\",\"user\":\"user:ann\"}\n";
@@ -58,11 +73,10 @@ fn a_fresh_store_knows_no_relation(rt: HostRuntime) -> Result<(), Fail> {
         "400 {\"error\":{\"code\":2,\"name\":\"UnknownRelation\",\"zookie\":\"AQAAAAAAAAACAAAAAAAAAAA\"}}\n";
     let last =
         "400 {\"error\":{\"code\":2,\"name\":\"UnknownRelation\",\"zookie\":\"AX__________AAAAAAAAAAA\"}}\n";
-    let alloc = rt.alloc();
-    assert!(rt; ends(alloc, "run", QUESTION, 0, first, "")?);
-    assert!(rt; ends(alloc, "run --store=2", QUESTION, 0, second, "")?);
+    assert!(rt; ends(&rt, "run", QUESTION, 0, first, "")?);
+    assert!(rt; ends(&rt, "run --store=2", QUESTION, 0, second, "")?);
     let greatest = "run --store 9223372036854775807";
-    assert!(rt; ends(alloc, greatest, QUESTION, 0, last, "")?);
+    assert!(rt; ends(&rt, greatest, QUESTION, 0, last, "")?);
     Ok(())
 }
 
@@ -85,16 +99,13 @@ fn other_command_lines_are_refused(rt: HostRuntime) -> Result<(), Fail> {
         "run --store one",
         "run --store 1 --store 1",
         "run x",
+        "config",
+        "config a b",
+        "config --store 1 a",
+        "config -h",
     ] {
         assert!(rt;
-            ends(
-                rt.alloc(),
-                line,
-                QUESTION,
-                2,
-                "",
-                "zanz: bad command line\n"
-            )?,
+            ends(&rt, line, QUESTION, 2, "", "zanz: bad command line\n")?,
             "at {line}"
         );
     }
@@ -103,27 +114,51 @@ fn other_command_lines_are_refused(rt: HostRuntime) -> Result<(), Fail> {
 
 #[test]
 fn groups_that_only_hold_each_other_are_empty(rt: HostRuntime) -> Result<(), Fail> {
-    assert!(rt; answers(rt.alloc(), NESTED, NESTED_ANSWERS)?);
+    assert!(rt; answers(&rt, NESTED, NESTED_ANSWERS)?);
     Ok(())
 }
 
 #[test]
 fn each_cause_is_looked_for_over_the_whole_write(rt: HostRuntime) -> Result<(), Fail> {
-    assert!(rt; answers(rt.alloc(), CAUSES, CAUSES_ANSWERS)?);
+    assert!(rt; answers(&rt, CAUSES, CAUSES_ANSWERS)?);
     Ok(())
 }
 
 #[test]
 fn malformed_bodies_are_refused(rt: HostRuntime) -> Result<(), Fail> {
     for body in MALFORMED {
-        assert!(rt; answers(rt.alloc(), body, MALFORMED_ANSWER)?, "at {body}");
+        assert!(rt; answers(&rt, body, MALFORMED_ANSWER)?, "at {body}");
     }
     Ok(())
 }
 
 #[test]
 fn configurations_are_refused_with_their_cause(rt: HostRuntime) -> Result<(), Fail> {
-    assert!(rt; answers(rt.alloc(), CONFIGURATIONS, CONFIGURATION_ANSWERS)?);
+    assert!(rt; answers(&rt, CONFIGURATIONS, CONFIGURATION_ANSWERS)?);
+    Ok(())
+}
+
+#[test]
+fn a_ban_of_a_group_is_taken_back_with_its_members(rt: HostRuntime) -> Result<(), Fail> {
+    assert!(rt; answers_with(&rt, FOLDERS, BANNED, BANNED_ANSWERS)?);
+    Ok(())
+}
+
+#[test]
+fn a_cycle_is_shown(rt: HostRuntime) -> Result<(), Fail> {
+    assert!(rt; answers_with(&rt, BANNED_BY_VIEWERS, "", BANNED_BY_VIEWERS_ANSWER)?);
+    Ok(())
+}
+
+#[test]
+fn relations_that_compute_each_other_hold_the_same(rt: HostRuntime) -> Result<(), Fail> {
+    assert!(rt; answers_with(&rt, EACH_OTHER, BOTH, BOTH_ANSWERS)?);
+    Ok(())
+}
+
+#[test]
+fn a_configuration_must_admit_each_tuple(rt: HostRuntime) -> Result<(), Fail> {
+    assert!(rt; answers_with(&rt, FOLDERS, IN_THE_WAY, IN_THE_WAY_ANSWERS)?);
     Ok(())
 }
 
@@ -140,7 +175,7 @@ fn other_calls_have_no_route(rt: HostRuntime) -> Result<(), Fail> {
     ] {
         assert!(rt;
             answers(
-                rt.alloc(),
+                &rt,
                 line,
                 "404 {\"error\":{\"code\":0,\"name\":\"NoRoute\"}}\n"
             )?,
@@ -170,8 +205,8 @@ impl Write for Broken {
     }
 }
 
-fn tells<R: Read, W: Write>(
-    alloc: Global,
+fn tells<F: Files + AllocGlobal, R: Read, W: Write>(
+    rt: &F,
     reader: &mut Watched<R>,
     writer: &mut WatchedWriter<W>,
     told: &str,
@@ -179,9 +214,10 @@ fn tells<R: Read, W: Write>(
     requires unbroken_reader { reader.old.failed ≡ false }
     requires unbroken_writer { writer.old.failed ≡ false }
 {
+    let alloc = rt.alloc();
     let words = words_of(alloc, "run")?;
     let mut errors = Vec::new(alloc);
-    let status = command(alloc, words.as_slice(), reader, writer, &mut errors);
+    let status = command(alloc, rt, words.as_slice(), reader, writer, &mut errors);
     Ok(status == 1 && errors.as_slice() == told.as_bytes())
 }
 
@@ -190,10 +226,10 @@ fn streams_that_fail_are_told(rt: HostRuntime) -> Result<(), Fail> {
     let alloc = rt.alloc();
     let mut reader = Watched::new(Broken);
     let mut writer = WatchedWriter::new(Vec::new(alloc));
-    assert!(rt; tells(alloc, &mut reader, &mut writer, "zanz: cannot read\n")?);
+    assert!(rt; tells(&rt, &mut reader, &mut writer, "zanz: cannot read\n")?);
     let mut reader = Watched::new(QUESTION.as_bytes());
     let mut writer = WatchedWriter::new(Broken);
-    assert!(rt; tells(alloc, &mut reader, &mut writer, "zanz: cannot write\n")?);
+    assert!(rt; tells(&rt, &mut reader, &mut writer, "zanz: cannot write\n")?);
     Ok(())
 }
 
@@ -205,6 +241,61 @@ fn refusals_are_told(rt: HostRuntime) {
     let told = "zanz: refused 21 Memory\nzanz: refused 22 StoreFault\n";
     assert_eq!(rt; errors.as_slice(), told.as_bytes());
 }
+
+/// Whether this is what is printed of a configuration.
+fn reports(alloc: Global, text: &str, accepted: bool, printed: &str) -> Result<bool, AllocError> {
+    let report = report_of(alloc, text.as_bytes())?;
+    Ok(report.accepted == accepted && report.text.as_str() == printed)
+}
+
+#[test]
+fn levels_are_printed(rt: HostRuntime) -> Result<(), Fail> {
+    let alloc = rt.alloc();
+    assert!(rt; reports(alloc, FOLDERS, true, FOLDER_LEVELS)?);
+    assert!(rt; reports(alloc, SUBTRACTED_TWICE, true, "x#a 2\nx#b 1\nx#c 0\n")?);
+    assert!(rt; reports(alloc, "{\"namespaces\":{}}", true, "")?);
+    Ok(())
+}
+
+#[test]
+fn causes_are_printed(rt: HostRuntime) -> Result<(), Fail> {
+    let alloc = rt.alloc();
+    assert!(rt; reports(alloc, "", false, "refused 9 json\n")?);
+    assert!(rt; reports(alloc, "{}", false, "refused 9 shape\n")?);
+    let cycle = "refused 9 cycle\nx#a -x#b +x#a\n";
+    assert!(rt; reports(alloc, SUBTRACTED_FROM_ITSELF, false, cycle)?);
+    Ok(())
+}
+
+#[test]
+fn a_file_is_reported(rt: HostRuntime) -> Result<(), Fail> {
+    let told = "zanz: cannot read\n";
+    assert!(rt; ends(&rt, "config no_such_file", "", 1, "", told)?);
+    fs::write(&rt, FILE, FOLDERS)?;
+    let printed = ends(
+        &rt,
+        "config zanz_test_policy.json",
+        "",
+        0,
+        FOLDER_LEVELS,
+        "",
+    )?;
+    fs::write(&rt, FILE, "{}")?;
+    let refused = ends(
+        &rt,
+        "config zanz_test_policy.json",
+        "",
+        1,
+        "refused 9 shape\n",
+        "",
+    )?;
+    fs::remove_file(&rt, FILE)?;
+    assert!(rt; printed);
+    assert!(rt; refused);
+    Ok(())
+}
+
+const FILE: &str = "zanz_test_policy.json";
 
 const NESTED: &str =
     r#"config {"namespaces":{"group":{"member":{"types":["user","group#member"]}},"user":{}}}
@@ -270,13 +361,16 @@ config
 config []
 config 1
 config {}
-config {"namespaces":{"a":{"b":{"rewrite":{"computed":"c"},"types":["a"]}}}}
+config {"namespaces":{"a":{"b":{"rewrite":"that","types":["a"]}}}}
 config {"namespaces":{"a":{"b":{"indexed":null,"types":["a"]}}}}
 config {"namespaces":{"A":{}}}
 config {"namespaces":{"a":{"b":{"types":["a#b#c"]}}}}
 config {"namespaces":{"a":{"b":{"types":["c"]}}}}
 config {"namespaces":{"a":{"b":{"types":["a","a"]}}}}
 config {"namespaces":{"a":{"b":{}}}}
+config {"namespaces":{"a":{"b":{"rewrite":{"computed":"b"},"types":["a"]}}}}
+config {"namespaces":{"a":{"b":{"rewrite":{"computed":"c"}}}}}
+config {"namespaces":{"a":{"b":{"rewrite":{"tuple_to":{"relation":"b","tupleset":"c"}}}}}}
 config {"namespaces":{"a":{"b":{"indexed":true,"types":["a#c"]},"c":{"types":["a"]}}}}
 "#;
 
@@ -294,6 +388,9 @@ const CONFIGURATION_ANSWERS: &str =
 400 {"error":{"cause":"type","code":9,"name":"ConfigRefused"}}
 400 {"error":{"cause":"type","code":9,"name":"ConfigRefused"}}
 400 {"error":{"cause":"this","code":9,"name":"ConfigRefused"}}
+400 {"error":{"cause":"this","code":9,"name":"ConfigRefused"}}
+400 {"error":{"cause":"computed","code":9,"name":"ConfigRefused"}}
+400 {"error":{"cause":"tupleset","code":9,"name":"ConfigRefused"}}
 400 {"error":{"cause":"indexed","code":9,"name":"ConfigRefused"}}
 "#;
 
@@ -319,3 +416,72 @@ const MALFORMED: [&str; 18] = [
 ];
 
 const MALFORMED_ANSWER: &str = "400 {\"error\":{\"code\":1,\"name\":\"Malformed\"}}\n";
+
+const FOLDERS: &str =
+    r#"{"namespaces":{"doc":{"banned":{"types":["user","group#member"]},"owner":{"types":["user"]},"parent":{"types":["folder"]},"viewer":{"rewrite":{"exclusion":[{"union":["this",{"computed":"owner"},{"tuple_to":{"relation":"viewer","tupleset":"parent"}}]},{"computed":"banned"}]},"types":["user"]}},"folder":{"viewer":{"types":["user","group#member"]}},"group":{"member":{"indexed":true,"types":["user","group#member"]}},"user":{}}}"#;
+
+const FOLDER_LEVELS: &str =
+    "doc#banned 0\ndoc#owner 0\ndoc#parent 0\ndoc#viewer 1\nfolder#viewer 0\ngroup#member 0\n";
+
+const SUBTRACTED_TWICE: &str =
+    r#"{"namespaces":{"user":{},"x":{"a":{"rewrite":{"exclusion":["this",{"computed":"b"}]},"types":["user"]},"b":{"rewrite":{"exclusion":["this",{"computed":"c"}]},"types":["user"]},"c":{"types":["user"]}}}}"#;
+
+const SUBTRACTED_FROM_ITSELF: &str =
+    r#"{"namespaces":{"user":{},"x":{"a":{"rewrite":{"exclusion":["this",{"computed":"b"}]},"types":["user"]},"b":{"rewrite":{"computed":"a"}}}}}"#;
+
+const BANNED: &str =
+    r#"write {"ops":[{"op":"insert","tuple":"doc:1#parent@folder:f"},{"op":"insert","tuple":"folder:f#viewer@group:v#member"},{"op":"insert","tuple":"group:v#member@user:ann"},{"op":"insert","tuple":"group:a#member@group:b#member"},{"op":"insert","tuple":"group:b#member@group:a#member"},{"op":"insert","tuple":"group:b#member@group:c#member"},{"op":"insert","tuple":"group:c#member@user:ann"}]}
+check {"node":"doc:1#viewer","user":"user:ann"}
+write {"ops":[{"op":"insert","tuple":"doc:1#banned@group:a#member"}]}
+check {"node":"doc:1#viewer","user":"user:ann"}
+write {"ops":[{"op":"delete","tuple":"group:b#member@group:c#member"}]}
+check {"node":"doc:1#viewer","user":"user:ann"}
+check {"node":"group:a#member","user":"user:ann"}
+"#;
+
+const BANNED_ANSWERS: &str = r#"200 {"shown":true,"zookie":"AQAAAAAAAAABAAAAAAAAAAE"}
+200 {"shown":true,"zookie":"AQAAAAAAAAABAAAAAAAAAAI"}
+200 {"allowed":true,"zookie":"AQAAAAAAAAABAAAAAAAAAAI"}
+200 {"shown":true,"zookie":"AQAAAAAAAAABAAAAAAAAAAM"}
+200 {"allowed":false,"zookie":"AQAAAAAAAAABAAAAAAAAAAM"}
+200 {"shown":true,"zookie":"AQAAAAAAAAABAAAAAAAAAAQ"}
+200 {"allowed":true,"zookie":"AQAAAAAAAAABAAAAAAAAAAQ"}
+200 {"allowed":false,"zookie":"AQAAAAAAAAABAAAAAAAAAAQ"}
+"#;
+
+const BANNED_BY_VIEWERS: &str =
+    r#"{"namespaces":{"doc":{"banned":{"types":["user","group#member","doc#viewer"]},"owner":{"types":["user"]},"parent":{"types":["folder"]},"viewer":{"rewrite":{"exclusion":[{"union":["this",{"computed":"owner"},{"tuple_to":{"relation":"viewer","tupleset":"parent"}}]},{"computed":"banned"}]},"types":["user"]}},"folder":{"viewer":{"types":["user","group#member"]}},"group":{"member":{"indexed":true,"types":["user","group#member"]}},"user":{}}}"#;
+
+const BANNED_BY_VIEWERS_ANSWER: &str =
+    "400 {\"error\":{\"cause\":\"cycle\",\"code\":9,\"cycle\":[\"doc#viewer\",\"-doc#banned\",\"+doc#viewer\"],\"name\":\"ConfigRefused\"}}\n";
+
+const EACH_OTHER: &str =
+    r#"{"namespaces":{"user":{},"x":{"a":{"rewrite":{"union":["this",{"computed":"b"}]},"types":["user"]},"b":{"rewrite":{"computed":"a"}}}}}"#;
+
+const BOTH: &str = r#"write {"ops":[{"op":"insert","tuple":"x:1#a@user:ann"}]}
+check {"node":"x:1#a","user":"user:ann"}
+check {"node":"x:1#b","user":"user:ann"}
+check {"node":"x:1#a","user":"user:bob"}
+check {"node":"x:1#b","user":"user:bob"}
+"#;
+
+const BOTH_ANSWERS: &str = r#"200 {"shown":true,"zookie":"AQAAAAAAAAABAAAAAAAAAAE"}
+200 {"shown":true,"zookie":"AQAAAAAAAAABAAAAAAAAAAI"}
+200 {"allowed":true,"zookie":"AQAAAAAAAAABAAAAAAAAAAI"}
+200 {"allowed":true,"zookie":"AQAAAAAAAAABAAAAAAAAAAI"}
+200 {"allowed":false,"zookie":"AQAAAAAAAAABAAAAAAAAAAI"}
+200 {"allowed":false,"zookie":"AQAAAAAAAAABAAAAAAAAAAI"}
+"#;
+
+const IN_THE_WAY: &str = r#"write {"ops":[{"op":"insert","tuple":"group:a#member@user:ann"}]}
+config {"namespaces":{"doc":{"banned":{"types":["user","group#member"]},"owner":{"types":["user"]},"parent":{"types":["folder"]},"viewer":{"rewrite":{"exclusion":[{"union":["this",{"computed":"owner"},{"tuple_to":{"relation":"viewer","tupleset":"parent"}}]},{"computed":"banned"}]},"types":["user"]}},"folder":{"viewer":{"types":["user","group#member"]}},"group":{"member":{"indexed":true,"types":["group#member"]}},"user":{}}}
+write {"ops":[{"op":"delete","tuple":"group:a#member@user:ann"},{"op":"insert","tuple":"doc:1#parent@user:ann"}]}
+write {"ops":[{"op":"delete","tuple":"group:a#member@user:bob"},{"op":"insert","tuple":"group:a#member@user:ann"}]}
+"#;
+
+const IN_THE_WAY_ANSWERS: &str = r#"200 {"shown":true,"zookie":"AQAAAAAAAAABAAAAAAAAAAE"}
+200 {"shown":true,"zookie":"AQAAAAAAAAABAAAAAAAAAAI"}
+409 {"error":{"code":10,"name":"TupleInTheWay","tuple":"group:a#member@user:ann"}}
+400 {"error":{"code":3,"name":"TypeRefused"}}
+409 {"error":{"code":6,"index":1,"name":"AlreadyThere"}}
+"#;

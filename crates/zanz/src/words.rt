@@ -4,17 +4,25 @@ ghost use Rattle.zanz.specs.Faults.{IsLineFault};
 
 use crate::fault::Fault;
 use clap::error::ErrorKind;
-use clap::{Arg, ArgAction, Command};
+use clap::{Arg, ArgAction, ArgMatches, Command};
 use names::Refusal;
 use std::alloc::Global;
 
-/// The store's number that the words of a command line name, of which the first is the program's.
-pub fn store_of(alloc: Global, words: &[String]) -> Result<u64, Fault>
+/// What a command line asks for.
+#[derive(Debug, Drop)]
+pub enum Task {
+    /// Lines are answered from a store with this number.
+    Run { store: u64 },
+    /// The configuration of a file is reported.
+    Config { file: String },
+}
+
+/// What the words of a command line ask for, of which the first is the program's.
+pub fn task_of(alloc: Global, words: &[String]) -> Result<Task, Fault>
     ensures { IfErr result IsLineFault }
 {
     match parse(alloc, words) {
-        Ok(Some(store)) => Ok(store),
-        Ok(None) => Err(Fault::CommandLine),
+        Ok(matches) => task_in(alloc, &matches),
         Err(e) => Err(if e.kind() == ErrorKind::OutOfMemory {
             Fault::Refused(Refusal::Memory)
         } else {
@@ -23,7 +31,7 @@ pub fn store_of(alloc: Global, words: &[String]) -> Result<u64, Fault>
     }
 }
 
-fn parse(alloc: Global, words: &[String]) -> Result<Option<u64>, clap::Error> {
+fn parse(alloc: Global, words: &[String]) -> Result<ArgMatches, clap::Error> {
     let store = Arg::new(alloc, "store")
         .long("store")
         .action(ArgAction::Set)
@@ -31,17 +39,49 @@ fn parse(alloc: Global, words: &[String]) -> Result<Option<u64>, clap::Error> {
     let run = Command::new(alloc, "run")
         .disable_help_flag(true)
         .arg(store)?;
+    let file = Arg::new(alloc, "file")
+        .required(true)
+        .action(ArgAction::Set);
+    let config = Command::new(alloc, "config")
+        .disable_help_flag(true)
+        .arg(file)?;
     let command = Command::new(alloc, "zanz")
         .disable_help_flag(true)
         .disable_help_subcommand(true)
         .subcommand_required(true)
-        .subcommand(run)?;
-    let matches = command.try_get_matches_from(words)?;
-    let Some((_, inner)) = matches.subcommand() else {
-        return Ok(None);
-    };
-    if !inner.contains_id("store") {
-        return Ok(Some(1));
+        .subcommand(run)?
+        .subcommand(config)?;
+    command.try_get_matches_from(words)
+}
+
+fn task_in(alloc: Global, matches: &ArgMatches) -> Result<Task, Fault>
+    ensures { IfErr result IsLineFault }
+{
+    match matches.subcommand() {
+        Some(("run", inner)) => run_task(inner),
+        Some(("config", inner)) => config_task(alloc, inner),
+        _ => Err(Fault::CommandLine),
     }
-    Ok(inner.get_one::<u64>("store"))
+}
+
+fn run_task(matches: &ArgMatches) -> Result<Task, Fault>
+    ensures { IfErr result IsLineFault }
+{
+    if !matches.contains_id("store") {
+        return Ok(Task::Run { store: 1 });
+    }
+    match matches.get_one::<u64>("store") {
+        Some(store) => Ok(Task::Run { store }),
+        None => Err(Fault::CommandLine),
+    }
+}
+
+fn config_task(alloc: Global, matches: &ArgMatches) -> Result<Task, Fault>
+    ensures { IfErr result IsLineFault }
+{
+    let Some(file) = matches.get_str("file") else {
+        return Err(Fault::CommandLine);
+    };
+    let file = String::from_str(alloc, file)?;
+    Ok(Task::Config { file })
 }

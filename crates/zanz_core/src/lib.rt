@@ -15,6 +15,7 @@ mod tests;
 mod watched;
 mod watched_writer;
 
+pub use put::say;
 pub use served::lines;
 pub use watched::Watched;
 pub use watched_writer::WatchedWriter;

@@ -1,5 +1,5 @@
 //! Writing, so that it is known how much was written where the writer fails.
-ghost use Rattle.std.specs.Prelude.{Some};
+ghost use Rattle.std.specs.Prelude.{◌≡◌, true, OnOk, Some};
 ghost use Rattle.std.specs.List.{flat_map};
 ghost use Rattle.names.specs.Calls.{told};
 ghost use Rattle.http_api.specs.Text.{reply_line};
@@ -25,6 +25,16 @@ pub fn put<W: Write>(writer: &mut WatchedWriter<W>, bytes: &[u8]) -> io::Result<
         rest = &rest[n..];
     }
     Ok(())
+}
+
+/// Writes the bytes and hands them on. Where the writer fails, it holds a beginning of them.
+pub fn say<W: Write>(writer: &mut WatchedWriter<W>, bytes: &[u8]) -> io::Result<()>
+    ensures wrote { Wrote result (W.contents writer.old.inner) (W.contents writer.new.inner) bytes.now }
+    ensures failed { FailsWith result writer.old.failed writer.new.failed }
+    ensures flushed { OnOk result (writer.new.flushed ≡ true) }
+{
+    put(writer, bytes)?;
+    writer.flush()
 }
 
 // Writes the parts, one after another.

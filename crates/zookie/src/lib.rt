@@ -1,17 +1,23 @@
 //! The token that callers keep of what they have seen: a store and a revision, as an opaque text of 23
 //! letters.
 //!
-//! After the zookie of Pang et al., "Zanzibar", USENIX ATC 2019, section 2.4.
+//! After the zookie of Pang et al., "Zanzibar", USENIX ATC 2019, section 2.2.
 #![tactic(auto)]
 
-ghost use Rattle.std.specs.Prelude.{◌≡◌, IfOk, string_bytes};
+ghost use Rattle.std.specs.Prelude.{◌≡◌, ℕ, ◌<◌, ◌^◌, Ok, Some, IfErr, IfOk, string_bytes};
+ghost use Rattle.names.specs.declared.refusal.Refusal.TheVariants.{BadZookie};
 ghost use Rattle.zookie.specs.Text.{zookie_text, zookie_bytes};
+ghost use Rattle.zookie.specs.Zookies.{zookie_of};
 
 use base64::engine::general_purpose::URL_SAFE_NO_PAD;
+use names::Refusal;
 use std::alloc::{AllocError, Global};
 
+mod consistency;
 #[cfg(test)]
 mod tests;
+
+pub use consistency::Consistency;
 
 /// A store's number and a revision of it.
 #[derive(Clone, Copy, Debug, PartialEq, Eq)]
@@ -47,5 +53,47 @@ impl Zookie {
         ensures { IfOk result (λ s. string_bytes s ≡ zookie_text self.now.store self.now.rev) }
     {
         URL_SAFE_NO_PAD.encode(alloc, &self.bytes())
+    }
+
+    // The zookie with these bytes, whatever the first of them is.
+    fn of_bytes(bytes: &[u8; 17]) -> Zookie
+        ensures { (store rev : ℕ) → store < 2 ^ 64 → rev < 2 ^ 64
+            → bytes.now ≡ zookie_bytes store rev → result ≡ zookie_of store rev }
+    {
+        Zookie {
+            store: u64::from_be_bytes([
+                bytes[1], bytes[2], bytes[3], bytes[4], bytes[5], bytes[6], bytes[7], bytes[8],
+            ]),
+            rev: u64::from_be_bytes([
+                bytes[9], bytes[10], bytes[11], bytes[12], bytes[13], bytes[14], bytes[15],
+                bytes[16],
+            ]),
+        }
+    }
+
+    // The one zookie whose text it can be.
+    fn decoded(text: &str) -> Option<Zookie>
+        ensures { (store rev : ℕ) → store < 2 ^ 64 → rev < 2 ^ 64
+            → text.now ≡ zookie_text store rev → result ≡ Some (zookie_of store rev) }
+    {
+        let mut bytes = [0u8; 17];
+        match URL_SAFE_NO_PAD.decode_slice(text.as_bytes(), &mut bytes) {
+            Ok(_) => Some(Zookie::of_bytes(&bytes)),
+            Err(_) => None,
+        }
+    }
+
+    /// The zookie of which it is the text. It takes no memory.
+    pub fn read(text: &str) -> Result<Zookie, Refusal>
+        ensures ok { IfOk result (λ z. text.now ≡ zookie_text z.store z.rev) }
+        ensures err { IfErr result (λ e. (e ≡ BadZookie) × ((store rev : ℕ) → store < 2 ^ 64
+            → rev < 2 ^ 64 → ¬ (text.now ≡ zookie_text store rev))) }
+        ensures round_trip { (store rev : ℕ) → store < 2 ^ 64 → rev < 2 ^ 64
+            → text.now ≡ zookie_text store rev → result ≡ Ok (zookie_of store rev) }
+    {
+        match Zookie::decoded(text) {
+            Some(zookie) if zookie.text().as_slice() == text.as_bytes() => Ok(zookie),
+            _ => Err(Refusal::BadZookie),
+        }
     }
 }

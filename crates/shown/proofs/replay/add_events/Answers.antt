@@ -1,9 +1,4 @@
-use Rattle.std.proofs.Common.{rules, ◌≡◌, List, sym, ap, ◌∙◌}
-use Rattle.names.specs.declared.tuple.Tuple.{Tuple}
-use Rattle.meaning.specs.Snap.{Snap}
-use Rattle.meaning.specs.TupleSet.{Tuples}
-use Rattle.meaning.specs.Config.{Configured}
-use Rattle.shown.specs.Replayed.{take_all, take_deleted}
+use Rattle.std.proofs.Common.{◌∙◌}
 use Rattle.shown.proofs.Replays.{ok_tuples, err_tuples}
 use Rattle.shown.proofs.replay.add_events.Goals as goal
 

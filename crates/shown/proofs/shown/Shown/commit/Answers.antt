@@ -1,4 +1,4 @@
-use Rattle.std.proofs.Common.{rules, ◌≡◌, ℕ, ◌+◌, sym, ap, ◌∙◌}
+use Rattle.std.proofs.Common.{◌∙◌}
 use Rattle.shown.proofs.Growth.{next_kept}
 use Rattle.shown.proofs.shown.Shown.commit.Goals as goal
 

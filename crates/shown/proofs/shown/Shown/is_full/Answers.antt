@@ -1,4 +1,4 @@
-use Rattle.std.proofs.Common.{rules, ◌≡◌, ◌+◌, ◌<◌, ◌≤◌, ap, ◌∙◌, map, arith}
+use Rattle.std.proofs.Common.{◌+◌, ◌≤◌, ap, ◌∙◌, map, arith}
 use Rattle.meaning.specs.Verdict.{is_full, event_of, max_tuples}
 use Rattle.shown.specs.Standing.{Kept}
 use Rattle.shown.proofs.Fullness.{too_many, too_long, by_revisions}

@@ -1,0 +1,7 @@
+use Rattle.std.proofs.Common.{◌≡◌, ◌<◌, ◌*◌}
+use Rattle.config_core.specs.Parts.{parts_of}
+use Rattle.config.specs.Graph.{Adds}
+use Rattle.config.proofs.graph.add_steps_from.Given as goal
+
+abbrev pub invariant-loop-to : goal.invariant-loop-to
+invariant-loop-to l = Adds (parts_of l.parts) l.initial.steps.items l.steps.items (λ s. (s.from ≡ l.from) × (s.to < l.to)) (2 * l.to)

@@ -1,0 +1,12 @@
+use Rattle.std.proofs.Common.{◌≡◌, ◌&&◌, drop, map}
+use Rattle.std.specs.List.{list_any}
+use Rattle.meaning.specs.Admits.{is_relation}
+use Rattle.config_core.specs.Parts.{configured}
+use Rattle.config_core.specs.Forms.{defined_of}
+use Rattle.config.specs.Valid.{is_parental}
+use Rattle.config.proofs.rewrites.is_tupleset.Given as goal
+
+abbrev pub invariant-loop-other : goal.invariant-loop-other
+invariant-loop-other l =
+    list_any (λ d. is_relation (record { namespace = l.namespace; relation = l.tupleset }) d && is_parental (configured l.namespaces l.relations) l.relation d) (map defined_of (drop l.other-index l.relations))
+    ≡ list_any (λ d. is_relation (record { namespace = l.namespace; relation = l.tupleset }) d && is_parental (configured l.namespaces l.relations) l.relation d) (map defined_of l.relations)

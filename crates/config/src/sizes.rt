@@ -1,0 +1,90 @@
+//! How large rewrites are.
+ghost use Rattle.std.specs.Prelude.{◌≡◌, ◌+◌, ◌<◌, ◌≤◌, ◌↔◌, ◌&&◌, IsTrue, IfSome, IfNone, map, nat_le};
+ghost use Rattle.config_core.specs.Forms.{form_of, forms_of};
+ghost use Rattle.config_core.specs.Size.{form_nodes, forms_nodes, form_depth, forms_depth};
+
+use config_core::Rewrite;
+
+/// What is left of so many nodes without those of the rewrite, if it has no more.
+#[cycle(nodes)]
+fn nodes_left(rewrite: &Rewrite, nodes: u32) -> Option<u32>
+    ensures some { IfSome result (λ left. form_nodes (form_of rewrite.now) + left ≡ nodes) }
+    ensures none { IfNone result (nodes < form_nodes (form_of rewrite.now)) }
+{
+    if nodes == 0 {
+        return None;
+    }
+    match rewrite {
+        Rewrite::This => Some(nodes - 1),
+        Rewrite::Computed(_) => Some(nodes - 1),
+        Rewrite::TupleTo { .. } => Some(nodes - 1),
+        Rewrite::Union(parts) => all_nodes_left(parts, nodes - 1),
+        Rewrite::Intersection(parts) => all_nodes_left(parts, nodes - 1),
+        Rewrite::Exclusion(base, less) => {
+            let left = nodes_left(base, nodes - 1)?;
+            nodes_left(less, left)
+        }
+    }
+}
+
+#[cycle(nodes)]
+fn all_nodes_left(parts: &[Rewrite], nodes: u32) -> Option<u32>
+    ensures some { IfSome result (λ left. forms_nodes (forms_of (map form_of parts.now)) + left ≡ nodes) }
+    ensures none { IfNone result (nodes < forms_nodes (forms_of (map form_of parts.now))) }
+{
+    let mut left = nodes;
+    for part in parts {
+        left = nodes_left(part, left)?;
+    }
+    Some(left)
+}
+
+#[cycle(depth)]
+fn is_shallow(rewrite: &Rewrite, depth: u32) -> bool
+    ensures { IsTrue result ↔ (form_depth (form_of rewrite.now) ≤ depth) }
+{
+    if depth == 0 {
+        return false;
+    }
+    match rewrite {
+        Rewrite::This => true,
+        Rewrite::Computed(_) => true,
+        Rewrite::TupleTo { .. } => true,
+        Rewrite::Union(parts) => are_shallow(parts, depth - 1),
+        Rewrite::Intersection(parts) => are_shallow(parts, depth - 1),
+        Rewrite::Exclusion(base, less) => {
+            is_shallow(base, depth - 1) && is_shallow(less, depth - 1)
+        }
+    }
+}
+
+#[cycle(depth)]
+fn are_shallow(parts: &[Rewrite], depth: u32) -> bool
+    ensures { IsTrue result ↔ (forms_depth (forms_of (map form_of parts.now)) ≤ depth) }
+{
+    for part in parts {
+        if !is_shallow(part, depth) {
+            return false;
+        }
+    }
+    true
+}
+
+fn has_few_nodes(rewrite: &Rewrite) -> bool
+    ensures { result ≡ nat_le (form_nodes (form_of rewrite.now)) 64 }
+{
+    nodes_left(rewrite, 64).is_some()
+}
+
+fn is_flat(rewrite: &Rewrite) -> bool
+    ensures { result ≡ nat_le (form_depth (form_of rewrite.now)) 16 }
+{
+    is_shallow(rewrite, 16)
+}
+
+/// Whether the rewrite has at most 64 nodes and depth 16.
+pub(crate) fn is_small(rewrite: &Rewrite) -> bool
+    ensures { result ≡ (nat_le (form_nodes (form_of rewrite.now)) 64 && nat_le (form_depth (form_of rewrite.now)) 16) }
+{
+    has_few_nodes(rewrite) && is_flat(rewrite)
+}

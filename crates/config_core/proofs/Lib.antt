@@ -1,0 +1,13 @@
+pub mod Naming
+pub mod ByItem
+pub mod Sections
+pub mod Spelt
+pub mod Written
+pub mod Plain
+pub mod Whole
+pub mod Ascending
+pub mod Described
+pub mod Returned
+pub mod Runs
+pub mod Shallow
+pub mod ReadBack

@@ -1,0 +1,10 @@
+pub mod Canonical
+pub mod Forms
+pub mod Keyed
+pub mod Order
+pub mod Parts
+pub mod Reading
+pub mod Shape
+pub mod Size
+pub mod Spelling
+pub mod Texts

@@ -1,0 +1,92 @@
+//! The parts of configurations.
+ghost use Rattle.std.specs.Prelude.{◌≡◌, ℕ, List, IsTrue, IfOk, IfErr, map, string_bytes};
+ghost use Rattle.names.specs.Refusals.{ReadCause};
+ghost use Rattle.names.specs.declared.relation.SubjectType.{SubjectType};
+ghost use Rattle.names.specs.Spelling.{IsSubjectType, type_text};
+ghost use Rattle.meaning.specs.Config.{Configured, Defined};
+ghost use Rattle.config_core.specs.Forms.{defined_of};
+ghost use Rattle.config_core.specs.Parts.{parts_of};
+ghost use Rattle.config_core.specs.Spelling.{IsName, IsNamed, defined_texts, Spells, AreSpelled};
+ghost use Rattle.config_core.specs.Texts.{relation_texts, config_texts};
+
+use crate::draft::{Draft, DraftRelation};
+use crate::named::name_rewrite;
+use crate::relation::Relation;
+use names::{Name, Refusal, RelationName, SubjectType};
+use std::alloc::Global;
+
+/// The namespaces and relations of a configuration.
+#[derive(Drop)]
+pub struct Parts {
+    pub namespaces: Vec<Name>,
+    pub relations: Vec<Relation>,
+}
+
+fn read_names(alloc: Global, texts: &[String]) -> Result<Vec<Name>, Refusal>
+    ensures ok { IfOk result (λ v. AreSpelled (λ n. n) IsName (map string_bytes texts.now) v.items) }
+    ensures err { IfErr result (λ e. ReadCause ((ns : List (List ℕ)) → ¬ (AreSpelled (λ n. n) IsName (map string_bytes texts.now) ns)) e) }
+{
+    let mut names = Vec::new(alloc);
+    for text in texts {
+        let name = Name::parse(alloc, text.as_str())?;
+        names.push(name)?;
+    }
+    Ok(names)
+}
+
+fn read_types(alloc: Global, texts: &[String]) -> Result<Vec<SubjectType>, Refusal>
+    ensures ok { IfOk result (λ v. AreSpelled type_text IsSubjectType (map string_bytes texts.now) v.items) }
+    ensures err { IfErr result (λ e. ReadCause ((ts : List SubjectType) → ¬ (AreSpelled type_text IsSubjectType (map string_bytes texts.now) ts)) e) }
+{
+    let mut types = Vec::new(alloc);
+    for text in texts {
+        let declared = SubjectType::parse(alloc, text.as_str())?;
+        types.push(declared)?;
+    }
+    Ok(types)
+}
+
+fn read_relation(alloc: Global, draft: &DraftRelation) -> Result<Relation, Refusal>
+    ensures ok { IfOk result (λ r. (defined_texts (defined_of r) ≡ relation_texts draft.now) × IsNamed (defined_of r)) }
+    ensures err { IfErr result (λ e. ReadCause ((d : Defined) → defined_texts d ≡ relation_texts draft.now → ¬ (IsNamed d)) e) }
+{
+    let namespace = Name::parse(alloc, draft.namespace.as_str())?;
+    let relation = Name::parse(alloc, draft.relation.as_str())?;
+    let types = read_types(alloc, &draft.types)?;
+    let rewrite = name_rewrite(alloc, &draft.rewrite)?;
+    Ok(Relation {
+        name: RelationName {
+            namespace,
+            relation,
+        },
+        types,
+        rewrite,
+        indexed: draft.indexed,
+    })
+}
+
+fn read_relations(alloc: Global, drafts: &[DraftRelation]) -> Result<Vec<Relation>, Refusal>
+    ensures ok { IfOk result (λ v. AreSpelled defined_texts IsNamed (map relation_texts drafts.now) (map defined_of v.items)) }
+    ensures err { IfErr result (λ e. ReadCause ((ds : List Defined) → ¬ (AreSpelled defined_texts IsNamed (map relation_texts drafts.now) ds)) e) }
+{
+    let mut relations = Vec::new(alloc);
+    for draft in drafts {
+        let relation = read_relation(alloc, draft)?;
+        relations.push(relation)?;
+    }
+    Ok(relations)
+}
+
+/// The configuration that a draft's texts spell. It is malformed where a text in a name's place is no
+/// name.
+pub fn read_parts(alloc: Global, draft: &Draft) -> Result<Parts, Refusal>
+    ensures ok { IfOk result (λ p. Spells (config_texts draft.now) (parts_of p)) }
+    ensures err { IfErr result (λ e. ReadCause ((c : Configured) → ¬ (Spells (config_texts draft.now) c)) e) }
+{
+    let namespaces = read_names(alloc, &draft.namespaces)?;
+    let relations = read_relations(alloc, &draft.relations)?;
+    Ok(Parts {
+        namespaces,
+        relations,
+    })
+}

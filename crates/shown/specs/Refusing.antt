@@ -1,0 +1,44 @@
+-- Why a commit is refused: no write and no configuration that is accepted gives it.
+use Rattle.std.specs.Prelude.{List, [], ◌∷◌, map, Bool, true, not, ◌&&◌, Option}
+use Rattle.std.specs.Ordering.{is_lt}
+use Rattle.names.specs.Order.{tuple_cmp}
+use Rattle.names.specs.declared.write.Op.{Op}
+use Rattle.names.specs.declared.write.OpKind.{OpKind}
+use Rattle.names.specs.declared.write.OpKind.TheVariants.{Touch, Delete}
+use Rattle.names.specs.declared.commit.Event.{Event}
+use Rattle.names.specs.declared.commit.EventKind.{EventKind}
+use Rattle.names.specs.declared.commit.EventKind.TheVariants.{Put, Del}
+use Rattle.names.specs.declared.commit.Commit as names_commit
+use Rattle.names.specs.declared.commit.Commit.TheVariants as kinds
+use Rattle.names.specs.declared.refusal.Refusal.{Refusal}
+use Rattle.names.specs.declared.refusal.Refusal.TheVariants.{Malformed}
+use Rattle.meaning.specs.Config.{Configured}
+use Rattle.shown.specs.Judged.{AreEventsOf, IsAccepted}
+use Rattle.meaning.specs.Verdict.{Newest, or_else, refused_if, write_cause, config_cause}
+
+-- the event's tuple is below that of the next
+abbrev pub is_below : Event → List Event → Bool
+is_below e [] = true
+is_below e (f ∷ fs) = is_lt (tuple_cmp e.tuple f.tuple)
+
+-- the events are in the order of their tuples, and no tuple comes twice
+abbrev pub is_in_order : List Event → Bool
+is_in_order [] = true
+is_in_order (e ∷ es) = is_below e es && is_in_order es
+
+abbrev pub touch_kind : EventKind → OpKind
+touch_kind Put = Touch
+touch_kind Del = Delete
+
+-- the operation that gives the event and asks least: a put may be a touch
+abbrev pub touch_of : Event → Op
+touch_of e = record { kind = touch_kind e.kind; tuple = e.tuple }
+
+-- why no write or configuration is accepted that gives the commit, or nothing
+abbrev pub commit_cause : Newest → names_commit.Commit Configured → Option Refusal
+commit_cause n (kinds.Tuples events) = or_else (refused_if Malformed (not (is_in_order events))) (write_cause n (map touch_of events))
+commit_cause n (kinds.Config config) = config_cause n config
+
+-- some accepted write gives the events
+abbrev pub IsWritten : Newest → List Event → Type 0
+IsWritten n events = (ops : List Op) × AreEventsOf ops events × IsAccepted n ops

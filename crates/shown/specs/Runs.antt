@@ -1,0 +1,60 @@
+-- What holds after any events.
+use Rattle.std.specs.Prelude.{◌≡◌, ◌≤◌, ℕ, Bool, List, [], ◌∷◌, ◌++◌, length, take, map, All, Result, if◌then◌else◌}
+use mathlib.Core.List.{IsPrefix}
+use Rattle.std.specs.Prelude.{nat_eq}
+use Rattle.meaning.specs.History.{History}
+use Rattle.shown.specs.declared.answer.Answer.{Answer}
+use Rattle.shown.specs.declared.answer.Refused.{Refused}
+use Rattle.shown.specs.declared.step.Step.{Step}
+use Rattle.shown.specs.declared.step.Loaded.{Loaded}
+use Rattle.shown.specs.declared.step.Step.TheVariants.{Open, Commit}
+use Rattle.shown.specs.declared.event.Event.{Event}
+use Rattle.shown.specs.declared.event.Event.TheVariants.{Entered, Told}
+use Rattle.shown.specs.declared.event.Question.{Question}
+use Rattle.shown.specs.declared.event.Outcome.{Outcome}
+use Rattle.shown.specs.declared.event.Outcome.TheVariants.{Done, Answered}
+use Rattle.shown.specs.World.{State, start, after_event, HasOutcome, IsReply, Happening, published}
+
+-- the state after the events
+abbrev pub after_events : State → List Event → State
+after_events s [] = s
+after_events s (e ∷ events) = after_events (after_event s e) events
+
+-- each event has its outcome, one after the other
+abbrev pub IsRun : State → List Happening → Type 0
+IsRun s [] = Unit {0}
+IsRun s (h ∷ run) = HasOutcome s h.event h.outcome × IsRun (after_event s h.event) run
+
+-- how many steps the seat knows of by what happened: those by which it was answered, or which it was told of
+abbrev pub known_by : ℕ → Event → Outcome → ℕ
+known_by seat (Entered other question) (Answered steps reply) = if nat_eq seat other then steps else 0
+known_by seat (Told other steps) Done = if nat_eq seat other then steps else 0
+known_by seat _ _ = 0
+
+-- the seat knows of no more steps than these
+abbrev pub KnowsNoMore : ℕ → List Happening → ℕ → Type 0
+KnowsNoMore seat run steps = All (λ h. known_by seat h.event h.outcome ≤ steps) run
+
+-- After any run, if the seat's question is answered, it is by the standing of a beginning of the posted steps, no shorter than what the seat knew.
+abbrev pub AnswersRise : List Happening → ℕ → Question → Type 0
+AnswersRise run seat question =
+    let s = after_events start (map (λ h. h.event) run) in
+    (steps : ℕ) (reply : Result (Answer Bool) Refused) → IsRun start run → HasOutcome s (Entered seat question) (Answered steps reply)
+    → IsReply (take steps s.posted) question reply × (steps ≤ length s.posted) × KnowsNoMore seat run steps
+
+-- the steps are that of an opening, and those of its stored commits: a beginning of what is stored, from what was loaded on
+pub record ComeInOrder (s : State) : Type 0 where
+  pub loaded : Loaded
+  pub commits : History
+  pub steps : s.posted ≡ Open loaded ∷ map (λ c. Commit c) commits
+  pub beginning : IsPrefix (loaded.commits ++ commits) s.stored
+
+abbrev pub IsOrdered : List Step → State → Type 0
+IsOrdered [] s = s.stored ≡ []
+IsOrdered (step ∷ steps) s = ComeInOrder s
+
+-- After any events nothing is stored where nothing is posted, and else the posted steps come in order. What is published is a beginning of them.
+abbrev pub PostsStored : List Event → Type 0
+PostsStored events =
+    let s = after_events start events in
+    IsOrdered s.posted s × (s.shown ≤ length s.posted) × IsPrefix (published s) s.posted

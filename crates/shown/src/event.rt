@@ -1,0 +1,49 @@
+//! What can happen to a published state, and what comes of it.
+
+use crate::answer::{Answer, Refused};
+use crate::step::Loaded;
+use config::Config;
+use names::{Commit, Node, Object};
+
+/// One atomic action. A seat is the number of a session.
+#[derive(Debug, Drop)]
+pub enum Event {
+    /// A commit is stored.
+    Stored(Commit<Config>),
+    /// A step is posted: it waits from then on to be published.
+    Posted(Posting),
+    /// So many of the posted steps that wait are published, the oldest first.
+    Published(u32),
+    /// The seat's session asks a question of what is published.
+    Entered(u64, Question),
+    /// The seat's session is told that so many steps are published.
+    Told(u64, u64),
+}
+
+/// Which step is posted. A commit's step has no commit of its own here: it is that of the oldest stored
+/// commit whose step is not posted.
+#[derive(Debug, Drop)]
+pub enum Posting {
+    /// The tables were opened.
+    Opening(Loaded),
+    /// The next stored commit.
+    NextCommit,
+}
+
+/// What a session asks.
+#[derive(Debug, Drop)]
+pub enum Question {
+    /// Whether the user is a member of the node.
+    Check(Node, Object),
+}
+
+/// What comes of an event.
+#[derive(Debug, Drop)]
+pub enum Outcome {
+    /// It cannot come now. Nothing has changed.
+    No,
+    /// It came.
+    Done,
+    /// The question was answered or refused by the standing of so many posted steps.
+    Answered(u64, Result<Answer<bool>, Refused>),
+}

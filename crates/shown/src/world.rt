@@ -1,0 +1,174 @@
+//! Publication as a pure machine: what is stored, what is posted, what is published, and what any number
+//! of sessions are answered. It is the plain one, and makes the published state anew at each publication.
+ghost use Rattle.std.specs.Prelude.{◌≡◌, ◌≤◌, IfOk, OnErr};
+ghost use Rattle.shown.specs.declared.event.Event.TheVariants.{Stored, Posted, Published, Entered, Told};
+ghost use Rattle.shown.specs.declared.event.Posting.TheVariants.{Opening, NextCommit};
+ghost use Rattle.shown.specs.Standing.{standing, kept_of, nothing};
+ghost use Rattle.shown.specs.WorldParts.{HaveRoom};
+
+use crate::event::{Event, Outcome, Posting, Question};
+use crate::shown::Shown;
+use crate::step::{Loaded, Step};
+use crate::within::is_within;
+use config::Config;
+use names::{Commit, Refusal};
+use std::alloc::{AllocError, Global};
+use std::collections::VecDeque;
+use std::marker::Model;
+
+/// Contracts see it as the stored history, the posted steps, and how many of these are published.
+#[derive(Drop)]
+pub struct World {
+    alloc: Global,
+    posted: Vec<Step>,
+    waiting: VecDeque<Commit<Config>>,
+    newest: Shown,
+    shown: usize,
+    front: Shown,
+}
+
+impl Model for World {
+    ghost use Rattle.shown.specs.Standing.{standing};
+    ghost use Rattle.shown.specs.World.{State};
+    ghost use Rattle.shown.specs.WorldCodes.{coded_state};
+    ghost use Rattle.shown.specs.WorldParts.{all_steps, Fit};
+
+    ghost Value = { State };
+
+    ghost coded = { coded_state };
+
+    ghost view = { λ w. record { stored = (standing (all_steps w.posted.items w.waiting.items)).history; posted = w.posted.items; shown = w.shown } };
+
+    ghost invariant = { λ w. Fit w.posted.items w.waiting.items w.newest w.shown w.front };
+}
+
+impl World {
+    ghost use Rattle.shown.specs.World.{start, has_begun, Happens, after_event, HasOutcome};
+
+    /// The machine before the first event.
+    pub fn new(alloc: Global) -> World
+        ensures { result ≡ start }
+    {
+        World {
+            alloc,
+            posted: Vec::new(alloc),
+            waiting: VecDeque::new(alloc),
+            newest: Shown::new(alloc),
+            shown: 0,
+            front: Shown::new(alloc),
+        }
+    }
+
+    /// What comes of an event. For want of memory nothing does.
+    pub fn event(&mut self, event: Event) -> Result<Outcome, AllocError>
+        ensures outcome { IfOk result (λ outcome. HasOutcome self.old event outcome) }
+        ensures state { IfOk result (λ _. self.new ≡ after_event self.old event) }
+        ensures err { OnErr result (self.new ≡ self.old) }
+    {
+        match event {
+            Event::Stored(commit) => self.store(commit),
+            Event::Posted(Posting::Opening(loaded)) => self.open(loaded),
+            Event::Posted(Posting::NextCommit) => self.post(),
+            Event::Published(steps) => self.publish(steps),
+            Event::Entered(seat, question) => self.answer(seat, &question),
+            Event::Told(seat, steps) => Ok(self.tell(seat, steps)),
+        }
+    }
+
+    fn has_begun(&self) -> bool
+        ensures { result ≡ has_begun self.now.posted }
+    {
+        !self.posted.is_empty()
+    }
+
+    fn store(&mut self, commit: Commit<Config>) -> Result<Outcome, AllocError>
+        ensures ok { IfOk result (λ outcome. Happens self.old (Stored commit) outcome self.new) }
+        ensures err { OnErr result (self.new ≡ self.old) }
+    {
+        if !self.has_begun() || self.newest.refuses(&commit)? {
+            return Ok(Outcome::No);
+        }
+        self.waiting.reserve(1)?;
+        self.newest.commit(&commit)?;
+        self.waiting.push_back_reserved(commit);
+        Ok(Outcome::Done)
+    }
+
+    fn open(&mut self, loaded: Loaded) -> Result<Outcome, AllocError>
+        ensures ok { IfOk result (λ outcome. Happens self.old (Posted (Opening loaded)) outcome self.new) }
+        ensures err { OnErr result (self.new ≡ self.old) }
+    {
+        if self.has_begun() || !is_within(loaded.commits.as_slice()) {
+            return Ok(Outcome::No);
+        }
+        self.posted.reserve(1)?;
+        self.newest.open(&loaded)?;
+        self.posted.push_reserved(Step::Open(loaded));
+        Ok(Outcome::Done)
+    }
+
+    fn post(&mut self) -> Result<Outcome, AllocError>
+        ensures ok { IfOk result (λ outcome. Happens self.old (Posted NextCommit) outcome self.new) }
+        ensures err { OnErr result (self.new ≡ self.old) }
+    {
+        self.posted.reserve(1)?;
+        let Some(commit) = self.waiting.pop_front() else {
+            return Ok(Outcome::No);
+        };
+        self.posted.push_reserved(Step::Commit(commit));
+        Ok(Outcome::Done)
+    }
+
+    fn publish(&mut self, steps: u32) -> Result<Outcome, AllocError>
+        ensures ok { IfOk result (λ outcome. Happens self.old (Published steps) outcome self.new) }
+        ensures err { OnErr result (self.new ≡ self.old) }
+    {
+        let steps = steps as usize;
+        if steps == 0 || steps > self.posted.len() - self.shown {
+            return Ok(Outcome::No);
+        }
+        let shown = self.shown + steps;
+        self.front = state_of(self.alloc, &self.posted[..shown])?;
+        self.shown = shown;
+        Ok(Outcome::Done)
+    }
+
+    fn answer(&self, seat: u64, question: &Question) -> Result<Outcome, AllocError>
+        ensures { IfOk result (λ outcome. HasOutcome self.now (Entered seat question.now) outcome) }
+    {
+        if self.shown == 0 {
+            return Ok(Outcome::No);
+        }
+        let reply = match question {
+            Question::Check(node, user) => self.front.check(node, user),
+        };
+        match reply {
+            Ok(answer) => Ok(Outcome::Answered(self.shown as u64, Ok(answer))),
+            Err(refused) => match &refused.why {
+                Refusal::Memory => Err(AllocError),
+                _ => Ok(Outcome::Answered(self.shown as u64, Err(refused))),
+            },
+        }
+    }
+
+    fn tell(&self, seat: u64, steps: u64) -> Outcome
+        ensures { HasOutcome self.now (Told seat steps) result }
+    {
+        if !self.has_begun() || steps > self.shown as u64 {
+            return Outcome::No;
+        }
+        Outcome::Done
+    }
+}
+
+/// What the steps leave.
+fn state_of(alloc: Global, steps: &[Step]) -> Result<Shown, AllocError>
+    requires { HaveRoom nothing steps.now }
+    ensures { IfOk result (λ s. s ≡ kept_of (standing steps.now)) }
+{
+    let mut shown = Shown::new(alloc);
+    for step in steps {
+        shown.apply(step)?;
+    }
+    Ok(shown)
+}
