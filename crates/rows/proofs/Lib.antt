@@ -1,0 +1,13 @@
+pub mod MarkRuns
+pub mod Bases
+pub mod Places
+pub mod Steps
+pub mod Coming
+pub mod Retaining
+pub mod Touching
+pub mod Committing
+pub mod Loading
+pub mod Admitted
+pub mod Fullness
+pub mod Settling
+pub mod Listing

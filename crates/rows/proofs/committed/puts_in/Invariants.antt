@@ -1,0 +1,7 @@
+use Rattle.std.proofs.Common.{◌≡◌, ◌+◌, drop}
+use Rattle.meaning.specs.History.{puts_in}
+use Rattle.rows.proofs.committed.puts_in.Given as goal
+
+-- what is counted and what is left are all
+abbrev pub invariant-loop-event : goal.invariant-loop-event
+invariant-loop-event l = l.puts + puts_in (drop l.event-index l.events) ≡ puts_in l.events

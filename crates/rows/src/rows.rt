@@ -1,0 +1,280 @@
+//! Histories.
+ghost use Rattle.std.specs.Prelude.{◌≡◌, ℕ, ◌+◌, ◌-◌, ◌<◌, ◌≤◌, List, [], ◌∷◌, ◌++◌, length, take, drop, filter, IfOk, OnOk, OnErr, not};
+ghost use Rattle.std.specs.List.{find};
+ghost use Rattle.std.specs.Option.{option_copied};
+ghost use Rattle.meaning.specs.Admits.{admits};
+ghost use Rattle.names.specs.declared.tuple.Tuple.{Tuple};
+ghost use Rattle.meaning.specs.TupleSet as set;
+ghost use Rattle.meaning.specs.Verdict.{max_rev, max_rows};
+ghost use Rattle.rows.specs.Retained.{newest, IsRetained, snap_at, spans_of, newest_of, with_commit, without_newest, trimmed, HasRoom, commits_between, is_touched_after, is_of};
+ghost use Rattle.rows.specs.Loads.{retained_of, loaded_to, IsWithin};
+
+use crate::committed::{drop_commits, kept_events, push_commit, puts_in};
+use crate::dated::{Dated, config_up_to, drop_config, push_config, settle_configs};
+use crate::lists::{first_refused, tuples_of};
+use crate::loaded::{Counts, Loaded};
+use crate::mark::{Mark, last_rev, stands_at};
+use crate::marking::{based, put_all, settle_commits, undo};
+use crate::view::View;
+use config::Config;
+use names::{Commit, Event, Node, Tuple};
+use std::alloc::{AllocError, Global};
+use std::collections::BTreeMap;
+use std::marker::Model;
+
+/// The history from the floor on.
+#[derive(Drop)]
+pub struct Rows {
+    alloc: Global,
+    number: u64,
+    floor: u64,
+    config: Config,
+    configs: Vec<Dated>,
+    tuples: BTreeMap<Tuple, Vec<Mark>>,
+    commits: Vec<Commit<Config>>,
+    counts: Counts,
+}
+
+impl Model for Rows {
+    ghost use Rattle.rows.specs.Retained.{Retained};
+    ghost use Rattle.rows.specs.Codes.{coded_retained};
+    ghost use Rattle.rows.specs.Kept.{retained, IsKept};
+
+    ghost Value = { Retained };
+
+    ghost coded = { coded_retained };
+
+    ghost view = { λ s. retained s.number s.floor s.config s.tuples s.commits.items };
+
+    ghost invariant = { λ s. IsKept (retained s.number s.floor s.config s.tuples s.commits.items) s.tuples s.configs.items s.counts };
+}
+
+impl Rows {
+    /// The history that tables held.
+    pub fn new(alloc: Global, loaded: &Loaded) -> Result<Rows, AllocError>
+        requires { IsWithin loaded.now }
+        ensures { IfOk result (λ rows. rows ≡ retained_of loaded.now) }
+    {
+        let commits = loaded.commits.as_slice();
+        let mut rows = Rows::with_base(alloc, loaded)?;
+        for i in 0..commits.len() {
+            rows.commit(&commits[i])?;
+        }
+        Ok(rows)
+    }
+
+    /// The history with no commit above the floor.
+    fn with_base(alloc: Global, loaded: &Loaded) -> Result<Rows, AllocError>
+        requires { IsWithin loaded.now }
+        ensures { IfOk result (λ rows. rows ≡ loaded_to loaded.now 0) }
+    {
+        let tuples = loaded.tuples.as_slice();
+        let count = tuples.len() as u64;
+        Ok(Rows {
+            alloc,
+            number: loaded.number,
+            floor: loaded.floor,
+            config: loaded.config.again(alloc)?,
+            configs: Vec::new(alloc),
+            tuples: based(alloc, tuples)?,
+            commits: Vec::new(alloc),
+            counts: Counts {
+                rows: count,
+                tuples: count,
+            },
+        })
+    }
+
+    /// The store's number.
+    pub fn number(&self) -> u64
+        ensures { result ≡ self.now.number }
+    {
+        self.number
+    }
+
+    /// The least revision that is retained.
+    pub fn floor(&self) -> u64
+        ensures { result ≡ self.now.floor }
+    {
+        self.floor
+    }
+
+    /// The newest revision.
+    pub fn newest(&self) -> u64
+        ensures newest { result ≡ newest self.now }
+        ensures within { result ≤ max_rev }
+    {
+        self.floor + self.commits.len() as u64
+    }
+
+    /// How large the history is.
+    pub fn counts(&self) -> Counts
+        ensures rows { result.rows ≡ spans_of self.now }
+        ensures tuples { result.tuples ≡ set.len (newest_of self.now).held.tuples }
+        ensures within { result.rows ≤ max_rows }
+    {
+        self.counts
+    }
+
+    /// What a retained revision holds.
+    pub fn at(&self, rev: u64) -> View<'_>
+        requires { IsRetained self.now rev }
+        ensures { result ≡ snap_at self.now rev }
+    {
+        View::of(self, rev)
+    }
+
+    /// Whether a tuple is there at a revision.
+    pub(crate) fn has(&self, rev: u64, tuple: &Tuple) -> bool
+        requires { IsRetained self.now rev }
+        ensures { result ≡ set.contains (snap_at self.now rev).tuples tuple.now }
+    {
+        match self.tuples.get(tuple) {
+            Some(marks) => stands_at(marks, rev),
+            None => false,
+        }
+    }
+
+    /// The tuples of the node at a revision.
+    pub(crate) fn tuples_of(
+        &self,
+        alloc: Global,
+        rev: u64,
+        node: &Node,
+    ) -> Result<Vec<Tuple>, AllocError>
+        requires { IsRetained self.now rev }
+        ensures { IfOk result (λ v. v.items ≡ filter (is_of node.now) (set.items (snap_at self.now rev).tuples)) }
+    {
+        tuples_of(alloc, &self.tuples, rev, node)
+    }
+
+    /// The first current tuple that the configuration does not admit.
+    pub(crate) fn tuple_in_the_way(&self, config: &Config) -> Option<&Tuple>
+        ensures { option_copied result ≡ find (λ t. not (admits config.now t)) (set.items (newest_of self.now).held.tuples) }
+    {
+        first_refused(&self.tuples, config)
+    }
+
+    /// The configuration at a revision.
+    pub(crate) fn config_at(&self, rev: u64) -> &Config
+        requires { IsRetained self.now rev }
+        ensures { result.now ≡ (snap_at self.now rev).config }
+    {
+        config_up_to(&self.config, &self.configs, rev)
+    }
+
+    /// The commits of the revisions above one, up to another.
+    pub fn events(&self, from: u64, to: u64) -> &[Commit<Config>]
+        requires from { self.now.floor ≤ from }
+        requires order { from ≤ to }
+        requires to { to ≤ newest self.now }
+        ensures { result.now ≡ commits_between self.now from to }
+    {
+        let start = (from - self.floor) as usize;
+        let end = (to - self.floor) as usize;
+        &self.commits[start..end]
+    }
+
+    /// Whether no commit above the revision has an event on the tuple.
+    pub fn unchanged(&self, tuple: &Tuple, rev: u64) -> bool
+        requires { self.now.floor ≤ rev }
+        ensures { result ≡ not (is_touched_after self.now tuple.now rev) }
+    {
+        match self.tuples.get(tuple) {
+            Some(marks) => last_rev(marks) <= rev,
+            None => true,
+        }
+    }
+
+    /// Adds a commit. For want of memory it changes nothing.
+    pub fn commit(&mut self, commit: &Commit<Config>) -> Result<(), AllocError>
+        requires { HasRoom self.old commit.now }
+        ensures ok { OnOk result (self.new ≡ with_commit self.old commit.now) }
+        ensures err { OnErr result (self.new ≡ self.old) }
+    {
+        match commit {
+            Commit::Tuples(events) => self.commit_events(events.as_slice()),
+            Commit::Config(config) => self.commit_config(config),
+        }
+    }
+
+    fn commit_events(&mut self, events: &[Event]) -> Result<(), AllocError>
+        requires { HasRoom self.old (Commit.Tuples events.now) }
+        ensures ok { OnOk result (self.new ≡ with_commit self.old (Commit.Tuples events.now)) }
+        ensures err { OnErr result (self.new ≡ self.old) }
+    {
+        let rev = self.newest() + 1;
+        let kept = kept_events(self.alloc, events)?;
+        let change = put_all(self.alloc, &mut self.tuples, events, rev)?;
+        match push_commit(&mut self.commits, kept) {
+            Ok(()) => {
+                self.counts.rows += puts_in(events);
+                self.counts.tuples += change.come as u64;
+                self.counts.tuples -= change.gone as u64;
+                Ok(())
+            }
+            Err(e) => {
+                let _ = undo(&mut self.tuples, events);
+                Err(e)
+            }
+        }
+    }
+
+    fn commit_config(&mut self, config: &Config) -> Result<(), AllocError>
+        requires { HasRoom self.old (Commit.Config config.now) }
+        ensures ok { OnOk result (self.new ≡ with_commit self.old (Commit.Config config.now)) }
+        ensures err { OnErr result (self.new ≡ self.old) }
+    {
+        let rev = self.newest() + 1;
+        let dated = Dated {
+            rev,
+            config: config.again(self.alloc)?,
+        };
+        let kept = Commit::Config(config.again(self.alloc)?);
+        push_config(&mut self.configs, dated)?;
+        match push_commit(&mut self.commits, kept) {
+            Ok(()) => Ok(()),
+            Err(e) => {
+                drop_config(&mut self.configs);
+                Err(e)
+            }
+        }
+    }
+
+    /// Takes the newest commit off again. It takes no memory.
+    pub fn back(&mut self)
+        requires { 0 < length self.old.commits }
+        ensures { self.new ≡ without_newest self.old }
+    {
+        let Some(commit) = self.commits.pop() else {
+            return;
+        };
+        match commit {
+            Commit::Tuples(events) => {
+                let events = events.as_slice();
+                let change = undo(&mut self.tuples, events);
+                self.counts.rows -= puts_in(events);
+                self.counts.tuples += change.gone as u64;
+                self.counts.tuples -= change.come as u64;
+            }
+            Commit::Config(_) => drop_config(&mut self.configs),
+        }
+    }
+
+    /// Raises the floor: what lies below it goes. It takes no memory.
+    pub fn trim(&mut self, floor: u64)
+        requires { floor ≤ newest self.old }
+        ensures raised { self.old.floor ≤ floor → self.new ≡ trimmed self.old floor }
+        ensures kept { floor ≤ self.old.floor → self.new ≡ self.old }
+    {
+        if floor <= self.floor {
+            return;
+        }
+        let count = (floor - self.floor) as usize;
+        let settled = &self.commits[..count];
+        self.counts.rows = settle_commits(&mut self.tuples, settled, self.counts.rows);
+        drop_commits(&mut self.commits, count);
+        settle_configs(&mut self.config, &mut self.configs, floor);
+        self.floor = floor;
+    }
+}

@@ -1,0 +1,65 @@
+-- What the INSERT of a configuration does.
+use Rattle.std.proofs.Common.{◌≡◌, ℕ, pos, [], ◌∷◌, ◌++◌, map, None, Ok, refl, sym, ap, subst, ◌∙◌, arith}
+use Rattle.std.specs.List.Sorted.{IsPermutation}
+use Rattle.std.proofs.lemmas.List.Sorted.{IsPermutation-cons, IsPermutation-trans}
+use Rattle.sqlite.specs.declared.types.Value.TheVariants.{Int, Text}
+use Rattle.sqlite.specs.Order.{Row}
+use Rattle.sqlite.specs.Table.{Table}
+use Rattle.sqlite.specs.Source.TheVariants.{Values}
+use Rattle.sqlite.specs.Command.TheVariants.{Insert}
+use Rattle.sqlite.specs.Edit.{Edit, edit_of, edited}
+use Rattle.sqlite.specs.Rowids.TheVariants.{Chosen}
+use Rattle.sqlite.specs.Does.{Tally, Does}
+use Rattle.sqlite.specs.Rows.{Written}
+use Rattle.sqlite.specs.Tree.{Trees}
+use Rattle.sqlite.specs.Effect.{Database}
+use Rattle.sqlite.specs.State.{State, mode_of, Writes}
+use Rattle.sqlite.specs.View.{IsShaped}
+use Rattle.sqlite_trees.specs.declared.store.Shape.TheVariants.{Table as TableShape}
+use Rattle.sqlite.specs.Listing.{understood}
+use Rattle.sqlite.proofs.Callers.{statement_of, one_step}
+use Rattle.store_core.specs.Format.{schema, config_table}
+use Rattle.store_core.specs.Tables.{Dated, Contents, Holds, Lists, span_cells, config_row, entry_cells}
+use Rattle.store_core.specs.Steps.{with_config}
+use Rattle.store_core.proofs.Texts.{config_insert_text, config_terms}
+use Rattle.store_core.proofs.Insert.{went, same_value, cast_null, cast_int}
+use Rattle.store_core.proofs.Update.{shaped_edit}
+use Rattle.store_core.proofs.Lists.{put_all_fresh}
+
+abbrev pub config_params : Dated → Row
+config_params c = Int (pos c.rev) ∷ Text c.text ∷ []
+
+abbrev config_at : Table
+config_at = record config_table { tree = 2 }
+
+pub inserts_config : (old new : State) (c : Dated) (count : ℕ) (h : Contents) → Holds old.now h
+    → Writes old new None (Insert 1 (Values config_terms 3)) (statement_of config_insert_text (understood schema config_insert_text)) (config_params c) count → Holds new.now (with_config c h)
+inserts_config old new c count h holds w =
+    let params = config_params c in
+    let db = old.now.trees in
+    let command = Insert 1 (Values config_terms 3) in
+    let text = statement_of config_insert_text (understood schema config_insert_text) in
+    let done = went (subst (λ k. Does old.step_limit (mode_of old) params (record old.now { schema = k }) text None command (Ok (w.tally, new.now))) holds.schema_is w.changed) in
+    let now = ap (λ (p : Tally × Database). p.1) (same_value (went (went done.2).2).2) in
+    let given = went done.1 in
+    let written = went (went given.2).2 in
+    let counted = went written.2 in
+    let trees : done.0.trees ≡ written.0 = ap (λ (it : Written). it.trees) (same_value counted.2) ∙ same_value counted.1 in
+    let edit : Edit = edit_of db config_at [] Chosen 0 given.0 in
+    let did = one_step schema _ db written.0 edit refl written.1 in
+    let news : edit.news ≡ config_row c ∷ [] = ap (λ all. (edit_of db config_at [] Chosen 0 all).news) given.1.1 ∙ rw (cast_null, cast_int (pos c.rev)) in
+    let put : IsPermutation (edit.news ++ db 2) (edited db edit) = put_all_fresh edit.news (db 2) did.fresh in
+    let tree : new.now.trees 2 ≡ edited db edit = ap (λ (d : Database). d.trees 2) now ∙ ap (λ (t : Trees). t 2) trees ∙ did.rows in
+    let apart : (t : ℕ) → written.0 t ≡ db t → new.now.trees t ≡ db t = λ t same. ap (λ (d : Database). d.trees t) now ∙ ap (λ (all : Trees). all t) trees ∙ same in
+    let row_same : new.now.trees 0 ≡ db 0 = apart 0 (did.tables.0 (λ e. absurd (omega (arith, e)))) in
+    let entry_same : new.now.trees 3 ≡ db 3 = apart 3 (did.tables.1.1.0 (λ e. absurd (omega (arith, e)))) in
+    record {
+      schema_is = ap (λ (d : Database). d.schema) now;
+      spans = subst (λ rows. Lists rows (map span_cells h.spans)) (sym row_same) holds.spans;
+      configs = subst (IsPermutation (config_row c ∷ map config_row h.configs)) (sym tree)
+          (IsPermutation-trans _ (config_row c ∷ db 2) _ (IsPermutation-cons (config_row c) _ _ holds.configs) (subst (λ n. IsPermutation (n ++ db 2) (edited db edit)) news put));
+      entries = subst (λ rows. Lists rows (map entry_cells h.entries)) (sym entry_same) holds.entries;
+      spans_shaped = subst (IsShaped TableShape) (sym row_same) holds.spans_shaped;
+      configs_shaped = subst (IsShaped TableShape) (sym tree) (shaped_edit db edit did.keyed holds.configs_shaped);
+      entries_shaped = subst (IsShaped TableShape) (sym entry_same) holds.entries_shaped;
+    }

@@ -1,0 +1,86 @@
+-- What the INSERT of a span does.
+use Rattle.std.proofs.Common.{◌≡◌, ◌⊎◌, inl, inr, ℕ, pos, ℤ, [], ◌∷◌, ◌++◌, map, drop, Bool, true, false, cond, None, Ok, Err, Result, refl, sym, ap, subst, ◌∙◌, arith}
+use Rattle.std.specs.List.Sorted.{IsPermutation}
+use Rattle.std.proofs.lemmas.List.Sorted.{IsPermutation-cons, IsPermutation-trans, IsPermutation-map}
+use Rattle.sqlite.specs.declared.types.Value.{Value}
+use Rattle.sqlite.specs.declared.types.Value.TheVariants.{Null, Int, Text}
+use Rattle.sqlite.specs.Order.{Row}
+use Rattle.sqlite.specs.Ops.{unary}
+use Rattle.sqlite.specs.Kind.TheVariants.{Integer}
+use Rattle.sqlite.specs.Source.TheVariants.{Values}
+use Rattle.sqlite.specs.Command.TheVariants.{Insert}
+use Rattle.sqlite.specs.Edit.{Edit, edit_of, edited, next_rowid}
+use Rattle.sqlite.specs.Cast.{cast}
+use Rattle.sqlite.specs.Rowids.TheVariants.{Chosen}
+use Rattle.sqlite.specs.Does.{Tally, Does}
+use Rattle.sqlite.specs.Rows.{Written}
+use Rattle.sqlite.specs.Tree.{Trees}
+use Rattle.sqlite.specs.Effect.{Database}
+use Rattle.sqlite.specs.State.{State, mode_of, Writes}
+use Rattle.sqlite.specs.Listing.{understood}
+use Rattle.sqlite.proofs.Callers.{statement_of, one_step}
+use Rattle.store_core.specs.Format.{schema, row_table}
+use Rattle.store_core.specs.Tables.{Span, Contents, Holds, Lists, span_cells, config_row, entry_cells}
+use Rattle.store_core.proofs.Texts.{insert_text, insert_terms}
+use Rattle.sqlite.specs.View.{IsShaped}
+use Rattle.sqlite_trees.specs.declared.store.Shape.TheVariants.{Table as TableShape}
+use Rattle.store_core.proofs.Update.{shaped_edit}
+use Rattle.store_core.proofs.Lists.{put_all_fresh}
+
+either : (b : Bool) (x : Value) → cond b x x ≡ x
+either true x = refl
+either false x = refl
+
+pub cast_null : cast Integer Null ≡ Null
+unfolding unary
+cast_null = either _ Null
+
+pub cast_int : (n : ℤ) → cast Integer (Int n) ≡ Int n
+unfolding unary
+cast_int n = either _ (Int n)
+
+-- a part that gave a value did not stop on the way
+pub went : {B E R : Type 0} {b : B} {Stops : E → Type 0} → ((stop : E) × Stops stop × (Ok b ≡ Err stop)) ⊎ R → R
+went (inl stopped) = absurd (let e = stopped.2 in cc)
+went (inr on) = on
+
+pub same_value : {B E : Type 0} {a b : B} → ◌≡◌ {A = Result B E} (Ok a) (Ok b) → a ≡ b
+same_value e = cc
+
+abbrev pub insert_params : Span → Row
+insert_params s = Text s.namespace ∷ Text s.object ∷ Text s.relation ∷ Text s.subject ∷ Int (pos s.added) ∷ []
+
+abbrev pub opened : Span → Span
+opened s = record s { removed = 0 }
+
+pub inserts : (old new : State) (s : Span) (count : ℕ) (h : Contents) → Holds old.now h → Writes old new None (Insert 0 (Values insert_terms 7)) (statement_of insert_text (understood schema insert_text)) (insert_params s) count
+    → Holds new.now (record h { spans = opened s ∷ h.spans })
+inserts old new s count h holds w =
+    let params = insert_params s in
+    let db = old.now.trees in
+    let command = Insert 0 (Values insert_terms 7) in
+    let text = statement_of insert_text (understood schema insert_text) in
+    let done = went (subst (λ k. Does old.step_limit (mode_of old) params (record old.now { schema = k }) text None command (Ok (w.tally, new.now))) holds.schema_is w.changed) in
+    let now = ap (λ (p : Tally × Database). p.1) (same_value (went (went done.2).2).2) in
+    let given = went done.1 in
+    let written = went (went given.2).2 in
+    let counted = went written.2 in
+    let trees : done.0.trees ≡ written.0 = ap (λ (it : Written). it.trees) (same_value counted.2) ∙ same_value counted.1 in
+    let edit : Edit = edit_of db row_table [] Chosen 0 given.0 in
+    let did = one_step schema _ db written.0 edit refl written.1 in
+    let cells = span_cells (opened s) in
+    let news : edit.news ≡ (Int (next_rowid (db 0)) ∷ cells) ∷ [] = ap (λ all. (edit_of db row_table [] Chosen 0 all).news) given.1.1 ∙ rw (cast_null, cast_int (pos s.added), cast_int (pos 0)) in
+    let put : IsPermutation (edit.news ++ db 0) (edited db edit) = put_all_fresh edit.news (db 0) did.fresh in
+    let tree : new.now.trees 0 ≡ edited db edit = ap (λ (d : Database). d.trees 0) now ∙ ap (λ (t : Trees). t 0) trees ∙ did.rows in
+    let apart : (t : ℕ) → written.0 t ≡ db t → new.now.trees t ≡ db t = λ t same. ap (λ (d : Database). d.trees t) now ∙ ap (λ (all : Trees). all t) trees ∙ same in
+    record {
+      schema_is = ap (λ (d : Database). d.schema) now;
+      spans = subst (λ rows. Lists rows (cells ∷ map span_cells h.spans)) (sym tree)
+          (IsPermutation-trans _ (cells ∷ map (drop 1) (db 0)) _ (IsPermutation-cons cells _ _ holds.spans)
+          (subst (λ n. IsPermutation (map (drop 1) (n ++ db 0)) (map (drop 1) (edited db edit))) news (IsPermutation-map (drop 1) _ _ put)));
+      configs = subst (IsPermutation (map config_row h.configs)) (sym (apart 2 (did.tables.1.0 (λ e. absurd (omega (arith, e)))))) holds.configs;
+      configs_shaped = subst (IsShaped TableShape) (sym (apart 2 (did.tables.1.0 (λ e. absurd (omega (arith, e)))))) holds.configs_shaped;
+      entries = subst (λ rows. Lists rows (map entry_cells h.entries)) (sym (apart 3 (did.tables.1.1.0 (λ e. absurd (omega (arith, e)))))) holds.entries;
+      spans_shaped = subst (IsShaped TableShape) (sym tree) (shaped_edit db edit did.keyed holds.spans_shaped);
+      entries_shaped = subst (IsShaped TableShape) (sym (apart 3 (did.tables.1.1.0 (λ e. absurd (omega (arith, e)))))) holds.entries_shaped;
+    }

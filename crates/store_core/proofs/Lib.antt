@@ -1,0 +1,15 @@
+pub mod Texts
+pub mod Lists
+pub mod Update
+pub mod Insert
+pub mod Dating
+pub mod Scan
+pub mod Close
+pub mod Set
+pub mod Dropping
+pub mod Inside
+pub mod CreateLemmas
+pub mod Whole
+pub mod LoadLemmas
+pub mod Sorting
+pub mod LeavesLemmas

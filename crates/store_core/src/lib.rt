@@ -1,0 +1,17 @@
+//! The tables of a store over `sqlite`: three tables, what each fixed statement does to them, and the
+//! transactions that create, write, configure and trim a store.
+//!
+//! A connection's tables are seen as their contents: spans of revisions of tuples, configurations with their
+//! revisions, and the values of the state. Which contents are the history of a store is not decided here.
+#![tactic(auto)]
+
+mod commit;
+mod loading;
+mod statement;
+mod stored;
+#[cfg(test)]
+mod tests;
+
+pub use commit::{configure, create, trim, write};
+pub use loading::{is_open, load};
+pub use stored::{Event, Stored, StoredConfig, StoredEntry, StoredSpan, TupleText};

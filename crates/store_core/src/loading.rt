@@ -1,0 +1,163 @@
+//! What the tables hold, read whole.
+ghost use Rattle.std.specs.Prelude.{◌≡◌, false, map, IsTrue, IfOk, OnOk, IsPermutation, IsSorted};
+ghost use Rattle.sqlite.specs.State.{HasCleanDisk, IsUnchanged, Survives};
+ghost use Rattle.sqlite.specs.Held.{state};
+ghost use Rattle.store_core.specs.Format.{schema};
+ghost use Rattle.store_core.specs.Tables.{Contents, Holds, HoldsCell, span_cells, dated_cells, entry_cells, two, six};
+ghost use Rattle.store_core.specs.Stored.{span_in, dated_in, entry_in, span_cmp, dated_cmp, entry_cmp, Loads, IsInOrder};
+
+use crate::stored::{Stored, StoredConfig, StoredEntry, StoredSpan, TupleText};
+use sqlite::{Alter, Connection, Error, Row};
+use std::alloc::Global;
+
+// The number in a column, from 0.
+fn read_number(row: &Row, at: usize) -> Result<u64, Error>
+    ensures { IfOk result (HoldsCell row.now at) }
+{
+    let number: i64 = row.get(at)?;
+    match u64::try_from(number) {
+        Ok(number) => Ok(number),
+        Err(_) => Err(Error::IntegralValueOutOfRange(at)),
+    }
+}
+
+fn read_span(row: &Row) -> Result<StoredSpan, Error>
+    ensures { IfOk result (λ s. six row.now ≡ span_cells (span_in s)) }
+{
+    Ok(StoredSpan {
+        tuple: TupleText {
+            namespace: row.get(0)?,
+            object: row.get(1)?,
+            relation: row.get(2)?,
+            subject: row.get(3)?,
+        },
+        added: read_number(row, 4)?,
+        removed: read_number(row, 5)?,
+    })
+}
+
+fn read_config(row: &Row) -> Result<StoredConfig, Error>
+    ensures { IfOk result (λ c. two row.now ≡ dated_cells (dated_in c)) }
+{
+    Ok(StoredConfig {
+        rev: read_number(row, 0)?,
+        text: row.get(1)?,
+    })
+}
+
+fn read_entry(row: &Row) -> Result<StoredEntry, Error>
+    ensures { IfOk result (λ e. two row.now ≡ entry_cells (entry_in e)) }
+{
+    Ok(StoredEntry {
+        key: row.get(0)?,
+        value: read_number(row, 1)?,
+    })
+}
+
+fn read_spans(alloc: Global, rows: &[Row]) -> Result<Vec<StoredSpan>, Error>
+    ensures { IfOk result (λ spans. map six rows.now ≡ map span_cells (map span_in spans.items)) }
+{
+    let mut spans = Vec::new(alloc);
+    for row in rows {
+        spans.push(read_span(row)?)?;
+    }
+    Ok(spans)
+}
+
+fn read_configs(alloc: Global, rows: &[Row]) -> Result<Vec<StoredConfig>, Error>
+    ensures { IfOk result (λ configs. map two rows.now ≡ map dated_cells (map dated_in configs.items)) }
+{
+    let mut configs = Vec::new(alloc);
+    for row in rows {
+        configs.push(read_config(row)?)?;
+    }
+    Ok(configs)
+}
+
+fn read_entries(alloc: Global, rows: &[Row]) -> Result<Vec<StoredEntry>, Error>
+    ensures { IfOk result (λ entries. map two rows.now ≡ map entry_cells (map entry_in entries.items)) }
+{
+    let mut entries = Vec::new(alloc);
+    for row in rows {
+        entries.push(read_entry(row)?)?;
+    }
+    Ok(entries)
+}
+
+// The spans in the order of their keys.
+fn load_spans<S: Alter>(alloc: Global, conn: &mut Connection<S>) -> Result<Vec<StoredSpan>, Error>
+    ensures mode { conn.old.in_transaction ≡ false → conn.new.in_transaction ≡ false }
+    ensures held { HasCleanDisk (state S.Store conn.new) → (h : Contents) → Holds (state S.Store conn.old).now h → IfOk result (λ spans. IsPermutation h.spans (map span_in spans.items)) }
+    ensures ordered { HasCleanDisk (state S.Store conn.new) → (state S.Store conn.old).now.schema ≡ schema → IfOk result (λ spans. IsSorted span_cmp (map span_in spans.items)) }
+    ensures same { HasCleanDisk (state S.Store conn.new) → (state S.Store conn.old).now.schema ≡ schema → OnOk result (IsUnchanged (state S.Store conn.old) (state S.Store conn.new)) }
+    ensures crash { Survives (state S.Store conn.old) (state S.Store conn.new) (λ _. ¬ ((state S.Store conn.old).now.schema ≡ schema)) }
+{
+    let rows = conn.query_all(
+        "SELECT namespace, object, relation, subject, added, removed FROM row ORDER BY namespace, object, relation, subject, added",
+        &[],
+    )?;
+    read_spans(alloc, rows.as_slice())
+}
+
+// The configurations by revision.
+fn load_configs<S: Alter>(
+    alloc: Global,
+    conn: &mut Connection<S>,
+) -> Result<Vec<StoredConfig>, Error>
+    ensures mode { conn.old.in_transaction ≡ false → conn.new.in_transaction ≡ false }
+    ensures held { HasCleanDisk (state S.Store conn.new) → (h : Contents) → Holds (state S.Store conn.old).now h → IfOk result (λ configs. IsPermutation h.configs (map dated_in configs.items)) }
+    ensures ordered { HasCleanDisk (state S.Store conn.new) → (state S.Store conn.old).now.schema ≡ schema → IfOk result (λ configs. IsSorted dated_cmp (map dated_in configs.items)) }
+    ensures same { HasCleanDisk (state S.Store conn.new) → (state S.Store conn.old).now.schema ≡ schema → OnOk result (IsUnchanged (state S.Store conn.old) (state S.Store conn.new)) }
+    ensures crash { Survives (state S.Store conn.old) (state S.Store conn.new) (λ _. ¬ ((state S.Store conn.old).now.schema ≡ schema)) }
+{
+    let rows = conn.query_all("SELECT rev, text FROM config ORDER BY rev", &[])?;
+    read_configs(alloc, rows.as_slice())
+}
+
+// The state by key.
+fn load_entries<S: Alter>(
+    alloc: Global,
+    conn: &mut Connection<S>,
+) -> Result<Vec<StoredEntry>, Error>
+    ensures mode { conn.old.in_transaction ≡ false → conn.new.in_transaction ≡ false }
+    ensures held { HasCleanDisk (state S.Store conn.new) → (h : Contents) → Holds (state S.Store conn.old).now h → IfOk result (λ entries. IsPermutation h.entries (map entry_in entries.items)) }
+    ensures ordered { HasCleanDisk (state S.Store conn.new) → (state S.Store conn.old).now.schema ≡ schema → IfOk result (λ entries. IsSorted entry_cmp (map entry_in entries.items)) }
+    ensures same { HasCleanDisk (state S.Store conn.new) → (state S.Store conn.old).now.schema ≡ schema → OnOk result (IsUnchanged (state S.Store conn.old) (state S.Store conn.new)) }
+    ensures crash { Survives (state S.Store conn.old) (state S.Store conn.new) (λ _. ¬ ((state S.Store conn.old).now.schema ≡ schema)) }
+{
+    let rows = conn.query_all("SELECT key, value FROM state ORDER BY key", &[])?;
+    read_entries(alloc, rows.as_slice())
+}
+
+/// All that the tables hold. It is refused where a number is below 0, or a row is not what the format says.
+pub fn load<S: Alter>(alloc: Global, conn: &mut Connection<S>) -> Result<Stored, Error>
+    requires idle { conn.old.in_transaction ≡ false }
+    ensures idle { conn.new.in_transaction ≡ false }
+    ensures held { HasCleanDisk (state S.Store conn.new) → (h : Contents) → Holds (state S.Store conn.old).now h → IfOk result (Loads h) }
+    ensures ordered { HasCleanDisk (state S.Store conn.new) → (state S.Store conn.old).now.schema ≡ schema → IfOk result IsInOrder }
+    ensures same { HasCleanDisk (state S.Store conn.new) → (state S.Store conn.old).now.schema ≡ schema → OnOk result (IsUnchanged (state S.Store conn.old) (state S.Store conn.new)) }
+    ensures crash { (state S.Store conn.old).now.schema ≡ schema → Survives (state S.Store conn.old) (state S.Store conn.new) (λ _. ⊥) }
+{
+    let spans = load_spans(alloc, conn)?;
+    let configs = load_configs(alloc, conn)?;
+    let entries = load_entries(alloc, conn)?;
+    Ok(Stored {
+        spans,
+        configs,
+        entries,
+    })
+}
+
+/// Whether the connection still answers. Where it does, nothing has changed: a call that was refused for want of
+/// memory has shut nothing, and its `undone` holds.
+pub fn is_open<S: Alter>(conn: &mut Connection<S>) -> bool
+    requires idle { conn.old.in_transaction ≡ false }
+    ensures idle { conn.new.in_transaction ≡ false }
+    ensures same { HasCleanDisk (state S.Store conn.new) → IsTrue result → IsUnchanged (state S.Store conn.old) (state S.Store conn.new) }
+    ensures crash { Survives (state S.Store conn.old) (state S.Store conn.new) (λ _. ⊥) }
+{
+    match conn.query_row("SELECT 1", &[]) {
+        Ok(_) => true,
+        Err(_) => false,
+    }
+}
