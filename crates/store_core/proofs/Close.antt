@@ -16,18 +16,17 @@ use Rattle.sqlite.specs.Rows.{Written}
 use Rattle.sqlite.specs.Tree.{Trees}
 use Rattle.sqlite.specs.Effect.{Database}
 use Rattle.sqlite.specs.State.{State, mode_of, Writes}
-use Rattle.sqlite.specs.View.{IsShaped}
-use Rattle.sqlite_trees.specs.declared.store.Shape.TheVariants.{Table as TableShape}
 use Rattle.sqlite_rules.specs.Calls.{ids_of}
 use Rattle.sqlite.specs.Listing.{understood}
 use Rattle.sqlite.proofs.Callers.{statement_of, one_step}
 use Rattle.store_core.specs.Format.{schema, row_table}
-use Rattle.store_core.specs.Tables.{Span, Contents, Holds, Lists, span_cells, config_row, entry_cells, same_tuple, closed}
+use Rattle.store_core.specs.Tables.{HasRowids, Span, Contents, Holds, Lists, span_cells, config_row, entry_cells, same_tuple, closed}
 use Rattle.store_core.specs.Steps.{with_closed}
 use Rattle.store_core.proofs.Texts.{close_text, close_query, alone}
 use Rattle.store_core.proofs.Insert.{went, same_value, cast_int}
 use Rattle.store_core.proofs.Scan.{scan_rows, text_test, zero_test}
-use Rattle.store_core.proofs.Update.{updated, shaped_edit, rewritten}
+use Rattle.store_core.proofs.Update.{updated, rewritten}
+use Rattle.store_core.proofs.Rowids.{rowids_edit}
 
 abbrev pub close_params : Span → ℕ → Row
 close_params s rev = Text s.namespace ∷ Text s.object ∷ Text s.relation ∷ Text s.subject ∷ Int (pos rev) ∷ []
@@ -87,14 +86,14 @@ closes old new s rev count h holds w =
     let shown = scan_rows 0 close_query.filter close_query.project [] _ params given.0 (given.1.answer Null) in
     let tree : new.now.trees 0 ≡ edited db edit = ap (λ (d : Database). d.trees 0) now ∙ ap (λ (t : Trees). t 0) trees ∙ did.rows in
     let apart : (t : ℕ) → wrote.0 t ≡ db t → new.now.trees t ≡ db t = λ t same. ap (λ (d : Database). d.trees t) now ∙ ap (λ (all : Trees). all t) trees ∙ same in
-    let wrote_rows = updated db row_table (passes s rev) (written s rev) given.0 holds.spans_shaped shown did.fresh in
+    let wrote_rows = updated db row_table (passes s rev) (written s rev) given.0 holds.spans_rowids shown did.fresh in
     record {
       schema_is = ap (λ (d : Database). d.schema) now;
       spans = subst (λ rows. Lists rows (map span_cells (map (closed s rev) h.spans))) (sym tree)
           (rewritten span_cells (closed s rev) (drop 1) (λ cells. changed s rev (Null ∷ cells)) (db 0) (changed s rev) (edited db edit) h.spans (changed_reads s rev) (closes_span s rev) holds.spans wrote_rows);
       configs = subst (IsPermutation (map config_row h.configs)) (sym (apart 2 (did.tables.1.0 (λ e. absurd (omega (arith, e)))))) holds.configs;
-      configs_shaped = subst (IsShaped TableShape) (sym (apart 2 (did.tables.1.0 (λ e. absurd (omega (arith, e)))))) holds.configs_shaped;
+      configs_rowids = subst HasRowids (sym (apart 2 (did.tables.1.0 (λ e. absurd (omega (arith, e)))))) holds.configs_rowids;
       entries = subst (λ rows. Lists rows (map entry_cells h.entries)) (sym (apart 3 (did.tables.1.1.0 (λ e. absurd (omega (arith, e)))))) holds.entries;
-      spans_shaped = subst (IsShaped TableShape) (sym tree) (shaped_edit db edit did.keyed holds.spans_shaped);
-      entries_shaped = subst (IsShaped TableShape) (sym (apart 3 (did.tables.1.1.0 (λ e. absurd (omega (arith, e)))))) holds.entries_shaped;
+      spans_rowids = subst HasRowids (sym tree) (rowids_edit db edit did.keyed did.fresh holds.spans_rowids);
+      entries_rowids = subst HasRowids (sym (apart 3 (did.tables.1.1.0 (λ e. absurd (omega (arith, e)))))) holds.entries_rowids;
     }

@@ -19,17 +19,15 @@ use Rattle.sqlite.specs.Rows.{Written}
 use Rattle.sqlite.specs.Tree.{Trees, rowid, put_row}
 use Rattle.sqlite.specs.Effect.{Database}
 use Rattle.sqlite.specs.State.{State, mode_of, Writes}
-use Rattle.sqlite.specs.View.{IsShaped}
-use Rattle.sqlite_trees.specs.declared.store.Shape.TheVariants.{Table as TableShape}
 use Rattle.sqlite.specs.Listing.{understood}
 use Rattle.sqlite.proofs.Callers.{statement_of, one_step}
 use Rattle.store_core.specs.Format.{schema, no_schema, one_schema, two_schema, row_text, config_text, state_text, row_table, config_table, state_table}
-use Rattle.store_core.specs.Tables.{Holds, Lists, entry_cells}
+use Rattle.store_core.specs.Tables.{HasRowids, Holds, Lists, entry_cells}
 use Rattle.store_core.specs.Steps.{HasRow, HasConfig, HasTables, fresh}
 use Rattle.store_core.proofs.Texts.{row_is, config_is, state_is, init_text, init_terms}
 use Rattle.store_core.proofs.Insert.{went, same_value, cast_int}
 use Rattle.store_core.proofs.Lists.{put_all_fresh}
-use Rattle.store_core.proofs.Update.{shaped_edit}
+use Rattle.store_core.proofs.Rowids.{rowids_edit, no_rowids}
 
 -- what CREATE TABLE makes of a schema that is written out
 pub record Created (before : Schema) (table : Table) (old new : Database) : Type 0 where
@@ -99,7 +97,7 @@ inits old new number count has w =
     let want : List Row = map entry_cells (fresh number).entries in
     let cells : map (drop 1) edit.news ≡ want = numbered_cells Chosen (Rattle.sqlite.specs.Edit.without_all (db 3) []) _ ∙ (ap (λ all. map (drop 1) (map (λ s. Rattle.sqlite.specs.Cast.cast_row state_at (drop 0 s)) all)) given.1.1
     ∙ rw (cast_int (pos 0), cast_int (pos 1), cast_int (pos number))) in
-    let none : IsShaped TableShape [] = (tt, tt) in
+    let none : HasRowids [] = no_rowids in
     let put : IsPermutation (map (drop 1) (edit.news ++ [])) (map (drop 1) (edited db edit)) =
     subst (λ rows. IsPermutation (map (drop 1) (edit.news ++ rows)) (map (drop 1) (edited db edit))) has.state (IsPermutation-map (drop 1) _ _ (put_all_fresh edit.news (db 3) did.fresh)) in
     let tree : new.now.trees 3 ≡ edited db edit = ap (λ (d : Database). d.trees 3) now ∙ ap (λ (t : Trees). t 3) trees ∙ did.rows in
@@ -110,8 +108,8 @@ inits old new number count has w =
       schema_is = ap (λ (d : Database). d.schema) now;
       spans = subst (λ rows. Lists rows []) (sym row_same) (IsPermutation-refl []);
       configs = subst (IsPermutation []) (sym config_same) (IsPermutation-refl []);
-      configs_shaped = subst (IsShaped TableShape) (sym config_same) none;
+      configs_rowids = subst HasRowids (sym config_same) none;
       entries = subst (λ rows. Lists rows want) (sym tree) (subst (λ rows. IsPermutation rows (map (drop 1) (edited db edit))) (ap (map (drop 1)) (append-nil edit.news) ∙ cells) put);
-      spans_shaped = subst (IsShaped TableShape) (sym row_same) none;
-      entries_shaped = subst (IsShaped TableShape) (sym tree) (shaped_edit db edit did.keyed (subst (IsShaped TableShape) (sym has.state) none));
+      spans_rowids = subst HasRowids (sym row_same) none;
+      entries_rowids = subst HasRowids (sym tree) (rowids_edit db edit did.keyed did.fresh (subst HasRowids (sym has.state) none));
     }

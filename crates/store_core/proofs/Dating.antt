@@ -14,16 +14,14 @@ use Rattle.sqlite.specs.Rows.{Written}
 use Rattle.sqlite.specs.Tree.{Trees}
 use Rattle.sqlite.specs.Effect.{Database}
 use Rattle.sqlite.specs.State.{State, mode_of, Writes}
-use Rattle.sqlite.specs.View.{IsShaped}
-use Rattle.sqlite_trees.specs.declared.store.Shape.TheVariants.{Table as TableShape}
 use Rattle.sqlite.specs.Listing.{understood}
 use Rattle.sqlite.proofs.Callers.{statement_of, one_step}
 use Rattle.store_core.specs.Format.{schema, config_table}
-use Rattle.store_core.specs.Tables.{Dated, Contents, Holds, Lists, span_cells, config_row, entry_cells}
+use Rattle.store_core.specs.Tables.{HasRowids, Dated, Contents, Holds, Lists, span_cells, config_row, entry_cells}
 use Rattle.store_core.specs.Steps.{with_config}
 use Rattle.store_core.proofs.Texts.{config_insert_text, config_terms}
 use Rattle.store_core.proofs.Insert.{went, same_value, cast_null, cast_int}
-use Rattle.store_core.proofs.Update.{shaped_edit}
+use Rattle.store_core.proofs.Rowids.{rowids_edit}
 use Rattle.store_core.proofs.Lists.{put_all_fresh}
 
 abbrev pub config_params : Dated → Row
@@ -59,7 +57,7 @@ inserts_config old new c count h holds w =
       configs = subst (IsPermutation (config_row c ∷ map config_row h.configs)) (sym tree)
           (IsPermutation-trans _ (config_row c ∷ db 2) _ (IsPermutation-cons (config_row c) _ _ holds.configs) (subst (λ n. IsPermutation (n ++ db 2) (edited db edit)) news put));
       entries = subst (λ rows. Lists rows (map entry_cells h.entries)) (sym entry_same) holds.entries;
-      spans_shaped = subst (IsShaped TableShape) (sym row_same) holds.spans_shaped;
-      configs_shaped = subst (IsShaped TableShape) (sym tree) (shaped_edit db edit did.keyed holds.configs_shaped);
-      entries_shaped = subst (IsShaped TableShape) (sym entry_same) holds.entries_shaped;
+      spans_rowids = subst HasRowids (sym row_same) holds.spans_rowids;
+      configs_rowids = subst HasRowids (sym tree) (rowids_edit db edit did.keyed did.fresh holds.configs_rowids);
+      entries_rowids = subst HasRowids (sym entry_same) holds.entries_rowids;
     }

@@ -23,19 +23,18 @@ use Rattle.sqlite.specs.Rows.{Written}
 use Rattle.sqlite.specs.Tree.{Trees, rowid}
 use Rattle.sqlite.specs.Effect.{Database}
 use Rattle.sqlite.specs.State.{State, mode_of, Writes}
-use Rattle.sqlite.specs.View.{IsShaped}
-use Rattle.sqlite_trees.specs.declared.store.Shape.TheVariants.{Table as TableShape}
 use Rattle.sqlite_trees.proofs.ListLemmas.{map-map, filter-map, IsPermutation-filter}
 use Rattle.sqlite_rules.specs.Calls.{ids_of}
 use Rattle.sqlite.specs.Listing.{understood}
 use Rattle.sqlite.proofs.Callers.{statement_of, one_step}
 use Rattle.store_core.specs.Format.{schema, row_table, config_table}
-use Rattle.store_core.specs.Tables.{Span, Dated, Contents, Holds, Lists, span_cells, config_row, entry_cells, is_past, is_before}
+use Rattle.store_core.specs.Tables.{HasRowids, Span, Dated, Contents, Holds, Lists, span_cells, config_row, entry_cells, is_past, is_before}
 use Rattle.store_core.specs.Steps.{without_past, without_before}
 use Rattle.store_core.proofs.Texts.{drop_text, drop_query, drop_configs_text, drop_configs_query, alone}
 use Rattle.store_core.proofs.Insert.{went, same_value}
 use Rattle.store_core.proofs.Scan.{scan_rows}
-use Rattle.store_core.proofs.Update.{left_is, shaped_edit, filter_congr}
+use Rattle.store_core.proofs.Update.{left_is, filter_congr}
+use Rattle.store_core.proofs.Rowids.{rowids_edit}
 
 -- ---- what the tests ask
 
@@ -69,7 +68,7 @@ below_as a b = truth (is_lt (value_cmp (Int (pos a)) (Int (pos b)))) ∙ (ap is_
 abbrev pub id_row : Row → Row
 id_row r = rowid r ∷ []
 
-pub deleted : (db : Trees) (table : Table) (P : Row → Bool) (rows : List Row) → IsShaped TableShape (db table.tree) → IsPermutation (map id_row (filter P (db table.tree))) rows
+pub deleted : (db : Trees) (table : Table) (P : Row → Bool) (rows : List Row) → HasRowids (db table.tree) → IsPermutation (map id_row (filter P (db table.tree))) rows
     → edited db (edit_of db table (ids_of rows) Given 0 []) ≡ filter (λ r. not (P r)) (db table.tree)
 deleted db table P rows shaped perm =
     left_is P (db table.tree) shaped (ids_of rows)
@@ -129,7 +128,7 @@ drops_spans old new floor count h holds w =
     let did = one_step schema _ db wrote.0 edit refl wrote.1 in
     let shown = scan_rows 0 drop_query.filter drop_query.project [] _ params given.0 (given.1.answer Null) in
     let tree : new.now.trees 0 ≡ edited db edit = ap (λ (d : Database). d.trees 0) now ∙ ap (λ (t : Trees). t 0) trees ∙ did.rows in
-    let left : edited db edit ≡ filter (λ r. not (passes_span floor r)) (db 0) = deleted db row_table (passes_span floor) given.0 holds.spans_shaped shown in
+    let left : edited db edit ≡ filter (λ r. not (passes_span floor r)) (db 0) = deleted db row_table (passes_span floor) given.0 holds.spans_rowids shown in
     let apart : (t : ℕ) → wrote.0 t ≡ db t → new.now.trees t ≡ db t = λ t same. ap (λ (d : Database). d.trees t) now ∙ ap (λ (all : Trees). all t) trees ∙ same in
     let config_same : new.now.trees 2 ≡ db 2 = apart 2 (did.tables.1.0 (λ e. absurd (omega (arith, e)))) in
     let entry_same : new.now.trees 3 ≡ db 3 = apart 3 (did.tables.1.1.0 (λ e. absurd (omega (arith, e)))) in
@@ -139,9 +138,9 @@ drops_spans old new floor count h holds w =
           (remaining span_cells (is_past floor) (drop 1) (λ cells. passes_span floor (Null ∷ cells)) (passes_span floor) (db 0) h.spans (span_reads floor) (span_past floor) holds.spans);
       configs = subst (IsPermutation (map config_row h.configs)) (sym config_same) holds.configs;
       entries = subst (λ rows. Lists rows (map entry_cells h.entries)) (sym entry_same) holds.entries;
-      spans_shaped = subst (IsShaped TableShape) (sym tree) (shaped_edit db edit did.keyed holds.spans_shaped);
-      configs_shaped = subst (IsShaped TableShape) (sym config_same) holds.configs_shaped;
-      entries_shaped = subst (IsShaped TableShape) (sym entry_same) holds.entries_shaped;
+      spans_rowids = subst HasRowids (sym tree) (rowids_edit db edit did.keyed did.fresh holds.spans_rowids);
+      configs_rowids = subst HasRowids (sym config_same) holds.configs_rowids;
+      entries_rowids = subst HasRowids (sym entry_same) holds.entries_rowids;
     }
 
 -- ---- the configurations
@@ -171,7 +170,7 @@ drops_configs old new rev count h holds w =
     let did = one_step schema _ db wrote.0 edit refl wrote.1 in
     let shown = scan_rows 2 drop_configs_query.filter drop_configs_query.project [] _ params given.0 (given.1.answer Null) in
     let tree : new.now.trees 2 ≡ edited db edit = ap (λ (d : Database). d.trees 2) now ∙ ap (λ (t : Trees). t 2) trees ∙ did.rows in
-    let left : edited db edit ≡ filter (λ r. not (passes_config rev r)) (db 2) = deleted db config_at (passes_config rev) given.0 holds.configs_shaped shown in
+    let left : edited db edit ≡ filter (λ r. not (passes_config rev r)) (db 2) = deleted db config_at (passes_config rev) given.0 holds.configs_rowids shown in
     let apart : (t : ℕ) → wrote.0 t ≡ db t → new.now.trees t ≡ db t = λ t same. ap (λ (d : Database). d.trees t) now ∙ ap (λ (all : Trees). all t) trees ∙ same in
     let row_same : new.now.trees 0 ≡ db 0 = apart 0 (did.tables.0 (λ e. absurd (omega (arith, e)))) in
     let entry_same : new.now.trees 3 ≡ db 3 = apart 3 (did.tables.1.1.0 (λ e. absurd (omega (arith, e)))) in
@@ -183,7 +182,7 @@ drops_configs old new rev count h holds w =
       spans = subst (λ rows. Lists rows (map span_cells h.spans)) (sym row_same) holds.spans;
       configs = subst (IsPermutation (map config_row (without_before rev h).configs)) (sym (tree ∙ left)) kept;
       entries = subst (λ rows. Lists rows (map entry_cells h.entries)) (sym entry_same) holds.entries;
-      spans_shaped = subst (IsShaped TableShape) (sym row_same) holds.spans_shaped;
-      configs_shaped = subst (IsShaped TableShape) (sym tree) (shaped_edit db edit did.keyed holds.configs_shaped);
-      entries_shaped = subst (IsShaped TableShape) (sym entry_same) holds.entries_shaped;
+      spans_rowids = subst HasRowids (sym row_same) holds.spans_rowids;
+      configs_rowids = subst HasRowids (sym tree) (rowids_edit db edit did.keyed did.fresh holds.configs_rowids);
+      entries_rowids = subst HasRowids (sym entry_same) holds.entries_rowids;
     }

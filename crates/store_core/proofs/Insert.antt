@@ -20,11 +20,9 @@ use Rattle.sqlite.specs.State.{State, mode_of, Writes}
 use Rattle.sqlite.specs.Listing.{understood}
 use Rattle.sqlite.proofs.Callers.{statement_of, one_step}
 use Rattle.store_core.specs.Format.{schema, row_table}
-use Rattle.store_core.specs.Tables.{Span, Contents, Holds, Lists, span_cells, config_row, entry_cells}
+use Rattle.store_core.specs.Tables.{HasRowids, Span, Contents, Holds, Lists, span_cells, config_row, entry_cells}
 use Rattle.store_core.proofs.Texts.{insert_text, insert_terms}
-use Rattle.sqlite.specs.View.{IsShaped}
-use Rattle.sqlite_trees.specs.declared.store.Shape.TheVariants.{Table as TableShape}
-use Rattle.store_core.proofs.Update.{shaped_edit}
+use Rattle.store_core.proofs.Rowids.{rowids_edit}
 use Rattle.store_core.proofs.Lists.{put_all_fresh}
 
 either : (b : Bool) (x : Value) → cond b x x ≡ x
@@ -79,8 +77,8 @@ inserts old new s count h holds w =
           (IsPermutation-trans _ (cells ∷ map (drop 1) (db 0)) _ (IsPermutation-cons cells _ _ holds.spans)
           (subst (λ n. IsPermutation (map (drop 1) (n ++ db 0)) (map (drop 1) (edited db edit))) news (IsPermutation-map (drop 1) _ _ put)));
       configs = subst (IsPermutation (map config_row h.configs)) (sym (apart 2 (did.tables.1.0 (λ e. absurd (omega (arith, e)))))) holds.configs;
-      configs_shaped = subst (IsShaped TableShape) (sym (apart 2 (did.tables.1.0 (λ e. absurd (omega (arith, e)))))) holds.configs_shaped;
+      configs_rowids = subst HasRowids (sym (apart 2 (did.tables.1.0 (λ e. absurd (omega (arith, e)))))) holds.configs_rowids;
       entries = subst (λ rows. Lists rows (map entry_cells h.entries)) (sym (apart 3 (did.tables.1.1.0 (λ e. absurd (omega (arith, e)))))) holds.entries;
-      spans_shaped = subst (IsShaped TableShape) (sym tree) (shaped_edit db edit did.keyed holds.spans_shaped);
-      entries_shaped = subst (IsShaped TableShape) (sym (apart 3 (did.tables.1.1.0 (λ e. absurd (omega (arith, e)))))) holds.entries_shaped;
+      spans_rowids = subst HasRowids (sym tree) (rowids_edit db edit did.keyed did.fresh holds.spans_rowids);
+      entries_rowids = subst HasRowids (sym (apart 3 (did.tables.1.1.0 (λ e. absurd (omega (arith, e)))))) holds.entries_rowids;
     }

@@ -1,5 +1,7 @@
 pub mod Texts
+pub mod Items
 pub mod Lists
+pub mod Rowids
 pub mod Update
 pub mod Insert
 pub mod Dating
@@ -11,5 +13,6 @@ pub mod Inside
 pub mod CreateLemmas
 pub mod Whole
 pub mod LoadLemmas
+pub mod Found
 pub mod Sorting
 pub mod LeavesLemmas

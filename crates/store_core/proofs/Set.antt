@@ -16,18 +16,17 @@ use Rattle.sqlite.specs.Table.{Table}
 use Rattle.sqlite.specs.Tree.{Trees}
 use Rattle.sqlite.specs.Effect.{Database}
 use Rattle.sqlite.specs.State.{State, mode_of, Writes}
-use Rattle.sqlite.specs.View.{IsShaped}
-use Rattle.sqlite_trees.specs.declared.store.Shape.TheVariants.{Table as TableShape}
 use Rattle.sqlite_rules.specs.Calls.{ids_of}
 use Rattle.sqlite.specs.Listing.{understood}
 use Rattle.sqlite.proofs.Callers.{statement_of, one_step}
 use Rattle.store_core.specs.Format.{schema, state_table}
-use Rattle.store_core.specs.Tables.{Contents, Holds, Lists, span_cells, config_row, entry_cells, Entry, with_value}
+use Rattle.store_core.specs.Tables.{HasRowids, Contents, Holds, Lists, span_cells, config_row, entry_cells, Entry, with_value}
 use Rattle.store_core.specs.Steps.{with_entry}
 use Rattle.store_core.proofs.Texts.{set_text, set_query, alone}
 use Rattle.store_core.proofs.Insert.{went, same_value, cast_int}
 use Rattle.store_core.proofs.Scan.{scan_rows, text_test}
-use Rattle.store_core.proofs.Update.{updated, shaped_edit, rewritten}
+use Rattle.store_core.proofs.Update.{updated, rewritten}
+use Rattle.store_core.proofs.Rowids.{rowids_edit}
 
 abbrev state_at : Table
 state_at = record state_table { tree = 3 }
@@ -84,14 +83,14 @@ sets old new key value count h holds w =
     let tree : new.now.trees 3 ≡ edited db edit = ap (λ (d : Database). d.trees 3) now ∙ ap (λ (t : Trees). t 3) trees ∙ did.rows in
     let apart : (t : ℕ) → wrote.0 t ≡ db t → new.now.trees t ≡ db t = λ t same. ap (λ (d : Database). d.trees t) now ∙ ap (λ (all : Trees). all t) trees ∙ same in
     let row_same : new.now.trees 0 ≡ db 0 = apart 0 (did.tables.0 (λ e. absurd (omega (arith, e)))) in
-    let wrote_rows = updated db state_at (passes key value) (written key value) given.0 holds.entries_shaped shown did.fresh in
+    let wrote_rows = updated db state_at (passes key value) (written key value) given.0 holds.entries_rowids shown did.fresh in
     record {
       schema_is = ap (λ (d : Database). d.schema) now;
       spans = subst (λ rows. Lists rows (map span_cells h.spans)) (sym row_same) holds.spans;
       configs = subst (IsPermutation (map config_row h.configs)) (sym (apart 2 (did.tables.1.0 (λ e. absurd (omega (arith, e)))))) holds.configs;
-      configs_shaped = subst (IsShaped TableShape) (sym (apart 2 (did.tables.1.0 (λ e. absurd (omega (arith, e)))))) holds.configs_shaped;
+      configs_rowids = subst HasRowids (sym (apart 2 (did.tables.1.0 (λ e. absurd (omega (arith, e)))))) holds.configs_rowids;
       entries = subst (λ rows. Lists rows (map entry_cells (map (with_value key value) h.entries))) (sym tree)
           (rewritten entry_cells (with_value key value) (drop 1) (λ cells. changed key value (Null ∷ cells)) (db 3) (changed key value) (edited db edit) h.entries (changed_reads key value) (sets_entry key value) holds.entries wrote_rows);
-      spans_shaped = subst (IsShaped TableShape) (sym row_same) holds.spans_shaped;
-      entries_shaped = subst (IsShaped TableShape) (sym tree) (shaped_edit db edit did.keyed holds.entries_shaped);
+      spans_rowids = subst HasRowids (sym row_same) holds.spans_rowids;
+      entries_rowids = subst HasRowids (sym tree) (rowids_edit db edit did.keyed did.fresh holds.entries_rowids);
     }

@@ -26,11 +26,11 @@ use Rattle.store_core.proofs.Texts.{scan, rows_text, rows_query, rows_is, rows_p
 
 -- ---- of a query over one table
 
-drawn : {X Y : Type 0} (f : X → Y) (ys : List Y) → AllByRecursion (λ y. (x : X) × (y ≡ f x)) ys → (xs : List X) × (ys ≡ map f xs)
+pub drawn : {X Y : Type 0} (f : X → Y) (ys : List Y) → AllByRecursion (λ y. (x : X) × (y ≡ f x)) ys → (xs : List X) × (ys ≡ map f xs)
 drawn f [] h = ([], refl)
 drawn {X} {Y} f (y ∷ ys) h = let rest = drawn f ys h.1 in (h.0.0 ∷ rest.0, ap (λ (v : Y). v ∷ ys) h.0.1 ∙ ap (λ (l : List Y). f h.0.0 ∷ l) rest.1)
 
-mapped : {X Y : Type 0} (f : X → Y) (xs : List X) → AllByRecursion (λ y. (x : X) × (y ≡ f x)) (map f xs)
+pub mapped : {X Y : Type 0} (f : X → Y) (xs : List X) → AllByRecursion (λ y. (x : X) × (y ≡ f x)) (map f xs)
 mapped f [] = tt
 mapped f (x ∷ xs) = ((x, refl), mapped f xs)
 
@@ -66,7 +66,7 @@ values_sorted keep cells c d rows xs keeps shows same sorted =
 
 -- ---- of the three tables
 
-natural_as : (a b : ℕ) → int_cmp (pos a) (pos b) ≡ nat_cmp a b
+pub natural_as : (a b : ℕ) → int_cmp (pos a) (pos b) ≡ nat_cmp a b
 natural_as a b = grind (arith, nat_tests)
 
 number_as : (a b : ℕ) → ordering_then (value_cmp (Int (pos a)) (Int (pos b))) Equal ≡ nat_cmp a b

@@ -1,5 +1,5 @@
 -- What the fixed texts mean.
-use Rattle.std.proofs.Common.{◌≡◌, ℕ, pos, negsuc, List, [], ◌∷◌, codes, false, None, Ok, refl}
+use Rattle.std.proofs.Common.{◌≡◌, ℕ, pos, negsuc, List, [], ◌∷◌, codes, false, None, Ok, inl, inr, refl, sym, subst₂}
 use Rattle.sqlite.specs.declared.types.Value.TheVariants.{Null, Int, Text}
 use Rattle.sqlite.specs.Term.{Term, lit, col, op2}
 use Rattle.sqlite.specs.Query.{Query, inner, end}
@@ -15,11 +15,16 @@ use Rattle.sqlite_tied.specs.Compute.{everything}
 use Rattle.sqlite.specs.Listing.{understood, reads_listing}
 use Rattle.sqlite.proofs.Callers.{IsPlain, command_of, statement_of}
 use Rattle.sqlite.specs.Schema.{Schema}
-use Rattle.store_core.specs.Format.{row_text, config_text, state_text, row_table, config_table, state_table, no_schema, one_schema, two_schema, schema}
+use Rattle.store_core.specs.Tables.{AsksRowids}
+use Rattle.store_core.specs.Format.{row_text, config_text, state_text, row_table, config_table, state_table, no_schema, one_schema, two_schema, schema, row_index, state_index}
 
 pub row_is : table_defined_by row_text ≡ Ok row_table
 unfolding everything
 row_is = refl
+
+pub indexes_are : schema.indexes ≡ row_index ∷ state_index ∷ []
+unfolding everything
+indexes_are = refl
 
 pub config_is : table_defined_by config_text ≡ Ok config_table
 unfolding everything
@@ -193,6 +198,33 @@ rows_unlisted = refl
 pub rows_plain : IsPlain (understood schema rows_text)
 unfolding understood everything
 rows_plain = (refl, refl)
+
+-- the rowids of a table, the lowest first
+abbrev pub ids_query : ℕ → Query
+ids_query t = scan t [] (col 1 0 ∷ []) ((col 1 0, ascending Binary) ∷ [])
+
+pub record ReadsIds (sql : List ℕ) (tree : ℕ) : Type 0 where
+  pub names : List (List ℕ)
+  pub is : command_of (understood schema sql) ≡ Select (alone (ids_query tree)) names
+  pub plain : IsPlain (understood schema sql)
+  pub unlisted : reads_listing schema sql ≡ false
+
+row_ids : ReadsIds (codes "SELECT rowid FROM row ORDER BY rowid") 0
+unfolding understood everything
+row_ids = record { names = codes "rowid" ∷ []; is = refl; plain = (refl, refl); unlisted = refl }
+
+config_ids : ReadsIds (codes "SELECT rowid FROM config ORDER BY rowid") 2
+unfolding understood everything
+config_ids = record { names = codes "rev" ∷ []; is = refl; plain = (refl, refl); unlisted = refl }
+
+state_ids : ReadsIds (codes "SELECT rowid FROM state ORDER BY rowid") 3
+unfolding understood everything
+state_ids = record { names = codes "rowid" ∷ []; is = refl; plain = (refl, refl); unlisted = refl }
+
+pub reads_ids : (sql : List ℕ) (tree : ℕ) → AsksRowids sql tree → ReadsIds sql tree
+reads_ids sql tree (inl h) = subst₂ ReadsIds (sym h.0) (sym h.1) row_ids
+reads_ids sql tree (inr (inl h)) = subst₂ ReadsIds (sym h.0) (sym h.1) config_ids
+reads_ids sql tree (inr (inr h)) = subst₂ ReadsIds (sym h.0) (sym h.1) state_ids
 
 abbrev pub one_text : List ℕ
 one_text = codes "SELECT 1"

@@ -3,7 +3,6 @@ use Rattle.std.proofs.Common.{◌≡◌, ℤ, Bool, true, false, not, ◌&&◌, 
 use Rattle.std.specs.List.{list_any}
 use Rattle.std.specs.List.Sorted.{IsPermutation}
 use Rattle.std.specs.Ordering.{is_eq}
-use Rattle.std.proofs.lemmas.Bool.{and_parts}
 use Rattle.std.proofs.lemmas.Cmp.{tied_itself}
 use Rattle.std.proofs.lemmas.List.{map-append}
 use Rattle.std.proofs.lemmas.List.Sorted.{IsPermutation-trans, IsPermutation-map, IsPermutation-append_left, IsPermutation-filter_both, list_any-IsPermutation}
@@ -11,20 +10,18 @@ use Rattle.sqlite.specs.declared.types.Value.TheVariants.{Int}
 use Rattle.sqlite.specs.Order.{Row, value_cmp}
 use Rattle.sqlite_value.proofs.OrderLemmas.{value_cmp_total}
 use Rattle.sqlite_trees.proofs.ListLemmas.{map-map, filter_same}
-use Rattle.sqlite_trees.proofs.TreeLemmas.{IsShaped-filter, IsShaped-put_row}
-use Rattle.sqlite_trees.specs.declared.store.Shape.TheVariants.{Table as TableShape}
 use Rattle.sqlite.specs.Tree.{Trees, rowid, put_row, without_rowid, has_rowid}
-use Rattle.sqlite.specs.View.{IsShaped}
 use Rattle.sqlite_rules.specs.Lists.{Has}
 use Rattle.sqlite_rules.specs.Calls.{ids_of}
 use Rattle.sqlite_rules.proofs.ListLemmas.{all_has, all_from, some_has, some_from, has_filtered, has_kept}
-use Rattle.sqlite_rules.proofs.PlaceLemmas.{tied_same}
 use Rattle.sqlite_rules.proofs.TableLemmas.{int_is}
 use Rattle.sqlite.specs.Table.{Table}
 use Rattle.sqlite.specs.Cast.{cast_all, cast_row}
 use Rattle.sqlite.specs.Rowids.TheVariants.{Given}
-use Rattle.sqlite.specs.Edit.{Edit, edit_of, edited, left_by, numbered, put_all, without_all, are_fresh, have_rowids, id_in}
+use Rattle.sqlite.specs.Edit.{edit_of, edited, left_by, numbered, without_all, are_fresh, id_in}
+use Rattle.store_core.specs.Tables.{HasRowids}
 use Rattle.store_core.proofs.Lists.{put_all_fresh}
+use Rattle.store_core.proofs.Rowids.{one_row}
 
 equal_is : (o : Ordering) → is_eq o ≡ true → o ≡ Equal
 equal_is Less e = absurd (true≢false (sym e))
@@ -85,9 +82,9 @@ map_others {A} {B} p f g (x ∷ xs) = go (p x) refl (map_others p f g xs)
     go false e later = ap (λ (b : Bool). cond b (f x) (g x) ∷ map (λ y. if p y then f y else g y) (filter (λ y. not (p y)) xs)) e ∙ ap (λ more. g x ∷ more) later
 
 -- the rows that a statement takes out are those that pass its test
-module _ (P : Row → Bool) (es : List Row) (shaped : IsShaped TableShape es) where
+module _ (P : Row → Bool) (es : List Row) (keyed : HasRowids es) where
   known : (r : Row) → Has es r → rowid r ≡ Int (id_in (rowid r))
-  known r has = int_is (rowid r) (all_has _ es r shaped.1 has)
+  known r has = int_is (rowid r) (all_has _ es r keyed.integers has)
 
   one : (r : Row) → Has es r → (b : Bool) → P r ≡ b → (found : Bool) → list_any (λ s. has_rowid (id_in (rowid s)) r) (filter P es) ≡ found → found ≡ b
   one r has true e true any = refl
@@ -99,7 +96,7 @@ module _ (P : Row → Bool) (es : List Row) (shaped : IsShaped TableShape es) wh
       let other = some_has (λ s. has_rowid (id_in (rowid s)) r) (filter P es) any in
       let was = has_filtered P es other.0 other.1 in
       let tie : value_cmp (rowid r) (rowid other.0) ≡ Equal = subst (λ v. value_cmp (rowid r) v ≡ Equal) (sym (known other.0 was.0)) (equal_is _ other.2) in
-      let same : r ≡ other.0 = tied_same es r other.0 shaped.0 has was.0 tie in
+      let same : r ≡ other.0 = one_row es r other.0 keyed.distinct has was.0 (ap is_eq tie) in
       sym was.1 ∙ (sym (ap P same) ∙ e)
 
   pub left_is : (ids : List ℤ) → IsPermutation (map (λ r. id_in (rowid r)) (filter P es)) ids → without_all es ids ≡ filter (λ r. not (P r)) es
@@ -111,18 +108,18 @@ module _ (P : Row → Bool) (es : List Row) (shaped : IsShaped TableShape es) wh
 abbrev pub source_of : (Row → Row) → Row → Row
 source_of f r = rowid r ∷ rowid r ∷ f r
 
-pub updated : (db : Trees) (table : Table) (P : Row → Bool) (f : Row → Row) (rows : List Row) → IsShaped TableShape (db table.tree)
+pub updated : (db : Trees) (table : Table) (P : Row → Bool) (f : Row → Row) (rows : List Row) → HasRowids (db table.tree)
     → IsPermutation (map (source_of f) (filter P (db table.tree))) rows
     → are_fresh (left_by db (edit_of db table (ids_of rows) Given 1 rows)) (edit_of db table (ids_of rows) Given 1 rows).news ≡ true
     → IsPermutation (map (λ r. if P r then cast_all table.columns (f r) else drop 1 r) (db table.tree)) (map (drop 1) (edited db (edit_of db table (ids_of rows) Given 1 rows)))
-updated db table P f rows shaped perm fresh =
+updated db table P f rows keyed perm fresh =
     let es = db table.tree in
     let edit = edit_of db table (ids_of rows) Given 1 rows in
     let g : Row → Row = λ r. if P r then cast_all table.columns (f r) else drop 1 r in
     let tail : Row → Row = λ s. drop 1 (cast_row table (drop 1 s)) in
     let news : edit.news ≡ map (λ s. cast_row table (drop 1 s)) rows = numbered_given _ _ in
     let kept : left_by db edit ≡ filter (λ r. not (P r)) es =
-    left_is P es shaped (ids_of rows) (subst (λ ids. IsPermutation ids (ids_of rows)) (map-map (λ s. id_in (rowid s)) (source_of f) (filter P es)) (IsPermutation-map (λ s. id_in (rowid s)) _ _ perm)) in
+    left_is P es keyed (ids_of rows) (subst (λ ids. IsPermutation ids (ids_of rows)) (map-map (λ s. id_in (rowid s)) (source_of f) (filter P es)) (IsPermutation-map (λ s. id_in (rowid s)) _ _ perm)) in
     let put : IsPermutation (edit.news ++ left_by db edit) (edited db edit) = put_all_fresh edit.news (left_by db edit) fresh in
     let cut : IsPermutation (map (drop 1) edit.news ++ map (drop 1) (left_by db edit)) (map (drop 1) (edited db edit)) =
     subst (λ all. IsPermutation all (map (drop 1) (edited db edit))) (map-append (drop 1) edit.news (left_by db edit)) (IsPermutation-map (drop 1) _ _ put) in
@@ -138,19 +135,6 @@ updated db table P f rows shaped perm fresh =
     let parts : IsPermutation (map write sources ++ map (drop 1) others) (map (drop 1) edit.news ++ map (drop 1) (left_by db edit)) =
     subst (λ left. IsPermutation (map write sources ++ map (drop 1) others) (map (drop 1) edit.news ++ map (drop 1) left)) (sym kept) (IsPermutation-append_left (map (drop 1) others) _ _ tails) in
     IsPermutation-trans _ _ _ (subst (IsPermutation (map g es)) both (IsPermutation-map g _ _ whole)) (IsPermutation-trans _ _ _ parts cut)
-
--- ---- the shape of the tree
-
-pub shaped_puts : (news rows : List Row) → have_rowids news ≡ true → IsShaped TableShape rows → IsShaped TableShape (put_all rows news)
-shaped_puts [] rows ids h = h
-shaped_puts (n ∷ news) rows ids h = let parts = and_parts _ _ ids in shaped_puts news (put_row n rows) parts.1 (IsShaped-put_row n rows parts.0 h)
-
-pub shaped_without : (ids : List ℤ) (rows : List Row) → IsShaped TableShape rows → IsShaped TableShape (without_all rows ids)
-shaped_without [] rows h = h
-shaped_without (id ∷ ids) rows h = shaped_without ids (without_rowid id rows) (IsShaped-filter TableShape (λ r. not (has_rowid id r)) rows h)
-
-pub shaped_edit : (db : Trees) (edit : Edit) → have_rowids edit.news ≡ true → IsShaped TableShape (db edit.table.tree) → IsShaped TableShape (edited db edit)
-shaped_edit db edit ids h = shaped_puts edit.news (left_by db edit) ids (shaped_without edit.gone (db edit.table.tree) h)
 
 -- ---- the same, read as a change of the cells
 

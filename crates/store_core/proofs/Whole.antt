@@ -1,13 +1,19 @@
 -- What a crash leaves of a whole transaction.
-use Rattle.std.proofs.Common.{◌≡◌, ℕ, true, sym, subst, ◌∙◌, false, arith}
+use Rattle.std.proofs.Common.{◌≡◌, ℕ, true, List, [], ◌∷◌, sym, ap, subst, ◌∙◌, false, arith}
 use Rattle.sqlite.specs.Store.{Ghosts}
+use Rattle.sqlite.specs.Schema.{Schema}
+use Rattle.sqlite.specs.Table.{Table}
+use Rattle.sqlite_schema.specs.declared.schema.Index.{Index}
+use Rattle.sqlite_schema.specs.declared.schema.View.{View}
 use Rattle.sqlite.specs.Effect.{Database}
 use Rattle.sqlite.specs.State.{HasCleanDisk, Shows, Survives}
 use Rattle.sqlite.specs.Held.{Held, state}
 use Rattle.sqlite.proofs.StateLemmas.{survives_then}
 use Rattle.sqlite.proofs.Callers.{survives_begin}
+use Rattle.store_core.specs.Format.{schema, row_index, state_index}
 use Rattle.store_core.specs.Tables.{Contents, Holds}
 use Rattle.store_core.specs.Steps.{Works, Makes, Stores, MayStore, IsBlank, fresh}
+use Rattle.store_core.proofs.Texts.{indexes_are}
 use Rattle.store_core.specs.Leaves.{Stands, MayCreate}
 
 -- begun at `old`, worked up to `last`, committed at `end`
@@ -41,3 +47,8 @@ module _ {S : Type 0} (g : Ghosts S) (old last end : Held S) (shows : Shows (sta
     committed = shows.committed_is ∙ sym shows.now_is;
     holds = subst (λ (d : Database). Holds d (fresh number)) (sym shows.now_is) (makes.makes blank);
   }
+
+-- a schema by its parts
+pub schema_is : (s : Schema) → s.tables ≡ schema.tables → s.indexes ≡ row_index ∷ state_index ∷ [] → s.views ≡ [] → s ≡ schema
+schema_is s tables indexes views =
+    ap (λ (t : List Table). record s { tables = t }) tables ∙ (ap (λ (i : List Index). record schema { indexes = i; views = s.views }) (indexes ∙ sym indexes_are) ∙ ap (λ (v : List View). record schema { views = v }) views)

@@ -1,10 +1,12 @@
 -- What the three tables hold.
-use Rattle.std.specs.Prelude.{◌≡◌, ℕ, pos, Bool, List, [], ◌∷◌, map, drop, not, ◌==◌, nat_lt, ◌&&◌, bytes_eq, if◌then◌else◌, IsPermutation}
+use Rattle.std.specs.Prelude.{◌≡◌, ◌⊎◌, ℕ, pos, Bool, codes, List, [], ◌∷◌, map, drop, not, ◌==◌, nat_lt, ◌&&◌, bytes_eq, if◌then◌else◌, IsTrue, IsPermutation}
+use Rattle.std.specs.List.{AllByRecursion, IsDistinct}
+use Rattle.std.specs.Ordering.{is_eq}
 use Rattle.sqlite.specs.declared.types.Value.TheVariants.{Null, Int, Text}
-use Rattle.sqlite.specs.Order.{Row, column}
+use Rattle.sqlite.specs.Order.{Row, column, value_cmp}
 use Rattle.sqlite.specs.Effect.{Database}
-use Rattle.sqlite.specs.View.{IsShaped}
-use Rattle.sqlite_trees.specs.declared.store.Shape.TheVariants.{Table as TableShape}
+use Rattle.sqlite.specs.Tree.{Trees, rowid}
+use Rattle.sqlite.specs.View.{is_int}
 use Rattle.store_core.specs.Format.{schema}
 
 -- a span of revisions of one tuple, from the one that added it to the one that removed it, or 0 while it is open
@@ -47,15 +49,27 @@ entry_cells e = Text e.key ∷ Int (pos e.value) ∷ []
 abbrev pub Lists : List Row → List Row → Type 0
 Lists tree rows = IsPermutation rows (map (drop 1) tree)
 
--- The tables hold the contents, in any order; the rowids of each are numbers and none comes twice.
+abbrev pub same_rowid : Row → Row → Bool
+same_rowid a b = is_eq (value_cmp (rowid a) (rowid b))
+
+-- the rowids are integers, and none comes twice
+pub record HasRowids (tree : List Row) : Type 0 where
+  pub integers : AllByRecursion (λ r. IsTrue (is_int (rowid r))) tree
+  pub distinct : IsDistinct same_rowid tree
+
+-- so it is in each of the three tables
+abbrev pub AreKeyed : Trees → Type 0
+AreKeyed trees = HasRowids (trees 0) × HasRowids (trees 2) × HasRowids (trees 3)
+
+-- The tables hold the contents, in any order.
 pub record Holds (db : Database) (h : Contents) : Type 0 where
   pub schema_is : db.schema ≡ schema
   pub spans : Lists (db.trees 0) (map span_cells h.spans)
   pub configs : IsPermutation (map config_row h.configs) (db.trees 2)
   pub entries : Lists (db.trees 3) (map entry_cells h.entries)
-  pub spans_shaped : IsShaped TableShape (db.trees 0)
-  pub configs_shaped : IsShaped TableShape (db.trees 2)
-  pub entries_shaped : IsShaped TableShape (db.trees 3)
+  pub spans_rowids : HasRowids (db.trees 0)
+  pub configs_rowids : HasRowids (db.trees 2)
+  pub entries_rowids : HasRowids (db.trees 3)
 
 -- ---- what is done to them
 
@@ -82,6 +96,9 @@ is_before rev c = nat_lt c.rev rev
 abbrev pub HoldsCell : Row → ℕ → ℕ → Type 0
 HoldsCell row at n = column row at ≡ Int (pos n)
 
+abbrev pub one : Row → Row
+one row = column row 0 ∷ []
+
 abbrev pub two : Row → Row
 two row = column row 0 ∷ column row 1 ∷ []
 
@@ -91,3 +108,13 @@ six row = column row 0 ∷ column row 1 ∷ column row 2 ∷ column row 3 ∷ co
 -- a configuration as the query shows it
 abbrev pub dated_cells : Dated → Row
 dated_cells c = Int (pos c.rev) ∷ Text c.text ∷ []
+
+-- a rowid as the query shows it
+abbrev pub id_cells : ℕ → Row
+id_cells id = Int (pos id) ∷ []
+
+-- the text asks for the rowids of the tree, the lowest first
+abbrev pub AsksRowids : List ℕ → ℕ → Type 0
+AsksRowids sql tree =
+    ((sql ≡ codes "SELECT rowid FROM row ORDER BY rowid") × (tree ≡ 0)) ⊎ (((sql ≡ codes "SELECT rowid FROM config ORDER BY rowid") × (tree ≡ 2))
+    ⊎ ((sql ≡ codes "SELECT rowid FROM state ORDER BY rowid") × (tree ≡ 3)))

@@ -6,6 +6,7 @@
 #![tactic(auto)]
 
 mod commit;
+mod format;
 mod loading;
 mod statement;
 mod stored;
@@ -13,5 +14,6 @@ mod stored;
 mod tests;
 
 pub use commit::{configure, create, trim, write};
+pub use format::is_format;
 pub use loading::{is_open, load};
 pub use stored::{Event, Stored, StoredConfig, StoredEntry, StoredSpan, TupleText};

@@ -1,13 +1,15 @@
 //! What the tables hold, read whole.
-ghost use Rattle.std.specs.Prelude.{◌≡◌, false, map, IsTrue, IfOk, OnOk, IsPermutation, IsSorted};
-ghost use Rattle.sqlite.specs.State.{HasCleanDisk, IsUnchanged, Survives};
+ghost use Rattle.std.specs.Prelude.{◌≡◌, ℕ, false, map, IsTrue, IfOk, OnOk, IsPermutation, IsSorted};
+ghost use Rattle.std.specs.List.Sorted.{IsStrictlyIncreasing};
+ghost use Rattle.sqlite.specs.State.{HasCleanDisk, IsLive, IsUnchanged, Survives};
 ghost use Rattle.sqlite.specs.Held.{state};
 ghost use Rattle.store_core.specs.Format.{schema};
-ghost use Rattle.store_core.specs.Tables.{Contents, Holds, HoldsCell, span_cells, dated_cells, entry_cells, two, six};
+ghost use Rattle.store_core.specs.Tables.{Contents, Holds, HasRowids, AreKeyed, Lists, HoldsCell, AsksRowids, span_cells, config_row, dated_cells, entry_cells, id_cells, one, two, six};
 ghost use Rattle.store_core.specs.Stored.{span_in, dated_in, entry_in, span_cmp, dated_cmp, entry_cmp, Loads, IsInOrder};
 
+use crate::format::is_format;
 use crate::stored::{Stored, StoredConfig, StoredEntry, StoredSpan, TupleText};
-use sqlite::{Alter, Connection, Error, Row};
+use sqlite::{Alter, Connection, Error, ErrorCode, Row};
 use std::alloc::Global;
 
 // The number in a column, from 0.
@@ -84,10 +86,64 @@ fn read_entries(alloc: Global, rows: &[Row]) -> Result<Vec<StoredEntry>, Error>
     Ok(entries)
 }
 
+// ---- the rowids
+
+fn read_ids(alloc: Global, rows: &[Row]) -> Result<Vec<u64>, Error>
+    ensures { IfOk result (λ ids. map one rows.now ≡ map id_cells ids.items) }
+{
+    let mut ids = Vec::new(alloc);
+    for row in rows {
+        ids.push(read_number(row, 0)?)?;
+    }
+    Ok(ids)
+}
+
+fn are_rising(ids: &[u64]) -> bool
+    ensures { IsTrue result → IsStrictlyIncreasing ids.now }
+{
+    for at in 1..ids.len() {
+        if ids[at] <= ids[at - 1] {
+            return false;
+        }
+    }
+    true
+}
+
+// Refuses a table in which a rowid is below 0 or comes twice.
+fn check_rowids<S: Alter>(alloc: Global, conn: &mut Connection<S>, sql: &str) -> Result<(), Error>
+    requires { (tree : ℕ) × AsksRowids sql.now tree }
+    ensures mode { conn.old.in_transaction ≡ false → conn.new.in_transaction ≡ false }
+    ensures found { HasCleanDisk (state S.Store conn.new) → (state S.Store conn.old).now.schema ≡ schema → OnOk result ((tree : ℕ) → AsksRowids sql.now tree → HasRowids ((state S.Store conn.old).now.trees tree)) }
+    ensures same { HasCleanDisk (state S.Store conn.new) → (state S.Store conn.old).now.schema ≡ schema → OnOk result (IsUnchanged (state S.Store conn.old) (state S.Store conn.new)) }
+    ensures crash { Survives (state S.Store conn.old) (state S.Store conn.new) (λ _. ¬ ((state S.Store conn.old).now.schema ≡ schema)) }
+{
+    let rows = conn.query_all(sql, &[])?;
+    let ids = read_ids(alloc, rows.as_slice())?;
+    if are_rising(ids.as_slice()) {
+        Ok(())
+    } else {
+        Err(Error::SqliteFailure(ErrorCode::DatabaseCorrupt))
+    }
+}
+
+fn check_tables<S: Alter>(alloc: Global, conn: &mut Connection<S>) -> Result<(), Error>
+    ensures mode { conn.old.in_transaction ≡ false → conn.new.in_transaction ≡ false }
+    ensures found { HasCleanDisk (state S.Store conn.new) → (state S.Store conn.old).now.schema ≡ schema → OnOk result (AreKeyed (state S.Store conn.old).now.trees) }
+    ensures same { HasCleanDisk (state S.Store conn.new) → (state S.Store conn.old).now.schema ≡ schema → OnOk result (IsUnchanged (state S.Store conn.old) (state S.Store conn.new)) }
+    ensures crash { Survives (state S.Store conn.old) (state S.Store conn.new) (λ _. ¬ ((state S.Store conn.old).now.schema ≡ schema)) }
+{
+    check_rowids(alloc, conn, "SELECT rowid FROM row ORDER BY rowid")?;
+    check_rowids(alloc, conn, "SELECT rowid FROM config ORDER BY rowid")?;
+    check_rowids(alloc, conn, "SELECT rowid FROM state ORDER BY rowid")
+}
+
+// ---- the rows
+
 // The spans in the order of their keys.
 fn load_spans<S: Alter>(alloc: Global, conn: &mut Connection<S>) -> Result<Vec<StoredSpan>, Error>
     ensures mode { conn.old.in_transaction ≡ false → conn.new.in_transaction ≡ false }
     ensures held { HasCleanDisk (state S.Store conn.new) → (h : Contents) → Holds (state S.Store conn.old).now h → IfOk result (λ spans. IsPermutation h.spans (map span_in spans.items)) }
+    ensures found { HasCleanDisk (state S.Store conn.new) → IsLive (state S.Store conn.old) → (state S.Store conn.old).now.schema ≡ schema → IfOk result (λ spans. Lists ((state S.Store conn.old).now.trees 0) (map span_cells (map span_in spans.items))) }
     ensures ordered { HasCleanDisk (state S.Store conn.new) → (state S.Store conn.old).now.schema ≡ schema → IfOk result (λ spans. IsSorted span_cmp (map span_in spans.items)) }
     ensures same { HasCleanDisk (state S.Store conn.new) → (state S.Store conn.old).now.schema ≡ schema → OnOk result (IsUnchanged (state S.Store conn.old) (state S.Store conn.new)) }
     ensures crash { Survives (state S.Store conn.old) (state S.Store conn.new) (λ _. ¬ ((state S.Store conn.old).now.schema ≡ schema)) }
@@ -106,6 +162,7 @@ fn load_configs<S: Alter>(
 ) -> Result<Vec<StoredConfig>, Error>
     ensures mode { conn.old.in_transaction ≡ false → conn.new.in_transaction ≡ false }
     ensures held { HasCleanDisk (state S.Store conn.new) → (h : Contents) → Holds (state S.Store conn.old).now h → IfOk result (λ configs. IsPermutation h.configs (map dated_in configs.items)) }
+    ensures found { HasCleanDisk (state S.Store conn.new) → IsLive (state S.Store conn.old) → (state S.Store conn.old).now.schema ≡ schema → IfOk result (λ configs. IsPermutation (map config_row (map dated_in configs.items)) ((state S.Store conn.old).now.trees 2)) }
     ensures ordered { HasCleanDisk (state S.Store conn.new) → (state S.Store conn.old).now.schema ≡ schema → IfOk result (λ configs. IsSorted dated_cmp (map dated_in configs.items)) }
     ensures same { HasCleanDisk (state S.Store conn.new) → (state S.Store conn.old).now.schema ≡ schema → OnOk result (IsUnchanged (state S.Store conn.old) (state S.Store conn.new)) }
     ensures crash { Survives (state S.Store conn.old) (state S.Store conn.new) (λ _. ¬ ((state S.Store conn.old).now.schema ≡ schema)) }
@@ -121,6 +178,7 @@ fn load_entries<S: Alter>(
 ) -> Result<Vec<StoredEntry>, Error>
     ensures mode { conn.old.in_transaction ≡ false → conn.new.in_transaction ≡ false }
     ensures held { HasCleanDisk (state S.Store conn.new) → (h : Contents) → Holds (state S.Store conn.old).now h → IfOk result (λ entries. IsPermutation h.entries (map entry_in entries.items)) }
+    ensures found { HasCleanDisk (state S.Store conn.new) → IsLive (state S.Store conn.old) → (state S.Store conn.old).now.schema ≡ schema → IfOk result (λ entries. Lists ((state S.Store conn.old).now.trees 3) (map entry_cells (map entry_in entries.items))) }
     ensures ordered { HasCleanDisk (state S.Store conn.new) → (state S.Store conn.old).now.schema ≡ schema → IfOk result (λ entries. IsSorted entry_cmp (map entry_in entries.items)) }
     ensures same { HasCleanDisk (state S.Store conn.new) → (state S.Store conn.old).now.schema ≡ schema → OnOk result (IsUnchanged (state S.Store conn.old) (state S.Store conn.new)) }
     ensures crash { Survives (state S.Store conn.old) (state S.Store conn.new) (λ _. ¬ ((state S.Store conn.old).now.schema ≡ schema)) }
@@ -129,15 +187,21 @@ fn load_entries<S: Alter>(
     read_entries(alloc, rows.as_slice())
 }
 
-/// All that the tables hold. It is refused where a number is below 0, or a row is not what the format says.
+/// All that the tables hold. Where the tables are not those of the format it is refused as
+/// [`ErrorCode::NotADatabase`], and where a number is below 0 or a rowid is below 0 or comes twice as another error.
 pub fn load<S: Alter>(alloc: Global, conn: &mut Connection<S>) -> Result<Stored, Error>
     requires idle { conn.old.in_transaction ≡ false }
     ensures idle { conn.new.in_transaction ≡ false }
     ensures held { HasCleanDisk (state S.Store conn.new) → (h : Contents) → Holds (state S.Store conn.old).now h → IfOk result (Loads h) }
+    ensures found { HasCleanDisk (state S.Store conn.new) → IfOk result (λ s. (h : Contents) × Holds (state S.Store conn.old).now h × Loads h s) }
     ensures ordered { HasCleanDisk (state S.Store conn.new) → (state S.Store conn.old).now.schema ≡ schema → IfOk result IsInOrder }
     ensures same { HasCleanDisk (state S.Store conn.new) → (state S.Store conn.old).now.schema ≡ schema → OnOk result (IsUnchanged (state S.Store conn.old) (state S.Store conn.new)) }
     ensures crash { (state S.Store conn.old).now.schema ≡ schema → Survives (state S.Store conn.old) (state S.Store conn.new) (λ _. ⊥) }
 {
+    if !is_format(conn) {
+        return Err(Error::SqliteFailure(ErrorCode::NotADatabase));
+    }
+    check_tables(alloc, conn)?;
     let spans = load_spans(alloc, conn)?;
     let configs = load_configs(alloc, conn)?;
     let entries = load_entries(alloc, conn)?;

@@ -127,3 +127,19 @@ fn a_trim_keeps_what_is_open(rt: HostRuntime) -> Result<(), Fail> {
     assert!(rt; has_entry(&stored, 0, "floor", 2) && has_entry(&stored, 2, "newest", 2));
     Ok(())
 }
+
+#[test]
+fn a_new_store_has_the_format(rt: HostRuntime) -> Result<(), Fail> {
+    let conn = created(rt.alloc())?;
+    assert!(rt; is_format(&conn));
+    Ok(())
+}
+
+#[test]
+fn other_tables_are_not_the_format(rt: HostRuntime) -> Result<(), Fail> {
+    let mut conn = Connection::open_in_memory(rt.alloc())?;
+    assert!(rt; !is_format(&conn));
+    conn.execute("CREATE TABLE row (namespace TEXT NOT NULL) STRICT", &[])?;
+    assert!(rt; !is_format(&conn));
+    Ok(())
+}

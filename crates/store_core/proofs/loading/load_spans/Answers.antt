@@ -5,6 +5,7 @@ use Rattle.store_core.specs.Tables.{span_cells, six}
 use Rattle.store_core.specs.Stored.{span_in}
 use Rattle.store_core.proofs.Texts.{rows_text, rows_plain}
 use Rattle.store_core.proofs.LoadLemmas.{reads_spans, same_spans, read_same, read_survives, on_ok, if_ok}
+use Rattle.store_core.proofs.Found.{found_spans}
 use Rattle.store_core.proofs.Sorting.{spans_sorted}
 use Rattle.store_core.proofs.loading.load_spans.Goals as goal
 
@@ -28,3 +29,10 @@ pub returns-clause-ordered : goal.returns-clause-ordered
 returns-clause-ordered g c clean has =
     if_ok c.read_spans.result _ _ (λ read same.
     spans_sorted (state g.S.Store c.args.conn.now) (state g.S.Store c.query_all.new.self) c.in_ok-rows.rows.items (map span_in read.items) has (c.in_ok-rows.ensures.ok clean) (sym (ap (map six) c.as_slice.ensures.value) ∙ same)) c.read_spans.ensures
+
+pub returns-clause-found : goal.returns-clause-found
+returns-clause-found g c clean live has =
+    let did = c.in_ok-rows.ensures.ok clean in
+    let was_open = (read_same rows_text rows_plain (state g.S.Store c.args.conn.now) (state g.S.Store c.query_all.new.self) c.in_ok-rows.rows.items has did).0.was_open in
+    if_ok c.read_spans.result _ _ (λ read same.
+    found_spans (state g.S.Store c.args.conn.now) (state g.S.Store c.query_all.new.self) c.in_ok-rows.rows.items (map span_in read.items) has (live was_open).0 did (sym (ap (map six) c.as_slice.ensures.value) ∙ same)) c.read_spans.ensures
