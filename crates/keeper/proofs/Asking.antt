@@ -1,16 +1,14 @@
 -- What the values of operations ask for, one after another.
 use Rattle.std.proofs.Common.{◌≡◌, ℕ, ◌<◌, ◌+◌, List, [], ◌∷◌, ◌++◌, length, take, drop, get_or, refl, sym, ap, ◌∙◌, subst, arith, drop-cons, ◌≤◌, true, add-one, suc}
-use Rattle.std.specs.Prelude.{Option, Some, None, option_and_then, codes}
+use Rattle.std.specs.Prelude.{Some, codes}
 use Rattle.std.proofs.lemmas.List.{take-append-drop}
 use Rattle.std.proofs.Math.Seq.{take-suc}
-use Rattle.serde_json.specs.Data.{Data, null, boolean, number, string, array, object, Items}
-use Rattle.serde_json.specs.Find.{get, as_array}
+use Rattle.serde_json.specs.Data.{Data, Items}
 use Rattle.serde_json.specs.View.{view, items_view}
 use Rattle.serde_json.specs.declared.value.Value.{Value}
 use Rattle.names.specs.declared.write.Op.{Op}
-use Rattle.names.specs.declared.node.Node.{Node}
-use Rattle.names.specs.declared.object.Object.{Object}
-use Rattle.keeper.specs.Bodies.{Reads, AsksOp, AskOps, has_only, items_at, WriteOf, AsksWrite, CheckOf, AsksCheck}
+use Rattle.shown.specs.declared.step.Part.{Part}
+use Rattle.keeper.specs.Bodies.{Reads, AsksOp, AskOps, has_only, items_at, WriteOf, AsksWrite, CatchUpOf, AsksCatchUp}
 use Rattle.keeper.proofs.Naming.{same_read}
 
 ask_last : (vs : List Value) (v : Value) (os : List Op) (o : Op) → AskOps (items_view vs) os → AsksOp (view v) o → AskOps (items_view (vs ++ v ∷ [])) (os ++ o ∷ [])
@@ -67,5 +65,5 @@ asked_write d vs ops only at low high each = let e = ask_count vs ops each in
 pub write_other : (body : List ℕ) (d : Data) → Reads body d → ((ops : List Op) → WriteOf d ops → ⊥) → (ops : List Op) → AsksWrite body ops → ⊥
 write_other body d r not ops a = not ops (subst (λ (x : Data). WriteOf x ops) (same_read body a.data_read d a.reads r) a.write)
 
-pub check_other : (body : List ℕ) (d : Data) → Reads body d → ((node : Node) (user : Object) → CheckOf d node user → ⊥) → (node : Node) (user : Object) → AsksCheck body node user → ⊥
-check_other body d r not node user a = not node user (subst (λ (x : Data). CheckOf x node user) (same_read body a.data_read d a.reads r) a.check)
+pub catch_up_other : (body : List ℕ) (d : Data) → Reads body d → ((part : Part) (commits : ℕ) → CatchUpOf d part commits → ⊥) → (part : Part) (commits : ℕ) → AsksCatchUp body part commits → ⊥
+catch_up_other body d r not part commits a = not part commits (subst (λ (x : Data). CatchUpOf x part commits) (same_read body a.data_read d a.reads r) a.catch_up)

@@ -1,5 +1,6 @@
 pub mod Naming
 pub mod Asking
+pub mod Checking
 pub mod Literals
 pub mod Refusing
 pub mod Answering

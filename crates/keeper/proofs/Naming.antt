@@ -1,5 +1,5 @@
 -- The members of an object.
-use Rattle.std.proofs.Common.{◌≡◌, ℕ, List, [], ◌∷◌, ◌||◌, refl, sym, ap, ◌∙◌, subst, map, nat_eq, Bor, string_bytes, String, Global}
+use Rattle.std.proofs.Common.{◌≡◌, ℕ, List, [], ◌∷◌, ◌||◌, refl, sym, ap, ◌∙◌, map, nat_eq, Bor, string_bytes, String, Global}
 use Rattle.std.specs.Prelude.{Some}
 use Rattle.std.specs.List.{list_any, list_all}
 use Rattle.std.specs.Map.{keys_of}

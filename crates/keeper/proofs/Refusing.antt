@@ -1,5 +1,5 @@
--- The replies to refusals that have members of their own.
-use Rattle.std.proofs.Common.{◌≡◌, ℕ, Bool, true, false, List, [], ◌∷◌, ◌||◌, Option, Result, Ok, Err, IfOk, map, refl, sym, ap, ◌∙◌}
+-- The replies that are made of values.
+use Rattle.std.proofs.Common.{◌≡◌, ℕ, false, List, [], ◌∷◌, Option, Result, Ok, Err, IfOk, None, MatchResult, map, refl, ap, ◌∙◌}
 use Rattle.std.specs.declared.alloc.AllocError.{AllocError}
 use Rattle.names.specs.Refusals.{status_of}
 use Rattle.names.specs.declared.refusal.Refusal.{Refusal}
@@ -11,6 +11,10 @@ use Rattle.serde_json.specs.View.{view, items_of}
 use Rattle.serde_json.specs.Written.{has_float, items_have_float}
 use Rattle.serde_json.specs.declared.value.Value.{Value}
 use Rattle.keeper.specs.Replies.{Says, SaysRefusal, error_data, indexed, refusal_members, signed_text}
+
+pub said : (r : Result Value AllocError) (told : Option (ℕ × List ℕ)) (status : ℕ) (d : Data) → MatchResult r (λ v. Says told status (view v)) (λ _. told ≡ None) → IfOk r (λ v. view v ≡ d) → Says told status d
+said (Ok v) told status d says is = rw is at says
+said (Err e) told status d none is = rw none tt
 
 pub failed_condition : (told : Option (ℕ × List ℕ)) (why : Refusal) (index : ℕ) → why ≡ ConditionFailed index → Says told (status_of why) (error_data (indexed why index)) → SaysRefusal told why
 failed_condition told why index is says = let s = rw is at says in rw is s

@@ -1,5 +1,5 @@
 -- The bodies of the replies.
-use Rattle.std.specs.Prelude.{ℕ, ◌≡◌, ◌++◌, ◌∷◌, [], List, Bool, true, false, cond, Option, Some, None, MatchOption, ⊤, codes, length, map, ◌-◌}
+use Rattle.std.specs.Prelude.{ℕ, ◌≡◌, ◌∷◌, [], List, Bool, cond, Option, Some, None, MatchOption, ⊤, codes, length, map, ◌-◌}
 use Rattle.std.specs.List.{slice_get}
 use Rattle.names.specs.Refusals.{number_of, name_of, status_of, cause_name_of}
 use Rattle.names.specs.Spelling.{tuple_text, relation_text}
@@ -9,7 +9,9 @@ use Rattle.names.specs.declared.tuple.Tuple.{Tuple}
 use Rattle.names.specs.declared.cause.Cause.{Cause}
 use Rattle.names.specs.declared.cause.Cause.TheVariants.{Cycle}
 use Rattle.names.specs.declared.cause.CycleStep.{CycleStep}
-use Rattle.serde_json.specs.Data.{Data, boolean, number, unsigned, string, array, object, Items, no_items, item, Members, no_members, member}
+use Rattle.zookie.specs.Text.{zookie_text}
+use Rattle.shown.specs.declared.state.State.{State}
+use Rattle.serde_json.specs.Data.{Data, boolean, number, unsigned, string, array, object, Items, Members, no_members, member}
 use Rattle.serde_json.specs.View.{items_of}
 use Rattle.serde_json.specs.Written.{compact_text}
 
@@ -20,6 +22,29 @@ receipt_data shown zookie = object (member (codes "shown") (boolean shown) (memb
 -- `{"allowed": .., "zookie": ..}`
 abbrev pub answer_data : Bool → List ℕ → Data
 answer_data allowed zookie = object (member (codes "allowed") (boolean allowed) (member (codes "zookie") (string zookie) no_members))
+
+-- `{"cursor": .., "shown": ..}`
+abbrev pub cursor_data : List ℕ → Bool → Data
+cursor_data cursor shown = object (member (codes "cursor") (string cursor) (member (codes "shown") (boolean shown) no_members))
+
+-- the member is the zookie of a revision of the store
+abbrev pub rev_member : List ℕ → ℕ → ℕ → Members → Members
+rev_member name store rev rest = member name (string (zookie_text store rev)) rest
+
+abbrev pub number_member : List ℕ → ℕ → Members → Members
+number_member name n rest = member name (number (unsigned n)) rest
+
+-- the numbers of a store's published state; no node is marked yet
+abbrev pub state_data : ℕ → State → Data
+state_data store s = object (
+    rev_member (codes "base") store s.base (
+    rev_member (codes "floor") store s.floor (
+    rev_member (codes "hot") store s.hot (
+    rev_member (codes "index") store s.index (
+    number_member (codes "marked") 0 (
+    rev_member (codes "newest") store s.newest (
+    number_member (codes "rows") s.rows (
+    number_member (codes "tuples") s.tuples no_members))))))))
 
 -- `{"error": {..}}`
 abbrev pub error_data : Members → Data

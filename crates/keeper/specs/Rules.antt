@@ -1,23 +1,25 @@
 -- What the desk may answer to a call, and what it holds after that.
-use Rattle.std.specs.Prelude.{ℕ, ◌≡◌, List, Bool, Option, Some, None, option_map}
+use Rattle.std.specs.Prelude.{ℕ, ◌≡◌, List, Bool, Option, None, option_map}
 use Rattle.names.specs.declared.call.Call.{Call}
-use Rattle.names.specs.declared.call.Call.TheVariants.{Write, Config, Check}
+use Rattle.names.specs.declared.call.Call.TheVariants.{Write, Config, Check, CatchUp, State}
 use Rattle.names.specs.declared.node.Node.{Node}
 use Rattle.names.specs.declared.object.Object.{Object}
 use Rattle.names.specs.declared.write.Op.{Op}
 use Rattle.names.specs.declared.cause.Cause.{Cause}
 use Rattle.names.specs.declared.refusal.Refusal.{Refusal}
-use Rattle.names.specs.declared.refusal.Refusal.TheVariants.{Malformed, ConfigRefused}
+use Rattle.names.specs.declared.refusal.Refusal.TheVariants.{Malformed, BadZookie, ConfigRefused}
 use Rattle.meaning.specs.Config.{Configured}
 use Rattle.config.specs.Causes.{Accepts, IsCause}
 use Rattle.zookie.specs.Text.{zookie_text}
-use Rattle.shown.specs.Standing.{standing}
+use Rattle.zookie.specs.declared.consistency.Consistency.{Consistency}
+use Rattle.rows.specs.Judging.{WriteRefused, ConfigRefused as ConfigJudged}
+use Rattle.shown.specs.declared.step.Part.{Part}
+use Rattle.shown.specs.Standing.{standing, state_of}
 use Rattle.shown.specs.Answers.{IsChecked, CheckRefused}
-use Rattle.shown.specs.Judged.{WriteRefused, ConfigRefused as ConfigJudged}
-use Rattle.keeper_core.specs.Posts.{Posts, newest_posted, newest_shown}
-use Rattle.keeper_core.specs.Changes.{Told, WriteAccepted, ConfigAccepted, IsRefused}
-use Rattle.keeper.specs.Bodies.{AsksWrite, AsksCheck, unconditional}
-use Rattle.keeper.specs.Replies.{Says, SaysRefusal, SaysRefusalAt, receipt_data, answer_data, no_route_data}
+use Rattle.keeper_core.specs.Posts.{Posts, newest_posted}
+use Rattle.keeper_core.specs.Changes.{Told, WriteAccepted, ConfigAccepted, CatchUpAccepted, CatchUpJudged, IsRefused}
+use Rattle.keeper.specs.Bodies.{AsksWrite, AsksCheck, IsCheckForm, HasBadZookie, AsksCatchUp, unconditional}
+use Rattle.keeper.specs.Replies.{Says, SaysRefusal, SaysRefusalAt, receipt_data, answer_data, cursor_data, state_data, no_route_data}
 
 -- `write`: the body asks for no write; its operations are done, as one commit; or they are refused; or there was no memory to read it
 pub data WriteStep {T : Type 0} (old : Posts T) (body : List ℕ) (told : Option (ℕ × List ℕ)) (new : Posts T) : Type 0 where
@@ -37,20 +39,37 @@ pub data ConfigStep {T : Type 0} (old : Posts T) (body : List ℕ) (told : Optio
 
 -- the zookie of a revision of the desk's store
 abbrev pub zookie_at : {T : Type 0} → Posts T → ℕ → List ℕ
-zookie_at desk rev = zookie_text (standing desk.posted).number rev
+zookie_at desk rev = zookie_text (standing desk.posted).kept.number rev
 
--- `check`: the body asks no question; it is answered, or refused, at the newest shown revision; or there was no memory to read it
+-- `check`: the body asks no question; its zookie is none; it is answered, or refused, from the shown steps; or there was no memory to read it
 pub data CheckStep {T : Type 0} (old : Posts T) (body : List ℕ) (told : Option (ℕ × List ℕ)) (new : Posts T) : Type 0 where
-  check_malformed : ((node : Node) (user : Object) → ¬ (AsksCheck body node user)) → SaysRefusal told Malformed → new ≡ old → CheckStep old body told new
-  check_answered : (node : Node) (user : Object) (rev : ℕ) (allowed : Bool) → AsksCheck body node user → IsChecked (newest_shown old) node user rev allowed
+  check_malformed : ¬ (IsCheckForm body) → SaysRefusal told Malformed → new ≡ old → CheckStep old body told new
+  check_bad_zookie : HasBadZookie body → SaysRefusal told BadZookie → new ≡ old → CheckStep old body told new
+  check_answered : (consistency : Consistency) (node : Node) (user : Object) (rev : ℕ) (allowed : Bool) → AsksCheck body consistency node user
+      → IsChecked (standing old.shown) consistency node user rev allowed
       → Says told 200 (answer_data allowed (zookie_at old rev)) → new ≡ old → CheckStep old body told new
-  check_refused : (node : Node) (user : Object) (why : Refusal) (at : Option ℕ) → AsksCheck body node user → CheckRefused (newest_shown old) node why at
+  check_refused : (consistency : Consistency) (node : Node) (user : Object) (why : Refusal) (at : Option ℕ) → AsksCheck body consistency node user
+      → CheckRefused (standing old.shown) consistency node why at
       → SaysRefusalAt told why (option_map (zookie_at old) at) → new ≡ old → CheckStep old body told new
   check_unread : told ≡ None → new ≡ old → CheckStep old body told new
+
+-- `catchup`: the body asks for no such move; the part takes the commits, and its cursor is told; or that is refused; or there was no memory to read it
+pub data CatchUpStep {T : Type 0} (old : Posts T) (body : List ℕ) (told : Option (ℕ × List ℕ)) (new : Posts T) : Type 0 where
+  catch_up_malformed : ((part : Part) (commits : ℕ) → ¬ (AsksCatchUp body part commits)) → SaysRefusal told Malformed → new ≡ old → CatchUpStep old body told new
+  catch_up_accepted : (part : Part) (commits cursor : ℕ) (receipt : Told) → AsksCatchUp body part commits → CatchUpAccepted old part commits cursor receipt new
+      → Says told 200 (cursor_data (zookie_text receipt.number cursor) receipt.shown) → CatchUpStep old body told new
+  catch_up_refused : (part : Part) (commits : ℕ) (why : Refusal) → AsksCatchUp body part commits → IsRefused old (CatchUpJudged commits) why new → SaysRefusal told why → CatchUpStep old body told new
+  catch_up_unread : told ≡ None → new ≡ old → CatchUpStep old body told new
+
+-- `state`: the numbers of the standing of the shown steps
+abbrev pub StateStep : {T : Type 0} → Posts T → Option (ℕ × List ℕ) → Posts T → Type 0
+StateStep old told new = Says told 200 (state_data (standing old.posted).kept.number (state_of (standing old.shown))) × (new ≡ old)
 
 -- from old, the desk may tell this to the call with this body, and go on to new
 abbrev pub DeskStep : {T : Type 0} → Posts T → Call → List ℕ → Option (ℕ × List ℕ) → Posts T → Type 0
 DeskStep old Write body told new = WriteStep old body told new
 DeskStep old Config body told new = ConfigStep old body told new
 DeskStep old Check body told new = CheckStep old body told new
+DeskStep old CatchUp body told new = CatchUpStep old body told new
+DeskStep old State body told new = StateStep old told new
 DeskStep old _ body told new = Says told 404 no_route_data × (new ≡ old)

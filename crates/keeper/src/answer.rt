@@ -3,16 +3,17 @@ ghost use Rattle.std.specs.Prelude.{option_map};
 ghost use Rattle.names.specs.Calls.{told};
 ghost use Rattle.zookie.specs.Text.{zookie_text};
 ghost use Rattle.keeper.specs.Replies.{SaysRefusalAt};
-ghost use Rattle.keeper.specs.Rules.{DeskStep, WriteStep, ConfigStep, CheckStep};
+ghost use Rattle.keeper.specs.Rules.{DeskStep, WriteStep, ConfigStep, CheckStep, CatchUpStep, StateStep};
 
-use crate::bodies::{check_body, write_body};
+use crate::bodies::{catch_up_body, check_body, write_body};
 use crate::refusals::{refusal, refusal_at};
-use crate::replies::{answer, no_route, receipt};
+use crate::replies::{answer, cursor, no_route, receipt, state};
 use config::Config;
-use keeper_core::{Desk, Tables};
+use keeper_core::Desk;
 use names::{Call, Items, Reply, Write};
 use shown::Refused;
 use std::alloc::Global;
+use tables::Tables;
 use zookie::Zookie;
 
 fn answer_write<T: Tables + Drop>(alloc: Global, desk: &mut Desk<T>, body: &[u8]) -> Reply
@@ -55,18 +56,43 @@ fn refused_question(alloc: Global, store: u64, refused: &Refused) -> Reply
 fn answer_check<T: Tables + Drop>(alloc: Global, desk: &Desk<T>, body: &[u8]) -> Reply
     ensures { CheckStep desk.now body.now (told result) desk.now }
 {
-    let (node, user) = match check_body(alloc, body) {
+    let (consistency, node, user) = match check_body(alloc, body) {
         Ok(asked) => asked,
         Err(why) => return refusal(alloc, &why),
     };
     let store = desk.number();
-    match desk.check(&node, &user) {
+    match desk.check(&consistency, &node, &user) {
         Ok(found) => {
             let rev = found.rev;
             answer(alloc, found.value, &Zookie { store, rev })
         }
         Err(refused) => refused_question(alloc, store, &refused),
     }
+}
+
+fn answer_catch_up<T: Tables + Drop>(alloc: Global, desk: &mut Desk<T>, body: &[u8]) -> Reply
+    ensures { CatchUpStep desk.old body.now (told result) desk.new }
+{
+    let (part, commits) = match catch_up_body(alloc, body) {
+        Ok(asked) => asked,
+        Err(why) => return refusal(alloc, &why),
+    };
+    match desk.catch_up(part, commits) {
+        Ok(posted) => {
+            let rev = posted.value;
+            let store = posted.receipt.zookie().store;
+            cursor(alloc, &Zookie { store, rev }, posted.receipt.shown())
+        }
+        Err(why) => refusal(alloc, &why),
+    }
+}
+
+fn answer_state<T: Tables + Drop>(alloc: Global, desk: &Desk<T>) -> Reply
+    ensures { StateStep desk.now (told result) desk.now }
+{
+    let store = desk.number();
+    let numbers = desk.state();
+    state(alloc, store, &numbers)
 }
 
 /// Answers a call, whose body is these bytes.
@@ -82,6 +108,8 @@ pub fn answer_on<T: Tables + Drop>(
         Call::Write => answer_write(alloc, desk, body),
         Call::Config => answer_config(alloc, desk, body),
         Call::Check => answer_check(alloc, desk, body),
+        Call::CatchUp => answer_catch_up(alloc, desk, body),
+        Call::State => answer_state(alloc, desk),
         _ => no_route(alloc),
     }
 }

@@ -1,5 +1,5 @@
 //! The bodies of calls.
-ghost use Rattle.std.specs.Prelude.{◌≡◌, List, IfOk, IfErr, map, option_map, nat_eq, string_bytes, codes};
+ghost use Rattle.std.specs.Prelude.{ℕ, ◌≡◌, List, Some, MatchOption, IfOk, IfErr, map, option_map, nat_eq, string_bytes, codes};
 ghost use Rattle.std.specs.List.{list_any, list_all};
 ghost use Rattle.std.specs.BTreeMap.{keys};
 ghost use Rattle.std.specs.Cmp.Lexicographic.{pointwise};
@@ -7,16 +7,22 @@ ghost use Rattle.serde_json.specs.Data.{Data};
 ghost use Rattle.serde_json.specs.Find.{get};
 ghost use Rattle.serde_json.specs.View.{view, items_view};
 ghost use Rattle.names.specs.Refusals.{ReadCause};
-ghost use Rattle.keeper.specs.Bodies.{Reads, has_only, text_at, items_at, is_latest_or_none, WriteOf, AsksWrite, CheckOf, AsksCheck};
+ghost use Rattle.names.specs.declared.refusal.Refusal.TheVariants.{BadZookie};
+ghost use Rattle.keeper.specs.Bodies.{Reads, has_only, text_at, items_at, number_at, only_text, WriteOf, AsksWrite, IsZookieOf, AsksAt, AtCause, CheckOf, AsksCheck, CheckCause, IsPart, CatchUpOf, AsksCatchUp};
 
 use crate::ops::read_ops;
 use names::{Items, Node, Object, Op, Refusal};
 use serde_json::{Map, Value};
+use shown::Part;
 use std::alloc::Global;
 use std::str;
+use zookie::{Consistency, Zookie};
 
 /// The most operations of one write.
 const MAX_OPS: usize = 256;
+
+/// The most commits of one `catchup`.
+const MAX_COMMITS: u64 = 65_536;
 
 /// What a body reads as.
 fn read_value(alloc: Global, body: &[u8]) -> Result<Value, Refusal>
@@ -74,16 +80,57 @@ fn items_of<'a>(value: &'a Value, name: &str) -> Option<&'a Vec<Value>>
     value.get(name).and_then(Value::as_array)
 }
 
-/// Whether it asks for the newest revision.
-fn is_latest(value: &Value) -> bool
-    ensures { result ≡ is_latest_or_none (get (codes "at") (view value.now)) }
+/// The text of the one member of an object, which has this name.
+fn only_text<'a>(value: &'a Value, name: &str) -> Option<&'a str>
+    ensures { option_map (λ t. t.now) result ≡ only_text name.now (view value.now) }
+{
+    if has_only_members(value, [name].as_slice()) {
+        text_of(value, name)
+    } else {
+        None
+    }
+}
+
+/// The zookie that a text is.
+fn zookie_of(text: &str) -> Result<Zookie, Refusal>
+    ensures ok { IfOk result (λ z. IsZookieOf text.now z) }
+    ensures err { IfErr result (λ e. (e ≡ BadZookie) × ((z : Zookie) → ¬ (IsZookieOf text.now z))) }
+{
+    let zookie = Zookie::read(text)?;
+    Ok(zookie)
+}
+
+/// What an `at` that is there asks for.
+fn read_at(at: &Value) -> Result<Consistency, Refusal>
+    ensures ok { IfOk result (λ c. AsksAt (Some (view at.now)) c) }
+    ensures err { IfErr result (AtCause (Some (view at.now))) }
+{
+    if let Some(text) = at.as_str() {
+        return if text == "latest" {
+            Ok(Consistency::Latest)
+        } else {
+            Err(Refusal::Malformed)
+        };
+    }
+    if let Some(text) = only_text(at, "at_least") {
+        let zookie = zookie_of(text)?;
+        return Ok(Consistency::AtLeast(zookie));
+    }
+    if let Some(text) = only_text(at, "exactly") {
+        let zookie = zookie_of(text)?;
+        return Ok(Consistency::Exactly(zookie));
+    }
+    Err(Refusal::Malformed)
+}
+
+/// How fresh a snapshot a value asks for.
+fn consistency_of(value: &Value) -> Result<Consistency, Refusal>
+    ensures ok { IfOk result (λ c. AsksAt (get (codes "at") (view value.now)) c) }
+    ensures err { IfErr result (AtCause (get (codes "at") (view value.now))) }
 {
     match value.get("at") {
-        None => true,
-        Some(at) => match at.as_str() {
-            None => false,
-            Some(text) => text == "latest",
-        },
+        None => Ok(Consistency::Latest),
+        Some(at) => read_at(at),
     }
 }
 
@@ -110,7 +157,7 @@ fn check_of(alloc: Global, value: &Value) -> Result<(Node, Object), Refusal>
     ensures ok { IfOk result (λ asked. CheckOf (view value.now) asked.0 asked.1) }
     ensures err { IfErr result (λ e. ReadCause ((node : Node) (user : Object) → ¬ (CheckOf (view value.now) node user)) e) }
 {
-    if !has_only_members(value, ["at", "node", "user"].as_slice()) || !is_latest(value) {
+    if !has_only_members(value, ["at", "node", "user"].as_slice()) {
         return Err(Refusal::Malformed);
     }
     let Some(node) = text_of(value, "node") else {
@@ -134,12 +181,64 @@ pub fn write_body(alloc: Global, body: &[u8]) -> Result<Items<Op>, Refusal>
     Ok(ops)
 }
 
-/// What a body of `check` asks: whether a user is a member of a node.
-pub fn check_body(alloc: Global, body: &[u8]) -> Result<(Node, Object), Refusal>
-    ensures ok { IfOk result (λ asked. AsksCheck body.now asked.0 asked.1) }
-    ensures err { IfErr result (λ e. ReadCause ((node : Node) (user : Object) → ¬ (AsksCheck body.now node user)) e) }
+/// What a body of `check` asks: how fresh a snapshot, and whether a user is a member of a node there.
+/// `BadZookie` comes only where all else is of the form.
+pub fn check_body(alloc: Global, body: &[u8]) -> Result<(Consistency, Node, Object), Refusal>
+    ensures ok { IfOk result (λ asked. AsksCheck body.now asked.0 asked.1 asked.2) }
+    ensures err { IfErr result (CheckCause body.now) }
 {
     let value = read_value(alloc, body)?;
-    let asked = check_of(alloc, &value)?;
+    let (node, user) = check_of(alloc, &value)?;
+    let consistency = consistency_of(&value)?;
+    Ok((consistency, node, user))
+}
+
+/// The part that a word names.
+fn part_of(word: &str) -> Option<Part>
+    ensures { MatchOption result ((p : Part) → ¬ (IsPart word.now p)) (λ p. IsPart word.now p) }
+{
+    if word == "index" {
+        return Some(Part::Index);
+    }
+    if word == "hot" {
+        return Some(Part::Hot);
+    }
+    None
+}
+
+/// The number that a member is.
+fn number_of(value: &Value, name: &str) -> Option<u64>
+    ensures { result ≡ number_at name.now (view value.now) }
+{
+    value.get(name).and_then(Value::as_u64)
+}
+
+/// The part, and how many commits a value asks it to take.
+fn catch_up_of(value: &Value) -> Result<(Part, u64), Refusal>
+    ensures ok { IfOk result (λ asked. CatchUpOf (view value.now) asked.0 asked.1) }
+    ensures err { IfErr result (λ e. ReadCause ((part : Part) (commits : ℕ) → ¬ (CatchUpOf (view value.now) part commits)) e) }
+{
+    if !has_only_members(value, ["part", "commits"].as_slice()) {
+        return Err(Refusal::Malformed);
+    }
+    let Some(word) = text_of(value, "part") else {
+        return Err(Refusal::Malformed);
+    };
+    let Some(part) = part_of(word) else {
+        return Err(Refusal::Malformed);
+    };
+    match number_of(value, "commits") {
+        Some(commits) if commits <= MAX_COMMITS => Ok((part, commits)),
+        _ => Err(Refusal::Malformed),
+    }
+}
+
+/// What a body of `catchup` asks: that a part take so many commits more, from 0 to 65,536.
+pub fn catch_up_body(alloc: Global, body: &[u8]) -> Result<(Part, u64), Refusal>
+    ensures ok { IfOk result (λ asked. AsksCatchUp body.now asked.0 asked.1) }
+    ensures err { IfErr result (λ e. ReadCause ((part : Part) (commits : ℕ) → ¬ (AsksCatchUp body.now part commits)) e) }
+{
+    let value = read_value(alloc, body)?;
+    let asked = catch_up_of(&value)?;
     Ok(asked)
 }

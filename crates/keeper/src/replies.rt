@@ -1,13 +1,15 @@
 //! Replies to calls that are served, and to those that are not.
 ghost use Rattle.std.specs.Prelude.{◌≡◌, None, IfOk, MatchResult, false};
 ghost use Rattle.names.specs.Calls.{told};
+ghost use Rattle.serde_json.specs.Data.{string};
 ghost use Rattle.serde_json.specs.View.{view};
 ghost use Rattle.serde_json.specs.Written.{has_float};
 ghost use Rattle.zookie.specs.Text.{zookie_text};
-ghost use Rattle.keeper.specs.Replies.{Says, SaysText, receipt_data, answer_data, no_route_data};
+ghost use Rattle.keeper.specs.Replies.{Says, SaysText, receipt_data, answer_data, cursor_data, state_data, no_route_data};
 
 use names::Reply;
 use serde_json::{Value, json};
+use shown::State;
 use std::alloc::{AllocError, Global};
 use zookie::Zookie;
 
@@ -61,6 +63,44 @@ pub fn answer(alloc: Global, allowed: bool, zookie: &Zookie) -> Reply
     };
     let value = json!(in alloc; {"allowed": allowed, "zookie": text.as_str()});
     say(alloc, 200, value)
+}
+
+/// What an accepted `catchup` is answered: the cursor after it, and whether it is shown.
+pub fn cursor(alloc: Global, cursor: &Zookie, shown: bool) -> Reply
+    ensures { Says (told result) 200 (cursor_data (zookie_text cursor.now.store cursor.now.rev) shown) }
+{
+    let Ok(text) = cursor.to_text(alloc) else {
+        return Reply::NoMemory;
+    };
+    let value = json!(in alloc; {"cursor": text.as_str(), "shown": shown});
+    say(alloc, 200, value)
+}
+
+/// The zookie of a revision of a store, as a value.
+fn rev_value(alloc: Global, store: u64, rev: u64) -> Result<Value, AllocError>
+    ensures { IfOk result (λ v. view v ≡ string (zookie_text store rev)) }
+{
+    let text = Zookie { store, rev }.to_text(alloc)?;
+    Ok(Value::String(text))
+}
+
+/// The numbers of a store's state, as a value.
+fn state_value(alloc: Global, store: u64, state: &State) -> Result<Value, AllocError>
+    ensures { IfOk result (λ v. view v ≡ state_data store state.now) }
+{
+    let base = rev_value(alloc, store, state.base)?;
+    let floor = rev_value(alloc, store, state.floor)?;
+    let hot = rev_value(alloc, store, state.hot)?;
+    let index = rev_value(alloc, store, state.index)?;
+    let newest = rev_value(alloc, store, state.newest)?;
+    json!(in alloc; {"base": base, "floor": floor, "hot": hot, "index": index, "marked": 0u64, "newest": newest, "rows": state.rows, "tuples": state.tuples})
+}
+
+/// What a `state` is answered: revisions as zookies of the store, and how many rows and tuples there are.
+pub fn state(alloc: Global, store: u64, state: &State) -> Reply
+    ensures { Says (told result) 200 (state_data store state.now) }
+{
+    say(alloc, 200, state_value(alloc, store, state))
 }
 
 /// What a call is answered that is not served.

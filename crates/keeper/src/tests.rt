@@ -1,10 +1,13 @@
 use crate::answer_on;
+use crate::bodies::{catch_up_body, check_body};
 use crate::refusals::{refusal, refusal_at};
-use crate::replies::{answer, no_route, receipt};
-use keeper_core::{Desk, Listed, Opened};
+use crate::replies::{answer, cursor, no_route, receipt, state};
+use keeper_core::{Desk, Opened};
 use names::{Call, Cause, CycleStep, Items, Name, Refusal, RelationName, Reply, Tuple};
+use shown::{Part, State};
 use std::alloc::Global;
-use zookie::Zookie;
+use tables::Listed;
+use zookie::{Consistency, Zookie};
 
 fn says(reply: &Reply, wanted: u16, text: &str) -> bool {
     match reply {
@@ -182,19 +185,152 @@ fn replies_name_their_zookie(rt: HostRuntime) {
     assert!(rt; says(&no_route(alloc), 404, nowhere));
 }
 
-fn is_first(desk: &mut Desk<Listed>, alloc: Global) -> bool {
+#[test]
+fn catch_up_and_state_have_their_replies(rt: HostRuntime) {
+    let alloc = rt.alloc();
+    let zookie = Zookie { store: 1, rev: 9 };
+    let moved = r#"{"cursor":"AQAAAAAAAAABAAAAAAAAAAk","shown":false}"#;
+    assert!(rt; says(&cursor(alloc, &zookie, false), 200, moved));
+    let now = State {
+        base: 0,
+        floor: 1,
+        hot: 3,
+        index: 2,
+        newest: 4,
+        rows: 6,
+        tuples: 5,
+    };
+    let numbers =
+        r#"{"base":"AQAAAAAAAAABAAAAAAAAAAA","floor":"AQAAAAAAAAABAAAAAAAAAAE","hot":"AQAAAAAAAAABAAAAAAAAAAM","index":"AQAAAAAAAAABAAAAAAAAAAI","marked":0,"newest":"AQAAAAAAAAABAAAAAAAAAAQ","rows":6,"tuples":5}"#;
+    assert!(rt; says(&state(alloc, 1, &now), 200, numbers));
+}
+
+/// What a check with these members asks for, or the number of its refusal.
+fn asked_at(alloc: Global, members: &str) -> Result<Consistency, u8> {
+    let Ok(body) = format!(in alloc; "{{{members},\"user\":\"user:ann\"}}") else {
+        return Err(21);
+    };
+    match check_body(alloc, body.as_bytes()) {
+        Ok((consistency, _node, _user)) => Ok(consistency),
+        Err(why) => Err(why.number()),
+    }
+}
+
+fn asks(alloc: Global, members: &str, wanted: Consistency) -> bool {
+    asked_at(alloc, members) == Ok(wanted)
+}
+
+#[test]
+fn checks_say_how_fresh(rt: HostRuntime) {
+    let alloc = rt.alloc();
+    let zookie = Zookie { store: 1, rev: 2 };
+    let rows = [
+        (r#""node":"doc:1#viewer""#, Consistency::Latest),
+        (
+            r#""at":"latest","node":"doc:1#viewer""#,
+            Consistency::Latest,
+        ),
+        (
+            r#""at":{"at_least":"AQAAAAAAAAABAAAAAAAAAAI"},"node":"doc:1#viewer""#,
+            Consistency::AtLeast(zookie),
+        ),
+        (
+            r#""at":{"exactly":"AQAAAAAAAAABAAAAAAAAAAI"},"node":"doc:1#viewer""#,
+            Consistency::Exactly(zookie),
+        ),
+    ];
+    for (members, wanted) in rows {
+        assert!(rt; asks(alloc, members, wanted), "at {members}");
+    }
+}
+
+fn is_refused(alloc: Global, members: &str, number: u8) -> bool {
+    asked_at(alloc, members) == Err(number)
+}
+
+#[test]
+fn malformed_comes_before_a_bad_zookie(rt: HostRuntime) {
+    let alloc = rt.alloc();
+    let rows = [
+        (r#""at":{"at_least":""},"node":"doc:1#viewer""#, 11),
+        (r#""at":{"exactly":"latest"},"node":"doc:1#viewer""#, 11),
+        (r#""at":{"exactly":"latest"},"node":"doc:1""#, 1),
+        (r#""at":{"exactly":1},"node":"doc:1#viewer""#, 1),
+        (
+            r#""at":{"exactly":"","at_least":""},"node":"doc:1#viewer""#,
+            1,
+        ),
+        (r#""at":null,"node":"doc:1#viewer""#, 1),
+        (r#""at":"oldest","node":"doc:1#viewer""#, 1),
+    ];
+    for (members, number) in rows {
+        assert!(rt; is_refused(alloc, members, number), "at {members}");
+    }
+}
+
+/// How many commits the index is to take, or the number of the refusal.
+fn asked_commits(alloc: Global, commits: &str) -> Result<u64, u8> {
+    let Ok(body) = format!(in alloc; "{{\"part\":\"index\",\"commits\":{commits}}}") else {
+        return Err(21);
+    };
+    match catch_up_body(alloc, body.as_bytes()) {
+        Ok((Part::Index, commits)) => Ok(commits),
+        Ok((Part::Hot, _commits)) => Err(0),
+        Err(why) => Err(why.number()),
+    }
+}
+
+fn asks_commits(alloc: Global, commits: &str, wanted: Result<u64, u8>) -> bool {
+    asked_commits(alloc, commits) == wanted
+}
+
+#[test]
+fn commits_are_whole_numbers(rt: HostRuntime) {
+    let alloc = rt.alloc();
+    let rows = [
+        ("0", Ok(0)),
+        ("65536", Ok(65_536)),
+        ("65537", Err(1)),
+        ("-0", Err(1)),
+        ("1.0", Err(1)),
+        ("1e0", Err(1)),
+    ];
+    for (commits, wanted) in rows {
+        assert!(rt; asks_commits(alloc, commits, wanted), "at {commits}");
+    }
+}
+
+fn says_first(desk: &mut Desk<Listed>, alloc: Global) -> bool {
     let config = r#"{"namespaces":{"user":{}}}"#;
     let reply = answer_on(alloc, desk, Call::Config, config.as_bytes());
     let text = r#"{"shown":true,"zookie":"AQAAAAAAAAABAAAAAAAAAAE"}"#;
     says(&reply, 200, text)
 }
 
+fn says_cursor(desk: &mut Desk<Listed>, alloc: Global) -> bool {
+    let body = r#"{"part":"hot","commits":2}"#;
+    let reply = answer_on(alloc, desk, Call::CatchUp, body.as_bytes());
+    let text = r#"{"cursor":"AQAAAAAAAAABAAAAAAAAAAE","shown":true}"#;
+    says(&reply, 200, text)
+}
+
+fn says_state(desk: &mut Desk<Listed>, alloc: Global) -> bool {
+    let reply = answer_on(alloc, desk, Call::State, b"".as_slice());
+    let text =
+        r#"{"base":"AQAAAAAAAAABAAAAAAAAAAA","floor":"AQAAAAAAAAABAAAAAAAAAAA","hot":"AQAAAAAAAAABAAAAAAAAAAE","index":"AQAAAAAAAAABAAAAAAAAAAA","marked":0,"newest":"AQAAAAAAAAABAAAAAAAAAAE","rows":0,"tuples":0}"#;
+    says(&reply, 200, text)
+}
+
 #[test]
-fn a_configuration_is_revision_one(rt: HostRuntime) {
+fn a_part_takes_the_first_configuration(rt: HostRuntime) {
     let alloc = rt.alloc();
-    let first = match Desk::open(alloc, Opened::new(), Listed::new(alloc, 1)) {
-        Ok(mut desk) => is_first(&mut desk, alloc),
+    let said = match Desk::open(alloc, Opened::new(), Listed::new(alloc, 1)) {
+        Ok(mut desk) => {
+            says_first(&mut desk, alloc)
+                && says_cursor(&mut desk, alloc)
+                && says_state(&mut desk, alloc)
+        }
         Err(_) => false,
     };
-    assert!(rt; first);
+    assert!(rt; said);
 }

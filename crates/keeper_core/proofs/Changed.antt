@@ -1,7 +1,6 @@
 -- A change, from the readiness for it on.
-use Rattle.std.proofs.Common.{◌≡◌, Bool, true, false, List, [], ◌∷◌, ◌++◌, refl, ap, sym, ◌∙◌, subst}
-use Rattle.std.specs.Prelude.{Result, Ok, Err, IfOk, IfErr, Option, None}
-use mathlib.Core.List.{IsPrefix}
+use Rattle.std.proofs.Common.{◌≡◌, Bool, false, List, [], ◌∷◌, ◌++◌, ◌<◌, ℕ, refl, ap, sym, ◌∙◌, subst}
+use Rattle.std.specs.Prelude.{Result, Ok, Err, IfOk, IfErr, Option}
 use Rattle.logbook.specs.Pages.{Book}
 use Rattle.names.specs.declared.write.Op.{Op}
 use Rattle.names.specs.declared.write.Condition.{Condition}
@@ -9,20 +8,22 @@ use Rattle.names.specs.declared.write.Write.{Write}
 use Rattle.names.specs.declared.commit.Event.{Event}
 use Rattle.names.specs.declared.commit.Commit.TheVariants.{Tuples, Config}
 use Rattle.names.specs.declared.refusal.Refusal.{Refusal}
-use Rattle.names.specs.declared.refusal.Refusal.TheVariants.{Memory, StoreFault}
+use Rattle.names.specs.declared.refusal.Refusal.TheVariants.{Malformed, Memory, StoreFault}
 use Rattle.meaning.specs.Config.{Configured}
 use Rattle.meaning.specs.Verdict.{Newest, config_cause}
 use Rattle.zookie.specs.declared.Zookie.{Zookie}
+use Rattle.rows.specs.Retained.{newest_of}
+use Rattle.rows.specs.Follows.{AreEventsOf, IsAccepted}
 use Rattle.shown.specs.declared.step.Step.{Step}
 use Rattle.shown.specs.declared.step.Step.TheVariants.{Commit}
-use Rattle.shown.specs.Standing.{Kept, standing, kept_of, newest_of}
-use Rattle.shown.specs.Judged.{AreEventsOf, IsAccepted}
-use Rattle.keeper_core.specs.Posts.{Posts, ShowsMore, PostsStep, newest_posted, newest_shown}
-use Rattle.keeper_core.specs.Changes.{Told, Tells, WriteAccepted, ConfigAccepted, JudgedWith, IsRefused}
+use Rattle.shown.specs.Standing.{Standing, standing}
+use Rattle.tables.specs.Storing.{grown}
+use Rattle.keeper_core.specs.Posts.{Posts, ShowsMore, PostsStep, newest_shown}
+use Rattle.keeper_core.specs.Changes.{Told, Tells, WriteAccepted, ConfigAccepted, JudgedWith, CatchUpJudged, IsRefused, max_commits}
 use Rattle.keeper_core.specs.Posting.{NotPosted}
 use Rattle.keeper_core.proofs.Fronts.{prefix_self, prefix_trans}
 
-module _ {T : Type 0} (old mid new : Posts T) (more : ShowsMore old mid) (works : old.failed ≡ false) where
+module _ {T : Type 0} (old mid new : Posts T) (more : ShowsMore old mid) (same : mid.faults ≡ old.faults) (works : old.failed ≡ false) where
   pub posts_on : (step : Step) → PostsStep mid step new → PostsStep old step new
   posts_on step posts =
       record {
@@ -30,6 +31,7 @@ module _ {T : Type 0} (old mid new : Posts T) (more : ShowsMore old mid) (works 
         book = posts.book ∙ more.book;
         later = prefix_trans old.shown mid.shown new.shown more.later posts.later;
         beginning = posts.beginning;
+        faults = posts.faults ∙ same;
       }
 
   pub shows_on : ShowsMore mid new → ShowsMore old new
@@ -52,7 +54,7 @@ module _ {T : Type 0} (old mid new : Posts T) (more : ShowsMore old mid) (works 
       record {
         works = works;
         plain = plain;
-        accepted = subst (λ (steps : List Step). IsAccepted (newest_of (standing steps).history) write.ops) (all_shown all) accepted;
+        accepted = subst (λ (steps : List Step). IsAccepted (newest_of (standing steps).kept) write.ops) (all_shown all) accepted;
         events = events;
         events_of = are;
         posts = posts_on (Commit (Tuples events)) posts.0;
@@ -66,7 +68,7 @@ module _ {T : Type 0} (old mid new : Posts T) (more : ShowsMore old mid) (works 
   config_accepted config (Ok told) all accepted posts =
       record {
         works = works;
-        accepted = subst (λ (steps : List Step). config_cause (newest_of (standing steps).history) config ≡ Option.None) (all_shown all) accepted;
+        accepted = subst (λ (steps : List Step). config_cause (newest_of (standing steps).kept) config ≡ Option.None) (all_shown all) accepted;
         posts = posts_on (Commit (Config config)) posts.0;
         stored = posts.2;
         tells = posts.1;
@@ -74,8 +76,8 @@ module _ {T : Type 0} (old mid new : Posts T) (more : ShowsMore old mid) (works 
   config_accepted config (Err why) all accepted posts = tt
 
   not_posted : (judged : Refusal → Type 0) (why : Refusal) → judged Memory → NotPosted why mid new → IsRefused old judged why new
-  not_posted judged Memory memory not = record { shows = shows_on not.0; cause = (works, memory, not.1) }
-  not_posted judged StoreFault memory not = record { shows = shows_on not.0; cause = (works, not.1) }
+  not_posted judged Memory memory not = record { shows = shows_on not.0; cause = (works, memory, not.1, not.2 ∙ same) }
+  not_posted judged StoreFault memory not = record { shows = shows_on not.0; cause = (works, not.1, not.2 ∙ ap grown same) }
   not_posted judged _ memory not = absurd not
 
   pub refused : (judged : Refusal → Type 0) (r : Result Told Refusal) → judged Memory → IfErr r (λ why. NotPosted why mid new) → IfErr r (λ why. IsRefused old judged why new)
@@ -83,9 +85,10 @@ module _ {T : Type 0} (old mid new : Posts T) (more : ShowsMore old mid) (works 
   refused judged (Err why) memory not = not_posted judged why memory not
 
 -- a desk at which nothing happens
-pub shows_itself : {T : Type 0} (tables : T) (b : Book) (front : List Step) (waiting : List Step) (failed : Bool)
-    → ShowsMore (record { tables = tables; book = b; posted = front ++ waiting; shown = front; failed = failed }) (record { tables = tables; book = b; posted = front ++ waiting; shown = front; failed = failed })
-shows_itself tables b front waiting failed = record { posted = refl; book = refl; later = prefix_self front; beginning = (waiting, refl) }
+pub shows_itself : {T : Type 0} (tables : T) (b : Book) (front : List Step) (waiting : List Step) (failed : Bool) (faults : ℕ)
+    → ShowsMore (record { tables = tables; book = b; posted = front ++ waiting; shown = front; failed = failed; faults = faults })
+    (record { tables = tables; book = b; posted = front ++ waiting; shown = front; failed = failed; faults = faults })
+shows_itself tables b front waiting failed faults = record { posted = refl; book = refl; later = prefix_self front; beginning = (waiting, refl) }
 
 -- want of memory is never the write's fault
 pub memory_judged : (newest : Newest) (ops : List Op) (conditions : List (Condition Zookie)) → JudgedWith newest ops conditions Memory
@@ -93,7 +96,13 @@ memory_judged newest ops [] = tt
 memory_judged newest ops (condition ∷ conditions) = tt
 
 -- what was judged on the kept state was judged on what is shown
-pub config_judged : {T : Type 0} (kept : Kept) (steps : List Step) (config : Configured) (d : Posts T) → kept ≡ kept_of (standing steps) → config_cause kept.newest config ≡ Option.None
+pub config_judged : {T : Type 0} (shown : Standing) (steps : List Step) (config : Configured) (d : Posts T) → shown ≡ standing steps → config_cause (newest_of shown.kept) config ≡ Option.None
     → d.shown ≡ steps → config_cause (newest_shown d) config ≡ Option.None
-config_judged kept steps config d is judged shown =
-    subst (λ (xs : List Step). config_cause (newest_of (standing xs).history) config ≡ Option.None) (sym shown) (subst (λ (k : Kept). config_cause k.newest config ≡ Option.None) is judged)
+config_judged shown steps config d is judged here =
+    subst (λ (xs : List Step). config_cause (newest_of (standing xs).kept) config ≡ Option.None) (sym here) (subst (λ (s : Standing). config_cause (newest_of s.kept) config ≡ Option.None) is judged)
+
+-- too many commits at once
+pub too_many : {T : Type 0} (tables : T) (b : Book) (front : List Step) (waiting : List Step) (failed : Bool) (faults : ℕ) (commits : ℕ) → failed ≡ false → max_commits < commits
+    → IsRefused (record { tables = tables; book = b; posted = front ++ waiting; shown = front; failed = failed; faults = faults }) (CatchUpJudged commits) Malformed
+    (record { tables = tables; book = b; posted = front ++ waiting; shown = front; failed = failed; faults = faults })
+too_many tables b front waiting failed faults commits sound many = record { shows = shows_itself tables b front waiting failed faults; cause = (sound, many, sound, refl) }

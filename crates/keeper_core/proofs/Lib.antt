@@ -3,6 +3,5 @@ pub mod Adding
 pub mod Beginnings
 pub mod Standings
 pub mod Steps
-pub mod Opening
-pub mod Room
 pub mod Changed
+pub mod Storable

@@ -1,34 +1,37 @@
 -- What an accepted change leaves and tells, and why one is refused.
-use Rattle.std.specs.Prelude.{◌≡◌, ◌↔◌, ℕ, List, [], ◌∷◌, length, Bool, true, false, IsTrue, Option}
+use Rattle.std.specs.Prelude.{◌≡◌, ◌<◌, ◌≤◌, ◌↔◌, ℕ, List, [], ◌∷◌, Bool, true, false, IsTrue, Option}
 use Rattle.names.specs.Refusals.{ReadCause}
 use Rattle.names.specs.declared.write.Op.{Op}
 use Rattle.names.specs.declared.write.Condition.{Condition}
 use Rattle.names.specs.declared.write.Write.{Write}
 use Rattle.names.specs.declared.commit.Event.{Event}
-use Rattle.names.specs.declared.commit.Commit.{Commit}
 use Rattle.names.specs.declared.commit.Commit.TheVariants.{Tuples, Config}
 use Rattle.names.specs.declared.refusal.Refusal.{Refusal}
-use Rattle.names.specs.declared.refusal.Refusal.TheVariants.{Memory, StoreFault, Reopen}
+use Rattle.names.specs.declared.refusal.Refusal.TheVariants.{Malformed, Memory, StoreFault, Reopen}
 use Rattle.meaning.specs.Config.{Configured}
 use Rattle.meaning.specs.Verdict.{Newest, config_cause}
 use Rattle.zookie.specs.declared.Zookie.{Zookie}
-use Rattle.shown.specs.declared.step.Step.TheVariants.{Commit as CommitStep}
-use Rattle.shown.specs.Standing.{standing}
-use Rattle.shown.specs.Judged.{AreEventsOf, IsAccepted, WriteRefused}
+use Rattle.rows.specs.Retained.{newest}
+use Rattle.rows.specs.Follows.{AreEventsOf, IsAccepted}
+use Rattle.rows.specs.Judging.{WriteRefused}
+use Rattle.tables.specs.Storing.{grown}
+use Rattle.shown.specs.declared.step.Part.{Part}
+use Rattle.shown.specs.declared.step.Step.TheVariants.{Commit as CommitStep, Take}
+use Rattle.shown.specs.Standing.{standing, cursor_of}
 use Rattle.keeper_core.specs.Known.{Known}
 use Rattle.keeper_core.specs.Posts.{Posts, ShowsMore, PostsStep, shown_by, newest_posted}
 
--- What a receipt says: the store's number, the newest posted revision, whether all posted steps are shown, and the list of shown steps.
+-- What a receipt says: the store's number, a revision, whether all posted steps are shown, and the list of shown steps.
 pub record Told : Type 0 where
   pub number : ℕ
   pub rev : ℕ
   pub shown : Bool
   pub published : Known
 
--- the receipt tells of the desk as it is
+-- the receipt tells of the desk as it is, and names the newest posted revision
 pub record Tells {T : Type 0} (told : Told) (desk : Posts T) : Type 0 where
-  pub number : told.number ≡ (standing desk.posted).number
-  pub rev : told.rev ≡ length (standing desk.posted).history
+  pub number : told.number ≡ (standing desk.posted).kept.number
+  pub rev : told.rev ≡ newest (standing desk.posted).kept
   pub shown : IsTrue told.shown ↔ (desk.shown ≡ desk.posted)
   pub published : told.published ≡ shown_by desk
 
@@ -51,6 +54,21 @@ pub record ConfigAccepted {T : Type 0} (old : Posts T) (config : Configured) (to
   pub stored : new.failed ≡ false
   pub tells : Tells told new
 
+-- the most commits that a part takes at once
+abbrev pub max_commits : ℕ
+max_commits = 65536
+
+-- The part has taken the commits, which is posted and changes nothing of the tables. The revision that is told is shown.
+pub record CatchUpAccepted {T : Type 0} (old : Posts T) (part : Part) (commits : ℕ) (cursor : ℕ) (told : Told) (new : Posts T) : Type 0 where
+  pub works : old.failed ≡ false
+  pub few : commits ≤ max_commits
+  pub posts : PostsStep old (Take part commits) new
+  pub tables : new.tables ≡ old.tables
+  pub stored : new.failed ≡ false
+  pub moved : cursor ≡ cursor_of part (standing new.posted)
+  pub tells : Tells told new
+  pub seen : told.rev ≡ newest (standing new.shown).kept
+
 -- Why a write is refused on a revision. Conditions are not answered yet: a write with one is malformed.
 abbrev pub JudgedWith : Newest → List Op → List (Condition Zookie) → Refusal → Type 0
 JudgedWith newest ops [] why = WriteRefused newest ops why
@@ -59,11 +77,17 @@ JudgedWith newest ops (condition ∷ conditions) why = ReadCause (Unit {0}) why
 abbrev pub WriteJudged : Newest → Write Zookie → Refusal → Type 0
 WriteJudged newest write why = JudgedWith newest write.ops write.conditions why
 
+-- too many commits at once, or no memory
+abbrev pub CatchUpJudged : ℕ → Refusal → Type 0
+CatchUpJudged commits Malformed = max_commits < commits
+CatchUpJudged commits Memory = Unit {0}
+CatchUpJudged commits _ = ⊥
+
 -- Why a change was refused, where `judged` says why it would be on the posted steps. After a fault every change asks to open the tables again.
 abbrev pub Refuses : {T : Type 0} → Posts T → (Refusal → Type 0) → Refusal → Posts T → Type 0
-Refuses old judged Reopen new = (old.failed ≡ true) × (new.failed ≡ true)
-Refuses old judged StoreFault new = (old.failed ≡ false) × (new.failed ≡ true)
-Refuses old judged why new = (old.failed ≡ false) × judged why × (new.failed ≡ false)
+Refuses old judged Reopen new = (old.failed ≡ true) × (new.failed ≡ true) × (new.faults ≡ old.faults)
+Refuses old judged StoreFault new = (old.failed ≡ false) × (new.failed ≡ true) × (new.faults ≡ grown old.faults)
+Refuses old judged why new = (old.failed ≡ false) × judged why × (new.failed ≡ false) × (new.faults ≡ old.faults)
 
 -- nothing is posted, and this is why
 pub record IsRefused {T : Type 0} (old : Posts T) (judged : Refusal → Type 0) (why : Refusal) (new : Posts T) : Type 0 where

@@ -1,6 +1,6 @@
--- What contracts see of fronts, receipts, tables and desks as numbers, by which their values are told apart.
-use Rattle.std.specs.Prelude.{ℕ, Bool, List, refl}
-use Rattle.std.specs.Coded.{Coded, code_by, coded×, coded_ℕ, coded_bool, coded_list}
+-- What contracts see of books, steps and fronts as numbers, by which their values are told apart.
+use Rattle.std.specs.Prelude.{ℕ, List, refl}
+use Rattle.std.specs.Coded.{Coded, code_by, coded×, coded_ℕ, coded_list}
 use Rattle.logbook.specs.Pages.{Book}
 use Rattle.shown.specs.declared.step.Step.{Step}
 use Rattle.shown.specs.contracts.step.Step as step_row

@@ -1,22 +1,15 @@
--- What contracts see of receipts, tables and desks as numbers, by which their values are told apart.
+-- What contracts see of receipts and desks as numbers, by which their values are told apart.
 use Rattle.std.specs.Prelude.{ℕ, Bool, List, refl}
-use Rattle.std.specs.Coded.{Coded, code_by, coded×, coded_ℕ, coded_bool, coded_list}
+use Rattle.std.specs.Coded.{Coded, code_by, coded×, coded_ℕ, coded_bool}
 use Rattle.logbook.specs.Pages.{Book}
-use Rattle.meaning.specs.History.{History}
 use Rattle.shown.specs.declared.step.Step.{Step}
-use Rattle.shown.specs.declared.step.Loaded.{Loaded}
-use Rattle.shown.specs.contracts.step.Loaded as loaded_row
-use Rattle.shown.specs.Standing.{Standing}
 use Rattle.keeper_core.specs.Known.{Known}
 use Rattle.keeper_core.specs.Codes.{coded_book, coded_steps, coded_known}
 use Rattle.keeper_core.specs.Posts.{Posts}
 use Rattle.keeper_core.specs.Changes.{Told}
 
-abbrev pub coded_standing : Coded Standing
-coded_standing = code_by Loaded loaded_row.the_row.coded (λ s. record { number = s.number; commits = s.history }) (λ l. record { number = l.number; history = l.commits }) (λ _. refl)
-
 abbrev pub coded_told : Coded Told
 coded_told = code_by (ℕ × (ℕ × (Bool × Known))) (coded× coded_ℕ (coded× coded_ℕ (coded× coded_bool coded_known))) (λ t. (t.number, (t.rev, (t.shown, t.published)))) (λ p. record { number = p.0; rev = p.1.0; shown = p.1.1.0; published = p.1.1.1 }) (λ _. refl)
 
 abbrev pub coded_posts : {T : Type 0} → Coded T → Coded (Posts T)
-coded_posts {T} code = code_by (T × (Book × (List Step × (List Step × Bool)))) (coded× code (coded× coded_book (coded× coded_steps (coded× coded_steps coded_bool)))) (λ d. (d.tables, (d.book, (d.posted, (d.shown, d.failed))))) (λ p. record { tables = p.0; book = p.1.0; posted = p.1.1.0; shown = p.1.1.1.0; failed = p.1.1.1.1 }) (λ _. refl)
+coded_posts {T} code = code_by (T × (Book × (List Step × (List Step × (Bool × ℕ))))) (coded× code (coded× coded_book (coded× coded_steps (coded× coded_steps (coded× coded_bool coded_ℕ))))) (λ d. (d.tables, (d.book, (d.posted, (d.shown, (d.failed, d.faults)))))) (λ p. record { tables = p.0; book = p.1.0; posted = p.1.1.0; shown = p.1.1.1.0; failed = p.1.1.1.1.0; faults = p.1.1.1.1.1 }) (λ _. refl)

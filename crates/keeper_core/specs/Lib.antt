@@ -1,9 +1,8 @@
 pub mod Book
 pub mod Known
 pub mod Codes
-pub mod Stored
-pub mod Watching
 pub mod Posts
+pub mod Watching
 pub mod Changes
 pub mod Keeps
 pub mod DeskCodes

@@ -2,6 +2,7 @@
 use Rattle.std.specs.Prelude.{◌≡◌, Bool, true, false}
 use Rattle.names.specs.declared.refusal.Refusal.{Refusal}
 use Rattle.names.specs.declared.refusal.Refusal.TheVariants.{Memory, StoreFault, Reopen}
+use Rattle.tables.specs.Storing.{grown}
 use Rattle.keeper_core.specs.Posts.{Posts, ShowsMore}
 
 -- the tables failed before, or there was no memory to show what waits
@@ -12,6 +13,6 @@ NotReady failed _ = ⊥
 
 -- the tables have failed now, or there was no memory to store the commit; nothing is posted
 abbrev pub NotPosted : {T : Type 0} → Refusal → Posts T → Posts T → Type 0
-NotPosted Memory old new = ShowsMore old new × (new.failed ≡ false)
-NotPosted StoreFault old new = ShowsMore old new × (new.failed ≡ true)
+NotPosted Memory old new = ShowsMore old new × (new.failed ≡ false) × (new.faults ≡ old.faults)
+NotPosted StoreFault old new = ShowsMore old new × (new.failed ≡ true) × (new.faults ≡ grown old.faults)
 NotPosted _ old new = ⊥

@@ -1,23 +1,23 @@
 -- What a desk holds.
-use Rattle.std.specs.Prelude.{◌≡◌, ◌⊎◌, ℕ, Bool, true, false, List, [], ◌∷◌, ◌++◌, length}
+use Rattle.std.specs.Prelude.{◌≡◌, ◌⊎◌, ℕ, Bool, true, false, List, [], ◌∷◌, ◌++◌}
 use mathlib.Core.List.{IsPrefix}
 use Rattle.logbook.specs.Pages.{Book}
 use Rattle.names.specs.declared.commit.Commit.{Commit}
 use Rattle.meaning.specs.Config.{Configured}
 use Rattle.meaning.specs.Verdict.{Newest}
+use Rattle.rows.specs.Retained.{Retained, newest_of, with_commit}
 use Rattle.shown.specs.declared.step.Step.{Step}
-use Rattle.shown.specs.declared.step.Step.TheVariants.{Open}
-use Rattle.shown.specs.Standing.{Standing, standing, newest_of}
+use Rattle.shown.specs.Standing.{standing}
 use Rattle.keeper_core.specs.Known.{Known}
-use Rattle.keeper_core.specs.Stored.{with_commit}
 
--- the tables, the book, the posted steps, those of them that are shown, and whether the tables failed
+-- the tables, the book, the posted steps, those of them that are shown, whether the tables failed, and how often they did
 pub record Posts (T : Type 0) : Type 0 where
   pub tables : T
   pub book : Book
   pub posted : List Step
   pub shown : List Step
   pub failed : Bool
+  pub faults : ℕ
 
 -- the published list, with its book
 abbrev pub shown_by : {T : Type 0} → Posts T → Known
@@ -25,20 +25,16 @@ shown_by d = record { book = d.book; steps = d.shown }
 
 -- what changes are judged on: the newest revision of all posted steps
 abbrev pub newest_posted : {T : Type 0} → Posts T → Newest
-newest_posted d = newest_of (standing d.posted).history
+newest_posted d = newest_of (standing d.posted).kept
 
--- what questions are asked of: the newest revision of the shown steps
+-- the newest revision of the shown steps
 abbrev pub newest_shown : {T : Type 0} → Posts T → Newest
-newest_shown d = newest_of (standing d.shown).history
+newest_shown d = newest_of (standing d.shown).kept
 
--- the one step that brings what the tables held
-abbrev pub opening : Standing → List Step
-opening held = Open (record { number = held.number; commits = held.history }) ∷ []
-
--- the tables hold the standing; after a fault perhaps with one commit more
-abbrev pub Agrees : Bool → Standing → Standing → Type 0
-Agrees false held s = held ≡ s
-Agrees true held s = (held ≡ s) ⊎ ((commit : Commit Configured) × (held ≡ with_commit s commit))
+-- The tables hold the history, and a crash leaves no other. After a fault a crash leaves it, or it with one commit more.
+abbrev pub Agrees : Bool → (Retained → Type 0) → ((Retained → Type 0) → Type 0) → Retained → Type 0
+Agrees false Holds LeavesOnly r = Holds r × LeavesOnly (λ x. x ≡ r)
+Agrees true Holds LeavesOnly r = (commit : Commit Configured) × LeavesOnly (λ x. (x ≡ r) ⊎ (x ≡ with_commit r commit))
 
 -- Nothing is posted, and no fewer steps are shown, as a beginning of the posted ones.
 pub record ShowsMore {T : Type 0} (old new : Posts T) : Type 0 where
@@ -47,9 +43,10 @@ pub record ShowsMore {T : Type 0} (old new : Posts T) : Type 0 where
   pub later : IsPrefix old.shown new.shown
   pub beginning : IsPrefix new.shown new.posted
 
--- The step is posted behind the others, and no fewer steps are shown, as a beginning of the posted ones.
+-- The step is posted behind the others, no fewer steps are shown, as a beginning of the posted ones, and the tables did not fail.
 pub record PostsStep {T : Type 0} (old : Posts T) (step : Step) (new : Posts T) : Type 0 where
   pub posted : new.posted ≡ old.posted ++ step ∷ []
   pub book : new.book ≡ old.book
   pub later : IsPrefix old.shown new.shown
   pub beginning : IsPrefix new.shown new.posted
+  pub faults : new.faults ≡ old.faults

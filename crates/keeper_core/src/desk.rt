@@ -1,27 +1,34 @@
 //! The desk: what lies under a store's lock.
-ghost use Rattle.std.specs.Prelude.{◌≡◌, ◌≢◌, ◌↔◌, ◌++◌, [], ◌∷◌, length, true, false, IsTrue, IfOk, IfErr, OnOk};
-ghost use mathlib.Core.List.{IsPrefix};
+ghost use Rattle.std.specs.Prelude.{◌≡◌, ◌↔◌, ◌++◌, [], ◌∷◌, true, false, IsTrue, IfOk, IfErr, OnOk};
 ghost use Rattle.names.specs.declared.commit.Commit.TheVariants.{Tuples};
 ghost use Rattle.meaning.specs.Verdict.{config_cause};
-ghost use Rattle.shown.specs.declared.step.Step.TheVariants.{Commit as CommitStep};
-ghost use Rattle.shown.specs.Standing.{standing, kept_of, HasRoom};
+ghost use Rattle.rows.specs.Retained.{Retained, newest};
+ghost use Rattle.rows.specs.Loads.{retained_of};
+ghost use Rattle.rows.specs.Follows.{IsAccepted, IsNext};
+ghost use Rattle.rows.specs.Judging.{ConfigRefused};
+ghost use Rattle.rows.specs.declared.loaded.Loaded.{Loaded};
+ghost use Rattle.shown.specs.declared.step.Step.TheVariants.{Open, Commit as CommitStep, Take};
+ghost use Rattle.shown.specs.Standing.{standing, state_of, cursor_of, after_take};
 ghost use Rattle.shown.specs.Answers.{IsChecked, CheckRefused};
-ghost use Rattle.shown.specs.Judged.{IsAccepted, ConfigRefused};
-ghost use Rattle.keeper_core.specs.Posts.{Agrees, ShowsMore, PostsStep, shown_by, newest_posted, newest_shown, opening};
-ghost use Rattle.keeper_core.specs.Changes.{Tells, WriteAccepted, ConfigAccepted, IsRefused, JudgedWith, WriteJudged, CannotOpen};
+ghost use Rattle.keeper_core.specs.Posts.{Agrees, ShowsMore, PostsStep, shown_by, newest_posted, newest_shown};
+ghost use Rattle.keeper_core.specs.Changes.{Tells, WriteAccepted, ConfigAccepted, CatchUpAccepted, IsRefused, JudgedWith, WriteJudged, CatchUpJudged, CannotOpen};
 ghost use Rattle.keeper_core.specs.Posting.{NotReady, NotPosted};
 
 use crate::book::{Book, Front, Opened};
-use crate::receipt::Receipt;
+use crate::receipt::{Posted, Receipt};
 use crate::showing::{Waiting, show_waiting};
-use crate::tables::Tables;
 use crate::watched::{Watched, load};
 use config::Config;
 use names::{Commit, Condition, Items, Node, Object, Op, Refusal, Write};
-use shown::{Answer, Refused, Shown, Step, events_of};
+use rows::{events_of, refuses_what_no_write_gives};
+use shown::{Answer, Part, Refused, Shown, State, Step};
 use std::alloc::Global;
 use std::marker::Model;
-use zookie::Zookie;
+use tables::Tables;
+use zookie::{Consistency, Zookie};
+
+/// The most commits that a part takes at once.
+const MAX_COMMITS: u64 = 65_536;
 
 /// The tables, the steps that were posted, and what is shown of them. One posted step at most waits to
 /// be shown.
@@ -44,20 +51,20 @@ impl<T: Tables + Drop> Model for Desk<T> {
 
     ghost use Rattle.keeper_core.specs.Keeps.{Keeps, posted_of};
 
-    ghost view = { λ d. record { tables = d.tables.tables; book = d.book; posted = posted_of d.front d.waiting; shown = d.front.steps; failed = d.tables.failed } };
+    ghost view = { λ d. record { tables = d.tables.tables; book = d.book; posted = posted_of d.front d.waiting; shown = d.front.steps; failed = d.tables.failed; faults = T.count d.tables.tables } };
 
-    ghost invariant = { λ d. Keeps (T.held d.tables.tables) d.tables.failed d.book d.front d.shown d.waiting };
+    ghost invariant = { λ d. Keeps (T.holds d.tables.tables) (T.leaves_only d.tables.tables) d.tables.failed d.book d.front d.shown d.waiting };
 }
 
 impl<T: Tables + Drop> Desk<T> {
     /// A desk over tables, which shows what they hold.
     pub fn open(alloc: Global, opened: Opened, tables: T) -> Result<Desk<T>, Refusal>
-        ensures posted { IfOk result (λ desk. desk.posted ≡ opening (T.held tables)) }
+        ensures posted { IfOk result (λ desk. (loaded : Loaded) × (desk.posted ≡ Open loaded ∷ []) × T.holds desk.tables (retained_of loaded) × ((r : Retained) → T.holds tables r → T.is_reliable desk.tables → retained_of loaded ≡ r)) }
         ensures shown { IfOk result (λ desk. desk.shown ≡ desk.posted) }
         ensures book { IfOk result (λ desk. desk.book ≡ opened.book) }
         ensures failed { IfOk result (λ desk. desk.failed ≡ false) }
-        ensures held { IfOk result (λ desk. T.held desk.tables ≡ T.held tables) }
-        ensures agrees { IfOk result (λ desk. Agrees desk.failed (T.held desk.tables) (standing desk.posted)) }
+        ensures faults { IfOk result (λ desk. desk.faults ≡ T.count tables) }
+        ensures agrees { IfOk result (λ desk. Agrees desk.failed (T.holds desk.tables) (T.leaves_only desk.tables) (standing desk.posted).kept) }
         ensures err { IfErr result CannotOpen }
     {
         let mut tables = tables;
@@ -83,13 +90,13 @@ impl<T: Tables + Drop> Desk<T> {
     pub fn write(&mut self, write: Write<Zookie>) -> Result<Receipt, Refusal>
         ensures ok { IfOk result (λ receipt. WriteAccepted self.old write receipt self.new) }
         ensures err { IfErr result (λ why. IsRefused self.old (WriteJudged (newest_posted self.old) write) why self.new) }
-        ensures agrees { Agrees self.new.failed (T.held self.new.tables) (standing self.new.posted) }
-        ensures unchanged { IfErr result (λ why. why ≢ Refusal.StoreFault → T.held self.new.tables ≡ T.held self.old.tables) }
+        ensures agrees { Agrees self.new.failed (T.holds self.new.tables) (T.leaves_only self.new.tables) (standing self.new.posted).kept }
     {
         self.ready()?;
         let Write { conditions, ops } = write;
         self.judge(&conditions, &ops)?;
         let events = events_of(ops)?;
+        refuses_what_no_write_gives();
         self.post(Commit::Tuples(events))
     }
 
@@ -97,28 +104,53 @@ impl<T: Tables + Drop> Desk<T> {
     pub fn configure(&mut self, config: Config) -> Result<Receipt, Refusal>
         ensures ok { IfOk result (λ receipt. ConfigAccepted self.old config receipt self.new) }
         ensures err { IfErr result (λ why. IsRefused self.old (ConfigRefused (newest_posted self.old) config) why self.new) }
-        ensures agrees { Agrees self.new.failed (T.held self.new.tables) (standing self.new.posted) }
-        ensures unchanged { IfErr result (λ why. why ≢ Refusal.StoreFault → T.held self.new.tables ≡ T.held self.old.tables) }
+        ensures agrees { Agrees self.new.failed (T.holds self.new.tables) (T.leaves_only self.new.tables) (standing self.new.posted).kept }
     {
         self.ready()?;
         self.shown.judge_config(&config)?;
         self.post(Commit::Config(config))
     }
 
-    /// Whether the user is a member of the node at the newest shown revision.
-    pub fn check(&self, node: &Node, user: &Object) -> Result<Answer<bool>, Refused>
-        ensures ok { IfOk result (λ answer. IsChecked (newest_shown self.now) node.now user.now answer.rev answer.value) }
-        ensures err { IfErr result (λ refused. CheckRefused (newest_shown self.now) node.now refused.why refused.at) }
+    /// Has a part take so many commits more, or as many as there are. Over 65,536 are malformed. The tables
+    /// are not changed.
+    pub fn catch_up(&mut self, part: Part, commits: u64) -> Result<Posted, Refusal>
+        ensures ok { IfOk result (λ posted. CatchUpAccepted self.old part commits posted.value posted.receipt self.new) }
+        ensures err { IfErr result (λ why. IsRefused self.old (CatchUpJudged commits) why self.new) }
+        ensures agrees { Agrees self.new.failed (T.holds self.new.tables) (T.leaves_only self.new.tables) (standing self.new.posted).kept }
     {
-        self.shown.check(node, user)
+        if commits > MAX_COMMITS && !self.tables.has_failed() {
+            return Err(Refusal::Malformed);
+        }
+        self.ready()?;
+        Ok(self.take(part, commits as u32))
+    }
+
+    /// Whether the user is a member of the node, at a shown revision that is as fresh as is asked.
+    pub fn check(
+        &self,
+        consistency: &Consistency,
+        node: &Node,
+        user: &Object,
+    ) -> Result<Answer<bool>, Refused>
+        ensures ok { IfOk result (λ answer. IsChecked (standing self.now.shown) consistency.now node.now user.now answer.rev answer.value) }
+        ensures err { IfErr result (λ refused. CheckRefused (standing self.now.shown) consistency.now node.now refused.why refused.at) }
+    {
+        self.shown.check(consistency, node, user)
+    }
+
+    /// The shown revisions, and how large the history is at the newest of them.
+    pub fn state(&self) -> State
+        ensures { result ≡ state_of (standing self.now.shown) }
+    {
+        self.shown.state()
     }
 
     /// Shows what waits, as far as there is memory, and says whether all that is posted is shown.
     pub fn publish(&mut self) -> bool
         ensures more { ShowsMore self.old self.new }
         ensures all { IsTrue result ↔ (self.new.shown ≡ self.new.posted) }
-        ensures same { (self.new.tables ≡ self.old.tables) × (self.new.failed ≡ self.old.failed) }
-        ensures agrees { Agrees self.new.failed (T.held self.new.tables) (standing self.new.posted) }
+        ensures same { (self.new.tables ≡ self.old.tables) × (self.new.failed ≡ self.old.failed) × (self.new.faults ≡ self.old.faults) }
+        ensures agrees { Agrees self.new.failed (T.holds self.new.tables) (T.leaves_only self.new.tables) (standing self.new.posted).kept }
     {
         show_waiting(
             &self.book,
@@ -130,15 +162,15 @@ impl<T: Tables + Drop> Desk<T> {
 
     /// The store's number.
     pub fn number(&self) -> u64
-        ensures posted { result ≡ (standing self.now.posted).number }
-        ensures shown { result ≡ (standing self.now.shown).number }
+        ensures posted { result ≡ (standing self.now.posted).kept.number }
+        ensures shown { result ≡ (standing self.now.shown).kept.number }
     {
         self.shown.number()
     }
 
     /// The newest shown revision.
     pub fn newest(&self) -> u64
-        ensures { result ≡ length (standing self.now.shown).history }
+        ensures { result ≡ newest (standing self.now.shown).kept }
     {
         self.shown.newest()
     }
@@ -146,10 +178,10 @@ impl<T: Tables + Drop> Desk<T> {
     // Whether a change can be judged: the tables have not failed, and all that is posted is shown.
     fn ready(&mut self) -> Result<(), Refusal>
         ensures more { ShowsMore self.old self.new }
-        ensures same { (self.new.tables ≡ self.old.tables) × (self.new.failed ≡ self.old.failed) }
+        ensures same { (self.new.tables ≡ self.old.tables) × (self.new.failed ≡ self.old.failed) × (self.new.faults ≡ self.old.faults) }
         ensures ok { OnOk result ((self.old.failed ≡ false) × (self.new.shown ≡ self.new.posted)) }
         ensures err { IfErr result (NotReady self.old.failed) }
-        ensures agrees { Agrees self.new.failed (T.held self.new.tables) (standing self.new.posted) }
+        ensures agrees { Agrees self.new.failed (T.holds self.new.tables) (T.leaves_only self.new.tables) (standing self.new.posted).kept }
     {
         if self.tables.has_failed() {
             return Err(Refusal::Reopen);
@@ -176,14 +208,13 @@ impl<T: Tables + Drop> Desk<T> {
     fn post(&mut self, commit: Commit<Config>) -> Result<Receipt, Refusal>
         requires open { self.old.failed ≡ false }
         requires whole { self.old.shown ≡ self.old.posted }
-        requires room { HasRoom (kept_of (standing self.old.posted)) (CommitStep commit) }
+        requires next { IsNext (standing self.old.posted).kept commit }
         ensures ok { IfOk result (λ receipt. PostsStep self.old (CommitStep commit) self.new × Tells receipt self.new × (self.new.failed ≡ false)) }
         ensures err { IfErr result (λ why. NotPosted why self.old self.new) }
-        ensures agrees { Agrees self.new.failed (T.held self.new.tables) (standing self.new.posted) }
-        ensures unchanged { IfErr result (λ why. why ≢ Refusal.StoreFault → T.held self.new.tables ≡ T.held self.old.tables) }
+        ensures agrees { Agrees self.new.failed (T.holds self.new.tables) (T.leaves_only self.new.tables) (standing self.new.posted).kept }
     {
         let rev = self.shown.newest() + 1;
-        self.tables.write(&commit)?;
+        self.tables.write(rev, &commit)?;
         self.waiting = Some(Waiting {
             step: Step::Commit(commit),
             after: None,
@@ -192,9 +223,43 @@ impl<T: Tables + Drop> Desk<T> {
         Ok(self.receipt(rev, shown))
     }
 
+    // Posts that a part takes commits, and shows it.
+    fn take(&mut self, part: Part, commits: u32) -> Posted
+        requires open { self.old.failed ≡ false }
+        requires whole { self.old.shown ≡ self.old.posted }
+        ensures posted { PostsStep self.old (Take part commits) self.new }
+        ensures same { (self.new.tables ≡ self.old.tables) × (self.new.failed ≡ false) }
+        ensures moved { result.value ≡ cursor_of part (standing self.new.posted) }
+        ensures tells { Tells result.receipt self.new }
+        ensures seen { result.receipt.rev ≡ newest (standing self.new.shown).kept }
+        ensures agrees { Agrees self.new.failed (T.holds self.new.tables) (T.leaves_only self.new.tables) (standing self.new.posted).kept }
+    {
+        let rev = self.shown.newest();
+        let value = self.cursor_after(part, commits);
+        self.waiting = Some(Waiting {
+            step: Step::Take(part, commits),
+            after: None,
+        });
+        let shown = self.publish();
+        let receipt = self.receipt(rev, shown);
+        Posted { value, receipt }
+    }
+
+    // The cursor of a part that would take so many commits more.
+    fn cursor_after(&self, part: Part, commits: u32) -> u64
+        ensures { result ≡ cursor_of part (after_take (standing self.now.shown) part commits) }
+    {
+        let state = self.shown.state();
+        let cursor = match part {
+            Part::Index => state.index,
+            Part::Hot => state.hot,
+        };
+        cursor.saturating_add(u64::from(commits)).min(state.newest)
+    }
+
     // The receipt of a change at this revision.
     fn receipt(&self, rev: u64, shown: bool) -> Receipt
-        ensures { result ≡ record { number = (standing self.now.posted).number; rev = rev; shown = shown; published = shown_by self.now } }
+        ensures { result ≡ record { number = (standing self.now.posted).kept.number; rev = rev; shown = shown; published = shown_by self.now } }
     {
         let zookie = Zookie {
             store: self.number(),

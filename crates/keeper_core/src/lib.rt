@@ -3,18 +3,13 @@
 #![tactic(auto)]
 
 mod book;
-mod copy;
 mod desk;
-mod listed;
 mod receipt;
 mod showing;
-mod tables;
 #[cfg(test)]
 mod tests;
 mod watched;
 
 pub use book::{Book, Front, Naming, Opened};
 pub use desk::Desk;
-pub use listed::Listed;
-pub use receipt::Receipt;
-pub use tables::{Tables, TablesError};
+pub use receipt::{Posted, Receipt};

@@ -14,6 +14,14 @@ pub struct Receipt {
     published: Front,
 }
 
+/// What a caller is told of a part that takes commits: the revision up to which the part has read them, once
+/// all that is posted is shown, and the receipt, which names the newest shown revision.
+#[derive(Drop)]
+pub struct Posted {
+    pub value: u64,
+    pub receipt: Receipt,
+}
+
 impl Model for Receipt {
     ghost use Rattle.keeper_core.specs.Changes.{Told};
     ghost use Rattle.keeper_core.specs.DeskCodes.{coded_told};

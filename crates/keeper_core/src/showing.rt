@@ -1,6 +1,6 @@
 //! How a posted step comes to be shown.
 ghost use Rattle.std.specs.Prelude.{◌≡◌, ◌↔◌, IsTrue, IfSome, IfNone, None};
-ghost use Rattle.shown.specs.Standing.{kept_of, standing, HasRoom, AddsStep};
+ghost use Rattle.shown.specs.Standing.{after_step, HasRoom};
 ghost use Rattle.keeper_core.specs.Known.{next_of, Begins};
 ghost use Rattle.keeper_core.specs.Keeps.{Leads, posted_of};
 
@@ -36,7 +36,7 @@ fn show(book: &Book, front: &mut Front, shown: &mut Shown, mut waiting: Waiting)
     requires book { front.old.book ≡ book.now }
     requires room { HasRoom shown.old waiting.step }
     requires after { IfSome waiting.after (λ f. f ≡ next_of front.old waiting.step) }
-    ensures done { IfNone result ((front.new ≡ next_of front.old waiting.step) × AddsStep shown.old waiting.step shown.new) }
+    ensures done { IfNone result ((front.new ≡ next_of front.old waiting.step) × (shown.new ≡ after_step shown.old waiting.step)) }
     ensures waits { IfSome result (λ w. (w.step ≡ waiting.step) × IfSome w.after (λ f. f ≡ next_of front.old waiting.step) × (front.new ≡ front.old) × (shown.new ≡ shown.old)) }
 {
     let Some(next) = enter(book, front, &mut waiting) else {

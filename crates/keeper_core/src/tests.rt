@@ -1,11 +1,13 @@
 ghost use Rattle.std.specs.Prelude.{◌≡◌};
 
-use crate::{Desk, Listed, Opened, Receipt, Tables, TablesError};
+use crate::{Desk, Opened, Posted, Receipt};
 use config::Config;
 use names::{Commit, Items, Node, Object, Op, OpKind, Refusal, Tuple, Write};
-use shown::Loaded;
+use rows::Loaded;
+use shown::{Part, State};
 use std::alloc::Global;
-use zookie::Zookie;
+use tables::{Listed, Tables, TablesError};
+use zookie::{Consistency, Zookie};
 
 const GROUPS: &str = r#"{"namespaces":{"group":{"member":{"types":["user"]}},"user":{}}}"#;
 
@@ -13,17 +15,32 @@ const GROUPS: &str = r#"{"namespaces":{"group":{"member":{"types":["user"]}},"us
 #[derive(Drop)]
 struct Broken {
     inner: Listed,
+    faults: u64,
 }
 
 impl Tables for Broken {
-    ghost held = { λ t. t.inner };
+    ghost holds = { λ t r. t.inner ≡ r };
+
+    ghost leaves_only = { λ t P. P t.inner };
+
+    ghost is_reliable = { λ t. Unit {0} };
+
+    ghost count = { λ t. t.faults };
 
     fn load(&mut self, alloc: Global) -> Result<Loaded, TablesError> {
-        self.inner.load(alloc)
+        match self.inner.load(alloc) {
+            Ok(loaded) => Ok(loaded),
+            Err(_) => Err(TablesError::Memory),
+        }
     }
 
-    fn write(&mut self, _commit: &Commit<Config>) -> Result<(), TablesError> {
+    fn write(&mut self, _rev: u64, _commit: &Commit<Config>) -> Result<(), TablesError> {
+        self.faults = self.faults.saturating_add(1);
         Err(TablesError::Fault)
+    }
+
+    fn faults(&self) -> u64 {
+        self.faults
     }
 }
 
@@ -45,15 +62,10 @@ fn configure<T: Tables + Drop>(alloc: Global, desk: &mut Desk<T>) -> Result<Rece
     desk.configure(config)
 }
 
-fn is_member<T: Tables + Drop>(
-    alloc: Global,
-    desk: &Desk<T>,
-    node: &str,
-    user: &str,
-) -> Result<bool, Refusal> {
-    let node = Node::parse(alloc, node)?;
+fn is_member<T: Tables + Drop>(alloc: Global, desk: &Desk<T>, user: &str) -> Result<bool, Refusal> {
+    let node = Node::parse(alloc, "group:a#member")?;
     let user = Object::parse(alloc, user)?;
-    match desk.check(&node, &user) {
+    match desk.check(&Consistency::Latest, &node, &user) {
         Ok(answer) => Ok(answer.value),
         Err(refused) => Err(refused.why),
     }
@@ -63,14 +75,20 @@ fn is_shown_at(receipt: &Receipt, rev: u64) -> bool {
     receipt.shown() && receipt.zookie() == Zookie { store: 7, rev }
 }
 
-fn members_come(alloc: Global) -> Result<bool, Refusal> {
+/// A desk of a store with a configuration at 1, and a tuple at 2.
+fn with_ann(alloc: Global) -> Result<Desk<Listed>, Refusal> {
     let mut desk = Desk::open(alloc, Opened::new(), Listed::new(alloc, 7))?;
-    let first = configure(alloc, &mut desk)?;
-    let second = desk.write(insert_of(alloc, "group:a#member@user:ann")?)?;
-    let came = is_member(alloc, &desk, "group:a#member", "user:ann")?;
-    let other = is_member(alloc, &desk, "group:a#member", "user:bob")?;
-    let told = is_shown_at(&first, 1) && is_shown_at(&second, 2);
-    Ok(told && came && !other && desk.number() == 7 && desk.newest() == 2 && desk.publish())
+    configure(alloc, &mut desk)?;
+    desk.write(insert_of(alloc, "group:a#member@user:ann")?)?;
+    Ok(desk)
+}
+
+fn members_come(alloc: Global) -> Result<bool, Refusal> {
+    let mut desk = with_ann(alloc)?;
+    let came = is_member(alloc, &desk, "user:ann")?;
+    let other = is_member(alloc, &desk, "user:bob")?;
+    let told = desk.number() == 7 && desk.newest() == 2 && desk.publish();
+    Ok(told && came && !other)
 }
 
 #[test]
@@ -78,27 +96,50 @@ fn a_write_is_shown_at_the_next_revision(rt: HostRuntime) {
     assert!(rt; members_come(rt.alloc()).unwrap_or(false));
 }
 
-fn is_fault(answer: &Result<Receipt, Refusal>) -> bool {
-    match answer {
-        Ok(_) => false,
-        Err(why) => why.number() == 22,
-    }
+fn index_follows(alloc: Global) -> Result<bool, Refusal> {
+    let mut desk = with_ann(alloc)?;
+    let posted = desk.catch_up(Part::Index, 5)?;
+    let moved = posted.value == 2 && is_shown_at(&posted.receipt, 2);
+    Ok(
+        moved
+            && desk.state()
+                == State {
+                    base: 1,
+                    floor: 0,
+                    hot: 0,
+                    index: 2,
+                    newest: 2,
+                    rows: 1,
+                    tuples: 1,
+                },
+    )
 }
 
-fn is_closed(answer: &Result<Receipt, Refusal>) -> bool {
+#[test]
+fn the_index_catches_up_as_far_as_there_is(rt: HostRuntime) {
+    assert!(rt; index_follows(rt.alloc()).unwrap_or(false));
+}
+
+fn is_refused<A: Drop>(answer: &Result<A, Refusal>, number: u8) -> bool {
     match answer {
         Ok(_) => false,
-        Err(why) => why.number() == 23,
+        Err(why) => why.number() == number,
     }
 }
 
 fn faults_close(alloc: Global) -> Result<bool, Refusal> {
     let inner = Listed::new(alloc, 7);
-    let mut desk = Desk::open(alloc, Opened::new(), Broken { inner })?;
+    let mut desk = Desk::open(alloc, Opened::new(), Broken { inner, faults: 0 })?;
+    let many = desk.catch_up(Part::Hot, 65_537);
     let fault = configure(alloc, &mut desk);
     let next = configure(alloc, &mut desk);
-    let write = desk.write(insert_of(alloc, "group:a#member@user:ann")?);
-    Ok(is_fault(&fault) && is_closed(&next) && is_closed(&write) && desk.newest() == 0)
+    let closed: Result<Posted, Refusal> = desk.catch_up(Part::Hot, 65_537);
+    Ok(
+        is_refused(&many, 1)
+            && is_refused(&fault, 22)
+            && is_refused(&next, 23)
+            && is_refused(&closed, 23),
+    )
 }
 
 #[test]

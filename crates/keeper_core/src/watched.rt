@@ -1,16 +1,17 @@
 //! Tables that are known to have failed.
 ghost use Rattle.std.specs.Prelude.{◌≡◌, false, IfOk, IfErr, OnOk};
-ghost use Rattle.shown.specs.declared.step.Step.TheVariants.{Commit as CommitStep};
-ghost use Rattle.shown.specs.Standing.{kept_of, HasRoom, IsWithin};
-ghost use Rattle.keeper_core.specs.Stored.{loaded_of, with_commit};
+ghost use Rattle.rows.specs.Retained.{Retained, with_commit};
+ghost use Rattle.rows.specs.Loads.{retained_of, IsWithin};
+ghost use Rattle.tables.specs.Storing.{IsNextAt, CanStore};
 ghost use Rattle.keeper_core.specs.Changes.{CannotOpen};
-ghost use Rattle.keeper_core.specs.Watching.{IsKept};
+ghost use Rattle.keeper_core.specs.Posts.{Agrees};
+ghost use Rattle.keeper_core.specs.Watching.{IsNoted};
 
-use crate::tables::{Tables, TablesError};
 use config::Config;
 use names::{Commit, Refusal};
-use shown::Loaded;
+use rows::Loaded;
 use std::alloc::Global;
+use tables::{Tables, TablesError};
 
 /// Tables, and whether they failed. Nothing outside this file can say that they did.
 #[derive(Drop)]
@@ -38,12 +39,15 @@ impl<T: Tables + Drop> Watched<T> {
     }
 
     /// Stores a commit, and notes a fault.
-    pub(crate) fn write(&mut self, commit: &Commit<Config>) -> Result<(), Refusal>
-        requires { HasRoom (kept_of (T.held self.old.tables)) (CommitStep commit.now) }
-        ensures ok { OnOk result ((T.held self.new.tables ≡ with_commit (T.held self.old.tables) commit.now) × (self.new.failed ≡ self.old.failed)) }
-        ensures err { IfErr result (λ why. IsKept why (T.held self.old.tables) self.old.failed commit.now (T.held self.new.tables) self.new.failed) }
+    pub(crate) fn write(&mut self, rev: u64, commit: &Commit<Config>) -> Result<(), Refusal>
+        requires works { self.old.failed ≡ false }
+        requires next { CanStore (T.holds self.old.tables) rev commit.now }
+        ensures ok { OnOk result ((self.new.failed ≡ false) × (T.count self.new.tables ≡ T.count self.old.tables)) }
+        ensures err { IfErr result (λ why. IsNoted why (T.count self.old.tables) self.new.failed (T.count self.new.tables)) }
+        ensures stored { (r : Retained) → T.holds self.old.tables r → IsNextAt r rev commit.now → OnOk result (Agrees self.new.failed (T.holds self.new.tables) (T.leaves_only self.new.tables) (with_commit r commit.now)) }
+        ensures kept { (r : Retained) → T.holds self.old.tables r → IsNextAt r rev commit.now → IfErr result (λ why. Agrees self.new.failed (T.holds self.new.tables) (T.leaves_only self.new.tables) r) }
     {
-        match self.tables.write(commit) {
+        match self.tables.write(rev, commit) {
             Ok(()) => Ok(()),
             Err(TablesError::Memory) => Err(Refusal::Memory),
             Err(TablesError::Fault) => {
@@ -56,9 +60,10 @@ impl<T: Tables + Drop> Watched<T> {
 
 /// Loads tables.
 pub(crate) fn load<T: Tables>(tables: &mut T, alloc: Global) -> Result<Loaded, Refusal>
-    ensures ok { IfOk result (λ loaded. loaded ≡ loaded_of (T.held tables.old)) }
-    ensures within { OnOk result (IsWithin (T.held tables.old).history) }
-    ensures same { T.held tables.new ≡ T.held tables.old }
+    ensures within { IfOk result IsWithin }
+    ensures agrees { IfOk result (λ loaded. Agrees false (T.holds tables.new) (T.leaves_only tables.new) (retained_of loaded)) }
+    ensures same { (r : Retained) → T.holds tables.old r → T.is_reliable tables.new → IfOk result (λ loaded. retained_of loaded ≡ r) }
+    ensures quiet { OnOk result (T.count tables.new ≡ T.count tables.old) }
     ensures err { IfErr result CannotOpen }
 {
     match tables.load(alloc) {

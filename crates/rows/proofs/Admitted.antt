@@ -1,6 +1,6 @@
 -- Which cause a configuration gives for a tuple, and what a refusal of a write says.
 use Rattle.std.proofs.Common.{◌≡◌, List, [], ◌∷◌, Bool, true, false, refl, sym, ap, ◌∙◌}
-use Rattle.std.specs.Prelude.{not, ◌&&◌, ◌||◌, Some}
+use Rattle.std.specs.Prelude.{not, ◌&&◌, ◌||◌}
 use mathlib.Core.Bool.{true≢false}
 use Rattle.std.specs.List.{list_any}
 use Rattle.names.specs.declared.tuple.Tuple.{Tuple}

@@ -1,28 +1,24 @@
 -- The tuples that the floor holds, by the marks.
-use Rattle.std.proofs.Common.{◌≡◌, ℕ, ◌+◌, ◌<◌, List, [], ◌∷◌, ◌++◌, zero, suc, refl, ap, sym, subst, ◌∙◌, arith}
-use Rattle.std.specs.Prelude.{Bool, true, false, cond, ◌||◌, ◌&&◌, ◌==◌, filter, Option, Some, None}
-use mathlib.Core.Bool.{true≢false}
+use Rattle.std.proofs.Common.{◌≡◌, ℕ, ◌+◌, List, [], ◌∷◌, ◌++◌, refl, ap, sym, ◌∙◌, arith}
+use Rattle.std.specs.Prelude.{Bool, true, false, cond, ◌||◌, ◌&&◌, ◌==◌, filter, Some}
 use Rattle.std.specs.List.{list_any}
 use Rattle.std.specs.Map.{lookup, keys_of}
 use Rattle.std.specs.BTreeMap.{BTreeMap, is_at}
 use Rattle.std.specs.BTreeMap as tree
 use Rattle.std.specs.Global.{Vec}
-use Rattle.std.specs.Ordering.{is_eq}
 use Rattle.std.specs.Cmp.{eq_by_cmp_equiv}
 use Rattle.names.specs.Order.{tuple_cmp, is_same_tuple}
 use Rattle.names.specs.declared.tuple.Tuple.{Tuple}
 use Rattle.names.specs.declared.commit.Event.{Event}
-use Rattle.names.specs.declared.commit.Commit.{Commit}
 use Rattle.names.specs.declared.commit.Commit.TheVariants as kinds
 use Rattle.meaning.specs.TupleSet as set
 use Rattle.meaning.specs.TupleSet.{Tuples}
-use Rattle.meaning.specs.Config.{Configured}
 use Rattle.meaning.specs.History.{History}
 use Rattle.meaning.proofs.TupleSets.{contains_from_list, same_tuples, exact_tuples, tuples_total}
 use Rattle.std.proofs.lemmas.Bool.Decides.{nat_tests}
 use Rattle.std.proofs.lemmas.Map.Views.{tells_apart}
 use Rattle.rows.specs.declared.mark.Mark.{Mark}
-use Rattle.rows.specs.Kept.{mark_of, marks_in, commit_marks, marks_after, base_marks, is_based, items_or, marks_at, base_tuples, AreMarks}
+use Rattle.rows.specs.Kept.{mark_of, marks_in, marks_after, base_marks, is_based, items_or, marks_at, base_tuples, AreMarks}
 
 pub same_is : (q t : Tuple) → is_same_tuple q t ≡ true → q ≡ t
 same_is = tells_apart exact_tuples

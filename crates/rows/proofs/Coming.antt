@@ -1,16 +1,15 @@
 -- How many tuples come and go with the events.
-use Rattle.std.proofs.Common.{◌≡◌, ℕ, ◌+◌, ◌-◌, ◌<◌, ◌≤◌, List, [], ◌∷◌, ◌++◌, length, take, zero, suc, refl, ap, sym, subst, ◌∙◌, arith, get_or}
+use Rattle.std.proofs.Common.{◌≡◌, ℕ, ◌+◌, ◌-◌, ◌<◌, ◌≤◌, List, [], ◌∷◌, ◌++◌, length, take, suc, refl, ap, sym, ◌∙◌, arith, get_or}
 use Rattle.std.specs.Prelude.{Bool, true, false, cond, not, ◌&&◌, Contains}
 use Rattle.std.proofs.Math.Seq.{take-length}
 use Rattle.std.proofs.lemmas.List.{append-nil}
-use Rattle.names.specs.Order.{is_same_tuple}
 use Rattle.names.specs.declared.tuple.Tuple.{Tuple}
 use Rattle.names.specs.declared.commit.Event.{Event}
 use Rattle.names.specs.declared.commit.EventKind.{EventKind}
 use Rattle.names.specs.declared.commit.EventKind.TheVariants.{Put, Del}
 use Rattle.meaning.specs.TupleSet as set
 use Rattle.meaning.specs.TupleSet.{Tuples}
-use Rattle.meaning.specs.History.{after_kind, after_event, replay}
+use Rattle.meaning.specs.History.{after_kind, replay}
 use Rattle.meaning.proofs.TupleSets.{len_insert, len_remove, contains_iff, len_items}
 use Rattle.meaning.proofs.Lists.{contains_none}
 use Rattle.rows.specs.declared.mark.Mark.{Mark}

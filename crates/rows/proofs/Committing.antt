@@ -1,5 +1,5 @@
 -- A commit more, or one less.
-use Rattle.std.proofs.Common.{◌≡◌, ℕ, ◌+◌, ◌-◌, ◌<◌, ◌≤◌, List, [], ◌∷◌, ◌++◌, length, take, drop, refl, ap, sym, subst, ◌∙◌, append_assoc, arith, length-append}
+use Rattle.std.proofs.Common.{◌≡◌, ℕ, ◌+◌, ◌-◌, ◌≤◌, List, [], ◌∷◌, ◌++◌, length, take, refl, ap, sym, subst, ◌∙◌, append_assoc, arith, length-append}
 use Rattle.std.specs.Prelude.{Bool, true, false, cond}
 use Rattle.std.specs.Prelude.{Result, Ok, Err, OnErr}
 use Rattle.std.specs.BTreeMap.{BTreeMap}
@@ -17,14 +17,13 @@ use Rattle.meaning.specs.TupleSet.{Tuples}
 use Rattle.meaning.specs.Config.{Configured}
 use Rattle.meaning.specs.Snap.{Snap}
 use Rattle.meaning.specs.History.{History, after_kind, after_event, replay, after_commit, after_commits, rows_of, commit_rows, puts_in, puts_of_kind}
-use Rattle.meaning.specs.Verdict.{max_rev, max_rows}
 use Rattle.meaning.proofs.TupleSets.{len_insert, len_remove}
 use Rattle.rows.specs.declared.mark.Mark.{Mark}
 use Rattle.rows.specs.declared.dated.Dated.{Dated}
 use Rattle.rows.specs.declared.change.Change.{Change}
 use Rattle.rows.specs.declared.loaded.Counts.{Counts}
-use Rattle.rows.specs.Retained.{Retained, newest, spans_of, with_commit, without_newest, HasRoom}
-use Rattle.rows.specs.Kept.{marks_in, commit_marks, marks_at, marks_after, base_marks, base_tuples, is_there, last_from, dated_after, AreMarks, GoesOn, HasThese, Changes, retained, IsKept}
+use Rattle.rows.specs.Retained.{Retained, newest, with_commit, HasRoom}
+use Rattle.rows.specs.Kept.{commit_marks, marks_at, marks_after, base_marks, is_there, dated_after, AreMarks, GoesOn, HasThese, Changes, retained, IsKept}
 use Rattle.rows.proofs.MarkRuns.{marks_push, based_last, last_of, dated_push, dated_same}
 use Rattle.rows.proofs.Bases.{base_is}
 

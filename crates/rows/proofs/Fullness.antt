@@ -15,7 +15,7 @@ use Rattle.meaning.specs.Snap.{Snap}
 use Rattle.meaning.specs.TupleSet as set
 use Rattle.meaning.specs.TupleSet.{Tuples}
 use Rattle.meaning.specs.History.{after_kind, after_event, replay, puts_in, puts_of_kind}
-use Rattle.meaning.specs.Verdict.{Newest, event_of, kind_of, is_delete, is_twice, is_full, max_tuples, max_rows, max_rev}
+use Rattle.meaning.specs.Verdict.{event_of, kind_of, is_delete, is_twice, is_full, max_tuples, max_rows, max_rev}
 use Rattle.meaning.proofs.TupleSets.{contains_items, len_items, len_insert, len_remove}
 use Rattle.rows.specs.Judging.{puts_tuple, adds_tuple, takes_tuple}
 use Rattle.rows.specs.Kept.{is_put}

@@ -9,5 +9,8 @@ pub mod Committing
 pub mod Loading
 pub mod Admitted
 pub mod Fullness
+pub mod Admission
+pub mod Written
 pub mod Settling
 pub mod Listing
+pub mod Together

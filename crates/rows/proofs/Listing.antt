@@ -1,8 +1,7 @@
 -- The tuples of a revision in order, by the marks.
-use Rattle.std.proofs.Common.{◌≡◌, ℕ, ◌+◌, ◌-◌, ◌<◌, ◌≤◌, List, [], ◌∷◌, ◌++◌, length, take, drop, zero, suc, refl, ap, sym, subst, ◌∙◌, append_assoc, arith, get_or}
-use Rattle.std.specs.Prelude.{Bool, true, false, cond, not, ◌&&◌, ◌||◌, filter, Option, Some, None, All}
+use Rattle.std.proofs.Common.{◌≡◌, List, [], ◌∷◌, ◌++◌, suc, refl, ap, sym, subst, ◌∙◌, append_assoc, arith}
+use Rattle.std.specs.Prelude.{Bool, true, false, cond, ◌&&◌, ◌||◌, filter, Some, All}
 use Rattle.std.specs.List.{list_any, find}
-use Rattle.std.specs.List.Sorted.{IsStrictlySortedBy}
 use Rattle.std.specs.Map.{lookup, keys_of}
 use Rattle.std.specs.BTreeMap.{BTreeMap, IsOrdered, is_at}
 use Rattle.std.specs.BTreeMap as tree
@@ -79,6 +78,15 @@ both_skip p q ks rest t is none = ap (λ xs. filter p (filter q xs)) is ∙ move
     by_tests : (a b : Bool) → (a && b) ≡ false → cond a (cond b (t ∷ filter p (filter q rest)) (filter p (filter q rest))) (filter p (filter q rest)) ≡ filter p (filter q rest)
     by_tests true b h = ap (λ c. cond c (t ∷ filter p (filter q rest)) (filter p (filter q rest))) h
     by_tests false b h = refl
+
+-- the same of all that pass one
+pub one_more : (q : Tuple → Bool) (old : List Tuple) (ks rest : List Tuple) (t : Tuple) → ks ≡ t ∷ rest → q t ≡ true → (old ++ t ∷ []) ++ filter q rest ≡ old ++ filter q ks
+one_more q old ks rest t is has =
+    append_assoc old (t ∷ []) (filter q rest)
+    ∙ sym (ap (λ xs. old ++ filter q xs) is ∙ ap (λ b. old ++ cond b (t ∷ filter q rest) (filter q rest)) has)
+
+pub one_skip : (q : Tuple → Bool) (ks rest : List Tuple) (t : Tuple) → ks ≡ t ∷ rest → q t ≡ false → filter q ks ≡ filter q rest
+one_skip q ks rest t is none = ap (filter q) is ∙ ap (λ b. cond b (t ∷ filter q rest) (filter q rest)) none
 
 pub none_left : (a b : Bool) → a ≡ false → (a && b) ≡ false
 none_left a b h = ap (λ c. c && b) h

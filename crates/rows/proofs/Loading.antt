@@ -1,5 +1,5 @@
 -- Making a history from what tables held.
-use Rattle.std.proofs.Common.{◌≡◌, ℕ, ◌+◌, ◌-◌, ◌<◌, ◌≤◌, List, [], ◌∷◌, ◌++◌, length, take, zero, suc, refl, ap, sym, subst, ◌∙◌, arith, get_or}
+use Rattle.std.proofs.Common.{◌≡◌, ℕ, ◌+◌, ◌<◌, ◌≤◌, List, [], ◌∷◌, ◌++◌, length, take, zero, suc, refl, ap, sym, ◌∙◌, arith, get_or}
 use Rattle.std.specs.Prelude.{Bool, true, false, cond, ◌||◌}
 use Rattle.std.specs.List.{list_any}
 use Rattle.std.specs.List.Sorted.{IsStrictlySortedBy}
@@ -13,15 +13,13 @@ use Rattle.names.specs.declared.commit.Commit.{Commit}
 use Rattle.meaning.specs.TupleSet as set
 use Rattle.meaning.specs.Config.{Configured}
 use Rattle.meaning.specs.History.{History, rows_of, commit_rows}
-use Rattle.meaning.specs.Verdict.{max_rev, max_rows}
 use Rattle.meaning.proofs.TupleSets.{contains_from_list, items_from_list, len_items}
 use Rattle.rows.specs.declared.mark.Mark.{Mark}
-use Rattle.rows.specs.declared.dated.Dated.{Dated}
 use Rattle.rows.specs.declared.loaded.Loaded.{Loaded}
 use Rattle.rows.specs.declared.loaded.Counts.{Counts}
-use Rattle.rows.specs.Retained.{Retained, newest, spans_of, with_commit, HasRoom}
+use Rattle.rows.specs.Retained.{with_commit, HasRoom}
 use Rattle.rows.specs.Loads.{retained_of, loaded_to, IsWithin}
-use Rattle.rows.specs.Kept.{marks_at, base_marks, AreMarks, IsKept}
+use Rattle.rows.specs.Kept.{marks_at, base_marks, IsKept}
 use Rattle.rows.proofs.MarkRuns.{take_none}
 use Rattle.rows.proofs.Committing.{rows_push, length_push}
 

@@ -1,8 +1,9 @@
 -- The marks of a history, and what its revisions hold.
-use Rattle.std.proofs.Common.{◌≡◌, ℕ, ◌+◌, ◌-◌, ◌<◌, ◌≤◌, List, [], ◌∷◌, ◌++◌, length, take, drop, zero, suc, refl, ap, sym, ◌∙◌, append_assoc, arith}
+use Rattle.std.proofs.Common.{◌≡◌, ℕ, ◌+◌, ◌-◌, ◌<◌, ◌≤◌, List, [], ◌∷◌, ◌++◌, length, take, zero, suc, get_or, refl, ap, sym, ◌∙◌, append_assoc, arith}
 use Rattle.std.specs.Prelude.{Bool, true, false, cond, not, ◌||◌, ◌&&◌, nat_le, Option, Some, None}
 use Rattle.std.specs.List.{slice_get}
 use Rattle.std.proofs.lemmas.List.{append-nil}
+use Rattle.std.proofs.Math.Seq.{take-suc}
 use Rattle.std.proofs.lemmas.Bool.{le-leb, lt-leb}
 use Rattle.names.specs.Order.{is_same_tuple}
 use Rattle.names.specs.declared.tuple.Tuple.{Tuple}
@@ -182,3 +183,34 @@ last_rev_is n (x ∷ xs) = some n x xs (length (x ∷ xs) - 1) (omega arith)
     some d x [] (suc k) h = absurd (omega (arith, h))
     some d x (y ∷ ys) zero h = absurd (omega (arith, h))
     some d x (y ∷ ys) (suc k) h = some x.rev y ys k (omega (arith, h))
+
+-- the last mark or configuration that counts
+stands_more : (b : Bool) (ms : List Mark) (m : Mark) (rev : ℕ) → stands_from b (ms ++ m ∷ []) rev ≡ cond (nat_le m.rev rev) m.put (stands_from b ms rev)
+stands_more b [] m rev = refl
+stands_more b (x ∷ ms) m rev = stands_more (cond (nat_le x.rev rev) x.put b) ms m rev
+
+config_more : (config : Configured) (ds : List Dated) (d : Dated) (rev : ℕ) → config_from config (ds ++ d ∷ []) rev ≡ cond (nat_le d.rev rev) d.config (config_from config ds rev)
+config_more config [] d rev = refl
+config_more config (x ∷ ds) d rev = config_more (cond (nat_le x.rev rev) x.config config) ds d rev
+
+-- where the mark at k counts, it decides; else those before it do
+module _ (ms : List Mark) (k : ℕ) (d : Mark) (rev : ℕ) (small : k < length ms) where
+  stands_at : stands (take (suc k) ms) rev ≡ cond (nat_le (get_or ms k d).rev rev) (get_or ms k d).put (stands (take k ms) rev)
+  stands_at = ap (λ xs. stands xs rev) (take-suc ms k d small) ∙ stands_more false (take k ms) (get_or ms k d) rev
+
+  pub mark_counts : (get_or ms k d).rev ≤ rev → stands (take (suc k) ms) rev ≡ (get_or ms k d).put
+  mark_counts h = stands_at ∙ ap (λ b. cond b (get_or ms k d).put (stands (take k ms) rev)) (le-leb (get_or ms k d).rev rev h)
+
+  pub mark_late : rev < (get_or ms k d).rev → stands (take (suc k) ms) rev ≡ stands (take k ms) rev
+  mark_late h = stands_at ∙ ap (λ b. cond b (get_or ms k d).put (stands (take k ms) rev)) (lt-leb (get_or ms k d).rev rev h)
+
+-- the same of a configuration
+module _ (config : Configured) (ds : List Dated) (k : ℕ) (d : Dated) (rev : ℕ) (small : k < length ds) (is : d ≡ get_or ds k d) where
+  config_at : config_from config (take (suc k) ds) rev ≡ cond (nat_le d.rev rev) d.config (config_from config (take k ds) rev)
+  config_at = ap (λ xs. config_from config xs rev) (take-suc ds k d small ∙ ap (λ x. take k ds ++ x ∷ []) (sym is)) ∙ config_more config (take k ds) d rev
+
+  pub config_counts : d.rev ≤ rev → config_from config (take (suc k) ds) rev ≡ d.config
+  config_counts h = config_at ∙ ap (λ b. cond b d.config (config_from config (take k ds) rev)) (le-leb d.rev rev h)
+
+  pub config_late : rev < d.rev → config_from config (take (suc k) ds) rev ≡ config_from config (take k ds) rev
+  config_late h = config_at ∙ ap (λ b. cond b d.config (config_from config (take k ds) rev)) (lt-leb d.rev rev h)

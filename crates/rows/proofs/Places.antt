@@ -1,10 +1,9 @@
 -- A change at one key of the map, as its marks.
-use Rattle.std.proofs.Common.{◌≡◌, ℕ, List, [], ◌∷◌, ◌++◌, refl, ap, sym, subst, ◌∙◌}
-use Rattle.std.specs.Prelude.{Bool, true, false, cond, Option, Some, None}
+use Rattle.std.proofs.Common.{◌≡◌, List, [], refl, ap, sym, ◌∙◌}
+use Rattle.std.specs.Prelude.{Bool, true, false, cond, Option, None}
 use Rattle.std.specs.Global.{Vec}
 use Rattle.std.specs.BTreeMap.{BTreeMap, is_at}
 use Rattle.std.specs.BTreeMap as tree
-use Rattle.std.specs.Map.{lookup}
 use Rattle.std.specs.Cmp.{eq_by_cmp_equiv}
 use Rattle.names.specs.Order.{tuple_cmp, is_same_tuple}
 use Rattle.names.specs.declared.tuple.Tuple.{Tuple}

@@ -1,6 +1,6 @@
 -- Commits taken into what the floor holds.
 use Rattle.std.proofs.Common.{◌≡◌, ℕ, ◌+◌, ◌-◌, ◌<◌, ◌≤◌, List, [], ◌∷◌, ◌++◌, length, take, drop, zero, suc, refl, ap, sym, subst, ◌∙◌, append_assoc, arith, get_or}
-use Rattle.std.specs.Prelude.{Bool, true, false, cond, ◌==◌, nat_le}
+use Rattle.std.specs.Prelude.{Bool, true, false, cond, ◌==◌}
 use Rattle.std.specs.BTreeMap.{BTreeMap}
 use Rattle.std.specs.Global.{Vec}
 use Rattle.std.proofs.lemmas.List.{append-nil}
@@ -24,7 +24,7 @@ use Rattle.rows.specs.declared.dated.Dated.{Dated}
 use Rattle.rows.specs.declared.loaded.Counts.{Counts}
 use Rattle.rows.specs.Retained.{Retained, newest, spans_of, snap_at, trimmed}
 use Rattle.rows.specs.Kept.{is_put, mark_of, marks_in, commit_marks, marks_at, marks_after, base_marks, is_based, settled, settled_first, settled_config, dated_above, dated_after, AreMarks, AreMarksBefore, AreMarksFrom, IsLater, IsKept}
-use Rattle.rows.proofs.MarkRuns.{after_one, take_none, config_of}
+use Rattle.rows.proofs.MarkRuns.{after_one, take_none}
 use Rattle.rows.proofs.Bases.{not_zero, based_in, based_after}
 use Rattle.rows.proofs.Coming.{one, held_some}
 use Rattle.rows.proofs.Committing.{after_push, tuples_within}

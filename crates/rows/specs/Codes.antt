@@ -10,7 +10,7 @@ use Rattle.names.specs.declared.commit.EventKind.{EventKind}
 use Rattle.names.specs.declared.commit.EventKind.TheVariants.{Put, Del}
 use Rattle.names.specs.declared.commit.Commit.{Commit}
 use Rattle.names.specs.declared.commit.Commit.TheVariants.{Tuples, Config}
-use Rattle.meaning.specs.Config.{Configured, empty_config}
+use Rattle.meaning.specs.Config.{Configured}
 use Rattle.meaning.specs.Snap as snaps
 use Rattle.meaning.specs.Snap.{Snap}
 use Rattle.config.specs.Codes.{coded_config}

@@ -1,9 +1,9 @@
--- What an operation does to the tuples.
-use Rattle.std.specs.Prelude.{◌≡◌, Bool, true, false, not, ◌&&◌, Some}
+-- What an operation does to the tuples, and what a change is judged to be.
+use Rattle.std.specs.Prelude.{◌≡◌, List, Bool, true, false, not, ◌&&◌, Some}
 use Rattle.names.specs.declared.write.Op.{Op}
 use Rattle.names.specs.declared.refusal.Refusal.{Refusal}
 use Rattle.names.specs.declared.refusal.Refusal.TheVariants.{UnknownRelation, Memory}
-use Rattle.meaning.specs.Verdict.{Newest, is_delete, config_cause}
+use Rattle.meaning.specs.Verdict.{Newest, is_delete, write_cause, config_cause}
 use Rattle.meaning.specs.Config.{Configured}
 use Rattle.meaning.specs.TupleSet as set
 use Rattle.meaning.specs.TupleSet.{Tuples}
@@ -26,6 +26,10 @@ says_unknown UnknownRelation = true
 says_unknown _ = false
 
 -- the first cause; or there was no memory
+abbrev pub WriteRefused : Newest → List Op → Refusal → Type 0
+WriteRefused newest ops Memory = Unit {0}
+WriteRefused newest ops why = write_cause newest ops ≡ Some why
+
 abbrev pub ConfigRefused : Newest → Configured → Refusal → Type 0
 ConfigRefused newest config Memory = Unit {0}
 ConfigRefused newest config why = config_cause newest config ≡ Some why

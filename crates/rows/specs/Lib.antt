@@ -1,4 +1,5 @@
 pub mod Retained
+pub mod Follows
 pub mod Loads
 pub mod Codes
 pub mod Kept

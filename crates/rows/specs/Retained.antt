@@ -1,5 +1,5 @@
 -- What is retained of a history: what its floor holds, and the commits above it (Zanzibar, section 2.2).
-use Rattle.std.specs.Prelude.{ℕ, ◌+◌, ◌-◌, ◌≤◌, List, [], ◌∷◌, ◌++◌, length, take, drop, Bool, false}
+use Rattle.std.specs.Prelude.{ℕ, ◌+◌, ◌-◌, ◌≤◌, [], ◌∷◌, ◌++◌, length, take, drop, Bool, false}
 use Rattle.std.specs.List.{list_any}
 use Rattle.std.specs.Ordering.{eq_by_cmp}
 use Rattle.names.specs.Order.{node_cmp, is_same_tuple}
@@ -56,7 +56,7 @@ trimmed r floor = record { number = r.number; floor = floor; base = snap_at r fl
 -- with the commit, the limits of revisions and rows still hold
 pub record HasRoom (r : Retained) (c : Commit Configured) : Type 0 where
   pub revs : newest r + 1 ≤ max_rev
-  pub rows : spans_of r + commit_rows c ≤ max_rows
+  pub rows : commit_rows c ≤ max_rows - spans_of r
 
 -- the commit has an event on the tuple
 abbrev pub touches : Tuple → Commit Configured → Bool

@@ -16,13 +16,15 @@ pub(crate) struct Dated {
 pub(crate) fn config_up_to<'a>(base: &'a Config, configs: &'a [Dated], rev: u64) -> &'a Config
     ensures { result.now ≡ config_from base.now configs.now rev }
 {
-    let mut config = base;
-    for dated in configs {
+    let mut left = configs.len();
+    while left > 0 {
+        left -= 1;
+        let dated = &configs[left];
         if dated.rev <= rev {
-            config = &dated.config;
+            return &dated.config;
         }
     }
-    config
+    base
 }
 
 pub(crate) fn push_config(configs: &mut Vec<Dated>, dated: Dated) -> Result<(), AllocError>

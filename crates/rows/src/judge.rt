@@ -5,7 +5,8 @@ ghost use Rattle.names.specs.Order.{is_same_tuple};
 ghost use Rattle.meaning.specs.History.{puts_in};
 ghost use Rattle.meaning.specs.Verdict.{is_unknown, is_untyped, is_twice, inserts_again, deletes_nothing, first_from, event_of, write_cause, config_cause, is_full, max_ops};
 ghost use Rattle.rows.specs.Retained.{newest_of};
-ghost use Rattle.rows.specs.Judging.{adds_tuple, takes_tuple, puts_tuple, says_unknown, ConfigRefused};
+ghost use Rattle.rows.specs.Follows.{IsAccepted};
+ghost use Rattle.rows.specs.Judging.{adds_tuple, takes_tuple, puts_tuple, says_unknown, WriteRefused, ConfigRefused};
 
 use crate::rows::Rows;
 use crate::view::View;
@@ -19,12 +20,37 @@ const MAX_TUPLES: u64 = 1_000_000;
 /// The most rows of a history.
 const MAX_ROWS: u64 = 4_000_000;
 /// The most revisions.
-const MAX_REV: u64 = 1_000_000_000_000;
+pub(crate) const MAX_REV: u64 = 1_000_000_000_000;
 
 impl Rows {
-    /// Why the operations are refused at the newest revision, or nothing: the first cause, each looked
+    /// Why the operations are refused at the newest revision, if they are: the first cause, each looked
     /// for over the whole write before the next.
-    pub fn write_cause(&self, ops: &[Op]) -> Option<Refusal>
+    pub fn judge(&self, ops: &[Op]) -> Result<(), Refusal>
+        ensures ok { OnOk result (IsAccepted (newest_of self.now) ops.now) }
+        ensures err { IfErr result (WriteRefused (newest_of self.now) ops.now) }
+    {
+        match self.write_cause(ops) {
+            None => Ok(()),
+            Some(why) => Err(why),
+        }
+    }
+
+    /// Why a configuration is refused at the newest revision, if it is.
+    pub fn judge_config(&self, config: &Config) -> Result<(), Refusal>
+        ensures ok { OnOk result (config_cause (newest_of self.now) config.now ≡ None) }
+        ensures err { IfErr result (ConfigRefused (newest_of self.now) config.now) }
+    {
+        if let Some(tuple) = self.tuple_in_the_way(config) {
+            return Err(Refusal::TupleInTheWay(tuple.clone()?));
+        }
+        if self.newest() + 1 > MAX_REV {
+            return Err(Refusal::Full);
+        }
+        Ok(())
+    }
+
+    /// Why the operations are refused at the newest revision, or nothing.
+    pub(crate) fn write_cause(&self, ops: &[Op]) -> Option<Refusal>
         ensures { result ≡ write_cause (newest_of self.now) ops.now }
     {
         let view = self.at(self.newest());
@@ -51,20 +77,6 @@ impl Rows {
             return Some(Refusal::Full);
         }
         None
-    }
-
-    /// Why a configuration is refused at the newest revision, if it is.
-    pub fn judge_config(&self, config: &Config) -> Result<(), Refusal>
-        ensures ok { OnOk result (config_cause (newest_of self.now) config.now ≡ None) }
-        ensures err { IfErr result (ConfigRefused (newest_of self.now) config.now) }
-    {
-        if let Some(tuple) = self.tuple_in_the_way(config) {
-            return Err(Refusal::TupleInTheWay(tuple.clone()?));
-        }
-        if self.newest() + 1 > MAX_REV {
-            return Err(Refusal::Full);
-        }
-        Ok(())
     }
 
     /// Whether a limit would be passed.

@@ -5,14 +5,20 @@
 mod change;
 mod committed;
 mod dated;
+mod events;
 mod judge;
+mod law;
 mod lists;
 mod loaded;
 mod mark;
 mod marking;
+mod nodes;
+mod refusing;
 mod rows;
 mod view;
 
+pub use events::events_of;
+pub use law::{refuses_what_no_write_gives, what_follows_has_room};
 pub use loaded::{Counts, Loaded};
 pub use rows::Rows;
 pub use view::View;

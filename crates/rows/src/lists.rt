@@ -5,41 +5,33 @@ ghost use Rattle.std.specs.List.{find};
 ghost use Rattle.std.specs.Option.{option_copied};
 ghost use Rattle.meaning.specs.Admits.{admits};
 ghost use Rattle.names.specs.Order.{tuple_cmp};
-ghost use Rattle.rows.specs.Retained.{is_of};
 ghost use Rattle.rows.specs.Kept.{marks_at, is_there, stands};
 
 use crate::mark::{Mark, is_there, stands_at};
 use config::Config;
-use names::{Node, Tuple};
+use names::Tuple;
 use std::alloc::{AllocError, Global};
 use std::collections::BTreeMap;
 
-/// The tuples of the node that stand at a revision.
-pub(crate) fn tuples_of(
+/// All tuples that stand at a revision.
+pub(crate) fn tuples_at(
     alloc: Global,
     map: &BTreeMap<Tuple, Vec<Mark>>,
     rev: u64,
-    node: &Node,
 ) -> Result<Vec<Tuple>, AllocError>
-    ensures found { IfOk result (λ v. v.items ≡ filter (is_of node.now) (filter (λ t. stands (marks_at map.now t) rev) (keys map.now))) }
+    ensures found { IfOk result (λ v. v.items ≡ filter (λ t. stands (marks_at map.now t) rev) (keys map.now)) }
     ensures ordered { IsOrdered tuple_cmp map.now }
 {
     let mut found = Vec::new(alloc);
     for (tuple, marks) in map.iter() {
-        if stands_at(marks, rev) && is_of(tuple, node) {
+        if stands_at(marks, rev) {
             push_copy(&mut found, tuple)?;
         }
     }
     Ok(found)
 }
 
-fn is_of(tuple: &Tuple, node: &Node) -> bool
-    ensures { result ≡ is_of node.now tuple.now }
-{
-    tuple.node.cmp(node).is_eq()
-}
-
-fn push_copy(tuples: &mut Vec<Tuple>, tuple: &Tuple) -> Result<(), AllocError>
+pub(crate) fn push_copy(tuples: &mut Vec<Tuple>, tuple: &Tuple) -> Result<(), AllocError>
     ensures { OnOk result (tuples.new.items ≡ tuples.old.items ++ tuple.now ∷ []) }
 {
     tuples.push(tuple.clone()?)?;

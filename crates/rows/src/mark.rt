@@ -37,13 +37,14 @@ fn is_put(kind: EventKind) -> bool
 pub(crate) fn stands_at(marks: &[Mark], rev: u64) -> bool
     ensures { result ≡ stands marks.now rev }
 {
-    let mut is = false;
-    for mark in marks {
-        if mark.rev <= rev {
-            is = mark.put;
+    let mut left = marks.len();
+    while left > 0 {
+        left -= 1;
+        if marks[left].rev <= rev {
+            return marks[left].put;
         }
     }
-    is
+    false
 }
 
 /// Whether the last mark is a put.

@@ -3,6 +3,7 @@ ghost use Rattle.std.specs.Prelude.{◌≡◌, ℕ, ◌+◌, ◌-◌, ◌<◌, �
 ghost use Rattle.std.specs.List.{find};
 ghost use Rattle.std.specs.Option.{option_copied};
 ghost use Rattle.meaning.specs.Admits.{admits};
+ghost use Rattle.meaning.specs.Snap.{empty_snap};
 ghost use Rattle.names.specs.declared.tuple.Tuple.{Tuple};
 ghost use Rattle.meaning.specs.TupleSet as set;
 ghost use Rattle.meaning.specs.Verdict.{max_rev, max_rows};
@@ -11,10 +12,11 @@ ghost use Rattle.rows.specs.Loads.{retained_of, loaded_to, IsWithin};
 
 use crate::committed::{drop_commits, kept_events, push_commit, puts_in};
 use crate::dated::{Dated, config_up_to, drop_config, push_config, settle_configs};
-use crate::lists::{first_refused, tuples_of};
+use crate::lists::{first_refused, tuples_at};
 use crate::loaded::{Counts, Loaded};
 use crate::mark::{Mark, last_rev, stands_at};
 use crate::marking::{based, put_all, settle_commits, undo};
+use crate::nodes::tuples_of;
 use crate::view::View;
 use config::Config;
 use names::{Commit, Event, Node, Tuple};
@@ -50,6 +52,22 @@ impl Model for Rows {
 }
 
 impl Rows {
+    /// No commit, in a store that has no number yet. It takes no memory.
+    pub fn empty(alloc: Global) -> Rows
+        ensures { result ≡ record { number = 0; floor = 0; base = empty_snap; commits = [] } }
+    {
+        Rows {
+            alloc,
+            number: 0,
+            floor: 0,
+            config: Config::empty(alloc),
+            configs: Vec::new(alloc),
+            tuples: BTreeMap::new(alloc),
+            commits: Vec::new(alloc),
+            counts: Counts { rows: 0, tuples: 0 },
+        }
+    }
+
     /// The history that tables held.
     pub fn new(alloc: Global, loaded: &Loaded) -> Result<Rows, AllocError>
         requires { IsWithin loaded.now }
@@ -83,6 +101,11 @@ impl Rows {
                 tuples: count,
             },
         })
+    }
+
+    /// Where the history has its memory from.
+    pub(crate) fn alloc(&self) -> Global {
+        self.alloc
     }
 
     /// The store's number.
@@ -133,6 +156,14 @@ impl Rows {
             Some(marks) => stands_at(marks, rev),
             None => false,
         }
+    }
+
+    /// The tuples at a revision.
+    pub(crate) fn tuples_at(&self, alloc: Global, rev: u64) -> Result<Vec<Tuple>, AllocError>
+        requires { IsRetained self.now rev }
+        ensures { IfOk result (λ v. v.items ≡ set.items (snap_at self.now rev).tuples) }
+    {
+        tuples_at(alloc, &self.tuples, rev)
     }
 
     /// The tuples of the node at a revision.

@@ -1,10 +1,8 @@
-ghost use Rattle.std.specs.Prelude.{◌≤◌, IfOk};
-ghost use Rattle.meaning.specs.History.{commit_rows};
 ghost use Rattle.rows.specs.Loads.{IsWithin};
 
-use crate::{Loaded, Rows};
+use crate::{Loaded, Rows, events_of};
 use config::Config;
-use names::{Commit, Event, EventKind, Items, Refusal, Tuple};
+use names::{Commit, Event, EventKind, Items, Node, Op, OpKind, Refusal, Tuple};
 use std::alloc::{AllocError, Global};
 use std::test::Fail;
 
@@ -24,25 +22,41 @@ fn nothing(alloc: Global) -> Loaded
     }
 }
 
-fn event(alloc: Global, text: &str, kind: EventKind) -> Result<Commit<Config>, Refusal>
-    ensures { IfOk result (λ c. commit_rows c ≤ 1) }
-{
+fn event(alloc: Global, text: &str, kind: EventKind) -> Result<Commit<Config>, Refusal> {
     let tuple = Tuple::parse(alloc, text)?;
     let mut events = Vec::new(alloc);
     events.push(Event { tuple, kind })?;
     Ok(Commit::Tuples(Items::of(events)))
 }
 
-fn configuration(alloc: Global) -> Result<Commit<Config>, Refusal>
-    ensures { IfOk result (λ c. commit_rows c ≤ 1) }
-{
+fn configuration(alloc: Global) -> Result<Commit<Config>, Refusal> {
     Ok(Commit::Config(Config::from_json(alloc, CONFIG.as_bytes())?))
 }
 
-fn is_committed(rows: &mut Rows, commit: &Commit<Config>) -> Result<bool, AllocError>
-    requires { commit_rows commit.now ≤ 1 }
-{
-    if rows.newest() >= 1000 || rows.counts().rows >= 1000 {
+fn tuples_in(alloc: Global, words: &str) -> Result<Vec<Tuple>, Refusal> {
+    let mut tuples = Vec::new(alloc);
+    for word in words.split_ascii_whitespace() {
+        tuples.push(Tuple::parse(alloc, word)?)?;
+    }
+    Ok(tuples)
+}
+
+fn op_of(alloc: Global, kind: OpKind, word: &str) -> Result<Op, Refusal> {
+    let tuple = Tuple::parse(alloc, word)?;
+    Ok(Op { kind, tuple })
+}
+
+// A commit that touches the tuples.
+fn touches(alloc: Global, words: &str) -> Result<Commit<Config>, Refusal> {
+    let mut ops = Vec::new(alloc);
+    for word in words.split_ascii_whitespace() {
+        ops.push(op_of(alloc, OpKind::Touch, word)?)?;
+    }
+    Ok(Commit::Tuples(events_of(Items::of(ops))?))
+}
+
+fn is_committed(rows: &mut Rows, commit: &Commit<Config>) -> Result<bool, AllocError> {
+    if rows.refuses(commit)? {
         return Ok(false);
     }
     rows.commit(commit)?;
@@ -86,6 +100,80 @@ fn three_commits(alloc: Global) -> Result<Rows, Refusal> {
     let _ = is_committed(&mut rows, &event(alloc, ANN, EventKind::Put)?)?;
     let _ = is_committed(&mut rows, &event(alloc, ANN, EventKind::Del)?)?;
     Ok(rows)
+}
+
+// Whether the newest revision holds these tuples in this order, and the node these.
+fn lists(
+    alloc: Global,
+    rows: &Rows,
+    words: &str,
+    node: &Node,
+    of_node: &str,
+) -> Result<bool, Refusal> {
+    let view = rows.at(rows.newest());
+    let all = tuples_in(alloc, words)?;
+    let some = tuples_in(alloc, of_node)?;
+    Ok(view.tuples(alloc)? == all && view.tuples_of(alloc, node)? == some)
+}
+
+// The number of the refusal of a write of one operation, or 0.
+fn judged(alloc: Global, rows: &Rows, kind: OpKind, word: &str) -> Result<u8, Refusal> {
+    let mut ops = Vec::new(alloc);
+    ops.push(op_of(alloc, kind, word)?)?;
+    match rows.judge(&ops) {
+        Ok(()) => Ok(0),
+        Err(why) => Ok(why.number()),
+    }
+}
+
+#[test]
+fn a_view_lists_tuples_in_order(rt: HostRuntime) -> Result<(), Fail> {
+    let alloc = rt.alloc();
+    let mut rows = three_commits(alloc)?;
+    let commit = touches(
+        alloc,
+        "doc:c#viewer@user:a doc:b#viewer@user:b doc:b#viewer@user:a doc:a#viewer@user:a",
+    )?;
+    let node = Node::parse(alloc, "doc:b#viewer")?;
+    assert!(rt; is_committed(&mut rows, &commit)?);
+    assert!(rt;
+        lists(
+            alloc,
+            &rows,
+            "doc:a#viewer@user:a doc:b#viewer@user:a doc:b#viewer@user:b doc:c#viewer@user:a",
+            &node,
+            "doc:b#viewer@user:a doc:b#viewer@user:b"
+        )?
+    );
+    Ok(())
+}
+
+#[test]
+fn a_write_is_judged(rt: HostRuntime) -> Result<(), Fail> {
+    let alloc = rt.alloc();
+    let rows = three_commits(alloc)?;
+    assert_eq!(rt; judged(alloc, &rows, OpKind::Insert, ANN)?, 0);
+    assert_eq!(rt; judged(alloc, &rows, OpKind::Delete, ANN)?, 7);
+    assert_eq!(rt;
+        judged(alloc, &rows, OpKind::Touch, "doc:readme#owner@user:ann")?,
+        2
+    );
+    Ok(())
+}
+
+#[test]
+fn what_no_write_gives_is_refused(rt: HostRuntime) -> Result<(), Fail> {
+    let alloc = rt.alloc();
+    let mut rows = three_commits(alloc)?;
+    let again = event(alloc, ANN, EventKind::Del)?;
+    assert!(rt; !is_committed(&mut rows, &again)?);
+    assert!(rt;
+        !is_committed(
+            &mut rows,
+            &touches(alloc, "doc:a#viewer@user:a doc:a#viewer@user:a")?
+        )?
+    );
+    Ok(())
 }
 
 #[test]

@@ -50,6 +50,13 @@ impl<'a> View<'a> {
         self.rows.has(self.rev, tuple)
     }
 
+    /// All tuples, in order.
+    pub fn tuples(&self, alloc: Global) -> Result<Vec<Tuple>, AllocError>
+        ensures { IfOk result (λ v. v.items ≡ set.items self.now.tuples) }
+    {
+        self.rows.tuples_at(alloc, self.rev)
+    }
+
     /// The tuples of the node, in order.
     pub fn tuples_of(&self, alloc: Global, node: &Node) -> Result<Vec<Tuple>, AllocError>
         ensures { IfOk result (λ v. v.items ≡ filter (is_of node.now) (set.items self.now.tuples)) }

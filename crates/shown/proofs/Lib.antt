@@ -1,10 +1,7 @@
-pub mod Replays
-pub mod Fullness
-pub mod Admitted
-pub mod Growth
+pub mod Putting
+pub mod Taking
 pub mod Waiting
-pub mod Admission
 pub mod Happened
 pub mod Rising
 pub mod InOrder
-pub mod Written
+pub mod Limits

@@ -7,13 +7,14 @@ use mathlib.Core.Bool.{true≢false}
 use Rattle.shown.specs.declared.answer.Answer.{Answer}
 use Rattle.shown.specs.declared.answer.Refused.{Refused}
 use Rattle.shown.specs.declared.step.Step.{Step}
+use Rattle.shown.specs.declared.step.Step.TheVariants.{Take}
 use Rattle.shown.specs.declared.event.Event.{Event}
 use Rattle.shown.specs.declared.event.Event.TheVariants.{Stored, Posted, Published, Entered, Told}
-use Rattle.shown.specs.declared.event.Posting.TheVariants.{Opening, NextCommit}
+use Rattle.shown.specs.declared.event.Posting.TheVariants.{Opening, NextCommit, Taking}
 use Rattle.shown.specs.declared.event.Question.{Question}
 use Rattle.shown.specs.declared.event.Outcome.{Outcome}
 use Rattle.shown.specs.declared.event.Outcome.TheVariants.{No, Done, Answered}
-use Rattle.shown.specs.World.{State, start, has_begun, next_step, can_come, coming, after_event, IsComing, HasOutcome, IsReply, Happening, published}
+use Rattle.shown.specs.World.{State, start, has_begun, next_step, is_within, max_taken, can_come, coming, after_event, IsComing, HasOutcome, IsReply, Happening, published}
 use Rattle.shown.specs.Runs.{after_events, IsRun, known_by, KnowsNoMore, AnswersRise}
 
 -- no more is published than is posted
@@ -24,7 +25,7 @@ pub and_left : (a b : Bool) → (a && b) ≡ true → a ≡ true
 and_left true b h = refl
 and_left false b h = absurd (true≢false (sym h))
 
-and_right : (a b : Bool) → (a && b) ≡ true → b ≡ true
+pub and_right : (a b : Bool) → (a && b) ≡ true → b ≡ true
 and_right true b h = h
 and_right false b h = absurd (true≢false (sym h))
 
@@ -41,6 +42,7 @@ comes_on s (Stored commit) can held = (held, le_refl s.shown)
 comes_on s (Posted (Opening loaded)) can held =
     let none = unbegun s.posted (and_left _ _ can) in (omega (arith, none, held), le_refl s.shown)
 comes_on s (Posted NextCommit) can held = (omega (arith, held, length-append s.posted (next_step s)), le_refl s.shown)
+comes_on s (Posted (Taking part commits)) can held = (omega (arith, held, length-append s.posted (Take part commits ∷ [])), le_refl s.shown)
 comes_on s (Published steps) can held =
     (at_most (s.shown + steps) (length s.posted) (and_right (nat_le 1 steps) (nat_le (s.shown + steps) (length s.posted)) can), omega arith)
 comes_on s (Entered seat question) can held = (held, le_refl s.shown)

@@ -7,16 +7,32 @@ use Rattle.names.specs.declared.refusal.Refusal.TheVariants.{UnknownRelation, Me
 use Rattle.meaning.specs.Config.{rel_of}
 use Rattle.meaning.specs.Admits.{has_relation}
 use Rattle.meaning.specs.Membership.{IsMember}
-use Rattle.meaning.specs.Verdict.{Newest}
+use Rattle.rows.specs.Retained.{newest, snap_at}
+use Rattle.zookie.specs.declared.consistency.Consistency.{Consistency}
+use Rattle.zookie.specs.Fits.{Fits, IsAnswerable, IsFirstCause, IsChoice}
+use Rattle.shown.specs.Standing.{Standing}
 
--- the answer is at the newest revision, and says whether the user is a member of the node there
-pub record IsChecked (newest : Newest) (node : Node) (user : Object) (rev : ℕ) (allowed : Bool) : Type 0 where
-  pub at_newest : rev ≡ newest.rev
-  pub meaning : IsTrue allowed ↔ IsMember newest.held user node
-  pub known : has_relation newest.held.config (rel_of node) ≡ true
+-- The question is answered at the revision: it is of this store, not of the future, retained and as fresh as was asked; where an older one serves, it is that of the index.
+pub record IsAskedAt (s : Standing) (consistency : Consistency) (rev : ℕ) : Type 0 where
+  pub answerable : IsAnswerable consistency s.kept.number s.kept.floor (newest s.kept)
+  pub fits : Fits consistency s.kept.floor (newest s.kept) rev
+  pub chosen : IsChoice consistency (newest s.kept) s.index rev
 
--- the node's relation is not there, said at the newest revision; or there was no memory
-abbrev pub CheckRefused : Newest → Node → Refusal → Option ℕ → Type 0
-CheckRefused newest node UnknownRelation at = (has_relation newest.held.config (rel_of node) ≡ false) × (at ≡ Some newest.rev)
-CheckRefused newest node Memory at = at ≡ None
-CheckRefused newest node _ at = ⊥
+-- the answer is at such a revision, and says whether the user is a member of the node there
+pub record IsChecked (s : Standing) (consistency : Consistency) (node : Node) (user : Object) (rev : ℕ) (allowed : Bool) : Type 0 where
+  pub asked : IsAskedAt s consistency rev
+  pub meaning : IsTrue allowed ↔ IsMember (snap_at s.kept rev) user node
+  pub known : has_relation (snap_at s.kept rev).config (rel_of node) ≡ true
+
+-- the node's relation is not there at the revision that was chosen
+pub record IsUnknownAt (s : Standing) (consistency : Consistency) (node : Node) (at : Option ℕ) : Type 0 where
+  pub rev : ℕ
+  pub told : at ≡ Some rev
+  pub asked : IsAskedAt s consistency rev
+  pub unknown : has_relation (snap_at s.kept rev).config (rel_of node) ≡ false
+
+-- the first cause of the zookie, or else that the relation is not there; or there was no memory
+abbrev pub CheckRefused : Standing → Consistency → Node → Refusal → Option ℕ → Type 0
+CheckRefused s consistency node UnknownRelation at = IsUnknownAt s consistency node at
+CheckRefused s consistency node Memory at = at ≡ None
+CheckRefused s consistency node why at = IsFirstCause consistency s.kept.number s.kept.floor (newest s.kept) why × (at ≡ None)

@@ -1,9 +1,6 @@
 pub mod Standing
 pub mod Answers
-pub mod Judged
 pub mod Codes
-pub mod Replayed
-pub mod Refusing
 pub mod World
 pub mod WorldParts
 pub mod WorldCodes

@@ -1,13 +1,17 @@
 -- What holds after any events.
 use Rattle.std.specs.Prelude.{◌≡◌, ◌≤◌, ℕ, Bool, List, [], ◌∷◌, ◌++◌, length, take, map, All, Result, if◌then◌else◌}
 use mathlib.Core.List.{IsPrefix}
-use Rattle.std.specs.Prelude.{nat_eq}
+use Rattle.std.specs.Prelude.{nat_eq, true, false}
+use Rattle.std.specs.List.{list_any}
+use Rattle.rows.specs.Retained.{Retained}
+use Rattle.rows.specs.Loads.{retained_of}
+use Rattle.shown.specs.Standing.{nothing_kept}
 use Rattle.meaning.specs.History.{History}
 use Rattle.shown.specs.declared.answer.Answer.{Answer}
 use Rattle.shown.specs.declared.answer.Refused.{Refused}
 use Rattle.shown.specs.declared.step.Step.{Step}
-use Rattle.shown.specs.declared.step.Loaded.{Loaded}
-use Rattle.shown.specs.declared.step.Step.TheVariants.{Open, Commit}
+use Rattle.rows.specs.declared.loaded.Loaded.{Loaded}
+use Rattle.shown.specs.declared.step.Step.TheVariants.{Open, Commit, Take}
 use Rattle.shown.specs.declared.event.Event.{Event}
 use Rattle.shown.specs.declared.event.Event.TheVariants.{Entered, Told}
 use Rattle.shown.specs.declared.event.Question.{Question}
@@ -42,15 +46,33 @@ AnswersRise run seat question =
     (steps : ℕ) (reply : Result (Answer Bool) Refused) → IsRun start run → HasOutcome s (Entered seat question) (Answered steps reply)
     → IsReply (take steps s.posted) question reply × (steps ≤ length s.posted) × KnowsNoMore seat run steps
 
--- the steps are that of an opening, and those of its stored commits: a beginning of what is stored, from what was loaded on
+-- the commits among the steps
+abbrev pub commits_of : List Step → History
+commits_of [] = []
+commits_of (Open loaded ∷ steps) = commits_of steps
+commits_of (Commit commit ∷ steps) = commit ∷ commits_of steps
+commits_of (Take part commits ∷ steps) = commits_of steps
+
+abbrev pub is_opening : Step → Bool
+is_opening (Open loaded) = true
+is_opening (Commit commit) = false
+is_opening (Take part commits) = false
+
+-- the history with more commits
+abbrev pub with_commits : Retained → History → Retained
+with_commits r h = record { number = r.number; floor = r.floor; base = r.base; commits = r.commits ++ h }
+
+-- The first step is the opening, and no other is one. What is stored is what was loaded, then the commits among the posted steps, in their order and none left out, and then those that wait.
 pub record ComeInOrder (s : State) : Type 0 where
   pub loaded : Loaded
-  pub commits : History
-  pub steps : s.posted ≡ Open loaded ∷ map (λ c. Commit c) commits
-  pub beginning : IsPrefix (loaded.commits ++ commits) s.stored
+  pub later : List Step
+  pub waits : History
+  pub steps : s.posted ≡ Open loaded ∷ later
+  pub once : list_any is_opening later ≡ false
+  pub stored : s.stored ≡ with_commits (retained_of loaded) (commits_of later ++ waits)
 
 abbrev pub IsOrdered : List Step → State → Type 0
-IsOrdered [] s = s.stored ≡ []
+IsOrdered [] s = s.stored ≡ nothing_kept
 IsOrdered (step ∷ steps) s = ComeInOrder s
 
 -- After any events nothing is stored where nothing is posted, and else the posted steps come in order. What is published is a beginning of them.

@@ -1,66 +1,87 @@
 -- What a list of steps leaves.
-use Rattle.std.specs.Prelude.{◌≡◌, ◌≤◌, ◌+◌, ℕ, List, [], ◌∷◌, ◌++◌, length, fold, map}
-use Rattle.std.specs.List.{IsDistinct}
-use Rattle.names.specs.Order.{is_same_tuple}
-use Rattle.names.specs.declared.tuple.Tuple.{Tuple}
-use Rattle.names.specs.declared.commit.Event.{Event}
-use Rattle.names.specs.declared.commit.Commit as names_commit
+use Rattle.std.specs.Prelude.{◌≡◌, ◌≤◌, ◌+◌, ℕ, List, [], ◌∷◌, fold, min}
 use Rattle.names.specs.declared.commit.Commit.TheVariants as kinds
-use Rattle.meaning.specs.Config.{Configured}
-use Rattle.meaning.specs.History.{History, snap, rows_of, commit_rows}
-use Rattle.meaning.specs.Verdict.{Newest, max_rev, max_rows}
+use Rattle.meaning.specs.Snap.{empty_snap}
+use Rattle.meaning.specs.History.{History}
+use Rattle.meaning.specs.TupleSet as set
+use Rattle.rows.specs.Retained.{Retained, newest, newest_of, spans_of, with_commit, commits_between}
+use Rattle.rows.specs.Loads.{IsWithin, retained_of}
+use Rattle.rows.specs.Follows.{IsNext}
+use Rattle.shown.specs.declared.step.Part.{Part}
+use Rattle.shown.specs.declared.step.Part.TheVariants.{Index, Hot}
 use Rattle.shown.specs.declared.step.Step.{Step}
-use Rattle.shown.specs.declared.step.Step.TheVariants.{Open, Commit}
+use Rattle.shown.specs.declared.step.Step.TheVariants.{Open, Commit, Take}
+use Rattle.shown.specs.declared.state.State.{State}
 
--- the store's number, and its history
+-- What is retained of the history, and three of its revisions: that of the group index's base, and those up to which the index and the hot table have read.
 pub record Standing : Type 0 where
-  pub number : ℕ
-  pub history : History
+  pub kept : Retained
+  pub base : ℕ
+  pub index : ℕ
+  pub hot : ℕ
+
+-- no commit, in a store that has no number yet
+abbrev pub nothing_kept : Retained
+nothing_kept = record { number = 0; floor = 0; base = empty_snap; commits = [] }
 
 -- before the first step
 abbrev pub nothing : Standing
-nothing = record { number = 0; history = [] }
+nothing = record { kept = nothing_kept; base = 0; index = 0; hot = 0 }
 
--- Opening brings what the tables held; a commit makes the history longer by one.
+-- Opening brings what the tables held, with the three revisions at the newest.
+abbrev pub opened : Retained → Standing
+opened r = record { kept = r; base = newest r; index = newest r; hot = newest r }
+
+-- the revision of the last configuration among the commits above rev, or else base
+abbrev pub last_config : ℕ → ℕ → History → ℕ
+last_config base rev [] = base
+last_config base rev (kinds.Tuples events ∷ h) = last_config base (rev + 1) h
+last_config base rev (kinds.Config config ∷ h) = last_config (rev + 1) (rev + 1) h
+
+-- so many commits further, and no further than the newest
+abbrev pub moved : Retained → ℕ → ℕ → ℕ
+moved r cursor commits = min (cursor + commits) (newest r)
+
+-- Where the index takes a configuration, its base is made anew at that revision.
+abbrev pub after_take : Standing → Part → ℕ → Standing
+after_take s Index n = record { kept = s.kept; base = last_config s.base s.index (commits_between s.kept s.index (moved s.kept s.index n)); index = moved s.kept s.index n; hot = s.hot }
+after_take s Hot n = record { kept = s.kept; base = s.base; index = s.index; hot = moved s.kept s.hot n }
+
 abbrev pub after_step : Standing → Step → Standing
-after_step s (Open loaded) = record { number = loaded.number; history = loaded.commits }
-after_step s (Commit commit) = record { number = s.number; history = s.history ++ commit ∷ [] }
+after_step s (Open loaded) = opened (retained_of loaded)
+after_step s (Commit commit) = record { kept = with_commit s.kept commit; base = s.base; index = s.index; hot = s.hot }
+after_step s (Take part commits) = after_take s part commits
 
 -- the standing of the steps, done in order
 abbrev pub standing : List Step → Standing
 standing steps = fold after_step nothing steps
 
--- what the newest revision of a history holds, and what changes are judged on
-abbrev pub newest_of : History → Newest
-newest_of h = record { rev = length h; rows = rows_of h; held = snap h (length h) }
+-- the cursor of a part
+abbrev pub cursor_of : Part → Standing → ℕ
+cursor_of Index s = s.index
+cursor_of Hot s = s.hot
 
--- what is kept of a standing: the store's number, and the newest revision
-pub record Kept : Type 0 where
-  pub number : ℕ
-  pub newest : Newest
+-- what was opened is within the limits, and a commit is one that can follow
+abbrev pub HasRoom : Standing → Step → Type 0
+HasRoom s (Open loaded) = IsWithin loaded
+HasRoom s (Commit commit) = IsNext s.kept commit
+HasRoom s (Take part commits) = Unit {0}
 
-abbrev pub kept_of : Standing → Kept
-kept_of s = record { number = s.number; newest = newest_of s.history }
+-- the cursors are at retained revisions
+pub record IsSteady (s : Standing) : Type 0 where
+  pub index_kept : s.kept.floor ≤ s.index
+  pub index_there : s.index ≤ newest s.kept
+  pub hot_kept : s.kept.floor ≤ s.hot
+  pub hot_there : s.hot ≤ newest s.kept
 
--- whatever standing was kept, after the step its successor is
-abbrev pub AddsStep : Kept → Step → Kept → Type 0
-AddsStep old step new = (s : Standing) → old ≡ kept_of s → new ≡ kept_of (after_step s step)
-
--- the history is within the limits of revisions and rows
-pub record IsWithin (h : History) : Type 0 where
-  pub revs : length h ≤ max_rev
-  pub rows : rows_of h ≤ max_rows
-
--- the tuples of events
-abbrev pub tuples_of : List Event → List Tuple
-tuples_of events = map (λ e. e.tuple) events
-
--- no tuple stands in two events of the commit
-abbrev pub IsOnce : names_commit.Commit Configured → Type 0
-IsOnce (kinds.Tuples events) = IsDistinct is_same_tuple (tuples_of events)
-IsOnce (kinds.Config config) = Unit {0}
-
--- The step stays within the limits, and a commit has no tuple twice. So has a change that was accepted.
-abbrev pub HasRoom : Kept → Step → Type 0
-HasRoom k (Open loaded) = IsWithin loaded.commits
-HasRoom k (Commit commit) = (k.newest.rev + 1 ≤ max_rev) × (k.newest.rows + commit_rows commit ≤ max_rows) × IsOnce commit
+-- the numbers of a standing
+abbrev pub state_of : Standing → State
+state_of s = record {
+  base = s.base;
+  floor = s.kept.floor;
+  hot = s.hot;
+  index = s.index;
+  newest = newest s.kept;
+  rows = spans_of s.kept;
+  tuples = set.len (newest_of s.kept).held.tuples;
+}

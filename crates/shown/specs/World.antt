@@ -1,31 +1,37 @@
 -- The machine of publication: what is stored, what is posted and what is published, and what comes of each event.
 use Rattle.std.specs.Prelude.{◌≡◌, ◌≢◌, ◌+◌, ℕ, Bool, true, false, List, [], ◌∷◌, ◌++◌, length, take, drop, map, is_some, not, ◌&&◌, Result, Ok, Err, nat_le, if◌then◌else◌}
 use Rattle.names.specs.declared.refusal.Refusal.TheVariants.{Memory}
-use Rattle.meaning.specs.History.{History, rows_of}
+use Rattle.std.specs.Ordering.{is_lt}
+use Rattle.names.specs.Order.{tuple_cmp}
+use Rattle.names.specs.declared.tuple.Tuple.{Tuple}
+use Rattle.meaning.specs.History.{History}
 use Rattle.meaning.specs.Verdict.{max_rev, max_rows}
+use Rattle.rows.specs.Retained.{Retained, newest, newest_of, spans_of, with_commit}
+use Rattle.rows.specs.Loads.{retained_of}
+use Rattle.rows.specs.Follows.{commit_cause}
+use Rattle.rows.specs.declared.loaded.Loaded.{Loaded}
 use Rattle.shown.specs.declared.answer.Answer.{Answer}
 use Rattle.shown.specs.declared.answer.Refused.{Refused}
 use Rattle.shown.specs.declared.step.Step.{Step}
-use Rattle.shown.specs.declared.step.Step.TheVariants.{Open, Commit}
+use Rattle.shown.specs.declared.step.Step.TheVariants.{Open, Commit, Take}
 use Rattle.shown.specs.declared.event.Event.{Event}
 use Rattle.shown.specs.declared.event.Event.TheVariants.{Stored, Posted, Published, Entered, Told}
-use Rattle.shown.specs.declared.event.Posting.TheVariants.{Opening, NextCommit}
+use Rattle.shown.specs.declared.event.Posting.TheVariants.{Opening, NextCommit, Taking}
 use Rattle.shown.specs.declared.event.Question.{Question}
 use Rattle.shown.specs.declared.event.Question.TheVariants.{Check}
 use Rattle.shown.specs.declared.event.Outcome.{Outcome}
 use Rattle.shown.specs.declared.event.Outcome.TheVariants.{No, Done, Answered}
-use Rattle.shown.specs.Standing.{standing, newest_of}
+use Rattle.shown.specs.Standing.{nothing_kept, standing}
 use Rattle.shown.specs.Answers.{IsChecked, CheckRefused}
-use Rattle.shown.specs.Refusing.{commit_cause}
 
--- the stored history, the posted steps, and how many of these are published
+-- what is stored, the posted steps, and how many of these are published
 pub record State : Type 0 where
-  pub stored : History
+  pub stored : Retained
   pub posted : List Step
   pub shown : ℕ
 
 abbrev pub start : State
-start = record { stored = []; posted = []; shown = 0 }
+start = record { stored = nothing_kept; posted = []; shown = 0 }
 
 -- the opening was posted
 abbrev pub has_begun : List Step → Bool
@@ -37,30 +43,46 @@ published s = take s.shown s.posted
 
 -- the stored commits whose steps are not posted
 abbrev pub waiting : State → History
-waiting s = drop (length (standing s.posted).history) s.stored
+waiting s = drop (length (standing s.posted).kept.commits) s.stored.commits
 
 -- the step of the first of them, if there is one
 abbrev pub next_step : State → List Step
 next_step s = map (λ c. Commit c) (take 1 (waiting s))
 
--- the history is within the limits of revisions and rows
-abbrev pub is_within : History → Bool
-is_within h = nat_le (length h) max_rev && nat_le (rows_of h) max_rows
+-- the tuple is below the first of the others
+abbrev pub is_below : Tuple → List Tuple → Bool
+is_below t [] = true
+is_below t (u ∷ us) = is_lt (tuple_cmp t u)
 
--- The opening comes first, and once. Then a commit that is not refused can be stored, the step of a stored one be posted, what waits be published, what is published be told of, and a question be asked where something is published.
+-- each tuple is below the next
+abbrev pub is_rising : List Tuple → Bool
+is_rising [] = true
+is_rising (t ∷ ts) = is_below t ts && is_rising ts
+
+-- the tuples of the floor are in order, each once, and the limits of revisions and rows hold
+abbrev pub is_within : Loaded → Bool
+is_within l = is_rising l.tuples && (nat_le (newest (retained_of l)) max_rev && nat_le (spans_of (retained_of l)) max_rows)
+
+-- the most commits that a step can take
+abbrev pub max_taken : ℕ
+max_taken = 65536
+
+-- The opening comes first, and once. Then a commit that is not refused can be stored, the step of a stored one be posted, a part take commits, what waits be published, what is published be told of, and a question be asked where something is published.
 abbrev pub can_come : State → Event → Bool
 can_come s (Stored commit) = has_begun s.posted && not (is_some (commit_cause (newest_of s.stored) commit))
-can_come s (Posted (Opening loaded)) = not (has_begun s.posted) && is_within loaded.commits
+can_come s (Posted (Opening loaded)) = not (has_begun s.posted) && is_within loaded
 can_come s (Posted NextCommit) = has_begun s.posted && nat_le 1 (length (waiting s))
+can_come s (Posted (Taking part commits)) = has_begun s.posted && nat_le commits max_taken
 can_come s (Published steps) = nat_le 1 steps && nat_le (s.shown + steps) (length s.posted)
 can_come s (Entered seat question) = nat_le 1 s.shown
 can_come s (Told seat steps) = has_begun s.posted && nat_le steps s.shown
 
 -- the state after an event that can come
 abbrev pub coming : State → Event → State
-coming s (Stored commit) = record { stored = s.stored ++ commit ∷ []; posted = s.posted; shown = s.shown }
-coming s (Posted (Opening loaded)) = record { stored = loaded.commits; posted = Open loaded ∷ []; shown = s.shown }
+coming s (Stored commit) = record { stored = with_commit s.stored commit; posted = s.posted; shown = s.shown }
+coming s (Posted (Opening loaded)) = record { stored = retained_of loaded; posted = Open loaded ∷ []; shown = s.shown }
 coming s (Posted NextCommit) = record { stored = s.stored; posted = s.posted ++ next_step s; shown = s.shown }
+coming s (Posted (Taking part commits)) = record { stored = s.stored; posted = s.posted ++ Take part commits ∷ []; shown = s.shown }
 coming s (Published steps) = record { stored = s.stored; posted = s.posted; shown = s.shown + steps }
 coming s (Entered seat question) = s
 coming s (Told seat steps) = s
@@ -71,8 +93,8 @@ after_event s e = if can_come s e then coming s e else s
 
 -- the question is answered or refused by the standing of the steps
 abbrev pub IsReply : List Step → Question → Result (Answer Bool) Refused → Type 0
-IsReply steps (Check node user) (Ok answer) = IsChecked (newest_of (standing steps).history) node user answer.rev answer.value
-IsReply steps (Check node user) (Err refused) = CheckRefused (newest_of (standing steps).history) node refused.why refused.at × (refused.why ≢ Memory)
+IsReply steps (Check consistency node user) (Ok answer) = IsChecked (standing steps) consistency node user answer.rev answer.value
+IsReply steps (Check consistency node user) (Err refused) = CheckRefused (standing steps) consistency node refused.why refused.at × (refused.why ≢ Memory)
 
 -- what comes of an event that can come: a question is answered by the standing of the published steps
 abbrev pub IsComing : State → Event → Outcome → Type 0

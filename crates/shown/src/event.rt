@@ -1,9 +1,11 @@
 //! What can happen to a published state, and what comes of it.
 
 use crate::answer::{Answer, Refused};
-use crate::step::Loaded;
+use crate::step::Part;
 use config::Config;
 use names::{Commit, Node, Object};
+use rows::Loaded;
+use zookie::Consistency;
 
 /// One atomic action. A seat is the number of a session.
 #[derive(Debug, Drop)]
@@ -28,13 +30,15 @@ pub enum Posting {
     Opening(Loaded),
     /// The next stored commit.
     NextCommit,
+    /// A part takes so many commits. It can be posted for 65,536 commits at most.
+    Taking(Part, u32),
 }
 
 /// What a session asks.
 #[derive(Debug, Drop)]
 pub enum Question {
-    /// Whether the user is a member of the node.
-    Check(Node, Object),
+    /// Whether the user is a member of the node, and how fresh the answer must be.
+    Check(Consistency, Node, Object),
 }
 
 /// What comes of an event.

@@ -3,13 +3,11 @@
 #![tactic(auto)]
 
 mod answer;
-mod causes;
+mod copies;
 mod event;
-mod events;
 mod law;
-mod refusing;
-mod replay;
 mod shown;
+mod state;
 mod step;
 #[cfg(test)]
 mod tests;
@@ -18,8 +16,8 @@ mod world;
 
 pub use answer::{Answer, Refused};
 pub use event::{Event, Outcome, Posting, Question};
-pub use events::events_of;
-pub use law::{answers_rise, posts_stored, refuses_what_no_write_gives};
+pub use law::{answers_rise, posts_stored};
 pub use shown::Shown;
-pub use step::{Loaded, Step};
+pub use state::State;
+pub use step::{Part, Step};
 pub use world::World;

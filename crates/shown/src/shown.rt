@@ -1,238 +1,241 @@
 //! The published state.
-ghost use Rattle.std.specs.Prelude.{◌≡◌, ◌≤◌, ◌+◌, length, map, is_some, None, false, IfOk, IfErr, OnOk, OnErr};
-ghost use Rattle.meaning.specs.Verdict.{write_cause, config_cause, is_full, is_twice, event_of, max_ops};
-ghost use Rattle.shown.specs.Standing.{nothing, kept_of, AddsStep, HasRoom};
-ghost use Rattle.shown.specs.Answers.{IsChecked, CheckRefused};
-ghost use Rattle.names.specs.declared.commit.Commit.TheVariants.{Tuples};
-ghost use Rattle.shown.specs.Refusing.{commit_cause};
-ghost use Rattle.shown.specs.Judged.{IsAccepted, WriteRefused, ConfigRefused};
+ghost use Rattle.std.specs.Prelude.{◌≡◌, ◌≤◌, ◌+◌, ◌↔◌, length, min, None, true, false, IsTrue, IfOk, IfErr, OnOk, OnErr};
+ghost use Rattle.meaning.specs.Admits.{has_relation};
+ghost use Rattle.meaning.specs.Config.{rel_of};
+ghost use Rattle.meaning.specs.Membership.{IsMember};
+ghost use Rattle.meaning.specs.Verdict.{config_cause, max_rev};
+ghost use Rattle.plain.specs.Causes.{CheckCause};
+ghost use Rattle.rows.specs.Follows.{IsAccepted};
+ghost use Rattle.rows.specs.Judging.{WriteRefused, ConfigRefused};
+ghost use Rattle.rows.specs.Retained.{IsRetained, newest, newest_of, snap_at};
+ghost use Rattle.shown.specs.Standing.{nothing, after_step, after_take, moved, last_config, state_of, HasRoom};
+ghost use Rattle.shown.specs.Answers.{IsAskedAt, IsChecked, CheckRefused};
+ghost use Rattle.shown.specs.declared.step.Part.TheVariants.{Index, Hot};
 
 use crate::answer::{Answer, Refused};
-use crate::causes::{
-    count_added, count_puts, count_taken, first_absent, first_there, is_twice, some_unknown,
-    some_untyped,
-};
-use crate::events::{commit_rows, rows_in};
-use crate::refusing::{is_in_order, touches_of};
-use crate::replay::{add_commit, snapshot_of};
-use crate::step::{Loaded, Step};
+use crate::copies::snapshot_of;
+use crate::state::State;
+use crate::step::{Part, Step};
 use config::Config;
-use names::{Commit, Event, Node, Object, Op, Refusal};
+use names::{Commit, Node, Object, Op, Refusal};
 use plain::Snapshot;
+use rows::{Loaded, Rows, what_follows_has_room};
 use std::alloc::{AllocError, Global};
 use std::marker::Model;
+use zookie::Consistency;
 
-/// The most operations of a write.
-const MAX_OPS: usize = 256;
-/// The most current tuples.
-const MAX_TUPLES: usize = 1_000_000;
-/// The most rows of a history.
-pub(crate) const MAX_ROWS: u64 = 4_000_000;
-/// The most revisions.
-pub(crate) const MAX_REV: u64 = 1_000_000_000_000;
-
-/// The state that questions are asked of. It keeps the newest revision alone.
+/// The state that questions are asked of, at any retained revision.
 #[derive(Drop)]
 pub struct Shown {
     alloc: Global,
-    number: u64,
-    rev: u64,
-    rows: u64,
-    snapshot: Snapshot,
+    rows: Rows,
+    base: u64,
+    index: u64,
+    hot: u64,
 }
 
 impl Model for Shown {
-    ghost use Rattle.std.specs.Prelude.{◌≤◌};
-    ghost use Rattle.meaning.specs.Verdict.{max_rev, max_rows};
-    ghost use Rattle.shown.specs.Standing.{Kept};
-    ghost use Rattle.shown.specs.Codes.{coded_kept};
+    ghost use Rattle.shown.specs.Standing.{Standing, IsSteady};
+    ghost use Rattle.shown.specs.Codes.{coded_standing};
 
-    ghost Value = { Kept };
+    ghost Value = { Standing };
 
-    ghost coded = { coded_kept };
+    ghost coded = { coded_standing };
 
-    ghost view = { λ s. record { number = s.number; newest = record { rev = s.rev; rows = s.rows; held = s.snapshot } } };
+    ghost view = { λ s. record { kept = s.rows; base = s.base; index = s.index; hot = s.hot } };
 
-    ghost invariant = { λ s. (s.rev ≤ max_rev) × (s.rows ≤ max_rows) };
+    ghost invariant = { λ s. IsSteady (record { kept = s.rows; base = s.base; index = s.index; hot = s.hot }) };
 }
 
 impl Shown {
     /// The state before the first step.
     pub fn new(alloc: Global) -> Shown
-        ensures { result ≡ kept_of nothing }
+        ensures { result ≡ nothing }
     {
         Shown {
             alloc,
-            number: 0,
-            rev: 0,
-            rows: 0,
-            snapshot: Snapshot::empty(alloc),
+            rows: Rows::empty(alloc),
+            base: 0,
+            index: 0,
+            hot: 0,
         }
     }
 
     /// Adds a step to the standing. For want of memory it changes nothing.
     pub fn apply(&mut self, step: &Step) -> Result<(), AllocError>
         requires { HasRoom self.old step.now }
-        ensures ok { OnOk result (AddsStep self.old step.now self.new) }
+        ensures ok { OnOk result (self.new ≡ after_step self.old step.now) }
         ensures err { OnErr result (self.new ≡ self.old) }
     {
         match step {
             Step::Open(loaded) => self.open(loaded),
             Step::Commit(commit) => self.commit(commit),
+            Step::Take(part, commits) => {
+                self.take(*part, *commits);
+                Ok(())
+            }
         }
     }
 
     /// The store's number.
     pub fn number(&self) -> u64
-        ensures { result ≡ self.now.number }
+        ensures { result ≡ self.now.kept.number }
     {
-        self.number
+        self.rows.number()
     }
 
     /// The newest revision.
     pub fn newest(&self) -> u64
-        ensures { result ≡ self.now.newest.rev }
+        ensures newest { result ≡ newest self.now.kept }
+        ensures within { result ≤ max_rev }
     {
-        self.rev
+        self.rows.newest()
     }
 
-    /// Whether the user is a member of the node at the newest revision.
-    pub fn check(&self, node: &Node, user: &Object) -> Result<Answer<bool>, Refused>
-        ensures ok { IfOk result (λ a. IsChecked self.now.newest node.now user.now a.rev a.value) }
-        ensures err { IfErr result (λ e. CheckRefused self.now.newest node.now e.why e.at) }
+    /// Revisions, and how large the history is.
+    pub fn state(&self) -> State
+        ensures { result ≡ state_of self.now }
     {
-        match plain::check(self.alloc, &self.snapshot, node, user) {
-            Ok(value) => Ok(Answer {
-                rev: self.rev,
-                value,
-            }),
+        let counts = self.rows.counts();
+        State {
+            base: self.base,
+            floor: self.rows.floor(),
+            hot: self.hot,
+            index: self.index,
+            newest: self.rows.newest(),
+            rows: counts.rows,
+            tuples: counts.tuples,
+        }
+    }
+
+    /// Whether the user is a member of the node, at the revision that the consistency chooses.
+    pub fn check(
+        &self,
+        consistency: &Consistency,
+        node: &Node,
+        user: &Object,
+    ) -> Result<Answer<bool>, Refused>
+        ensures ok { IfOk result (λ a. IsChecked self.now consistency.now node.now user.now a.rev a.value) }
+        ensures err { IfErr result (λ e. CheckRefused self.now consistency.now node.now e.why e.at) }
+    {
+        let newest = self.rows.newest();
+        if let Err(why) = consistency.judge(self.rows.number(), self.rows.floor(), newest) {
+            return Err(Refused { why, at: None });
+        }
+        let rev = consistency.choose(newest, self.index);
+        match self.check_at(rev, node, user) {
+            Ok(value) => Ok(Answer { rev, value }),
             Err(why) => {
                 let at = match &why {
                     Refusal::Memory => None,
-                    _ => Some(self.rev),
+                    _ => Some(rev),
                 };
                 Err(Refused { why, at })
             }
         }
     }
 
+    /// Whether the user is a member of the node at a retained revision.
+    fn check_at(&self, rev: u64, node: &Node, user: &Object) -> Result<bool, Refusal>
+        requires { IsRetained self.now.kept rev }
+        ensures ok { IfOk result (λ answer. IsTrue answer ↔ IsMember (snap_at self.now.kept rev) user.now node.now) }
+        ensures known { OnOk result (has_relation (snap_at self.now.kept rev).config (rel_of node.now) ≡ true) }
+        ensures err { IfErr result (CheckCause (snap_at self.now.kept rev) node.now) }
+    {
+        let snapshot = self.snapshot_at(rev)?;
+        plain::check(self.alloc, &snapshot, node, user)
+    }
+
+    fn snapshot_at(&self, rev: u64) -> Result<Snapshot, AllocError>
+        requires { IsRetained self.now.kept rev }
+        ensures { IfOk result (λ snapshot. snapshot ≡ snap_at self.now.kept rev) }
+    {
+        let view = self.rows.at(rev);
+        let config = view.config().again(self.alloc)?;
+        let tuples = view.tuples(self.alloc)?;
+        snapshot_of(self.alloc, config, &tuples)
+    }
+
     /// Why the operations are refused, if they are.
     pub fn judge(&self, ops: &[Op]) -> Result<(), Refusal>
-        ensures ok { OnOk result (IsAccepted self.now.newest ops.now) }
-        ensures err { IfErr result (WriteRefused self.now.newest ops.now) }
+        ensures ok { OnOk result (IsAccepted (newest_of self.now.kept) ops.now) }
+        ensures err { IfErr result (WriteRefused (newest_of self.now.kept) ops.now) }
     {
-        match self.write_cause(ops) {
-            None => Ok(()),
-            Some(why) => Err(why),
-        }
+        self.rows.judge(ops)
     }
 
     /// Why a configuration is refused, if it is.
     pub fn judge_config(&self, config: &Config) -> Result<(), Refusal>
-        ensures ok { OnOk result (config_cause self.now.newest config.now ≡ None) }
-        ensures err { IfErr result (ConfigRefused self.now.newest config.now) }
+        ensures ok { OnOk result (config_cause (newest_of self.now.kept) config.now ≡ None) }
+        ensures err { IfErr result (ConfigRefused (newest_of self.now.kept) config.now) }
     {
-        if let Some(tuple) = self.snapshot.first_not_admitted(config) {
-            return Err(Refusal::TupleInTheWay(tuple.clone()?));
-        }
-        if self.rev + 1 > MAX_REV {
-            return Err(Refusal::Full);
-        }
-        Ok(())
+        self.rows.judge_config(config)
     }
 
-    pub(crate) fn open(&mut self, loaded: &Loaded) -> Result<(), AllocError>
+    fn open(&mut self, loaded: &Loaded) -> Result<(), AllocError>
         requires { HasRoom self.old (Step.Open loaded.now) }
-        ensures ok { OnOk result (AddsStep self.old (Step.Open loaded.now) self.new) }
+        ensures ok { OnOk result (self.new ≡ after_step self.old (Step.Open loaded.now)) }
         ensures err { OnErr result (self.new ≡ self.old) }
     {
-        let commits = loaded.commits.as_slice();
-        let snapshot = snapshot_of(self.alloc, commits)?;
-        self.number = loaded.number;
-        self.rev = commits.len() as u64;
-        self.rows = rows_in(commits);
-        self.snapshot = snapshot;
+        let rows = Rows::new(self.alloc, loaded)?;
+        let newest = rows.newest();
+        self.rows = rows;
+        self.base = newest;
+        self.index = newest;
+        self.hot = newest;
         Ok(())
     }
 
-    pub(crate) fn commit(&mut self, commit: &Commit<Config>) -> Result<(), AllocError>
+    fn commit(&mut self, commit: &Commit<Config>) -> Result<(), AllocError>
         requires { HasRoom self.old (Step.Commit commit.now) }
-        ensures ok { OnOk result (AddsStep self.old (Step.Commit commit.now) self.new) }
+        ensures ok { OnOk result (self.new ≡ after_step self.old (Step.Commit commit.now)) }
         ensures err { OnErr result (self.new ≡ self.old) }
     {
-        add_commit(self.alloc, &mut self.snapshot, commit)?;
-        self.rev += 1;
-        self.rows += commit_rows(commit);
-        Ok(())
+        what_follows_has_room();
+        self.rows.commit(commit)
     }
 
-    /// Whether no write and no configuration that is accepted gives the commit.
-    pub(crate) fn refuses(&self, commit: &Commit<Config>) -> Result<bool, AllocError>
-        ensures { IfOk result (λ yes. yes ≡ is_some (commit_cause self.now.newest commit.now)) }
+    fn take(&mut self, part: Part, commits: u32)
+        ensures { self.new ≡ after_take self.old part commits }
     {
+        match part {
+            Part::Index => self.take_index(commits),
+            Part::Hot => self.hot = self.moved(self.hot, commits),
+        }
+    }
+
+    fn take_index(&mut self, commits: u32)
+        ensures { self.new ≡ after_take self.old Index commits }
+    {
+        let to = self.moved(self.index, commits);
+        self.base = last_config(self.base, self.index, self.rows.events(self.index, to));
+        self.index = to;
+    }
+
+    /// So many commits further, and no further than the newest.
+    fn moved(&self, cursor: u64, commits: u32) -> u64
+        requires { cursor ≤ newest self.now.kept }
+        ensures moved { result ≡ moved self.now.kept cursor commits }
+        ensures within { result ≤ max_rev }
+    {
+        let newest = self.rows.newest();
+        (cursor + commits as u64).min(newest)
+    }
+}
+
+/// The revision of the last configuration among the commits above `rev`, or else `base`.
+fn last_config(base: u64, rev: u64, commits: &[Commit<Config>]) -> u64
+    requires { rev + length commits.now ≤ max_rev }
+    ensures { result ≡ last_config base rev commits.now }
+{
+    let mut last = base;
+    let mut at = rev;
+    for commit in commits {
+        at += 1;
         match commit {
-            Commit::Tuples(events) => self.refuses_events(events.as_slice()),
-            Commit::Config(config) => Ok(self.refuses_config(config)),
+            Commit::Config(_) => last = at,
+            Commit::Tuples(_) => {}
         }
     }
-
-    fn refuses_events(&self, events: &[Event]) -> Result<bool, AllocError>
-        ensures { IfOk result (λ yes. yes ≡ is_some (commit_cause self.now.newest (Tuples events.now))) }
-    {
-        if !is_in_order(events) {
-            return Ok(true);
-        }
-        let ops = touches_of(self.alloc, events)?;
-        Ok(self.write_cause(&ops).is_some())
-    }
-
-    fn refuses_config(&self, config: &Config) -> bool
-        ensures { result ≡ is_some (config_cause self.now.newest config.now) }
-    {
-        self.snapshot.first_not_admitted(config).is_some() || self.rev + 1 > MAX_REV
-    }
-
-    /// The first cause, each looked for over the whole write before the next.
-    fn write_cause(&self, ops: &[Op]) -> Option<Refusal>
-        ensures { result ≡ write_cause self.now.newest ops.now }
-    {
-        let config = self.snapshot.config();
-        if ops.is_empty() || ops.len() > MAX_OPS {
-            return Some(Refusal::Malformed);
-        }
-        if some_unknown(config, ops) {
-            return Some(Refusal::UnknownRelation);
-        }
-        if some_untyped(config, ops) {
-            return Some(Refusal::TypeRefused);
-        }
-        if is_twice(ops) {
-            return Some(Refusal::TwiceInOneWrite);
-        }
-        if let Some(place) = first_there(&self.snapshot, ops) {
-            return Some(Refusal::AlreadyThere(place));
-        }
-        if let Some(place) = first_absent(&self.snapshot, ops) {
-            return Some(Refusal::NotThere(place));
-        }
-        if self.is_full(ops) {
-            return Some(Refusal::Full);
-        }
-        None
-    }
-
-    /// Whether a limit would be passed.
-    fn is_full(&self, ops: &[Op]) -> bool
-        requires few { length ops.now ≤ max_ops }
-        requires once { is_twice ops.now ≡ false }
-        ensures { result ≡ is_full self.now.newest (map event_of ops.now) }
-    {
-        let held = self.snapshot.len();
-        let added = count_added(&self.snapshot, ops);
-        let room = MAX_TUPLES + count_taken(&self.snapshot, ops);
-        if held > room || added > room - held {
-            return true;
-        }
-        self.rows + count_puts(ops) as u64 > MAX_ROWS || self.rev + 1 > MAX_REV
-    }
+    last
 }

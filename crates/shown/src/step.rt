@@ -1,15 +1,16 @@
 //! Steps.
 
 use config::Config;
-use names::{Commit, Items};
+use names::Commit;
+use rows::Loaded;
 
-/// What tables held when they were opened.
-#[derive(Debug, Drop)]
-pub struct Loaded {
-    /// The store's number.
-    pub number: u64,
-    /// The commits, from revision 1 on.
-    pub commits: Items<Commit<Config>>,
+/// One of the two parts that follow the history by cursors of their own.
+#[derive(Clone, Copy, Debug, PartialEq, Eq)]
+pub enum Part {
+    /// The index of groups.
+    Index,
+    /// The table of marked nodes.
+    Hot,
 }
 
 /// One change of the state.
@@ -19,4 +20,6 @@ pub enum Step {
     Open(Loaded),
     /// A commit was stored.
     Commit(Commit<Config>),
+    /// A part took so many commits more, or as many as there were.
+    Take(Part, u32),
 }

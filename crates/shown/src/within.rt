@@ -1,20 +1,66 @@
-//! Whether a history is within the limits.
-ghost use Rattle.std.specs.Prelude.{◌≡◌, ◌+◌, ◌<◌, IfSome, IfNone};
-ghost use Rattle.meaning.specs.History.{puts_in, commit_rows};
-ghost use Rattle.shown.specs.World.{is_within};
+//! Whether what was loaded is within the limits.
+ghost use Rattle.std.specs.Prelude.{◌≡◌, ◌+◌, ◌<◌, IfSome, IfNone, length, nat_le};
+ghost use Rattle.meaning.specs.History.{puts_in, commit_rows, rows_of};
+ghost use Rattle.meaning.specs.Verdict.{max_rev, max_rows};
+ghost use Rattle.shown.specs.World.{is_below, is_rising, is_within};
 
-use crate::shown::{MAX_REV, MAX_ROWS};
 use config::Config;
-use names::{Commit, Event, EventKind};
+use names::{Commit, Event, EventKind, Tuple};
+use rows::Loaded;
 
-/// Whether there are no more revisions and rows than a store may have.
-pub(crate) fn is_within(commits: &[Commit<Config>]) -> bool
-    ensures { result ≡ is_within commits.now }
+/// The most rows of a history.
+const MAX_ROWS: u64 = 4_000_000;
+/// The most revisions.
+const MAX_REV: u64 = 1_000_000_000_000;
+
+/// Whether the tuples are in order, each once, and there are no more revisions and rows than a store may
+/// have.
+pub(crate) fn is_within(loaded: &Loaded) -> bool
+    ensures { result ≡ is_within loaded.now }
 {
-    if commits.len() as u64 > MAX_REV {
+    let tuples = loaded.tuples.as_slice();
+    let commits = loaded.commits.as_slice();
+    if !is_rising(tuples) || !has_few_revisions(loaded.floor, commits) {
         return false;
     }
-    let mut room = MAX_ROWS;
+    has_few_rows(tuples.len() as u64, commits)
+}
+
+fn is_rising(tuples: &[Tuple]) -> bool
+    ensures { result ≡ is_rising tuples.now }
+{
+    for i in 0..tuples.len() {
+        if !is_below(&tuples[i], &tuples[i + 1..]) {
+            return false;
+        }
+    }
+    true
+}
+
+fn is_below(tuple: &Tuple, others: &[Tuple]) -> bool
+    ensures { result ≡ is_below tuple.now others.now }
+{
+    match others.first() {
+        Some(next) => tuple.cmp(next).is_lt(),
+        None => true,
+    }
+}
+
+fn has_few_revisions(floor: u64, commits: &[Commit<Config>]) -> bool
+    ensures { result ≡ nat_le (floor + length commits.now) max_rev }
+{
+    let count = commits.len() as u64;
+    floor <= MAX_REV && count <= MAX_REV - floor
+}
+
+/// Whether so many rows and those of the commits are no more than a store may have.
+fn has_few_rows(rows: u64, commits: &[Commit<Config>]) -> bool
+    ensures { result ≡ nat_le (rows + rows_of commits.now) max_rows }
+{
+    if rows > MAX_ROWS {
+        return false;
+    }
+    let mut room = MAX_ROWS - rows;
     for commit in commits {
         match room_after(commit, room) {
             Some(left) => room = left,

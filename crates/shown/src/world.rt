@@ -2,42 +2,45 @@
 //! of sessions are answered. It is the plain one, and makes the published state anew at each publication.
 ghost use Rattle.std.specs.Prelude.{◌≡◌, ◌≤◌, IfOk, OnErr};
 ghost use Rattle.shown.specs.declared.event.Event.TheVariants.{Stored, Posted, Published, Entered, Told};
-ghost use Rattle.shown.specs.declared.event.Posting.TheVariants.{Opening, NextCommit};
-ghost use Rattle.shown.specs.Standing.{standing, kept_of, nothing};
+ghost use Rattle.shown.specs.declared.event.Posting.TheVariants.{Opening, NextCommit, Taking};
+ghost use Rattle.shown.specs.Standing.{standing, nothing};
 ghost use Rattle.shown.specs.WorldParts.{HaveRoom};
 
 use crate::event::{Event, Outcome, Posting, Question};
 use crate::shown::Shown;
-use crate::step::{Loaded, Step};
+use crate::step::{Part, Step};
 use crate::within::is_within;
 use config::Config;
 use names::{Commit, Refusal};
+use rows::{Loaded, Rows, what_follows_has_room};
 use std::alloc::{AllocError, Global};
 use std::collections::VecDeque;
 use std::marker::Model;
 
-/// Contracts see it as the stored history, the posted steps, and how many of these are published.
+/// The most commits that a step can take.
+const MAX_TAKEN: u32 = 65_536;
+
+/// Contracts see it as what is stored, the posted steps, and how many of these are published.
 #[derive(Drop)]
 pub struct World {
     alloc: Global,
     posted: Vec<Step>,
     waiting: VecDeque<Commit<Config>>,
-    newest: Shown,
+    newest: Rows,
     shown: usize,
     front: Shown,
 }
 
 impl Model for World {
-    ghost use Rattle.shown.specs.Standing.{standing};
     ghost use Rattle.shown.specs.World.{State};
     ghost use Rattle.shown.specs.WorldCodes.{coded_state};
-    ghost use Rattle.shown.specs.WorldParts.{all_steps, Fit};
+    ghost use Rattle.shown.specs.WorldParts.{Fit};
 
     ghost Value = { State };
 
     ghost coded = { coded_state };
 
-    ghost view = { λ w. record { stored = (standing (all_steps w.posted.items w.waiting.items)).history; posted = w.posted.items; shown = w.shown } };
+    ghost view = { λ w. record { stored = w.newest; posted = w.posted.items; shown = w.shown } };
 
     ghost invariant = { λ w. Fit w.posted.items w.waiting.items w.newest w.shown w.front };
 }
@@ -53,7 +56,7 @@ impl World {
             alloc,
             posted: Vec::new(alloc),
             waiting: VecDeque::new(alloc),
-            newest: Shown::new(alloc),
+            newest: Rows::empty(alloc),
             shown: 0,
             front: Shown::new(alloc),
         }
@@ -69,6 +72,7 @@ impl World {
             Event::Stored(commit) => self.store(commit),
             Event::Posted(Posting::Opening(loaded)) => self.open(loaded),
             Event::Posted(Posting::NextCommit) => self.post(),
+            Event::Posted(Posting::Taking(part, commits)) => self.take(part, commits),
             Event::Published(steps) => self.publish(steps),
             Event::Entered(seat, question) => self.answer(seat, &question),
             Event::Told(seat, steps) => Ok(self.tell(seat, steps)),
@@ -89,6 +93,7 @@ impl World {
             return Ok(Outcome::No);
         }
         self.waiting.reserve(1)?;
+        what_follows_has_room();
         self.newest.commit(&commit)?;
         self.waiting.push_back_reserved(commit);
         Ok(Outcome::Done)
@@ -98,11 +103,11 @@ impl World {
         ensures ok { IfOk result (λ outcome. Happens self.old (Posted (Opening loaded)) outcome self.new) }
         ensures err { OnErr result (self.new ≡ self.old) }
     {
-        if self.has_begun() || !is_within(loaded.commits.as_slice()) {
+        if self.has_begun() || !is_within(&loaded) {
             return Ok(Outcome::No);
         }
         self.posted.reserve(1)?;
-        self.newest.open(&loaded)?;
+        self.newest = Rows::new(self.alloc, &loaded)?;
         self.posted.push_reserved(Step::Open(loaded));
         Ok(Outcome::Done)
     }
@@ -119,6 +124,17 @@ impl World {
         Ok(Outcome::Done)
     }
 
+    fn take(&mut self, part: Part, commits: u32) -> Result<Outcome, AllocError>
+        ensures ok { IfOk result (λ outcome. Happens self.old (Posted (Taking part commits)) outcome self.new) }
+        ensures err { OnErr result (self.new ≡ self.old) }
+    {
+        if !self.has_begun() || commits > MAX_TAKEN {
+            return Ok(Outcome::No);
+        }
+        self.posted.push(Step::Take(part, commits))?;
+        Ok(Outcome::Done)
+    }
+
     fn publish(&mut self, steps: u32) -> Result<Outcome, AllocError>
         ensures ok { IfOk result (λ outcome. Happens self.old (Published steps) outcome self.new) }
         ensures err { OnErr result (self.new ≡ self.old) }
@@ -128,7 +144,7 @@ impl World {
             return Ok(Outcome::No);
         }
         let shown = self.shown + steps;
-        self.front = state_of(self.alloc, &self.posted[..shown])?;
+        self.front = standing_of(self.alloc, &self.posted[..shown])?;
         self.shown = shown;
         Ok(Outcome::Done)
     }
@@ -140,7 +156,9 @@ impl World {
             return Ok(Outcome::No);
         }
         let reply = match question {
-            Question::Check(node, user) => self.front.check(node, user),
+            Question::Check(consistency, node, user) => {
+                self.front.check(consistency, node, user)
+            }
         };
         match reply {
             Ok(answer) => Ok(Outcome::Answered(self.shown as u64, Ok(answer))),
@@ -162,9 +180,9 @@ impl World {
 }
 
 /// What the steps leave.
-fn state_of(alloc: Global, steps: &[Step]) -> Result<Shown, AllocError>
+fn standing_of(alloc: Global, steps: &[Step]) -> Result<Shown, AllocError>
     requires { HaveRoom nothing steps.now }
-    ensures { IfOk result (λ s. s ≡ kept_of (standing steps.now)) }
+    ensures { IfOk result (λ s. s ≡ standing steps.now) }
 {
     let mut shown = Shown::new(alloc);
     for step in steps {

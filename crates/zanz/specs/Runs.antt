@@ -1,43 +1,63 @@
 -- What a run of the program writes for its input.
-use Rattle.std.specs.Prelude.{ℕ, ◌≡◌, Bool, true, false, List, [], Option, Result, Ok, Err}
-use Rattle.shown.specs.Standing.{Standing}
-use Rattle.keeper_core.specs.Posts.{Posts, opening}
+use Rattle.std.specs.Prelude.{ℕ, ◌≡◌, Bool, true, false, List, [], ◌∷◌, Option, Result, Err}
+use Rattle.meaning.specs.Snap.{empty_snap}
+use Rattle.rows.specs.Retained.{Retained}
+use Rattle.rows.specs.Loads.{retained_of}
+use Rattle.rows.specs.declared.loaded.Loaded.{Loaded}
+use Rattle.shown.specs.declared.step.Step.TheVariants.{Open}
+use Rattle.keeper_core.specs.Posts.{Posts}
 use Rattle.keeper_core.specs.Changes.{CannotOpen}
 use Rattle.keeper.specs.Rules.{DeskStep}
 use Rattle.http_api.specs.Served.{ReadAll, Served, Paused, Cut}
 use Rattle.zanz.specs.declared.fault.Fault.{Fault}
 use Rattle.zanz.specs.declared.fault.Fault.TheVariants.{CommandLine, Refused, CannotRead, CannotWrite}
+use Rattle.zanz.specs.declared.words.Place.{Place}
+use Rattle.zanz.specs.declared.words.Place.TheVariants.{Memory, New, There}
 
 -- the store with this number, before its first commit
-abbrev pub empty_store : ℕ → Standing
-empty_store number = record { number = number; history = [] }
+abbrev pub empty_store : ℕ → Retained
+empty_store number = record { number = number; floor = 0; base = empty_snap; commits = [] }
 
--- a desk that has just been opened on an empty store: all that it holds is shown
-pub record IsFresh (number : ℕ) (desk : Posts Standing) : Type 0 where
-  pub tables : desk.tables ≡ empty_store number
-  pub posted : desk.posted ≡ opening (empty_store number)
+-- the desk, but for its tables
+abbrev pub seen : {T : Type 0} → Posts T → Posts (Unit {0})
+seen d = record { tables = tt; book = d.book; posted = d.posted; shown = d.shown; failed = d.failed; faults = d.faults }
+
+-- a desk that has just been opened on a history: all that it holds is shown
+pub record IsOpened {T : Type 0} (loaded : Loaded) (desk : Posts T) : Type 0 where
+  pub posted : desk.posted ≡ Open loaded ∷ []
   pub shown : desk.shown ≡ desk.posted
   pub works : desk.failed ≡ false
 
+-- what a desk did that was opened on the history of these tables
+abbrev pub Opening : {T : Type 0} → (Retained → Type 0) → (T → Type 0) → (Posts T → Type 0) → Type 0
+Opening {T} Holds IsReliable Did = (first : Posts T) × (loaded : Loaded) × IsOpened loaded first
+    × ((r : Retained) → Holds r → IsReliable first.tables → retained_of loaded ≡ r) × Did first
+
 -- from this desk each line of the input was answered, and the answers written
 abbrev pub ServedBy : {T : Type 0} → Posts T → Option (List ℕ) → List ℕ → Option (List ℕ) → Type 0
-ServedBy {T} first held input holds = (last : Posts T) × Served DeskStep first held input last holds
+ServedBy first held input holds = (last : Posts (Unit {0})) × Served DeskStep (seen first) held input last holds
 
 -- the same of the lines that end in the input
 abbrev pub PausedBy : {T : Type 0} → Posts T → Option (List ℕ) → List ℕ → Option (List ℕ) → Type 0
-PausedBy {T} first held input holds = (last : Posts T) × Paused DeskStep first held input last holds
+PausedBy first held input holds = (last : Posts (Unit {0})) × Paused DeskStep (seen first) held input last holds
 
 -- the same of some first lines, of whose answers a beginning was written
 abbrev pub CutBy : {T : Type 0} → Posts T → Option (List ℕ) → List ℕ → Option (List ℕ) → Type 0
-CutBy {T} first held input holds = (last : Posts T) × Cut DeskStep first held input last holds
+CutBy first held input holds = (last : Posts (Unit {0})) × Cut DeskStep (seen first) held input last holds
 
--- what a fresh desk did
-abbrev pub Freshly : ℕ → (Posts Standing → Type 0) → Type 0
-Freshly number Did = (first : Posts Standing) × IsFresh number first × Did first
+-- the history that a run begins with: in memory an empty store's; in a file whatever was read of it
+abbrev pub BeginsWith : Place → Retained → Type 0
+BeginsWith (Memory store) r = r ≡ empty_store store
+BeginsWith (New file store) r = Unit {0}
+BeginsWith (There file) r = Unit {0}
 
--- all of the input was read, each line answered, and the answers written, from a store that was empty
+-- all of the input was read, each line answered, and the answers written, by a desk that was opened on such a history
+abbrev pub RanFrom : Place → Option (List ℕ) → Option (List ℕ) → Option (List ℕ) → Option (List ℕ) → Type 0
+RanFrom place left left_after held holds = (first : Posts (Unit {0})) × (loaded : Loaded) × IsOpened loaded first × BeginsWith place (retained_of loaded)
+    × ((input : List ℕ) × ReadAll left left_after input × ServedBy first held input holds)
+
 abbrev pub Ran : Option (List ℕ) → Option (List ℕ) → Option (List ℕ) → Option (List ℕ) → Type 0
-Ran left left_after held holds = (number : ℕ) × (input : List ℕ) × ReadAll left left_after input × Freshly number (λ first. ServedBy first held input holds)
+Ran left left_after held holds = (place : Place) × RanFrom place left left_after held holds
 
 -- which results tell that the reader, or the writer, failed
 abbrev pub is_read_fault : {T : Type 0} → Result T Fault → Bool

@@ -1,17 +1,19 @@
 //! The program, but for its process.
-ghost use Rattle.std.specs.Prelude.{◌≡◌, ◌≢◌, ◌≤◌, ◌⊎◌, true, false, IfOk, IfErr};
+ghost use Rattle.std.specs.Prelude.{◌≡◌, ◌≢◌, ◌≤◌, ◌⊎◌, true, false, IfOk, IfErr, OnOk};
 ghost use Rattle.zanz.specs.Faults.{fault_status};
-ghost use Rattle.zanz.specs.Runs.{Ran};
+ghost use Rattle.zanz.specs.Runs.{Ran, RanFrom, IsRunFault};
 ghost use Rattle.zanz.specs.Report.{Reported};
 
 use crate::fault::Fault;
 use crate::file::read_file;
+use crate::place::{create, open};
 use crate::report::report_of;
 use crate::run::run;
-use crate::words::{Task, task_of};
+use crate::words::{Place, Task, task_of};
 use std::alloc::Global;
 use std::io::{Read, Write};
 use std::rt::Files;
+use tables::Listed;
 use zanz_core::{Watched, WatchedWriter, say};
 
 // Prints what there is to say of a file's configuration, and answers the status that the process ends with.
@@ -36,10 +38,32 @@ fn report<F: Files, W: Write>(
     if report.accepted { Ok(0) } else { Ok(1) }
 }
 
+// Answers lines from the store at a place.
+fn run_at<R: Read, W: Write>(
+    rt: &HostRuntime,
+    place: &Place,
+    reader: &mut Watched<R>,
+    writer: &mut WatchedWriter<W>,
+) -> Result<(), Fault>
+    requires unbroken_reader { reader.old.failed ≡ false }
+    requires unbroken_writer { writer.old.failed ≡ false }
+    ensures ok { OnOk result (RanFrom place.now (R.remaining reader.old.inner) (R.remaining reader.new.inner) (W.contents writer.old.inner) (W.contents writer.new.inner)) }
+    ensures whole { OnOk result ((reader.new.failed ≡ false) × (writer.new.failed ≡ false) × (writer.new.flushed ≡ true)) }
+    ensures cause { IfErr result IsRunFault }
+{
+    let alloc = rt.alloc();
+    match place {
+        Place::Memory { store } => run(alloc, Listed::new(alloc, *store), reader, writer),
+        Place::New { file, store } => {
+            run(alloc, create(rt, file.as_str(), *store)?, reader, writer)
+        }
+        Place::There { file } => run(alloc, open(rt, file.as_str())?, reader, writer),
+    }
+}
+
 // Does what the words say, and answers the status that the process ends with.
-fn obey<F: Files, R: Read, W: Write>(
-    alloc: Global,
-    files: &F,
+fn obey<R: Read, W: Write>(
+    rt: &HostRuntime,
     words: &[String],
     reader: &mut Watched<R>,
     writer: &mut WatchedWriter<W>,
@@ -53,19 +77,19 @@ fn obey<F: Files, R: Read, W: Write>(
     ensures status { IfOk result (λ status. status ≤ 1) }
     ensures refused { IfErr result (λ fault. fault ≡ Fault.CommandLine → (reader.new ≡ reader.old) × (writer.new ≡ writer.old)) }
 {
+    let alloc = rt.alloc();
     match task_of(alloc, words)? {
-        Task::Run { store } => {
-            run(alloc, store, reader, writer)?;
+        Task::Run { place } => {
+            run_at(rt, &place, reader, writer)?;
             Ok(0)
         }
-        Task::Config { file } => report(alloc, files, file.as_str(), writer),
+        Task::Config { file } => report(alloc, rt, file.as_str(), writer),
     }
 }
 
 /// Does what the words say, tells of a fault on `errors`, and answers the status that the process ends with.
-pub fn command<F: Files, R: Read, W: Write, E: Write>(
-    alloc: Global,
-    files: &F,
+pub fn command<R: Read, W: Write, E: Write>(
+    rt: &HostRuntime,
     words: &[String],
     reader: &mut Watched<R>,
     writer: &mut WatchedWriter<W>,
@@ -85,7 +109,7 @@ pub fn command<F: Files, R: Read, W: Write, E: Write>(
     ensures refused { result ≡ 2 → (reader.new ≡ reader.old) × (writer.new ≡ writer.old) }
     ensures status { result ≤ 2 }
 {
-    match obey(alloc, files, words, reader, writer) {
+    match obey(rt, words, reader, writer) {
         Ok(status) => status,
         Err(fault) => tell(errors, &fault),
     }

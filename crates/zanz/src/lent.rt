@@ -1,9 +1,10 @@
 //! A desk that answers while it is lent.
 use http_api::Answers;
 use keeper::answer_on;
-use keeper_core::{Desk, Tables};
+use keeper_core::Desk;
 use names::{Call, Reply};
 use std::alloc::Global;
+use tables::Tables;
 
 /// A desk that its holder lends.
 #[derive(Drop)]

@@ -1,11 +1,13 @@
-//! The program: `zanz run [--store N]` answers the lines of its input, each by a line; `zanz config FILE`
-//! prints the level of each relation of a configuration, or why it is refused.
+//! The program: `zanz run [--db FILE] [--store N]` answers the lines of its input, each by a line, from a store in
+//! memory or in a file; `zanz config FILE` prints the level of each relation of a configuration, or why it is
+//! refused.
 #![tactic(auto)]
 
 mod command;
 mod fault;
 mod file;
 mod lent;
+mod place;
 mod report;
 mod run;
 #[cfg(test)]
@@ -38,14 +40,7 @@ fn start(rt: &HostRuntime) -> Result<u8, Fault> {
     let mut reader = Watched::new(rt.reader());
     let mut writer = WatchedWriter::new(out);
     let mut errors = rt.stderr();
-    Ok(command(
-        alloc,
-        rt,
-        words.as_slice(),
-        &mut reader,
-        &mut writer,
-        &mut errors,
-    ))
+    Ok(command(rt, words.as_slice(), &mut reader, &mut writer, &mut errors))
 }
 
 // The words of the command line. One that is no text is on no command line of the program's.

@@ -3,21 +3,22 @@ ghost use Rattle.std.specs.Prelude.{ℕ, ◌≡◌, List, true, false, IfErr, On
 ghost use Rattle.std.specs.Io.KnownBytes.{Consumes};
 ghost use Rattle.http_api.specs.Served.{ReadAll};
 ghost use Rattle.zanz.specs.declared.fault.Fault.TheVariants.{Refused};
-ghost use Rattle.zanz.specs.Runs.{ServedBy, PausedBy, CutBy, Freshly, IsRunFault, is_read_fault, is_write_fault};
+ghost use Rattle.zanz.specs.Runs.{ServedBy, PausedBy, CutBy, Opening, IsRunFault, is_read_fault, is_write_fault};
 
 use crate::fault::Fault;
 use crate::lent::Lent;
 use http_api::End;
-use keeper_core::{Desk, Listed, Opened, Tables};
+use keeper_core::{Desk, Opened};
 use names::Refusal;
 use std::alloc::Global;
 use std::io::{Read, Write};
+use tables::Tables;
 use zanz_core::{Watched, WatchedWriter, lines};
 
-/// Answers lines from an empty store in memory, which has this number.
-pub fn run<R: Read, W: Write>(
+/// Answers lines from the store that these tables keep.
+pub fn run<T: Tables + Drop, R: Read, W: Write>(
     alloc: Global,
-    number: u64,
+    tables: T,
     reader: &mut Watched<R>,
     writer: &mut WatchedWriter<W>,
 ) -> Result<(), Fault>
@@ -26,16 +27,16 @@ pub fn run<R: Read, W: Write>(
 
     // All that was there was read, each line answered, and the answers handed on.
     ensures ok { OnOk result ((input : List ℕ) × ReadAll (R.remaining reader.old.inner) (R.remaining reader.new.inner) input
-        × Freshly number (λ first. ServedBy first (W.contents writer.old.inner) input (W.contents writer.new.inner))) }
+        × Opening (T.holds tables) T.is_reliable (λ first. ServedBy first (W.contents writer.old.inner) input (W.contents writer.new.inner))) }
     ensures flushed { OnOk result (writer.new.flushed ≡ true) }
 
     // Each whole line of what was read was answered.
     ensures cannot_read { IfErr result (λ fault. fault ≡ Fault.CannotRead → (input : List ℕ) × Consumes (R.remaining reader.old.inner) (R.remaining reader.new.inner) input
-        × Freshly number (λ first. PausedBy first (W.contents writer.old.inner) input (W.contents writer.new.inner))) }
+        × Opening (T.holds tables) T.is_reliable (λ first. PausedBy first (W.contents writer.old.inner) input (W.contents writer.new.inner))) }
 
     // Some first lines of what was read were answered, and a beginning of the answers was written.
     ensures cannot_write { IfErr result (λ fault. fault ≡ Fault.CannotWrite → (input : List ℕ) × Consumes (R.remaining reader.old.inner) (R.remaining reader.new.inner) input
-        × Freshly number (λ first. CutBy first (W.contents writer.old.inner) input (W.contents writer.new.inner))) }
+        × Opening (T.holds tables) T.is_reliable (λ first. CutBy first (W.contents writer.old.inner) input (W.contents writer.new.inner))) }
 
     // A fault is told exactly where the reader or the writer failed in the call.
     ensures read_failed { reader.new.failed ≡ is_read_fault result }
@@ -44,7 +45,6 @@ pub fn run<R: Read, W: Write>(
     ensures refused { IfErr result (λ fault. (why : Refusal) → fault ≡ Refused why → (reader.new ≡ reader.old) × (writer.new ≡ writer.old)) }
     ensures cause { IfErr result IsRunFault }
 {
-    let tables = Listed::new(alloc, number);
     match Desk::open(alloc, Opened::new(), tables) {
         Ok(mut desk) => serve(alloc, &mut desk, reader, writer),
         Err(why) => Err(Fault::Refused(why)),

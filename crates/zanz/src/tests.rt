@@ -6,7 +6,6 @@ use crate::report::report_of;
 use names::Refusal;
 use std::alloc::{AllocError, Global};
 use std::io::{ErrorKind, Read, Write};
-use std::rt::Files;
 use std::test::Fail;
 use std::{fs, io};
 use zanz_core::{Watched, WatchedWriter};
@@ -22,8 +21,8 @@ fn words_of(alloc: Global, line: &str) -> Result<Vec<String>, AllocError> {
 }
 
 /// How the program ends for a command line and an input: its status, what it writes, and what it tells.
-fn ends<R: Files + AllocGlobal>(
-    rt: &R,
+fn ends(
+    rt: &HostRuntime,
     line: &str,
     input: &str,
     status: u8,
@@ -35,26 +34,19 @@ fn ends<R: Files + AllocGlobal>(
     let mut reader = Watched::new(input.as_bytes());
     let mut writer = WatchedWriter::new(Vec::new(alloc));
     let mut errors = Vec::new(alloc);
-    let ended = command(
-        alloc,
-        rt,
-        words.as_slice(),
-        &mut reader,
-        &mut writer,
-        &mut errors,
-    );
+    let ended = command(rt, words.as_slice(), &mut reader, &mut writer, &mut errors);
     let written = writer.inner().as_slice() == output.as_bytes();
     Ok(ended == status && written && errors.as_slice() == told.as_bytes())
 }
 
 /// Whether a new store 1 answers these lines so.
-fn answers<R: Files + AllocGlobal>(rt: &R, input: &str, output: &str) -> Result<bool, AllocError> {
+fn answers(rt: &HostRuntime, input: &str, output: &str) -> Result<bool, AllocError> {
     ends(rt, "run", input, 0, output, "")
 }
 
 /// Whether a new store 1 answers so: first the configuration, then these lines.
-fn answers_with<R: Files + AllocGlobal>(
-    rt: &R,
+fn answers_with(
+    rt: &HostRuntime,
     config: &str,
     input: &str,
     output: &str,
@@ -98,6 +90,9 @@ fn other_command_lines_are_refused(rt: HostRuntime) -> Result<(), Fail> {
         "run --store 9223372036854775808",
         "run --store one",
         "run --store 1 --store 1",
+        "run --db",
+        "run --db a --db b",
+        "config --db a b",
         "run x",
         "config",
         "config a b",
@@ -163,10 +158,54 @@ fn a_configuration_must_admit_each_tuple(rt: HostRuntime) -> Result<(), Fail> {
 }
 
 #[test]
+fn the_state_is_told(rt: HostRuntime) -> Result<(), Fail> {
+    assert!(rt; answers_with(&rt, FOLDERS, "state\n", STATE_ANSWERS)?);
+    Ok(())
+}
+
+#[test]
+fn at_least_takes_the_index_where_it_has_come_so_far(rt: HostRuntime) -> Result<(), Fail> {
+    assert!(rt; answers_with(&rt, FOLDERS, CATCHING_UP, CATCHING_UP_ANSWERS)?);
+    Ok(())
+}
+
+#[test]
+fn zookies_that_cannot_be_met_are_refused(rt: HostRuntime) -> Result<(), Fail> {
+    assert!(rt; answers_with(&rt, FOLDERS, ZOOKIES, ZOOKIES_ANSWERS)?);
+    Ok(())
+}
+
+/// Whether a file keeps what was written, and refuses to be made again.
+fn is_kept(rt: &HostRuntime) -> Result<bool, AllocError> {
+    let made = ends(
+        rt,
+        "run --db zanz_test.db --store 1",
+        KEPT,
+        0,
+        KEPT_ANSWERS,
+        "",
+    )?;
+    let opened = ends(rt, "run --db zanz_test.db", AGAIN, 0, AGAIN_ANSWERS, "")?;
+    let told = "zanz: refused 22 StoreFault\n";
+    let refused = ends(rt, "run --db zanz_test.db --store 1", AGAIN, 1, "", told)?;
+    Ok(made && opened && refused)
+}
+
+#[test]
+fn a_file_keeps_the_store(rt: HostRuntime) -> Result<(), Fail> {
+    let told = "zanz: refused 22 StoreFault\n";
+    assert!(rt; ends(&rt, "run --db zanz_test.db", AGAIN, 1, "", told)?);
+    let kept = is_kept(&rt);
+    let _ = fs::remove_file(&rt, "zanz_test.db");
+    let _ = fs::remove_file(&rt, "zanz_test.db-wal");
+    assert!(rt; kept?);
+    Ok(())
+}
+
+#[test]
 fn other_calls_have_no_route(rt: HostRuntime) -> Result<(), Fail> {
     for line in [
         "read {}\n",
-        "state\n",
         "hot\n",
         "state\r\n",
         "nope x\n",
@@ -205,8 +244,8 @@ impl Write for Broken {
     }
 }
 
-fn tells<F: Files + AllocGlobal, R: Read, W: Write>(
-    rt: &F,
+fn tells<R: Read, W: Write>(
+    rt: &HostRuntime,
     reader: &mut Watched<R>,
     writer: &mut WatchedWriter<W>,
     told: &str,
@@ -217,7 +256,7 @@ fn tells<F: Files + AllocGlobal, R: Read, W: Write>(
     let alloc = rt.alloc();
     let words = words_of(alloc, "run")?;
     let mut errors = Vec::new(alloc);
-    let status = command(alloc, rt, words.as_slice(), reader, writer, &mut errors);
+    let status = command(rt, words.as_slice(), reader, writer, &mut errors);
     Ok(status == 1 && errors.as_slice() == told.as_bytes())
 }
 
@@ -394,7 +433,82 @@ const CONFIGURATION_ANSWERS: &str =
 400 {"error":{"cause":"indexed","code":9,"name":"ConfigRefused"}}
 "#;
 
-const MALFORMED: [&str; 18] = [
+const STATE_ANSWERS: &str = r#"200 {"shown":true,"zookie":"AQAAAAAAAAABAAAAAAAAAAE"}
+200 {"base":"AQAAAAAAAAABAAAAAAAAAAA","floor":"AQAAAAAAAAABAAAAAAAAAAA","hot":"AQAAAAAAAAABAAAAAAAAAAA","index":"AQAAAAAAAAABAAAAAAAAAAA","marked":0,"newest":"AQAAAAAAAAABAAAAAAAAAAE","rows":0,"tuples":0}
+"#;
+
+const CATCHING_UP: &str = r#"catchup {"commits":1,"part":"index"}
+write {"ops":[{"op":"insert","tuple":"group:a#member@user:ann"}]}
+write {"ops":[{"op":"insert","tuple":"group:b#member@user:ann"}]}
+write {"ops":[{"op":"insert","tuple":"group:c#member@user:ann"}]}
+catchup {"commits":1,"part":"index"}
+check {"at":{"at_least":"AQAAAAAAAAABAAAAAAAAAAI"},"node":"group:b#member","user":"user:ann"}
+check {"at":{"at_least":"AQAAAAAAAAABAAAAAAAAAAM"},"node":"group:b#member","user":"user:ann"}
+check {"at":{"exactly":"AQAAAAAAAAABAAAAAAAAAAI"},"node":"group:b#member","user":"user:ann"}
+check {"at":{"exactly":"AQAAAAAAAAABAAAAAAAAAAM"},"node":"group:b#member","user":"user:ann"}
+check {"at":"latest","node":"group:c#member","user":"user:ann"}
+catchup {"commits":65536,"part":"index"}
+catchup {"commits":3,"part":"hot"}
+state
+"#;
+
+const CATCHING_UP_ANSWERS: &str = r#"200 {"shown":true,"zookie":"AQAAAAAAAAABAAAAAAAAAAE"}
+200 {"cursor":"AQAAAAAAAAABAAAAAAAAAAE","shown":true}
+200 {"shown":true,"zookie":"AQAAAAAAAAABAAAAAAAAAAI"}
+200 {"shown":true,"zookie":"AQAAAAAAAAABAAAAAAAAAAM"}
+200 {"shown":true,"zookie":"AQAAAAAAAAABAAAAAAAAAAQ"}
+200 {"cursor":"AQAAAAAAAAABAAAAAAAAAAI","shown":true}
+200 {"allowed":false,"zookie":"AQAAAAAAAAABAAAAAAAAAAI"}
+200 {"allowed":true,"zookie":"AQAAAAAAAAABAAAAAAAAAAQ"}
+200 {"allowed":false,"zookie":"AQAAAAAAAAABAAAAAAAAAAI"}
+200 {"allowed":true,"zookie":"AQAAAAAAAAABAAAAAAAAAAM"}
+200 {"allowed":true,"zookie":"AQAAAAAAAAABAAAAAAAAAAQ"}
+200 {"cursor":"AQAAAAAAAAABAAAAAAAAAAQ","shown":true}
+200 {"cursor":"AQAAAAAAAAABAAAAAAAAAAM","shown":true}
+200 {"base":"AQAAAAAAAAABAAAAAAAAAAE","floor":"AQAAAAAAAAABAAAAAAAAAAA","hot":"AQAAAAAAAAABAAAAAAAAAAM","index":"AQAAAAAAAAABAAAAAAAAAAQ","marked":0,"newest":"AQAAAAAAAAABAAAAAAAAAAQ","rows":3,"tuples":3}
+"#;
+
+const ZOOKIES: &str =
+    r#"check {"at":{"at_least":"AQAAAAAAAAACAAAAAAAAAAE"},"node":"doc:1#viewer","user":"user:ann"}
+check {"at":{"at_least":"AQAAAAAAAAABAAAAAAAAAAF"},"node":"doc:1#viewer","user":"user:ann"}
+check {"at":{"exactly":"AQAAAAAAAAABAAAAAAAAAAk"},"node":"doc:1#viewer","user":"user:ann"}
+check {"at":{"at_least":"AQAAAAAAAAABAAAAAAAAAAk"},"node":"doc:1#viewer","user":"user:ann"}
+check {"at":{"exactly":""},"node":"doc:1#viewer","user":"user:ann"}
+check {"at":{"exactly":"AQAAAAAAAAABAAAAAAAAAAA"},"node":"doc:1#viewer","user":"user:ann"}
+"#;
+
+const ZOOKIES_ANSWERS: &str = r#"200 {"shown":true,"zookie":"AQAAAAAAAAABAAAAAAAAAAE"}
+400 {"error":{"code":12,"name":"ForeignZookie"}}
+400 {"error":{"code":11,"name":"BadZookie"}}
+409 {"error":{"code":13,"name":"Future"}}
+409 {"error":{"code":13,"name":"Future"}}
+400 {"error":{"code":11,"name":"BadZookie"}}
+400 {"error":{"code":2,"name":"UnknownRelation","zookie":"AQAAAAAAAAABAAAAAAAAAAA"}}
+"#;
+
+const KEPT: &str =
+    r#"config {"namespaces":{"group":{"member":{"types":["user","group#member"]}},"user":{}}}
+write {"ops":[{"op":"insert","tuple":"group:a#member@group:b#member"},{"op":"insert","tuple":"group:b#member@group:a#member"},{"op":"insert","tuple":"group:b#member@user:ann"}]}
+write {"ops":[{"op":"delete","tuple":"group:b#member@user:ann"}]}
+"#;
+
+const KEPT_ANSWERS: &str = r#"200 {"shown":true,"zookie":"AQAAAAAAAAABAAAAAAAAAAE"}
+200 {"shown":true,"zookie":"AQAAAAAAAAABAAAAAAAAAAI"}
+200 {"shown":true,"zookie":"AQAAAAAAAAABAAAAAAAAAAM"}
+"#;
+
+const AGAIN: &str = r#"state
+check {"at":{"exactly":"AQAAAAAAAAABAAAAAAAAAAI"},"node":"group:a#member","user":"user:ann"}
+check {"node":"group:a#member","user":"user:ann"}
+"#;
+
+const AGAIN_ANSWERS: &str =
+    r#"200 {"base":"AQAAAAAAAAABAAAAAAAAAAM","floor":"AQAAAAAAAAABAAAAAAAAAAA","hot":"AQAAAAAAAAABAAAAAAAAAAM","index":"AQAAAAAAAAABAAAAAAAAAAM","marked":0,"newest":"AQAAAAAAAAABAAAAAAAAAAM","rows":3,"tuples":2}
+200 {"allowed":true,"zookie":"AQAAAAAAAAABAAAAAAAAAAI"}
+200 {"allowed":false,"zookie":"AQAAAAAAAAABAAAAAAAAAAM"}
+"#;
+
+const MALFORMED: [&str; 24] = [
     "write\n",
     "write {\"ops\":[]}\n",
     "write []\n",
@@ -410,7 +524,13 @@ const MALFORMED: [&str; 18] = [
     "check {\"node\":\"doc:1\",\"user\":\"user:ann\"}\n",
     "check {\"node\":\"doc:1#viewer\",\"user\":\"group:a#member\"}\n",
     "check {\"at\":null,\"node\":\"doc:1#viewer\",\"user\":\"user:ann\"}\n",
-    "check {\"at\":{\"exactly\":\"AQAAAAAAAAABAAAAAAAAAAA\"},\"node\":\"doc:1#viewer\",\"user\":\"user:ann\"}\n",
+    "check {\"at\":{\"exactly\":1},\"node\":\"doc:1#viewer\",\"user\":\"user:ann\"}\n",
+    "check {\"at\":{\"exactly\":\"x\"},\"node\":\"doc:1\",\"user\":\"user:ann\"}\n",
+    "check {\"at\":{\"at_least\":\"AQAAAAAAAAABAAAAAAAAAAA\",\"exactly\":\"AQAAAAAAAAABAAAAAAAAAAA\"},\"node\":\"doc:1#viewer\",\"user\":\"user:ann\"}\n",
+    "catchup {\"commits\":65537,\"part\":\"index\"}\n",
+    "catchup {\"commits\":1.0,\"part\":\"hot\"}\n",
+    "catchup {\"commits\":1,\"part\":\"cold\"}\n",
+    "catchup {\"commits\":1}\n",
     "check {\"node\":\"doc:1#viewer\"}\n",
     "check {\"node\":\"doc:1#viewer\",\"user\":\"user:ann\"",
 ];

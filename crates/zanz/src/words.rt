@@ -11,10 +11,21 @@ use std::alloc::Global;
 /// What a command line asks for.
 #[derive(Debug, Drop)]
 pub enum Task {
-    /// Lines are answered from a store with this number.
-    Run { store: u64 },
+    /// Lines are answered from the store there.
+    Run { place: Place },
     /// The configuration of a file is reported.
     Config { file: String },
+}
+
+/// Where a store's tables are.
+#[derive(Debug, Drop)]
+pub enum Place {
+    /// In memory, made for this run, with this number.
+    Memory { store: u64 },
+    /// In a file, in which they are made, with this number.
+    New { file: String, store: u64 },
+    /// In a file that has them.
+    There { file: String },
 }
 
 /// What the words of a command line ask for, of which the first is the program's.
@@ -36,9 +47,11 @@ fn parse(alloc: Global, words: &[String]) -> Result<ArgMatches, clap::Error> {
         .long("store")
         .action(ArgAction::Set)
         .value_parser(clap::value_parser!(u64).range(1..=i64::MAX));
+    let db = Arg::new(alloc, "db").long("db").action(ArgAction::Set);
     let run = Command::new(alloc, "run")
         .disable_help_flag(true)
-        .arg(store)?;
+        .arg(store)?
+        .arg(db)?;
     let file = Arg::new(alloc, "file")
         .required(true)
         .action(ArgAction::Set);
@@ -58,30 +71,49 @@ fn task_in(alloc: Global, matches: &ArgMatches) -> Result<Task, Fault>
     ensures { IfErr result IsLineFault }
 {
     match matches.subcommand() {
-        Some(("run", inner)) => run_task(inner),
-        Some(("config", inner)) => config_task(alloc, inner),
+        Some(("run", inner)) => Ok(Task::Run {
+            place: place_of(alloc, inner)?,
+        }),
+        Some(("config", inner)) => Ok(Task::Config {
+            file: file_of(alloc, inner, "file")?,
+        }),
         _ => Err(Fault::CommandLine),
     }
 }
 
-fn run_task(matches: &ArgMatches) -> Result<Task, Fault>
+fn place_of(alloc: Global, matches: &ArgMatches) -> Result<Place, Fault>
+    ensures { IfErr result IsLineFault }
+{
+    let store = store_of(matches)?;
+    if !matches.contains_id("db") {
+        return Ok(Place::Memory {
+            store: store.unwrap_or(1),
+        });
+    }
+    let file = file_of(alloc, matches, "db")?;
+    Ok(match store {
+        Some(store) => Place::New { file, store },
+        None => Place::There { file },
+    })
+}
+
+fn store_of(matches: &ArgMatches) -> Result<Option<u64>, Fault>
     ensures { IfErr result IsLineFault }
 {
     if !matches.contains_id("store") {
-        return Ok(Task::Run { store: 1 });
+        return Ok(None);
     }
     match matches.get_one::<u64>("store") {
-        Some(store) => Ok(Task::Run { store }),
+        Some(store) => Ok(Some(store)),
         None => Err(Fault::CommandLine),
     }
 }
 
-fn config_task(alloc: Global, matches: &ArgMatches) -> Result<Task, Fault>
+fn file_of(alloc: Global, matches: &ArgMatches, name: &str) -> Result<String, Fault>
     ensures { IfErr result IsLineFault }
 {
-    let Some(file) = matches.get_str("file") else {
+    let Some(file) = matches.get_str(name) else {
         return Err(Fault::CommandLine);
     };
-    let file = String::from_str(alloc, file)?;
-    Ok(Task::Config { file })
+    Ok(String::from_str(alloc, file)?)
 }

@@ -1,4 +1,4 @@
-use Rattle.names.specs.declared.call.Call.TheVariants.{Write, Config, Check}
+use Rattle.names.specs.declared.call.Call.TheVariants.{Write, Config, Check, CatchUp, State}
 use Rattle.keeper.proofs.Answering.{step_of}
 use Rattle.keeper.proofs.answer.answer_on.Goals as goal
 
@@ -10,3 +10,9 @@ returns-in-Config g c = step_of c.args.desk.now _ Config _ _ _ c.in-Config.is c.
 
 pub returns-in-Check : goal.returns-in-Check
 returns-in-Check g c = step_of c.args.desk.now _ Check _ _ _ c.in-Check.is c.answer_check.ensures
+
+pub returns-in-CatchUp : goal.returns-in-CatchUp
+returns-in-CatchUp g c = step_of c.args.desk.now _ CatchUp _ _ _ c.in-CatchUp.is c.answer_catch_up.ensures
+
+pub returns-in-State : goal.returns-in-State
+returns-in-State g c = step_of c.args.desk.now _ State _ _ _ c.in-State.is c.answer_state.ensures

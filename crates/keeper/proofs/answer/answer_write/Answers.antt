@@ -1,6 +1,9 @@
 use Rattle.std.proofs.Common.{◌∙◌}
-use Rattle.keeper.proofs.Answering.{write_done, write_not_done}
+use Rattle.keeper.proofs.Answering.{write_unasked, write_done, write_not_done}
 use Rattle.keeper.proofs.answer.answer_write.Goals as goal
+
+pub returns-in-Err : goal.returns-in-Err
+returns-in-Err g c = write_unasked c.args.desk.now _ c.in-Err.why _ c.in-Err.ensures.err c.refusal.ensures
 
 pub returns-in-Ok-write : goal.returns-in-Ok-write
 returns-in-Ok-write g c =

@@ -1,8 +1,8 @@
-use Rattle.names.proofs.Readings.{read_exit}
-use Rattle.keeper.proofs.Asking.{check_other}
+use Rattle.keeper.specs.Bodies.{CheckCause}
+use Rattle.keeper.proofs.Checking.{exit, check_unasked}
 use Rattle.keeper.proofs.bodies.check_body.Goals as goal
 
-pub returns-in_err-asked-clause-err : goal.returns-in_err-asked-clause-err
-returns-in_err-asked-clause-err c =
-    read_exit c.from_residual-in_err-asked.result c.in_err-asked.field-0.0 c.from_residual-in_err-asked.ensures.1
-    (check_other c.args.body.now _ c.in_ok-value.ensures.ok) c.in_err-asked.ensures.err
+pub returns-in_err-node-clause-err : goal.returns-in_err-node-clause-err
+returns-in_err-node-clause-err c =
+    exit (CheckCause c.args.body.now) c.from_residual-in_err-node.result c.in_err-node.field-0.0 c.from_residual-in_err-node.ensures.1
+    (check_unasked c.args.body.now _ _ c.in_ok-value.ensures.ok c.in_err-node.ensures.err)

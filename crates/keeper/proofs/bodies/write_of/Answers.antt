@@ -1,4 +1,4 @@
-use Rattle.std.proofs.Common.{◌≡◌, ◌∙◌, sym, arith, rules, ◌<◌, ◌≤◌, length}
+use Rattle.std.proofs.Common.{arith, rules}
 use Rattle.keeper.proofs.Asking.{asked_none, asked_many, asked_write}
 use Rattle.keeper.proofs.bodies.write_of.Goals.{then-is_empty-via-then-is_empty, then-is_empty-via-else-is_empty+then-len-gt-MAX_OPS}
 use Rattle.keeper.proofs.bodies.write_of.Goals as goal

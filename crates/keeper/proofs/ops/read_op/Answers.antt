@@ -1,4 +1,4 @@
-use Rattle.std.proofs.Common.{◌≡◌, rules, sym}
+use Rattle.std.proofs.Common.{rules, sym}
 use Rattle.keeper.proofs.ops.read_op.Goals as goal
 
 pub returns-clause-ok : goal.returns-clause-ok

@@ -1,4 +1,4 @@
-use Rattle.std.proofs.Common.{◌≡◌, sym}
+use Rattle.std.proofs.Common.{sym}
 use Rattle.keeper.proofs.Asking.{ask_more, ask_refused}
 use Rattle.names.proofs.Readings.{read_exit}
 use Rattle.keeper.proofs.ops.read_ops.Goals as goal

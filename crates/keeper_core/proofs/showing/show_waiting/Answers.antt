@@ -1,5 +1,4 @@
-use Rattle.std.proofs.Common.{◌≡◌, sym, Some, Option}
-use Rattle.keeper_core.specs.declared.showing.Waiting.{Waiting}
+use Rattle.std.proofs.Common.{Some}
 use Rattle.keeper_core.specs.Keeps.{Leads}
 use Rattle.keeper_core.proofs.Steps.{leads_after}
 use Rattle.keeper_core.proofs.showing.show_waiting.Goals as goal

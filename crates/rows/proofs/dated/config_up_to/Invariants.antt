@@ -1,7 +1,13 @@
-use Rattle.std.proofs.Common.{◌≡◌, drop}
+use Rattle.std.proofs.Common.{◌≡◌, ◌≤◌, length, take}
 use Rattle.rows.specs.Kept.{config_from}
 use Rattle.rows.proofs.dated.config_up_to.Given as goal
 
--- what is left decides
-abbrev pub invariant-loop-dated : goal.invariant-loop-dated
-invariant-loop-dated l = config_from l.config (drop l.dated-index l.configs) l.rev ≡ config_from l.base l.configs l.rev
+-- those that are left decide
+abbrev pub invariant-loop-left : goal.invariant-loop-left
+invariant-loop-left l = record {
+  few : l.left ≤ length l.configs;
+  decides : config_from l.base (take l.left l.configs) l.rev ≡ config_from l.base l.configs l.rev;
+}
+
+abbrev pub decreases-loop-left : goal.decreases-loop-left
+decreases-loop-left l = l.left

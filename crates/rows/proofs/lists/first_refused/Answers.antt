@@ -1,14 +1,12 @@
-use Rattle.std.proofs.Common.{◌≡◌, ◌++◌, ◌∷◌, [], List, ap, sym, ◌∙◌}
-use Rattle.std.specs.Prelude.{Bool, true, false, not, ◌&&◌, filter}
-use Rattle.std.specs.List.{find}
+use Rattle.std.proofs.Common.{◌≡◌, ◌∷◌, List, ap, sym, ◌∙◌}
+use Rattle.std.specs.Prelude.{Bool, false, not, ◌&&◌}
 use Rattle.std.specs.Map.{keys_of}
 use Rattle.std.specs.Global.{Vec}
 use Rattle.names.specs.declared.tuple.Tuple.{Tuple}
 use Rattle.meaning.specs.Admits.{admits}
 use Rattle.rows.specs.declared.mark.Mark.{Mark}
-use Rattle.rows.specs.Retained.{is_of}
-use Rattle.rows.specs.Kept.{marks_at, is_there, stands}
-use Rattle.rows.proofs.Listing.{first_found, rest_found, find_one, find_skip, both_one, both_skip, none_left, none_right}
+use Rattle.rows.specs.Kept.{marks_at, is_there}
+use Rattle.rows.proofs.Listing.{first_found, rest_found, find_one, find_skip, none_left, none_right}
 use Rattle.rows.proofs.lists.first_refused.Goals as goal
 use Rattle.rows.proofs.lists.first_refused.Goals.{else-is_there-via-then-is_there+else-refuses, else-is_there-via-else-is_there}
 

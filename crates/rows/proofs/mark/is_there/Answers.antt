@@ -1,4 +1,4 @@
-use Rattle.std.proofs.Common.{◌≡◌, ap, ◌∙◌}
+use Rattle.std.proofs.Common.{ap, ◌∙◌}
 use Rattle.std.specs.Prelude.{false}
 use Rattle.rows.proofs.MarkRuns.{put_or, last_put}
 use Rattle.rows.proofs.mark.is_there.Goals as goal

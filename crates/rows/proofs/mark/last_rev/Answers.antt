@@ -1,4 +1,4 @@
-use Rattle.std.proofs.Common.{◌≡◌, ap, ◌∙◌}
+use Rattle.std.proofs.Common.{ap, ◌∙◌}
 use Rattle.rows.proofs.MarkRuns.{rev_or, last_rev_is}
 use Rattle.rows.proofs.mark.last_rev.Goals as goal
 

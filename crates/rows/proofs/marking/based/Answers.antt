@@ -1,10 +1,10 @@
-use Rattle.std.proofs.Common.{rules, ◌≡◌, ℕ, ◌+◌, ◌<◌, ◌≤◌, List, [], length, take, ap, sym, subst, ◌∙◌, suc, arith}
+use Rattle.std.proofs.Common.{◌≡◌, ℕ, ◌+◌, take, ap, ◌∙◌, suc, arith}
 use Rattle.std.specs.Map.{lookup}
 use Rattle.std.specs.BTreeMap.{is_at}
 use Rattle.names.specs.Order.{tuple_cmp}
 use Rattle.meaning.specs.TupleSet as set
 use Rattle.rows.specs.Kept.{marks_at, base_marks, items_or}
-use Rattle.rows.proofs.Loading.{base_none, base_more, base_all}
+use Rattle.rows.proofs.Loading.{base_none, base_more}
 use Rattle.rows.proofs.marking.based.Goals as goal
 
 pub loop-i-init : goal.loop-i-init

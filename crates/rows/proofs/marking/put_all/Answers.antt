@@ -1,9 +1,8 @@
-use Rattle.std.proofs.Common.{rules, ◌≡◌, ℕ, List, ◌+◌, ◌-◌, ◌<◌, ◌≤◌, ◌++◌, ◌∷◌, [], length, take, ap, sym, subst, ◌∙◌, suc, arith}
+use Rattle.std.proofs.Common.{◌≡◌, ℕ, ◌+◌, ◌++◌, ◌∷◌, [], take, ap, subst, ◌∙◌, suc, arith}
 use Rattle.std.specs.Prelude.{cond, not, ◌&&◌}
 use Rattle.names.specs.Order.{is_same_tuple}
-use Rattle.names.specs.declared.commit.Event.{Event}
 use Rattle.rows.specs.declared.mark.Mark.{Mark}
-use Rattle.rows.specs.Kept.{marks_at, marks_in, mark_of, is_there, Changes}
+use Rattle.rows.specs.Kept.{marks_at, marks_in, is_there, Changes}
 use Rattle.rows.proofs.Steps.{put_one}
 use Rattle.rows.proofs.Coming.{changes_more, one, one_most}
 use Rattle.rows.proofs.marking.put_all.Goals as goal

@@ -1,19 +1,8 @@
-use Rattle.std.proofs.Common.{rules, ◌≡◌, ℕ, List, [], ◌∷◌, ◌++◌, ◌+◌, ◌-◌, ◌<◌, ◌≤◌, length, take, drop, ap, sym, subst, ◌∙◌, suc, arith, refl}
-use Rattle.std.specs.Prelude.{Bool, true, false, cond, Option, Some, None}
-use Rattle.std.specs.Option.{option_copied_mut}
-use Rattle.std.specs.BTreeMap.{BTreeMap}
-use Rattle.std.specs.Global.{Vec}
-use Rattle.names.specs.declared.tuple.Tuple.{Tuple}
+use Rattle.std.proofs.Common.{◌≡◌, List, ap, sym, subst, ◌∙◌}
 use Rattle.names.specs.declared.commit.Event.{Event}
 use Rattle.names.specs.declared.commit.Commit.{Commit}
 use Rattle.names.specs.declared.commit.Commit.TheVariants as kinds
-use Rattle.meaning.specs.TupleSet as set
-use Rattle.meaning.specs.TupleSet.{Tuples}
 use Rattle.meaning.specs.Config.{Configured}
-use Rattle.meaning.specs.Snap.{Snap}
-use Rattle.meaning.specs.History.{History, replay, after_commit, after_commits, puts_in, rows_of, commit_rows}
-use Rattle.rows.specs.declared.mark.Mark.{Mark}
-use Rattle.rows.specs.Kept.{marks_at, marks_in, marks_after, base_marks, is_based, items_or, settled, AreMarks, AreMarksBefore, AreMarksFrom, IsLater}
 use Rattle.rows.proofs.Settling.{Settles, one_commit}
 use Rattle.rows.proofs.marking.settle_commit.Goals as goal
 

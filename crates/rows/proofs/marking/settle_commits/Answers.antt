@@ -1,19 +1,10 @@
-use Rattle.std.proofs.Common.{rules, ◌≡◌, ℕ, List, [], ◌∷◌, ◌++◌, ◌+◌, ◌-◌, ◌<◌, ◌≤◌, length, take, drop, ap, sym, subst, ◌∙◌, suc, arith, refl}
-use Rattle.std.specs.Prelude.{Bool, true, false, cond, Option, Some, None}
-use Rattle.std.specs.Option.{option_copied_mut}
-use Rattle.std.specs.BTreeMap.{BTreeMap}
-use Rattle.std.specs.Global.{Vec}
-use Rattle.names.specs.declared.tuple.Tuple.{Tuple}
-use Rattle.names.specs.declared.commit.Event.{Event}
+use Rattle.std.proofs.Common.{◌≡◌, ℕ, ◌++◌, ◌+◌, ◌-◌, length, take, drop, ap, subst, ◌∙◌, suc, arith}
 use Rattle.names.specs.declared.commit.Commit.{Commit}
-use Rattle.names.specs.declared.commit.Commit.TheVariants as kinds
 use Rattle.meaning.specs.TupleSet as set
 use Rattle.meaning.specs.TupleSet.{Tuples}
 use Rattle.meaning.specs.Config.{Configured}
-use Rattle.meaning.specs.Snap.{Snap}
-use Rattle.meaning.specs.History.{History, replay, after_commit, after_commits, puts_in, rows_of, commit_rows}
-use Rattle.rows.specs.declared.mark.Mark.{Mark}
-use Rattle.rows.specs.Kept.{marks_at, marks_in, marks_after, base_marks, is_based, items_or, settled, AreMarks, AreMarksBefore, AreMarksFrom, IsLater}
+use Rattle.meaning.specs.History.{History, after_commits, rows_of}
+use Rattle.rows.specs.Kept.{marks_after, base_marks, AreMarksFrom}
 use Rattle.rows.proofs.Settling.{Settles, commit_step, rows_here, take_all, drop_all}
 use Rattle.rows.proofs.marking.settle_commits.Goals as goal
 

@@ -1,12 +1,10 @@
-use Rattle.std.proofs.Common.{rules, ◌≡◌, ℕ, List, ◌+◌, ◌-◌, ◌<◌, ◌≤◌, ◌++◌, length, take, ap, sym, subst, ◌∙◌, suc, arith}
-use Rattle.std.specs.Prelude.{cond, not, ◌&&◌}
-use Rattle.names.specs.Order.{is_same_tuple}
+use Rattle.std.proofs.Common.{◌≡◌, ℕ, List, ◌+◌, ◌-◌, ◌<◌, ◌++◌, length, take, ap, subst, ◌∙◌, suc, arith}
+use Rattle.std.specs.Prelude.{not, ◌&&◌}
 use Rattle.names.specs.declared.tuple.Tuple.{Tuple}
-use Rattle.names.specs.declared.commit.Event.{Event}
 use Rattle.rows.specs.declared.mark.Mark.{Mark}
-use Rattle.rows.specs.Kept.{marks_at, marks_in, drop_last, is_there, is_put, GoesOn}
+use Rattle.rows.specs.Kept.{marks_at, marks_in, is_there, GoesOn}
 use Rattle.rows.proofs.Steps.{off_one, off_all}
-use Rattle.rows.proofs.Coming.{ChangedFrom, changed_more, changed_none, changed_all, one, one_most}
+use Rattle.rows.proofs.Coming.{ChangedFrom, changed_more, changed_all, one, one_most}
 use Rattle.rows.proofs.marking.undo.Goals as goal
 
 pub loop-left-preserved : goal.loop-left-preserved

@@ -1,4 +1,4 @@
-use Rattle.std.proofs.Common.{◌≡◌, ◌≤◌, ◌+◌, ℕ, List, take, length}
+use Rattle.std.proofs.Common.{◌≤◌, ◌+◌, ℕ, List, take, length}
 use Rattle.names.specs.declared.tuple.Tuple.{Tuple}
 use Rattle.rows.specs.declared.mark.Mark.{Mark}
 use Rattle.rows.specs.Kept.{GoesOn}

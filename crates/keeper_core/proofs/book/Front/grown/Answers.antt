@@ -1,5 +1,4 @@
 use Rattle.std.proofs.Common.{◌≡◌, sym, ◌∙◌, ap, ◌<◌, ◌^◌, length, arith}
-use Rattle.logbook.specs.Pages.{Book}
 use Rattle.keeper_core.proofs.Adding.{adds_moves}
 use Rattle.keeper_core.proofs.book.Front.grown.Goals as goal
 

@@ -1,18 +1,16 @@
-use Rattle.std.proofs.Common.{rules, ◌≡◌, ℕ, List, [], ◌∷◌, ◌++◌, ◌+◌, ◌-◌, ◌<◌, ◌≤◌, length, take, ap, sym, subst, ◌∙◌, arith, refl}
-use Rattle.std.specs.BTreeMap.{BTreeMap}
-use Rattle.std.specs.Global.{Vec}
+use Rattle.std.proofs.Common.{◌≡◌, ℕ, List, [], ◌∷◌, ◌++◌, ◌+◌, ◌-◌, ap, sym, subst, ◌∙◌, arith, refl}
 use Rattle.names.specs.declared.tuple.Tuple.{Tuple}
 use Rattle.names.specs.declared.commit.Event.{Event}
 use Rattle.names.specs.declared.commit.Commit.{Commit}
 use Rattle.names.specs.declared.commit.Commit.TheVariants as kinds
 use Rattle.meaning.specs.TupleSet as set
 use Rattle.meaning.specs.Config.{Configured}
-use Rattle.meaning.specs.History.{History, puts_in, replay, after_commits}
+use Rattle.meaning.specs.History.{History, replay, after_commits}
 use Rattle.rows.specs.declared.mark.Mark.{Mark}
 use Rattle.rows.specs.declared.dated.Dated.{Dated}
 use Rattle.rows.specs.declared.loaded.Counts.{Counts}
-use Rattle.rows.specs.Retained.{Retained, newest, spans_of, with_commit, without_newest, HasRoom}
-use Rattle.rows.specs.Kept.{marks_at, marks_in, marks_after, base_marks, base_tuples, retained, IsKept, AreMarks, GoesOn, Changes}
+use Rattle.rows.specs.Retained.{Retained, newest, with_commit, without_newest}
+use Rattle.rows.specs.Kept.{marks_after, base_marks, base_tuples, retained, IsKept, AreMarks, GoesOn, Changes}
 use Rattle.meaning.specs.Snap.{Snap}
 use Rattle.rows.proofs.Committing.{kept_back, kept_back_config, kept_as, retained_is, marks_before, before_these, tuples_within, rows_push, after_push, last_off}
 use Rattle.rows.proofs.rows.Rows.back.Goals as goal

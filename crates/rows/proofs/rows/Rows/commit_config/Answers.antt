@@ -1,18 +1,10 @@
-use Rattle.std.proofs.Common.{rules, ◌≡◌, ℕ, List, [], ◌∷◌, ◌++◌, ◌+◌, ◌-◌, ◌<◌, ◌≤◌, length, take, ap, sym, subst, ◌∙◌, arith}
-use Rattle.std.specs.BTreeMap.{BTreeMap}
-use Rattle.std.specs.Global.{Vec}
-use Rattle.names.specs.declared.tuple.Tuple.{Tuple}
-use Rattle.names.specs.declared.commit.Event.{Event}
-use Rattle.names.specs.declared.commit.Commit.{Commit}
+use Rattle.std.proofs.Common.{◌≡◌, List, [], ◌∷◌, ◌++◌, ◌+◌, ap, sym, subst, ◌∙◌}
 use Rattle.names.specs.declared.commit.Commit.TheVariants as kinds
-use Rattle.meaning.specs.TupleSet as set
 use Rattle.meaning.specs.Config.{Configured}
-use Rattle.meaning.specs.History.{History, puts_in, replay, after_commits}
-use Rattle.rows.specs.declared.mark.Mark.{Mark}
+use Rattle.meaning.specs.History.{History}
 use Rattle.rows.specs.declared.dated.Dated.{Dated}
-use Rattle.rows.specs.declared.loaded.Counts.{Counts}
-use Rattle.rows.specs.Retained.{Retained, newest, spans_of, with_commit, without_newest, HasRoom}
-use Rattle.rows.specs.Kept.{marks_at, marks_in, marks_after, base_marks, base_tuples, retained, IsKept, AreMarks, GoesOn, Changes}
+use Rattle.rows.specs.Retained.{Retained, newest, HasRoom}
+use Rattle.rows.specs.Kept.{retained, IsKept}
 use Rattle.rows.proofs.Committing.{kept_config}
 use Rattle.rows.proofs.rows.Rows.commit_config.Goals as goal
 

@@ -1,4 +1,4 @@
-use Rattle.std.proofs.Common.{◌≡◌, ◌≤◌, subst, List, ap, sym, ◌∙◌}
+use Rattle.std.proofs.Common.{◌≤◌, subst, List, ap, sym, ◌∙◌}
 use Rattle.rows.specs.declared.dated.Dated.{Dated}
 use Rattle.rows.specs.Retained.{Retained, snap_at}
 use Rattle.rows.specs.Kept.{retained, config_from}

@@ -1,4 +1,4 @@
-use Rattle.std.proofs.Common.{◌≡◌, ◌≤◌, subst, List, ap, sym, ◌∙◌}
+use Rattle.std.proofs.Common.{◌≤◌, subst, List, ap, sym, ◌∙◌}
 use Rattle.meaning.specs.TupleSet as set
 use Rattle.rows.specs.declared.mark.Mark.{Mark}
 use Rattle.rows.specs.Retained.{Retained, snap_at}

@@ -1,4 +1,4 @@
-use Rattle.std.proofs.Common.{rules, ◌≡◌, ℕ, ◌+◌, ◌-◌, ◌<◌, ◌≤◌, ap, sym, ◌∙◌, map, arith}
+use Rattle.std.proofs.Common.{◌≡◌, ℕ, ◌+◌, ◌≤◌, ap, ◌∙◌, map, arith}
 use Rattle.std.specs.Prelude.{count_by}
 use Rattle.meaning.specs.Snap.{Snap}
 use Rattle.meaning.specs.Verdict.{Newest, is_full, event_of, max_tuples}

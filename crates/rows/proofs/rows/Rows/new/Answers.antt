@@ -1,11 +1,8 @@
-use Rattle.std.proofs.Common.{rules, ◌≡◌, ◌<◌, ℕ, List, length, get_or, ap, sym, subst, ◌∙◌}
-use Rattle.names.specs.declared.commit.Commit.{Commit}
-use Rattle.meaning.specs.Config.{Configured}
+use Rattle.std.proofs.Common.{◌≡◌, ◌<◌, length, get_or, ap, sym, subst, ◌∙◌}
 use Rattle.meaning.specs.History.{History}
 use Rattle.rows.specs.declared.loaded.Loaded.{Loaded}
 use Rattle.rows.specs.Retained.{Retained, HasRoom, with_commit}
-use Rattle.rows.specs.Loads.{loaded_to}
-use Rattle.rows.proofs.Loading.{has_room, next_loaded, all_loaded}
+use Rattle.rows.proofs.Loading.{has_room, next_loaded}
 use Rattle.rows.proofs.rows.Rows.new.Goals as goal
 
 pub commit-requires : goal.commit-requires

@@ -1,21 +1,13 @@
-use Rattle.std.proofs.Common.{rules, ◌≡◌, ℕ, List, [], ◌∷◌, ◌++◌, ◌+◌, ◌-◌, ◌<◌, ◌≤◌, length, take, drop, ap, sym, subst, ◌∙◌, suc, arith, refl}
-use Rattle.std.specs.Prelude.{Bool, true, false, cond, Option, Some, None}
-use Rattle.std.specs.Option.{option_copied_mut}
-use Rattle.std.specs.BTreeMap.{BTreeMap}
-use Rattle.std.specs.Global.{Vec}
+use Rattle.std.proofs.Common.{◌≡◌, ℕ, List, ◌++◌, ◌+◌, ◌-◌, ◌≤◌, take, drop, ap, sym, subst, ◌∙◌, arith, refl}
 use Rattle.names.specs.declared.tuple.Tuple.{Tuple}
-use Rattle.names.specs.declared.commit.Event.{Event}
-use Rattle.names.specs.declared.commit.Commit.{Commit}
-use Rattle.names.specs.declared.commit.Commit.TheVariants as kinds
 use Rattle.meaning.specs.TupleSet as set
 use Rattle.meaning.specs.TupleSet.{Tuples}
 use Rattle.meaning.specs.Config.{Configured}
-use Rattle.meaning.specs.Snap.{Snap}
-use Rattle.meaning.specs.History.{History, replay, after_commit, after_commits, puts_in, rows_of, commit_rows}
+use Rattle.meaning.specs.History.{History, after_commits, rows_of}
 use Rattle.rows.specs.declared.mark.Mark.{Mark}
-use Rattle.rows.specs.Kept.{marks_at, marks_in, marks_after, base_marks, is_based, items_or, settled, AreMarks, AreMarksBefore, AreMarksFrom, IsLater}
+use Rattle.rows.specs.Kept.{marks_after, base_marks, AreMarks, AreMarksFrom}
 use Rattle.rows.specs.declared.loaded.Counts.{Counts}
-use Rattle.rows.specs.Retained.{Retained, newest, snap_at, spans_of, trimmed}
+use Rattle.rows.specs.Retained.{Retained, newest, snap_at, trimmed}
 use Rattle.rows.specs.Kept.{retained, IsKept}
 use Rattle.rows.proofs.Committing.{kept_as, retained_is}
 use Rattle.rows.proofs.Settling.{marks_from, later_of, spans_split, config_trimmed, kept_trimmed}

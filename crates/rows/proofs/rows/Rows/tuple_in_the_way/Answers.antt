@@ -1,5 +1,5 @@
-use Rattle.std.proofs.Common.{◌≡◌, List, ap, sym, ◌∙◌, refl}
-use Rattle.std.specs.Prelude.{not, Bool}
+use Rattle.std.proofs.Common.{List, ap, sym, ◌∙◌, refl}
+use Rattle.std.specs.Prelude.{not}
 use Rattle.std.specs.List.{find}
 use Rattle.names.specs.declared.tuple.Tuple.{Tuple}
 use Rattle.meaning.specs.TupleSet as set

@@ -1,9 +1,7 @@
-use Rattle.std.proofs.Common.{◌≡◌, ◌≤◌, List, ap, sym, subst, ◌∙◌, refl}
-use Rattle.std.specs.Prelude.{filter, Bool}
+use Rattle.std.proofs.Common.{◌≤◌, ap, sym, subst, ◌∙◌, refl}
+use Rattle.std.specs.Prelude.{filter}
 use Rattle.std.proofs.lemmas.Result.{IfOk-weaker}
-use Rattle.names.specs.declared.tuple.Tuple.{Tuple}
 use Rattle.meaning.specs.TupleSet as set
-use Rattle.rows.specs.declared.mark.Mark.{Mark}
 use Rattle.rows.specs.Retained.{Retained, snap_at, is_of}
 use Rattle.rows.specs.Kept.{retained, stands}
 use Rattle.rows.proofs.Listing.{items_by}
@@ -15,7 +13,8 @@ returns c =
     let s = c.self.inside in
     let r : Retained = retained s.number s.floor s.config s.tuples s.commits.items in
     let not_below = subst (λ (x : Retained). x.floor ≤ c.args.rev) (sym c.self.view_is) c.requires.not_below in
-    let items = items_by s.tuples (snap_at r c.args.rev).tuples (λ ms. stands ms c.args.rev) refl c.tuples_of.ensures.ordered (λ q. sym (stands_at r s.tuples c.args.rev q c.self.invariant.marks not_below)) in
     IfOk-weaker c.tuples_of.result _ _
-    (λ v is. is ∙ ap (filter (is_of c.args.node.now)) (sym items ∙ ap (λ (x : Retained). set.items (snap_at x c.args.rev).tuples) c.self.view_is))
-    c.tuples_of.ensures.found
+    (λ v is.
+    let items = items_by s.tuples (snap_at r c.args.rev).tuples (λ ms. stands ms c.args.rev) refl is.0 (λ q. sym (stands_at r s.tuples c.args.rev q c.self.invariant.marks not_below)) in
+    is.1 ∙ ap (filter (is_of c.args.node.now)) (sym items ∙ ap (λ (x : Retained). set.items (snap_at x c.args.rev).tuples) c.self.view_is))
+    c.tuples_of.ensures

@@ -1,7 +1,6 @@
-use Rattle.std.proofs.Common.{arith, ◌≡◌, ◌≤◌, subst, ℕ, List, ap, sym, ◌∙◌}
+use Rattle.std.proofs.Common.{arith, ◌≤◌, subst, ℕ, ap, sym, ◌∙◌}
 use Rattle.std.specs.Prelude.{not, nat_le}
 use Rattle.std.proofs.lemmas.Bool.{le-leb}
-use Rattle.rows.specs.declared.mark.Mark.{Mark}
 use Rattle.rows.specs.Retained.{Retained, is_touched_after}
 use Rattle.rows.specs.Kept.{retained, items_or, last_rev}
 use Rattle.rows.proofs.Touching.{unchanged_is}

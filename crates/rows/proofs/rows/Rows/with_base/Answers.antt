@@ -1,4 +1,4 @@
-use Rattle.std.proofs.Common.{rules, ◌≡◌, ℕ, List, [], length, take, ap, sym, subst, ◌∙◌, refl}
+use Rattle.std.proofs.Common.{◌≡◌, ℕ, List, [], length, ap, sym, subst, ◌∙◌}
 use Rattle.names.specs.declared.tuple.Tuple.{Tuple}
 use Rattle.meaning.specs.TupleSet as set
 use Rattle.meaning.specs.Config.{Configured}
@@ -6,8 +6,6 @@ use Rattle.meaning.specs.History.{History}
 use Rattle.rows.specs.declared.dated.Dated.{Dated}
 use Rattle.rows.specs.declared.loaded.Loaded.{Loaded}
 use Rattle.rows.specs.declared.loaded.Counts.{Counts}
-use Rattle.rows.specs.Retained.{Retained}
-use Rattle.rows.specs.Loads.{loaded_to}
 use Rattle.rows.specs.Kept.{marks_at, base_marks, retained, IsKept}
 use Rattle.rows.proofs.MarkRuns.{take_none}
 use Rattle.rows.proofs.Committing.{kept_as, retained_is}

@@ -1,7 +1,21 @@
-use Rattle.shown.proofs.Happened.{posts}
+use Rattle.std.proofs.Common.{[], ◌∷◌, ◌++◌, List, ap, subst, ◌∙◌}
+use Rattle.std.specs.Prelude.{Option}
+use Rattle.std.specs.Option.{option_to_list}
+use Rattle.names.specs.declared.commit.Commit.{Commit as CommitOf}
+use Rattle.meaning.specs.Config.{Configured}
+use Rattle.shown.specs.declared.step.Step.{Step}
+use Rattle.shown.specs.declared.step.Step.TheVariants.{Commit}
+use Rattle.shown.specs.declared.event.Event.TheVariants.{Posted}
+use Rattle.shown.specs.declared.event.Posting.TheVariants.{NextCommit}
+use Rattle.shown.specs.declared.event.Outcome.TheVariants.{Done}
+use Rattle.shown.specs.World.{State, Happens}
+use Rattle.shown.proofs.Happened.{post_next}
 use Rattle.shown.proofs.world.World.post.Goals as goal
 
 pub returns-clause-ok : goal.returns-clause-ok
 returns-clause-ok c =
-    posts c.self.inside.posted.items c.reserve.new.self.items c.push_reserved.new.self.items c.self.inside.waiting.items c.pop_front.new.self.items c.pop_front.result c.in-Some.commit c.self.inside.shown c.args.self.now
-    c.self.invariant.unopened c.self.view_is c.reserve.ensures.items c.push_reserved.ensures.items c.pop_front.ensures.items c.in-Some.is
+    let s = c.self.inside in
+    subst (λ (t : State). Happens t (Posted NextCommit) Done (record { stored = s.newest; posted = c.push_reserved.new.self.items; shown = s.shown })) c.self.view_is
+    (post_next s.posted.items c.push_reserved.new.self.items s.waiting.items c.pop_front.new.self.items c.in-Some.commit s.newest s.shown s.front c.self.invariant
+    (c.pop_front.ensures.items ∙ ap (λ (p : Option (CommitOf Configured)). option_to_list p ++ c.pop_front.new.self.items) c.in-Some.is)
+    (c.push_reserved.ensures.items ∙ ap (λ (xs : List Step). xs ++ Commit c.in-Some.commit ∷ []) c.reserve.ensures.items))

@@ -1,7 +1,0 @@
-use Rattle.std.proofs.Common.{◌≡◌, ◌+◌, drop}
-use Rattle.meaning.specs.History.{puts_in}
-use Rattle.shown.proofs.events.puts_in.Given as goal
-
--- what is counted and what is left are all
-abbrev pub invariant-loop-event : goal.invariant-loop-event
-invariant-loop-event l = l.puts + puts_in (drop l.event-index l.events) ≡ puts_in l.events

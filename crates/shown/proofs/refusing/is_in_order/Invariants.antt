@@ -1,7 +1,0 @@
-use Rattle.std.proofs.Common.{◌≡◌, drop}
-use Rattle.shown.specs.Refusing.{is_in_order}
-use Rattle.shown.proofs.refusing.is_in_order.Given as goal
-
--- what is left decides
-abbrev pub invariant-loop-i : goal.invariant-loop-i
-invariant-loop-i l = is_in_order (drop l.i l.events) ≡ is_in_order l.events

@@ -1,8 +1,0 @@
-use Rattle.std.proofs.Common.{◌≡◌, ◌+◌, drop}
-use Rattle.meaning.specs.History.{rows_of}
-use Rattle.meaning.specs.Verdict.{max_rows}
-use Rattle.shown.proofs.within.is_within.Given as goal
-
--- what is left of the room and of the commits differ as at first
-abbrev pub invariant-loop-commit : goal.invariant-loop-commit
-invariant-loop-commit l = max_rows + rows_of (drop l.commit-index l.commits) ≡ l.room + rows_of l.commits

@@ -1,0 +1,93 @@
+-- Rows that pass the tests are a history.
+use Rattle.std.proofs.Common.{◌≡◌, ℕ, ◌+◌, ◌<◌, ◌≤◌, List, [], length, ap, sym, subst, ◌∙◌, true, arith}
+use Rattle.std.specs.Prelude.{map, All, IsPermutation}
+use Rattle.std.specs.List.Sorted.{IsStrictlySortedBy}
+use Rattle.std.proofs.lemmas.List.Elements.{All-map}
+use Rattle.std.proofs.lemmas.List.Sorted.{IsPermutation-trans}
+use Rattle.names.specs.Order.{tuple_cmp}
+use Rattle.names.specs.declared.tuple.Tuple.{Tuple}
+use Rattle.names.specs.declared.commit.Commit.{Commit}
+use Rattle.meaning.specs.Config.{Configured}
+use Rattle.meaning.specs.Admits.{admits}
+use Rattle.meaning.specs.TupleSet as set
+use Rattle.meaning.specs.History.{rows_of}
+use Rattle.meaning.specs.Verdict.{max_rev, max_rows, max_tuples}
+use Rattle.meaning.proofs.TupleSets.{len_items, items_from_list}
+use Rattle.rows.specs.Retained.{Retained, newest_of, spans_of}
+use Rattle.rows.specs.Loads.{retained_of, IsWithin}
+use Rattle.rows.specs.declared.loaded.Loaded.{Loaded}
+use Rattle.store_core.specs.Tables.{Contents, Dated, Entry}
+use Rattle.store_core.specs.Stored.{span_in, dated_in, entry_in, Loads}
+use Rattle.store_core.specs.declared.stored.Stored.{Stored}
+use Rattle.store_core.specs.declared.stored.StoredSpan.{StoredSpan}
+use Rattle.store_core.specs.declared.stored.StoredConfig.{StoredConfig}
+use Rattle.store_core.specs.declared.stored.StoredEntry.{StoredEntry}
+use Rattle.store.specs.Written.{Lived, Written, IsSpan, IsRevised, IsSound, IsHistory, history_of, commits_above, brings_one, is_alive, config_up_to, span_of, dated_of, entries_of}
+use Rattle.store.specs.Reading.{lived_of, revised_of, written_of, IsHead, ArePlaced}
+use Rattle.store.specs.declared.lived.LivedSpan.{LivedSpan}
+use Rattle.store.specs.declared.lived.RevisedConfig.{RevisedConfig}
+use Rattle.store.specs.declared.lived.Head.{Head}
+use Rattle.store.proofs.Apart.{apart, distinct}
+use Rattle.store.proofs.CommitRuns.{length_above}
+use Rattle.store.proofs.Once.{history_once}
+
+-- what was built
+pub built : (number floor : ℕ) (config g : Configured) (tuples ts : List Tuple) (commits cs : List (Commit Configured)) → config ≡ g → tuples ≡ ts → commits ≡ cs
+    → retained_of (record { number = number; floor = floor; config = config; tuples = tuples; commits = commits }) ≡ record { number = number; floor = floor; base = record { config = g; tuples = set.from_list ts }; commits = cs }
+built number floor config g tuples ts commits cs p q r =
+    ap (λ x. retained_of (record { number = number; floor = floor; config = x; tuples = tuples; commits = commits })) p
+    ∙ ap (λ x. retained_of (record { number = number; floor = floor; config = g; tuples = x; commits = commits })) q
+    ∙ ap (λ x. retained_of (record { number = number; floor = floor; config = g; tuples = ts; commits = x })) r
+
+len_sorted : (ts : List Tuple) → IsStrictlySortedBy tuple_cmp ts → set.len (set.from_list ts) ≡ length ts
+len_sorted ts sorted = len_items (set.from_list ts) ∙ ap length (items_from_list ts sorted)
+
+pub within : (l : Loaded) (w : Written) (n : ℕ) → IsStrictlySortedBy tuple_cmp l.tuples → l.commits ≡ commits_above w l.floor n → l.floor + n ≤ max_rev → length l.tuples + rows_of l.commits ≤ max_rows → IsWithin l
+within l w n sorted commits revs rows = record {
+  ordered = sorted;
+  revs = let len = ap length commits ∙ length_above w l.floor n in omega (arith, len, revs);
+  rows = let len = len_sorted l.tuples sorted in omega (arith, len, rows);
+}
+
+-- what was read
+pub sound : (head : Head) (spans : List LivedSpan) (configs : List RevisedConfig) → IsHead head
+    → All (λ s. IsSpan head.floor head.newest (lived_of s)) spans → All (λ c. IsRevised head.newest (revised_of c)) configs → ArePlaced head configs spans
+    → ((rev : ℕ) → head.floor < rev → rev ≤ head.newest → brings_one (written_of head spans configs) rev ≡ true)
+    → (r : Retained) → r ≡ history_of (written_of head spans configs) → spans_of r ≤ max_rows → set.len (newest_of r).held.tuples ≤ max_tuples
+    → IsSound (written_of head spans configs)
+sound head spans configs is are revised placed whole r same rows tuples = record {
+  number_is = (is.numbered, is.signed);
+  order = is.order;
+  revs = is.revs;
+  spans_are = All-map (IsSpan head.floor head.newest) lived_of spans are;
+  apart = apart lived_of head.floor head.newest spans placed.apart are;
+  configs_are = All-map (IsRevised head.newest) revised_of configs revised;
+  distinct = distinct revised_of head.floor configs placed.distinct;
+  whole = whole;
+  admitted = λ rev above below. All-map (λ (l : Lived). is_alive rev l ≡ true → admits (config_up_to rev (map revised_of configs)) l.tuple ≡ true) lived_of spans (λ k d lt. placed.admitted k d lt rev above);
+  rows = let P : Retained → Type 0 = λ x. spans_of x ≤ max_rows in subst P same rows;
+  tuples = let P : Retained → Type 0 = λ x. set.len (newest_of x).held.tuples ≤ max_tuples in subst P same tuples;
+}
+
+pub history : (h : Contents) (s : Stored) (head : Head) (spans : List LivedSpan) (configs : List RevisedConfig) (es : List StoredEntry) (cs : List StoredConfig) (ss : List StoredSpan)
+    → es ≡ s.entries.items → cs ≡ s.configs.items → ss ≡ s.spans.items
+    → map entry_in es ≡ entries_of (written_of head [] [])
+    → map dated_of (map revised_of configs) ≡ map dated_in cs
+    → IsPermutation (map span_in ss) (map span_of (map lived_of spans))
+    → IsSound (written_of head spans configs) → (r : Retained) → r ≡ history_of (written_of head spans configs) → Loads h s → IsHistory h r
+history h s head spans configs es cs ss e c p entries dated perm sound r same loads =
+    let Q : List StoredSpan → Type 0 = λ l. IsPermutation (map span_in l) (map span_of (map lived_of spans)) in
+    let D : List Dated → Type 0 = λ l. IsPermutation h.configs l in
+    let E : List Entry → Type 0 = λ l. IsPermutation h.entries l in (
+      written_of head spans configs,
+      record {
+        spans = IsPermutation-trans h.spans (map span_in s.spans.items) (map span_of (map lived_of spans)) loads.spans (subst Q p perm);
+        configs = subst D (sym (dated ∙ ap (map dated_in) c)) loads.configs;
+        entries = subst E (ap (map entry_in) (sym e) ∙ entries) loads.entries;
+      },
+      sound,
+      sym same,
+    )
+
+pub one_history : (h : Contents) (r s : Retained) → IsHistory h r → IsHistory h s → r ≡ s
+one_history h r s (v, as_v, sound_v, is_v) (w, as_w, sound_w, is_w) = sym is_v ∙ history_once h v w as_v sound_v as_w sound_w ∙ is_w

@@ -1,0 +1,26 @@
+use Rattle.std.proofs.Common.{◌<◌, ◌++◌, ◌∷◌, [], List, ℕ, length, map, ap, sym, ◌∙◌, arith}
+use Rattle.names.specs.declared.commit.Commit.{Commit}
+use Rattle.meaning.specs.Config.{Configured}
+use Rattle.store.specs.Written.{commits_above}
+use Rattle.store.specs.Reading.{written_of, lived_of}
+use Rattle.store.proofs.CommitRuns.{one_more, whole_more, differs}
+use Rattle.store.proofs.committing.read_commits.Goals as goal
+
+pub loop-i-preserved : goal.loop-i-preserved
+loop-i-preserved c =
+    let w = written_of c.args.head c.args.spans.now c.args.configs.now in
+    let i = c.loop-i.i in
+    let floor = c.args.head.floor in
+    let before : i < length c.loop-i.slots.items = omega (arith, c.loop-i-test.true, c.loop-i.invariant.len) in
+    let P : ℕ → Type 0 = λ n. n < length c.loop-i.slots.items in
+    let one = c.in_ok-commit_at.ensures (map lived_of c.args.spans.now) (c.take_events-events.ensures.taken ∙ c.loop-i.invariant.left i (omega arith) before) in
+    record {
+      commits =
+          c.in_ok-push.ensures.items
+          ∙ ap (λ (l : List (Commit Configured)). l ++ c.in_ok-commit_at.field-0 ∷ []) c.loop-i.invariant.commits
+          ∙ ap (λ (x : Commit Configured). commits_above w floor i ++ x ∷ []) one.is
+          ∙ sym (one_more w floor i);
+      whole = whole_more w floor i c.loop-i.invariant.whole one.one;
+      len = c.take_events-events.ensures.len ∙ c.loop-i.invariant.len;
+      left = λ k le lt. c.take_events-events.ensures.rest k (differs k i le) ∙ c.loop-i.invariant.left k (omega (arith, le)) (omega (arith, lt, c.take_events-events.ensures.len));
+    }

@@ -1,0 +1,11 @@
+use Rattle.store_core.specs.Stored.{span_in}
+use Rattle.store.specs.Written.{IsSpan, span_of}
+use Rattle.store.specs.Reading.{lived_of}
+use Rattle.store.proofs.RowSteps.{map_more, all_more}
+use Rattle.store.proofs.spans.read_each.Goals as goal
+
+pub loop-span-preserved : goal.loop-span-preserved
+loop-span-preserved c = record {
+  same = map_more lived_of span_of span_in c.loop-span.spans.items c.push.new.self.items c.args.stored.now c.loop-span.span-index c.in_ok-read_span.field-0 c.span-item.result c.in_ok-push.ensures.items c.loop-span-test.true c.span-item.is c.in_ok-read_span.ensures.same c.loop-span.invariant.same;
+  are = all_more (λ s. IsSpan c.args.head.floor c.args.head.newest (lived_of s)) c.loop-span.spans.items c.push.new.self.items c.in_ok-read_span.field-0 c.in_ok-push.ensures.items c.loop-span.invariant.are c.in_ok-read_span.ensures.is;
+}

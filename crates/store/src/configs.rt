@@ -1,0 +1,156 @@
+//! The configurations, read.
+ghost use Rattle.std.specs.Prelude.{◌≡◌, ◌≤◌, ◌<◌, ◌⊎◌, true, map, length, IsTrue, IfOk, All};
+ghost use Rattle.std.specs.List.{AllAdjacentBelow};
+ghost use Rattle.std.specs.Option.{option_copied};
+ghost use Rattle.meaning.specs.Admits.{admits};
+ghost use Rattle.meaning.specs.Config.{empty_config};
+ghost use Rattle.store_core.specs.Stored.{dated_in};
+ghost use Rattle.store.specs.Written.{IsRevised, dated_of, config_at, config_up_to, is_alive};
+ghost use Rattle.store.specs.Following.{Ascends, IsAdmitted, is_between};
+ghost use Rattle.store.specs.Reading.{lived_of, revised_of};
+
+use crate::lived::{Head, LivedSpan, RevisedConfig};
+use crate::unread::Unread;
+use config::Config;
+use names::Tuple;
+use std::alloc::Global;
+use store_core::StoredConfig;
+
+fn read_config(alloc: Global, newest: u64, stored: &StoredConfig) -> Result<RevisedConfig, Unread>
+    ensures same { IfOk result (λ c. dated_of (revised_of c) ≡ dated_in stored.now) }
+    ensures is { IfOk result (λ c. IsRevised newest (revised_of c)) }
+{
+    let config = Config::from_json(alloc, stored.text.as_bytes())?;
+    let text = config.to_json(alloc)?;
+    if text.as_str() != stored.text.as_str() || stored.rev == 0 || newest < stored.rev {
+        return Err(Unread::Fault);
+    }
+    Ok(RevisedConfig {
+        rev: stored.rev,
+        config,
+    })
+}
+
+/// The configurations, each of which stands as its canonical text.
+pub(crate) fn read_configs(
+    alloc: Global,
+    newest: u64,
+    stored: &[StoredConfig],
+) -> Result<Vec<RevisedConfig>, Unread>
+    ensures same { IfOk result (λ v. map dated_of (map revised_of v.items) ≡ map dated_in stored.now) }
+    ensures are { IfOk result (λ v. All (λ c. IsRevised newest (revised_of c)) v.items) }
+{
+    let mut configs = Vec::new(alloc);
+    for config in stored {
+        configs.push(read_config(alloc, newest, config)?)?;
+    }
+    Ok(configs)
+}
+
+/// Whether the revisions ascend, and all but the first are above the floor.
+pub(crate) fn are_ascending(floor: u64, configs: &[RevisedConfig]) -> bool
+    ensures { IsTrue result → AllAdjacentBelow (λ a b. Ascends floor (revised_of a) (revised_of b)) configs.now (length configs.now) }
+{
+    for i in 1..configs.len() {
+        if configs[i].rev <= configs[i - 1].rev || configs[i].rev <= floor {
+            return false;
+        }
+    }
+    true
+}
+
+/// The configuration of a revision, if it brought one.
+pub(crate) fn config_at(configs: &[RevisedConfig], rev: u64) -> Option<&Config>
+    ensures { option_copied result ≡ config_at rev (map revised_of configs.now) }
+{
+    for revised in configs {
+        if revised.rev == rev {
+            return Some(&revised.config);
+        }
+    }
+    None
+}
+
+/// The last configuration up to a revision; `empty` is the one of revision 0.
+pub(crate) fn config_up_to<'a>(
+    empty: &'a Config,
+    configs: &'a [RevisedConfig],
+    rev: u64,
+) -> &'a Config
+    requires { empty.now ≡ empty_config }
+    ensures { result.now ≡ config_up_to rev (map revised_of configs.now) }
+{
+    let mut config = empty;
+    let mut found = 0;
+    let mut left = configs.len();
+    while left > 0 {
+        left -= 1;
+        let revised = &configs[left];
+        if revised.rev <= rev && found < revised.rev {
+            found = revised.rev;
+            config = &revised.config;
+        }
+    }
+    config
+}
+
+fn admits(config: &Config, tuple: &Tuple) -> bool
+    ensures { IsTrue result → admits config.now tuple.now ≡ true }
+{
+    match config.admits(tuple) {
+        Ok(()) => true,
+        Err(_) => false,
+    }
+}
+
+fn is_between(span: &LivedSpan, from: u64, rev: u64) -> bool
+    ensures { result ≡ is_between from span.now.removed rev }
+{
+    from < rev && (span.removed == 0 || rev < span.removed)
+}
+
+fn later(a: u64, b: u64) -> u64
+    ensures { (result ≡ a) ⊎ (result ≡ b) }
+{
+    if a < b { b } else { a }
+}
+
+/// Whether each configuration admits the span's tuple that is in force while it is there, from the floor on.
+pub(crate) fn is_admitted(
+    empty: &Config,
+    configs: &[RevisedConfig],
+    floor: u64,
+    span: &LivedSpan,
+) -> bool
+    requires { empty.now ≡ empty_config }
+    ensures { IsTrue result → IsAdmitted floor (map revised_of configs.now) (lived_of span.now) }
+{
+    let from = later(floor, span.added);
+    if !admits(config_up_to(empty, configs, from), &span.tuple) {
+        return false;
+    }
+    for revised in configs {
+        if is_between(span, from, revised.rev) && !admits(&revised.config, &span.tuple) {
+            return false;
+        }
+    }
+    true
+}
+
+/// Whether that holds of each span.
+pub(crate) fn are_admitted(
+    empty: &Config,
+    configs: &[RevisedConfig],
+    floor: u64,
+    spans: &[LivedSpan],
+) -> bool
+    requires { empty.now ≡ empty_config }
+    ensures { IsTrue result → All (λ s. IsAdmitted floor (map revised_of configs.now) (lived_of s)) spans.now }
+{
+    for span in spans {
+        if !is_admitted(empty, configs, floor, span) {
+            return false;
+        }
+    }
+    true
+}

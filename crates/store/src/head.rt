@@ -1,0 +1,50 @@
+//! The values of the state.
+ghost use Rattle.std.specs.Prelude.{◌≡◌, ◌<◌, map, length, IsTrue, IfSome, [], slice_index_or};
+ghost use Rattle.store_core.specs.Stored.{entry_in};
+ghost use Rattle.store_core.specs.declared.stored.StoredEntry.{StoredEntry};
+ghost use Rattle.store.specs.Written.{entry, entries_of};
+ghost use Rattle.store.specs.Reading.{written_of, IsHead};
+
+use crate::lived::Head;
+use store_core::StoredEntry;
+
+const MAX_REV: u64 = 1_000_000_000_000;
+
+const NUMBERS: u64 = 0x8000_0000_0000_0000;
+
+fn is_entry(stored: &StoredEntry, key: &str) -> bool
+    ensures { IsTrue result → entry_in stored.now ≡ entry key.now stored.now.value }
+{
+    stored.key.as_str() == key
+}
+
+fn is_within(head: Head) -> bool
+    ensures { IsTrue result → IsHead head }
+{
+    1 <= head.number && head.number < NUMBERS && head.floor <= head.newest && head.newest <= MAX_REV
+}
+
+/// The state's four values, in the order of their keys.
+pub(crate) fn read_head(entries: &[StoredEntry]) -> Option<Head>
+    ensures entries { IfSome result (λ head. map entry_in entries.now ≡ entries_of (written_of head [] [])) }
+    ensures within { IfSome result IsHead }
+{
+    if entries.len() != 4 {
+        return None;
+    }
+    let head = Head {
+        number: entries[3].value,
+        floor: entries[0].value,
+        newest: entries[2].value,
+    };
+    if is_entry(&entries[0], "floor")
+        && is_entry(&entries[1], "format")
+        && is_entry(&entries[2], "newest")
+        && is_entry(&entries[3], "store")
+        && entries[1].value == 1
+        && is_within(head)
+    {
+        return Some(head);
+    }
+    None
+}

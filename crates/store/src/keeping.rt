@@ -1,0 +1,147 @@
+//! What is stored and read over a connection, as a history.
+ghost use Rattle.std.specs.Prelude.{◌≡◌, ◌^◌, ◌<◌, ◌≤◌, false, IsTrue, IfOk, OnOk, Err};
+ghost use Rattle.sqlite.specs.State.{HasCleanDisk, IsUnchanged, Survives};
+ghost use Rattle.sqlite.specs.Held.{state};
+ghost use Rattle.sqlite.specs.declared.error.Error.TheVariants.{SqliteFailure};
+ghost use Rattle.sqlite.specs.declared.error.ErrorCode.TheVariants.{OutOfMemory};
+ghost use Rattle.store_core.specs.Steps.{IsBlank};
+ghost use Rattle.names.specs.declared.commit.Commit.TheVariants as kinds;
+ghost use Rattle.rows.specs.Retained.{Retained, with_commit};
+ghost use Rattle.rows.specs.Loads.{IsWithin, retained_of};
+ghost use Rattle.tables.specs.Storing.{IsNextAt};
+ghost use Rattle.store.specs.Keeping.{KeepsHistory, LeavesHistory, IsEither, no_commits};
+
+use crate::reading::read;
+use crate::texts::events_of;
+use config::Config;
+use names::{Commit, Event};
+use rows::Loaded;
+use sqlite::{Alter, Connection, Error, ErrorCode};
+use std::alloc::Global;
+use store_core::{configure, create, is_open, load, write};
+use tables::TablesError;
+
+// Why a call was refused. For want of memory alone, the connection still answers and stands as it was.
+fn why<S: Alter>(conn: &mut Connection<S>, error: &Error) -> TablesError
+    requires idle { conn.old.in_transaction ≡ false }
+    ensures idle { conn.new.in_transaction ≡ false }
+    ensures memory { result ≡ TablesError.Memory → error.now ≡ SqliteFailure OutOfMemory }
+    ensures same { HasCleanDisk (state S.Store conn.new) → result ≡ TablesError.Memory → IsUnchanged (state S.Store conn.old) (state S.Store conn.new) }
+    ensures crash { Survives (state S.Store conn.old) (state S.Store conn.new) (λ _. ⊥) }
+{
+    if *error == Error::SqliteFailure(ErrorCode::OutOfMemory) && is_open(conn) {
+        return TablesError::Memory;
+    }
+    TablesError::Fault
+}
+
+// Stores a commit's events.
+fn write_events<S: Alter>(
+    alloc: Global,
+    conn: &mut Connection<S>,
+    rev: u64,
+    events: &[Event],
+) -> Result<(), TablesError>
+    requires small { rev < 2 ^ 63 }
+    requires idle { conn.old.in_transaction ≡ false }
+    ensures idle { conn.new.in_transaction ≡ false }
+    ensures done { (r : Retained) → KeepsHistory S.Store conn.old r → IsNextAt r rev (kinds.Tuples events.now) → OnOk result (KeepsHistory S.Store conn.new (with_commit r (kinds.Tuples events.now))) }
+    ensures undone { (r : Retained) → KeepsHistory S.Store conn.old r → result ≡ Err TablesError.Memory → KeepsHistory S.Store conn.new r }
+    ensures crash { (r : Retained) → KeepsHistory S.Store conn.old r → IsNextAt r rev (kinds.Tuples events.now) → LeavesHistory S.Store conn.new (IsEither r (kinds.Tuples events.now)) }
+{
+    let Ok(texts) = events_of(alloc, events) else {
+        return Err(TablesError::Memory);
+    };
+    let Err(error) = write(conn, texts.as_slice(), rev) else {
+        return Ok(());
+    };
+    Err(why(conn, &error))
+}
+
+// Stores a configuration.
+fn write_config<S: Alter>(
+    alloc: Global,
+    conn: &mut Connection<S>,
+    rev: u64,
+    config: &Config,
+) -> Result<(), TablesError>
+    requires small { rev < 2 ^ 63 }
+    requires idle { conn.old.in_transaction ≡ false }
+    ensures idle { conn.new.in_transaction ≡ false }
+    ensures done { (r : Retained) → KeepsHistory S.Store conn.old r → IsNextAt r rev (kinds.Config config.now) → OnOk result (KeepsHistory S.Store conn.new (with_commit r (kinds.Config config.now))) }
+    ensures undone { (r : Retained) → KeepsHistory S.Store conn.old r → result ≡ Err TablesError.Memory → KeepsHistory S.Store conn.new r }
+    ensures crash { (r : Retained) → KeepsHistory S.Store conn.old r → IsNextAt r rev (kinds.Config config.now) → LeavesHistory S.Store conn.new (IsEither r (kinds.Config config.now)) }
+{
+    let Ok(text) = config.to_json(alloc) else {
+        return Err(TablesError::Memory);
+    };
+    let Err(error) = configure(conn, text.as_str(), rev) else {
+        return Ok(());
+    };
+    Err(why(conn, &error))
+}
+
+/// Stores one commit in one transaction.
+pub(crate) fn write_commit<S: Alter>(
+    alloc: Global,
+    conn: &mut Connection<S>,
+    rev: u64,
+    commit: &Commit<Config>,
+) -> Result<(), TablesError>
+    requires small { rev < 2 ^ 63 }
+    requires idle { conn.old.in_transaction ≡ false }
+    ensures idle { conn.new.in_transaction ≡ false }
+    ensures done { (r : Retained) → KeepsHistory S.Store conn.old r → IsNextAt r rev commit.now → OnOk result (KeepsHistory S.Store conn.new (with_commit r commit.now)) }
+    ensures undone { (r : Retained) → KeepsHistory S.Store conn.old r → result ≡ Err TablesError.Memory → KeepsHistory S.Store conn.new r }
+    ensures crash { (r : Retained) → KeepsHistory S.Store conn.old r → IsNextAt r rev commit.now → LeavesHistory S.Store conn.new (IsEither r commit.now) }
+{
+    match commit {
+        Commit::Tuples(events) => write_events(alloc, conn, rev, events.as_slice()),
+        Commit::Config(config) => write_config(alloc, conn, rev, config),
+    }
+}
+
+/// Makes the tables of a store that has this number and no commit.
+pub(crate) fn create_tables<S: Alter>(
+    conn: &mut Connection<S>,
+    number: u64,
+) -> Result<(), TablesError>
+    requires idle { conn.old.in_transaction ≡ false }
+    requires some { 1 ≤ number }
+    requires small { number < 2 ^ 63 }
+    ensures idle { conn.new.in_transaction ≡ false }
+    ensures done { OnOk result (KeepsHistory S.Store conn.new (no_commits number)) }
+    ensures taken { ¬ (IsBlank (state S.Store conn.old).now) → result ≡ Err TablesError.Fault }
+{
+    let Err(error) = create(conn, number) else {
+        return Ok(());
+    };
+    Err(why(conn, &error))
+}
+
+// Outside a transaction, what an open connection sees is what it has committed.
+fn see_settled<S: Alter>(conn: &Connection<S>)
+    requires { conn.now.in_transaction ≡ false }
+    ensures { IsTrue (state S.Store conn.now).is_open → (state S.Store conn.now).now ≡ (state S.Store conn.now).committed }
+{
+    let _settled = conn.is_autocommit();
+}
+
+/// The history that the tables hold. They are refused where they are not those of the format, or hold none.
+pub(crate) fn load_history<S: Alter>(
+    alloc: Global,
+    conn: &mut Connection<S>,
+) -> Result<Loaded, TablesError>
+    requires idle { conn.old.in_transaction ≡ false }
+    ensures idle { conn.new.in_transaction ≡ false }
+    ensures held { IfOk result (λ l. KeepsHistory S.Store conn.new (retained_of l)) }
+    ensures same { (r : Retained) → KeepsHistory S.Store conn.old r → HasCleanDisk (state S.Store conn.new) → IfOk result (λ l. retained_of l ≡ r) }
+    ensures within { IfOk result IsWithin }
+{
+    let stored = match load(alloc, conn) {
+        Ok(stored) => stored,
+        Err(error) => return Err(why(conn, &error)),
+    };
+    see_settled(conn);
+    read(alloc, &stored)
+}

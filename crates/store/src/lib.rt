@@ -1,0 +1,23 @@
+//! The tables of a store over `sqlite`: each commit is one transaction, and what they hold is read as a history.
+//!
+//! The rows keep spans of revisions of tuples, configurations with their revisions, and four numbers. Which rows
+//! are a history, and which history they are, is said in `specs/Written`.
+#![tactic(auto)]
+
+mod committing;
+mod configs;
+mod head;
+mod keeping;
+mod lived;
+mod placing;
+mod reading;
+#[cfg(test)]
+mod reading_tests;
+mod spans;
+mod store;
+#[cfg(test)]
+mod tests;
+mod texts;
+mod unread;
+
+pub use store::Store;

@@ -1,0 +1,101 @@
+//! The spans of tuples, read.
+ghost use Rattle.std.specs.Prelude.{◌≡◌, ◌⊎◌, ◌<◌, ◌≤◌, map, length, IsTrue, IfOk, All, IsPermutation};
+ghost use Rattle.std.specs.List.{AllAdjacentBelow};
+ghost use Rattle.names.specs.Spelling.{IsTuple};
+ghost use Rattle.store_core.specs.Stored.{span_in};
+ghost use Rattle.store.specs.Written.{IsSpan, span_of, are_apart, Pairwise};
+ghost use Rattle.store.specs.Following.{Precedes};
+ghost use Rattle.store.specs.Reading.{lived_of, Spells};
+
+use crate::lived::{Head, LivedSpan};
+use crate::unread::Unread;
+use names::{Name, Node, Object, ObjectId, Subject, Tuple};
+use std::alloc::Global;
+use std::cmp::Ordering;
+use store_core::{StoredSpan, TupleText};
+
+fn read_tuple(alloc: Global, text: &TupleText) -> Result<Tuple, Unread>
+    ensures same { IfOk result (Spells text.now) }
+    ensures is { IfOk result IsTuple }
+{
+    let namespace = Name::parse(alloc, text.namespace.as_str())?;
+    let id = ObjectId::parse(alloc, text.object.as_str())?;
+    let relation = Name::parse(alloc, text.relation.as_str())?;
+    let subject = Subject::parse(alloc, text.subject.as_str())?;
+    let object = Object { namespace, id };
+    let node = Node { object, relation };
+    Ok(Tuple { node, subject })
+}
+
+fn is_span(head: Head, added: u64, removed: u64) -> bool
+    ensures begins { IsTrue result → 0 < added }
+    ensures begun { IsTrue result → added ≤ head.newest }
+    ensures ends { IsTrue result → (removed ≡ 0) ⊎ ((added < removed) × (head.floor < removed) × (removed ≤ head.newest)) }
+{
+    if added == 0 || head.newest < added {
+        return false;
+    }
+    removed == 0 || (added < removed && head.floor < removed && removed <= head.newest)
+}
+
+fn read_span(alloc: Global, head: Head, stored: &StoredSpan) -> Result<LivedSpan, Unread>
+    ensures same { IfOk result (λ s. span_of (lived_of s) ≡ span_in stored.now) }
+    ensures is { IfOk result (λ s. IsSpan head.floor head.newest (lived_of s)) }
+{
+    if !is_span(head, stored.added, stored.removed) {
+        return Err(Unread::Fault);
+    }
+    let tuple = read_tuple(alloc, &stored.tuple)?;
+    Ok(LivedSpan {
+        tuple,
+        added: stored.added,
+        removed: stored.removed,
+    })
+}
+
+fn read_each(alloc: Global, head: Head, stored: &[StoredSpan]) -> Result<Vec<LivedSpan>, Unread>
+    ensures same { IfOk result (λ v. map span_of (map lived_of v.items) ≡ map span_in stored.now) }
+    ensures are { IfOk result (λ v. All (λ s. IsSpan head.floor head.newest (lived_of s)) v.items) }
+{
+    let mut spans = Vec::new(alloc);
+    for span in stored {
+        spans.push(read_span(alloc, head, span)?)?;
+    }
+    Ok(spans)
+}
+
+/// The spans in the order of their tuples, and those of one tuple in the order of revisions.
+pub(crate) fn read_spans(
+    alloc: Global,
+    head: Head,
+    stored: &[StoredSpan],
+) -> Result<Vec<LivedSpan>, Unread>
+    ensures same { IfOk result (λ v. IsPermutation (map span_in stored.now) (map span_of (map lived_of v.items))) }
+    ensures are { IfOk result (λ v. All (λ s. IsSpan head.floor head.newest (lived_of s)) v.items) }
+{
+    let mut spans = read_each(alloc, head, stored)?;
+    spans.sort_unstable();
+    Ok(spans)
+}
+
+fn precedes(a: &LivedSpan, b: &LivedSpan) -> bool
+    ensures { IsTrue result → Precedes (lived_of a.now) (lived_of b.now) }
+{
+    match a.tuple.cmp(&b.tuple) {
+        Ordering::Less => true,
+        Ordering::Equal => 0 < a.removed && a.removed <= b.added,
+        Ordering::Greater => false,
+    }
+}
+
+/// Whether no two spans of one tuple overlap. Spans in their order are enough.
+pub(crate) fn are_apart(spans: &[LivedSpan]) -> bool
+    ensures { IsTrue result → AllAdjacentBelow (λ a b. Precedes (lived_of a) (lived_of b)) spans.now (length spans.now) }
+{
+    for i in 1..spans.len() {
+        if !precedes(&spans[i - 1], &spans[i]) {
+            return false;
+        }
+    }
+    true
+}

@@ -1,0 +1,110 @@
+//! The tables of a store.
+ghost use Rattle.std.specs.Prelude.{◌≡◌, false};
+
+use crate::keeping::{create_tables, load_history, write_commit};
+use config::Config;
+use names::Commit;
+use rows::Loaded;
+use sqlite::{Alter, Connection};
+use std::alloc::Global;
+use store_core::is_format;
+use tables::{Tables, TablesError};
+
+/// The tables of one store over a connection.
+#[derive(Drop)]
+pub struct Store<S: Alter> {
+    alloc: Global,
+    conn: Connection<S>,
+    faults: u64,
+    ghost idle: { conn.in_transaction ≡ false },
+}
+
+impl<S: Alter + Drop> Store<S> {
+    ghost use Rattle.std.specs.Prelude.{◌≡◌, ◌≤◌, ◌<◌, ◌^◌, false, IfOk, Err};
+    ghost use Rattle.sqlite.specs.Held.{state};
+    ghost use Rattle.store_core.specs.Format.{schema};
+    ghost use Rattle.store_core.specs.Steps.{IsBlank};
+    ghost use Rattle.store.specs.Keeping.{no_commits};
+    ghost use Rattle.store.specs.Kept.{HoldsHistory, LeavesOnly, connection, faults};
+
+    /// Makes the tables of a store that has this number and no commit. Where there is a table, an index or a
+    /// view already it is refused as a fault.
+    pub fn create(
+        alloc: Global,
+        mut conn: Connection<S>,
+        number: u64,
+    ) -> Result<Store<S>, TablesError>
+        requires idle { conn.in_transaction ≡ false }
+        requires some { 1 ≤ number }
+        requires small { number < 2 ^ 63 }
+        ensures held { IfOk result (λ s. HoldsHistory S.Store s (no_commits number)) }
+        ensures left { IfOk result (λ s. LeavesOnly S.Store s (λ r. r ≡ no_commits number)) }
+        ensures quiet { IfOk result (λ s. faults s ≡ 0) }
+        ensures taken { ¬ (IsBlank (state S.Store conn).now) → result ≡ Err TablesError.Fault }
+    {
+        if let Err(why) = create_tables(&mut conn, number) {
+            return Err(why);
+        }
+        Ok(Store {
+            alloc,
+            conn,
+            faults: 0,
+        })
+    }
+
+    /// The tables over a connection, where they are those of the format; whether they hold a history is found
+    /// when they are loaded.
+    pub fn open(alloc: Global, conn: Connection<S>) -> Result<Store<S>, TablesError>
+        requires { conn.in_transaction ≡ false }
+        ensures same { IfOk result (λ s. connection s ≡ conn) }
+        ensures format { IfOk result (λ _. (state S.Store conn).now.schema ≡ schema) }
+        ensures quiet { IfOk result (λ s. faults s ≡ 0) }
+    {
+        if !is_format(&conn) {
+            return Err(TablesError::Fault);
+        }
+        Ok(Store {
+            alloc,
+            conn,
+            faults: 0,
+        })
+    }
+}
+
+impl<S: Alter> Tables for Store<S> {
+    ghost use Rattle.store.specs.Kept.{HoldsHistory, LeavesOnly, IsReliable, faults as refusals};
+
+    ghost holds = { λ s r. HoldsHistory S.Store s r };
+
+    ghost leaves_only = { λ s P. LeavesOnly S.Store s P };
+
+    ghost is_reliable = { λ s. IsReliable S.Store s };
+
+    ghost count = { λ s. refusals s };
+
+    fn load(&mut self, alloc: Global) -> Result<Loaded, TablesError> {
+        match load_history(alloc, &mut self.conn) {
+            Ok(loaded) => Ok(loaded),
+            Err(TablesError::Memory) => Err(TablesError::Memory),
+            Err(TablesError::Fault) => {
+                self.faults = self.faults.saturating_add(1);
+                Err(TablesError::Fault)
+            }
+        }
+    }
+
+    fn write(&mut self, rev: u64, commit: &Commit<Config>) -> Result<(), TablesError> {
+        match write_commit(self.alloc, &mut self.conn, rev, commit) {
+            Ok(()) => Ok(()),
+            Err(TablesError::Memory) => Err(TablesError::Memory),
+            Err(TablesError::Fault) => {
+                self.faults = self.faults.saturating_add(1);
+                Err(TablesError::Fault)
+            }
+        }
+    }
+
+    fn faults(&self) -> u64 {
+        self.faults
+    }
+}

@@ -1,0 +1,87 @@
+//! Tables in memory.
+ghost use Rattle.std.specs.Prelude.{◌≡◌, []};
+ghost use Rattle.tables.specs.Limits.{listed};
+
+use crate::copy::{commit_again, commits_again};
+use crate::tables::{Tables, TablesError};
+use config::Config;
+use names::{Commit, Items};
+use rows::{Loaded, what_follows_has_room};
+use std::alloc::Global;
+use std::marker::Model;
+
+/// Tables that keep a list of commits in memory. They are lost with the program, and never fault.
+#[derive(Drop)]
+pub struct Listed {
+    alloc: Global,
+    number: u64,
+    commits: Vec<Commit<Config>>,
+}
+
+impl Model for Listed {
+    ghost use Rattle.rows.specs.Retained.{Retained};
+    ghost use Rattle.rows.specs.Codes.{coded_retained};
+    ghost use Rattle.tables.specs.Limits.{listed, IsInLimits};
+
+    ghost Value = { Retained };
+
+    ghost coded = { coded_retained };
+
+    ghost view = { λ t. listed t.number t.commits.items };
+
+    ghost invariant = { λ t. IsInLimits (listed t.number t.commits.items) };
+}
+
+impl Listed {
+    /// The tables of a new store with this number.
+    pub fn new(alloc: Global, number: u64) -> Listed
+        ensures { result ≡ listed number [] }
+    {
+        Listed {
+            alloc,
+            number,
+            commits: Vec::new(alloc),
+        }
+    }
+}
+
+impl Tables for Listed {
+    ghost use Rattle.std.specs.Prelude.{◌≡◌};
+
+    ghost holds = { λ t r. t ≡ r };
+
+    ghost leaves_only = { λ t P. P t };
+
+    ghost is_reliable = { λ t. Unit {0} };
+
+    ghost count = { λ t. 0 };
+
+    fn load(&mut self, alloc: Global) -> Result<Loaded, TablesError> {
+        let Ok(commits) = commits_again(alloc, &self.commits) else {
+            return Err(TablesError::Memory);
+        };
+        Ok(Loaded {
+            number: self.number,
+            floor: 0,
+            config: Config::empty(alloc),
+            tuples: Items::of(Vec::new(alloc)),
+            commits: Items::of(commits),
+        })
+    }
+
+    fn write(&mut self, _rev: u64, commit: &Commit<Config>) -> Result<(), TablesError> {
+        if self.commits.reserve(1).is_err() {
+            return Err(TablesError::Memory);
+        }
+        let Ok(commit) = commit_again(self.alloc, commit) else {
+            return Err(TablesError::Memory);
+        };
+        what_follows_has_room();
+        self.commits.push_reserved(commit);
+        Ok(())
+    }
+
+    fn faults(&self) -> u64 {
+        0
+    }
+}

@@ -1,0 +1,60 @@
+//! Where a store's history is kept.
+
+use config::Config;
+use names::Commit;
+use rows::Loaded;
+use std::alloc::Global;
+
+/// Why tables refuse.
+#[derive(Clone, Copy, Debug, PartialEq, Eq)]
+pub enum TablesError {
+    /// A growth was refused. Nothing was changed.
+    Memory,
+    /// Any other cause. The one commit that was to be stored may be or not.
+    Fault,
+}
+
+/// Tables that keep the history of one store.
+pub trait Tables {
+    ghost use Rattle.std.specs.Prelude.{◌≡◌, ◌⊎◌, ℕ, IfOk, OnOk, Err};
+    ghost use Rattle.rows.specs.Retained.{Retained, with_commit};
+    ghost use Rattle.rows.specs.Loads.{retained_of, IsWithin};
+    ghost use Rattle.tables.specs.Storing.{IsNextAt, CanStore, grown};
+
+    // The history that they hold, as far as the device returns what was written.
+    ghost holds: { Self → Retained → Type 0 };
+
+    // A crash leaves tables that hold a history of which this is true, and nothing else.
+    ghost leaves_only: { Self → (Retained → Type 0) → Type 0 };
+
+    // So far the device has returned what was written.
+    ghost is_reliable: { Self → Type 0 };
+
+    // How often they refused for another cause than memory.
+    ghost count: { Self → ℕ };
+
+    /// All that the tables hold. They refuse with `Fault` also where they hold no history.
+    fn load(&mut self, alloc: Global) -> Result<Loaded, TablesError>
+        ensures held { IfOk result (λ loaded. holds self.new (retained_of loaded)) }
+        ensures within { IfOk result IsWithin }
+        ensures same { (r : Retained) → holds self.old r → is_reliable self.new → IfOk result (λ loaded. retained_of loaded ≡ r) }
+        ensures left { IfOk result (λ loaded. leaves_only self.new (λ r. r ≡ retained_of loaded)) }
+        ensures quiet { OnOk result (count self.new ≡ count self.old) }
+        ensures told { result ≡ Err TablesError.Fault → count self.new ≡ grown (count self.old) };
+
+    /// Stores one commit, wholly or not at all. Its revision is the next.
+    fn write(&mut self, rev: u64, commit: &Commit<Config>) -> Result<(), TablesError>
+        requires { CanStore (holds self.old) rev commit.now }
+        ensures done { (r : Retained) → holds self.old r → IsNextAt r rev commit.now → OnOk result (holds self.new (with_commit r commit.now)) }
+        ensures undone { (r : Retained) → holds self.old r → result ≡ Err TablesError.Memory → holds self.new r }
+        ensures stored { (r : Retained) → holds self.old r → IsNextAt r rev commit.now → OnOk result (leaves_only self.new (λ x. x ≡ with_commit r commit.now)) }
+        ensures kept { (r : Retained) → holds self.old r → result ≡ Err TablesError.Memory → leaves_only self.new (λ x. x ≡ r) }
+        ensures crash { (r : Retained) → holds self.old r → IsNextAt r rev commit.now → leaves_only self.new (λ x. (x ≡ r) ⊎ (x ≡ with_commit r commit.now)) }
+        ensures quiet { OnOk result (count self.new ≡ count self.old) }
+        ensures memory { result ≡ Err TablesError.Memory → count self.new ≡ count self.old }
+        ensures told { result ≡ Err TablesError.Fault → count self.new ≡ grown (count self.old) };
+
+    /// How often they refused for another cause than memory. At 2^64 - 1 it stays.
+    fn faults(&self) -> u64
+        ensures { result ≡ count self.now };
+}

@@ -1,0 +1,18 @@
+use crate::{Listed, Tables, TablesError};
+use config::Config;
+use names::Commit;
+use std::alloc::Global;
+
+fn stores_one(alloc: Global) -> Result<bool, TablesError> {
+    let mut tables = Listed::new(alloc, 7);
+    let commit = Commit::Config(Config::empty(alloc));
+    tables.write(1, &commit)?;
+    let loaded = tables.load(alloc)?;
+    let commits = loaded.commits.as_slice().len();
+    Ok(loaded.number == 7 && loaded.floor == 0 && commits == 1 && tables.faults() == 0)
+}
+
+#[test]
+fn what_is_written_is_loaded(rt: HostRuntime) {
+    assert!(rt; stores_one(rt.alloc()).unwrap_or(false));
+}
