@@ -28,3 +28,7 @@ IsEither r commit x = (x ≡ r) ⊎ (x ≡ with_commit r commit)
 -- a store with this number and no commit
 abbrev pub no_commits : ℕ → Retained
 no_commits number = record { number = number; floor = 0; base = empty_snap; commits = [] }
+
+-- what a crash left holds a store with this number and no commit
+abbrev pub HasNewStore : ℕ → Trees → Type 0
+HasNewStore number trees = (db : Database) × (trees ≡ db.trees) × (h : Contents) × Holds db h × IsHistory h (no_commits number)

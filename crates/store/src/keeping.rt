@@ -4,12 +4,12 @@ ghost use Rattle.sqlite.specs.State.{HasCleanDisk, IsUnchanged, Survives};
 ghost use Rattle.sqlite.specs.Held.{state};
 ghost use Rattle.sqlite.specs.declared.error.Error.TheVariants.{SqliteFailure};
 ghost use Rattle.sqlite.specs.declared.error.ErrorCode.TheVariants.{OutOfMemory};
-ghost use Rattle.store_core.specs.Steps.{IsBlank};
+ghost use Rattle.store_core.specs.Steps.{IsBlank, Undone};
 ghost use Rattle.names.specs.declared.commit.Commit.TheVariants as kinds;
 ghost use Rattle.rows.specs.Retained.{Retained, with_commit};
 ghost use Rattle.rows.specs.Loads.{IsWithin, retained_of};
 ghost use Rattle.tables.specs.Storing.{IsNextAt};
-ghost use Rattle.store.specs.Keeping.{KeepsHistory, LeavesHistory, IsEither, no_commits};
+ghost use Rattle.store.specs.Keeping.{KeepsHistory, LeavesHistory, IsEither, HasNewStore, no_commits};
 
 use crate::reading::read;
 use crate::texts::events_of;
@@ -101,17 +101,18 @@ pub(crate) fn write_commit<S: Alter>(
     }
 }
 
-/// Makes the tables of a store that has this number and no commit.
-pub(crate) fn create_tables<S: Alter>(
-    conn: &mut Connection<S>,
-    number: u64,
-) -> Result<(), TablesError>
+/// Makes the tables of a store that has this number and no commit, in one transaction. Where there is a table, an
+/// index or a view already it is refused as a fault. `Store::create` does this and keeps the connection; here the
+/// caller keeps it, so that contracts can tell what a refusal and a crash leave behind.
+pub fn make_tables<S: Alter>(conn: &mut Connection<S>, number: u64) -> Result<(), TablesError>
     requires idle { conn.old.in_transaction ≡ false }
     requires some { 1 ≤ number }
     requires small { number < 2 ^ 63 }
     ensures idle { conn.new.in_transaction ≡ false }
     ensures done { OnOk result (KeepsHistory S.Store conn.new (no_commits number)) }
     ensures taken { ¬ (IsBlank (state S.Store conn.old).now) → result ≡ Err TablesError.Fault }
+    ensures undone { HasCleanDisk (state S.Store conn.new) → IsBlank (state S.Store conn.old).now → result ≡ Err TablesError.Memory → Undone (state S.Store conn.old) (state S.Store conn.new) }
+    ensures crash { Survives (state S.Store conn.old) (state S.Store conn.new) (HasNewStore number) }
 {
     let Err(error) = create(conn, number) else {
         return Ok(());

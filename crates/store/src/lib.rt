@@ -20,4 +20,5 @@ mod tests;
 mod texts;
 mod unread;
 
+pub use keeping::make_tables;
 pub use store::Store;

@@ -1,7 +1,7 @@
 //! The tables of a store.
 ghost use Rattle.std.specs.Prelude.{◌≡◌, false};
 
-use crate::keeping::{create_tables, load_history, write_commit};
+use crate::keeping::{load_history, make_tables, write_commit};
 use config::Config;
 use names::Commit;
 use rows::Loaded;
@@ -42,7 +42,7 @@ impl<S: Alter + Drop> Store<S> {
         ensures quiet { IfOk result (λ s. faults s ≡ 0) }
         ensures taken { ¬ (IsBlank (state S.Store conn).now) → result ≡ Err TablesError.Fault }
     {
-        if let Err(why) = create_tables(&mut conn, number) {
+        if let Err(why) = make_tables(&mut conn, number) {
             return Err(why);
         }
         Ok(Store {
