@@ -2,8 +2,6 @@
 use Rattle.std.proofs.Common.{◌≡◌, ℕ, ◌+◌, ◌-◌, ◌≤◌, List, [], ◌∷◌, ◌++◌, length, take, refl, ap, sym, subst, ◌∙◌, append_assoc, arith, length-append}
 use Rattle.std.specs.Prelude.{Bool, true, false, cond}
 use Rattle.std.specs.Prelude.{Result, Ok, Err, OnErr}
-use Rattle.std.specs.BTreeMap.{BTreeMap}
-use Rattle.std.specs.Global.{Vec}
 use Rattle.std.proofs.Math.Seq.{take-append_seam}
 use Rattle.std.proofs.lemmas.List.{append-nil}
 use Rattle.names.specs.declared.tuple.Tuple.{Tuple}
@@ -18,18 +16,17 @@ use Rattle.meaning.specs.Config.{Configured}
 use Rattle.meaning.specs.Snap.{Snap}
 use Rattle.meaning.specs.History.{History, after_kind, after_event, replay, after_commit, after_commits, rows_of, commit_rows, puts_in, puts_of_kind}
 use Rattle.meaning.proofs.TupleSets.{len_insert, len_remove}
-use Rattle.rows.specs.declared.mark.Mark.{Mark}
+use Rattle.rows_core.specs.declared.mark.Mark.{Mark}
 use Rattle.rows.specs.declared.dated.Dated.{Dated}
-use Rattle.rows.specs.declared.change.Change.{Change}
+use Rattle.rows_core.specs.declared.change.Change.{Change}
 use Rattle.rows.specs.declared.loaded.Counts.{Counts}
 use Rattle.rows.specs.Retained.{Retained, newest, with_commit, HasRoom}
-use Rattle.rows.specs.Kept.{commit_marks, marks_at, marks_after, base_marks, is_there, dated_after, AreMarks, GoesOn, HasThese, Changes, retained, IsKept}
-use Rattle.rows.proofs.MarkRuns.{marks_push, based_last, last_of, dated_push, dated_same}
-use Rattle.rows.proofs.Bases.{base_is}
-
-pub after_push : (s : Snap) (h : History) (c : Commit Configured) → after_commits s (h ++ c ∷ []) ≡ after_commit (after_commits s h) c
-after_push s [] c = refl
-after_push s (b ∷ h) c = after_push (after_commit s b) h c
+use Rattle.rows_core.specs.Marks.{Entries, commit_marks, marks_at, marks_after, base_marks, is_there, AreMarks, GoesOn, HasThese, Changes}
+use Rattle.rows.specs.Kept.{dated_after, retained, IsKept}
+use Rattle.rows_core.proofs.MarkRuns.{marks_push, based_last, last_of}
+use Rattle.rows.proofs.Dating.{dated_push, dated_same}
+use Rattle.rows_core.proofs.Bases.{base_is}
+use Rattle.rows_core.proofs.Settling.{after_push}
 
 pub rows_push : (h : History) (c : Commit Configured) → rows_of (h ++ c ∷ []) ≡ rows_of h + commit_rows c
 rows_push [] c = omega arith
@@ -69,21 +66,21 @@ tuples_within s [] = omega arith
 tuples_within s (c ∷ h) = let first = within_commit s c in let rest = tuples_within (after_commit s c) h in omega (arith, first, rest)
 
 -- the marks as those of any set of tuples that the floor holds
-pub retained_is : (number floor : ℕ) (config : Configured) (n : BTreeMap Tuple (Vec Mark)) (tuples : Tuples) (h : History) → AreMarks n tuples floor h
+pub retained_is : (number floor : ℕ) (config : Configured) (n : Entries) (tuples : Tuples) (h : History) → AreMarks n tuples floor h
     → retained number floor config n h ≡ record { number = number; floor = floor; base = record { config = config; tuples = tuples }; commits = h }
 retained_is number floor config n tuples h marks = ap (λ (ts : Tuples). record { number = number; floor = floor; base = record { config = config; tuples = ts }; commits = h }) (base_is n tuples floor h marks)
 
-pub kept_as : (number floor : ℕ) (config : Configured) (n : BTreeMap Tuple (Vec Mark)) (tuples : Tuples) (h : History) (ds : List Dated) (counts : Counts)
+pub kept_as : (number floor : ℕ) (config : Configured) (n : Entries) (tuples : Tuples) (h : History) (ds : List Dated) (counts : Counts)
     → IsKept (record { number = number; floor = floor; base = record { config = config; tuples = tuples }; commits = h }) n ds counts
     → IsKept (retained number floor config n h) n ds counts
 kept_as number floor config n tuples h ds counts kept = subst (λ (r : Retained). IsKept r n ds counts) (sym (retained_is number floor config n tuples h kept.marks)) kept
 
 -- the newest tuples
-pub newest_these : (r : Retained) (m : BTreeMap Tuple (Vec Mark)) → AreMarks m r.base.tuples r.floor r.commits → HasThese (after_commits r.base r.commits).tuples (marks_at m)
+pub newest_these : (r : Retained) (m : Entries) → AreMarks m r.base.tuples r.floor r.commits → HasThese (after_commits r.base r.commits).tuples (marks_at m)
 newest_these r m marks q = sym (ap is_there (marks q) ∙ based_last (set.contains r.base.tuples q) (marks_after r.floor r.commits q) ∙ last_of r.base r.floor r.commits q)
 
 -- the same marks
-pub kept_same : (r : Retained) (m n : BTreeMap Tuple (Vec Mark)) (ds : List Dated) (counts : Counts) → ((q : Tuple) → marks_at n q ≡ marks_at m q) → IsKept r m ds counts → IsKept r n ds counts
+pub kept_same : (r : Retained) (m n : Entries) (ds : List Dated) (counts : Counts) → ((q : Tuple) → marks_at n q ≡ marks_at m q) → IsKept r m ds counts → IsKept r n ds counts
 kept_same r m n ds counts same kept = record {
   marks = λ q. same q ∙ kept.marks q;
   configs_right = kept.configs_right;
@@ -99,7 +96,7 @@ on_err (Ok x) p = tt
 on_err (Err e) p = p
 
 -- one commit more
-pub marks_with : (r : Retained) (m n : BTreeMap Tuple (Vec Mark)) (c : Commit Configured) → AreMarks m r.base.tuples r.floor r.commits
+pub marks_with : (r : Retained) (m n : Entries) (c : Commit Configured) → AreMarks m r.base.tuples r.floor r.commits
     → ((q : Tuple) → marks_at n q ≡ marks_at m q ++ commit_marks (newest r + 1) c q) → AreMarks n r.base.tuples r.floor (r.commits ++ c ∷ [])
 marks_with r m n c marks more q =
     more q
@@ -110,7 +107,7 @@ marks_with r m n c marks more q =
 come_gone : (old come gone next new : ℕ) → next + gone ≡ old + come → new ≡ (old + come) - gone → new ≡ next
 come_gone old come gone next new is now = omega (arith, is, now)
 
-pub kept_events : (r : Retained) (m n : BTreeMap Tuple (Vec Mark)) (ds : List Dated) (old new : Counts) (es : List Event) (change : Change)
+pub kept_events : (r : Retained) (m n : Entries) (ds : List Dated) (old new : Counts) (es : List Event) (change : Change)
     → IsKept r m ds old → HasRoom r (kinds.Tuples es) → GoesOn (marks_at m) n (newest r + 1) es → Changes (marks_at m) es change
     → new.rows ≡ old.rows + puts_in es → new.tuples ≡ (old.tuples + change.come) - change.gone
     → IsKept (with_commit r (kinds.Tuples es)) n ds new
@@ -132,7 +129,7 @@ kept_events r m n ds old new es change kept room goes changes rows tuples =
       few = omega (arith, room_rows, more);
     }
 
-pub kept_config : (r : Retained) (m : BTreeMap Tuple (Vec Mark)) (ds : List Dated) (counts : Counts) (config : Configured)
+pub kept_config : (r : Retained) (m : Entries) (ds : List Dated) (counts : Counts) (config : Configured)
     → IsKept r m ds counts → HasRoom r (kinds.Config config)
     → IsKept (with_commit r (kinds.Config config)) m (ds ++ record { rev = newest r + 1; config = config } ∷ []) counts
 kept_config r m ds counts config kept room =
@@ -151,7 +148,7 @@ kept_config r m ds counts config kept room =
     }
 
 -- and off again
-pub marks_before : (r : Retained) (m : BTreeMap Tuple (Vec Mark)) (c : Commit Configured) → AreMarks m r.base.tuples r.floor (r.commits ++ c ∷ [])
+pub marks_before : (r : Retained) (m : Entries) (c : Commit Configured) → AreMarks m r.base.tuples r.floor (r.commits ++ c ∷ [])
     → (q : Tuple) → marks_at m q ≡ (base_marks (set.contains r.base.tuples q) ++ marks_after r.floor r.commits q) ++ commit_marks (newest r + 1) c q
 marks_before r m c marks q =
     marks q
@@ -164,7 +161,7 @@ gone_come old come gone next new is now = omega (arith, is, now)
 pub before_these : (r : Retained) → HasThese (after_commits r.base r.commits).tuples (λ q. base_marks (set.contains r.base.tuples q) ++ marks_after r.floor r.commits q)
 before_these r q = sym (based_last (set.contains r.base.tuples q) (marks_after r.floor r.commits q) ∙ last_of r.base r.floor r.commits q)
 
-pub kept_back : (r : Retained) (m n : BTreeMap Tuple (Vec Mark)) (ds : List Dated) (old new : Counts) (es : List Event) (change : Change)
+pub kept_back : (r : Retained) (m n : Entries) (ds : List Dated) (old new : Counts) (es : List Event) (change : Change)
     → IsKept (with_commit r (kinds.Tuples es)) m ds old
     → ((q : Tuple) → marks_at n q ≡ base_marks (set.contains r.base.tuples q) ++ marks_after r.floor r.commits q)
     → Changes (λ q. base_marks (set.contains r.base.tuples q) ++ marks_after r.floor r.commits q) es change
@@ -187,7 +184,7 @@ kept_back r m n ds old new es change kept marks changes rows tuples =
       few = omega (arith, old_few, more);
     }
 
-pub kept_back_config : (r : Retained) (m : BTreeMap Tuple (Vec Mark)) (ds : List Dated) (counts : Counts) (config : Configured)
+pub kept_back_config : (r : Retained) (m : Entries) (ds : List Dated) (counts : Counts) (config : Configured)
     → IsKept (with_commit r (kinds.Config config)) m ds counts → IsKept r m (take (length ds - 1) ds) counts
 kept_back_config r m ds counts config kept =
     let rows_old = kept.rows in

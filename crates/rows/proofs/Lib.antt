@@ -1,8 +1,4 @@
-pub mod MarkRuns
-pub mod Bases
-pub mod Places
-pub mod Steps
-pub mod Coming
+pub mod Dating
 pub mod Retaining
 pub mod Touching
 pub mod Committing
@@ -11,6 +7,4 @@ pub mod Admitted
 pub mod Fullness
 pub mod Admission
 pub mod Written
-pub mod Settling
-pub mod Listing
-pub mod Together
+pub mod Trimming

@@ -1,61 +1,24 @@
 -- Making a history from what tables held.
 use Rattle.std.proofs.Common.{◌≡◌, ℕ, ◌+◌, ◌<◌, ◌≤◌, List, [], ◌∷◌, ◌++◌, length, take, zero, suc, refl, ap, sym, ◌∙◌, arith, get_or}
-use Rattle.std.specs.Prelude.{Bool, true, false, cond, ◌||◌}
-use Rattle.std.specs.List.{list_any}
 use Rattle.std.specs.List.Sorted.{IsStrictlySortedBy}
-use Rattle.std.specs.BTreeMap.{BTreeMap}
-use Rattle.std.specs.Global.{Vec}
 use Rattle.std.proofs.lemmas.List.{append-nil}
 use Rattle.std.proofs.Math.Seq.{take-length}
-use Rattle.names.specs.Order.{tuple_cmp, is_same_tuple}
+use Rattle.names.specs.Order.{tuple_cmp}
 use Rattle.names.specs.declared.tuple.Tuple.{Tuple}
 use Rattle.names.specs.declared.commit.Commit.{Commit}
 use Rattle.meaning.specs.TupleSet as set
 use Rattle.meaning.specs.Config.{Configured}
 use Rattle.meaning.specs.History.{History, rows_of, commit_rows}
 use Rattle.meaning.proofs.TupleSets.{contains_from_list, items_from_list, len_items}
-use Rattle.rows.specs.declared.mark.Mark.{Mark}
 use Rattle.rows.specs.declared.loaded.Loaded.{Loaded}
 use Rattle.rows.specs.declared.loaded.Counts.{Counts}
 use Rattle.rows.specs.Retained.{with_commit, HasRoom}
 use Rattle.rows.specs.Loads.{retained_of, loaded_to, IsWithin}
-use Rattle.rows.specs.Kept.{marks_at, base_marks, IsKept}
-use Rattle.rows.proofs.MarkRuns.{take_none}
+use Rattle.rows_core.specs.Marks.{Entries, marks_at, base_marks}
+use Rattle.rows.specs.Kept.{IsKept}
+use Rattle.rows_core.proofs.MarkRuns.{take_none}
+use Rattle.rows_core.proofs.Settling.{take_more}
 use Rattle.rows.proofs.Committing.{rows_push, length_push}
-
-pub take_more : {A : Type 0} (xs : List A) (k : ℕ) (x : A) → k < length xs → x ≡ get_or xs k x → take (suc k) xs ≡ take k xs ++ x ∷ []
-take_more [] k x small is = absurd (omega (arith, small))
-take_more (y ∷ ys) zero x small is = ap (λ zs. y ∷ zs) (take_none ys) ∙ ap (λ z. z ∷ []) (sym is)
-take_more (y ∷ ys) (suc k) x small is = ap (λ zs. y ∷ zs) (take_more ys k x (omega arith) is)
-
-any_push : (p : Tuple → Bool) (xs : List Tuple) (x : Tuple) → list_any p (xs ++ x ∷ []) ≡ (p x || list_any p xs)
-any_push p [] x = refl
-any_push p (y ∷ ys) x = ap (λ b. p y || b) (any_push p ys x) ∙ turned (p y) (p x) (list_any p ys)
-  where
-    turned : (a b c : Bool) → (a || (b || c)) ≡ (b || (a || c))
-    turned true true c = refl
-    turned true false c = refl
-    turned false b c = refl
-
--- one tuple more
-pub base_more : (tuples : List Tuple) (k : ℕ) (t q : Tuple) (old new : List Mark) → k < length tuples → t ≡ get_or tuples k t
-    → old ≡ base_marks (set.contains (set.from_list (take k tuples)) q) → new ≡ cond (is_same_tuple q t) (base_marks true) old
-    → new ≡ base_marks (set.contains (set.from_list (take (suc k) tuples)) q)
-base_more tuples k t q old new small is was now =
-    now ∙ ap (λ ms. cond (is_same_tuple q t) (base_marks true) ms) was
-    ∙ one (is_same_tuple q t) (set.contains (set.from_list (take k tuples)) q)
-    ∙ ap base_marks (ap (λ b. is_same_tuple q t || b) (contains_from_list (take k tuples) q) ∙ sym (any_push (is_same_tuple q) (take k tuples) t)
-    ∙ ap (list_any (is_same_tuple q)) (sym (take_more tuples k t small is)) ∙ sym (contains_from_list (take (suc k) tuples) q))
-  where
-    one : (a b : Bool) → cond a (base_marks true) (base_marks b) ≡ base_marks (a || b)
-    one true b = refl
-    one false b = refl
-
-pub base_none : (tuples : List Tuple) (q : Tuple) → [] ≡ base_marks (set.contains (set.from_list (take 0 tuples)) q)
-base_none tuples q = ap base_marks (sym (ap (λ ts. set.contains (set.from_list ts) q) (take_none tuples) ∙ contains_from_list [] q))
-
-pub base_all : (tuples : List Tuple) (k : ℕ) (q : Tuple) → k ≡ length tuples → base_marks (set.contains (set.from_list (take k tuples)) q) ≡ base_marks (set.contains (set.from_list tuples) q)
-base_all tuples k q is = ap (λ ts. base_marks (set.contains (set.from_list ts) q)) (ap (λ n. take n tuples) is ∙ take-length tuples)
 
 -- the tuples in order are as many as the set has
 pub len_is : (tuples : List Tuple) → IsStrictlySortedBy tuple_cmp tuples → length tuples ≡ set.len (set.from_list tuples)
@@ -72,7 +35,7 @@ length_take (suc k) [] = omega arith
 length_take (suc k) (x ∷ xs) = let rest = length_take k xs in omega (arith, rest)
 
 -- no commit yet
-pub kept_none : (l : Loaded) (m : BTreeMap Tuple (Vec Mark)) (counts : Counts) → IsWithin l → ((q : Tuple) → marks_at m q ≡ base_marks (set.contains (set.from_list l.tuples) q))
+pub kept_none : (l : Loaded) (m : Entries) (counts : Counts) → IsWithin l → ((q : Tuple) → marks_at m q ≡ base_marks (set.contains (set.from_list l.tuples) q))
     → counts.rows ≡ length l.tuples → counts.tuples ≡ length l.tuples
     → IsKept (record { number = l.number; floor = l.floor; base = record { config = l.config; tuples = set.from_list l.tuples }; commits = [] }) m [] counts
 kept_none l m counts within marks rows tuples =

@@ -2,8 +2,6 @@
 use Rattle.std.proofs.Common.{◌≡◌, ℕ, ◌+◌, ◌-◌, ◌≤◌, List, [], ◌∷◌, ◌++◌, drop, zero, suc, refl, ap, sym, ◌∙◌, arith}
 use Rattle.std.specs.Prelude.{Bool, true, false, cond, not, ◌||◌, ◌&&◌, nat_le}
 use Rattle.std.specs.List.{list_any}
-use Rattle.std.specs.BTreeMap.{BTreeMap}
-use Rattle.std.specs.Global.{Vec}
 use Rattle.std.proofs.lemmas.Bool.{le-leb, lt-leb}
 use Rattle.names.specs.Order.{is_same_tuple}
 use Rattle.names.specs.declared.tuple.Tuple.{Tuple}
@@ -13,9 +11,9 @@ use Rattle.names.specs.declared.commit.Commit.TheVariants as kinds
 use Rattle.meaning.specs.TupleSet as set
 use Rattle.meaning.specs.Config.{Configured}
 use Rattle.meaning.specs.History.{History}
-use Rattle.rows.specs.declared.mark.Mark.{Mark}
+use Rattle.rows_core.specs.declared.mark.Mark.{Mark}
 use Rattle.rows.specs.Retained.{Retained, touches, is_touched_after}
-use Rattle.rows.specs.Kept.{mark_of, marks_in, commit_marks, marks_after, marks_at, base_marks, last_rev, last_rev_from, AreMarks}
+use Rattle.rows_core.specs.Marks.{Entries, mark_of, marks_in, commit_marks, marks_after, marks_at, base_marks, last_rev, last_rev_from, AreMarks}
 
 rev_in : (n r : ℕ) (es : List Event) (q : Tuple) (later : List Mark) → last_rev_from n (marks_in r es q ++ later) ≡ last_rev_from (cond (list_any (λ e. is_same_tuple q e.tuple) es) r n) later
 rev_in n r [] q later = refl
@@ -80,7 +78,7 @@ based_rev false ms = refl
 whole : (floor rev : ℕ) → floor ≤ rev → floor + (rev - floor) ≡ rev
 whole floor rev h = omega (arith, h)
 
-pub unchanged_is : (r : Retained) (m : BTreeMap Tuple (Vec Mark)) (rev : ℕ) (q : Tuple) → AreMarks m r.base.tuples r.floor r.commits → r.floor ≤ rev → nat_le (last_rev (marks_at m q)) rev ≡ not (is_touched_after r q rev)
+pub unchanged_is : (r : Retained) (m : Entries) (rev : ℕ) (q : Tuple) → AreMarks m r.base.tuples r.floor r.commits → r.floor ≤ rev → nat_le (last_rev (marks_at m q)) rev ≡ not (is_touched_after r q rev)
 unchanged_is r m rev q marks h =
     ap (λ ms. nat_le (last_rev ms) rev) (marks q)
     ∙ ap (λ n. nat_le n rev) (based_rev (set.contains r.base.tuples q) (marks_after r.floor r.commits q))

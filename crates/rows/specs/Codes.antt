@@ -1,65 +1,18 @@
 -- What is retained as numbers, by which its values are told apart.
-use Rattle.std.specs.Prelude.{◌≡◌, ℕ, List, [], Option, Some, None, refl}
-use Rattle.std.specs.Coded.{Coded, code_by, coded×, coded_ℕ, coded_list, coded_option, coded_bool}
+use Rattle.std.specs.Prelude.{ℕ, List, refl}
+use Rattle.std.specs.Coded.{Coded, code_by, coded×, coded_ℕ, coded_list}
 use base.Stored.{coded_unit}
 use Rattle.std.specs.FinMap as map
-use Rattle.std.specs.Prelude.{Bool, true, false}
-use Rattle.names.specs.declared.tuple.Tuple.{Tuple}
-use Rattle.names.specs.declared.commit.Event.{Event}
-use Rattle.names.specs.declared.commit.EventKind.{EventKind}
-use Rattle.names.specs.declared.commit.EventKind.TheVariants.{Put, Del}
 use Rattle.names.specs.declared.commit.Commit.{Commit}
-use Rattle.names.specs.declared.commit.Commit.TheVariants.{Tuples, Config}
 use Rattle.meaning.specs.Config.{Configured}
 use Rattle.meaning.specs.Snap as snaps
 use Rattle.meaning.specs.Snap.{Snap}
 use Rattle.config.specs.Codes.{coded_config}
+use Rattle.rows_core.specs.Codes.{coded_tuple, coded_commit}
 use Rattle.rows.specs.Retained.{Retained}
-
-abbrev coded_text : Coded (List ℕ)
-coded_text = coded_list coded_ℕ
-
-abbrev coded_tuple : Coded Tuple
-coded_tuple = code_by ((List ℕ × (List ℕ × List ℕ)) × (List ℕ × (List ℕ × Option (List ℕ)))) (coded× (coded× coded_text (coded× coded_text coded_text)) (coded× coded_text (coded× coded_text (coded_option coded_text))))
-    (λ t. ((t.node.object.namespace, (t.node.object.id, t.node.relation)), (t.subject.object.namespace, (t.subject.object.id, t.subject.relation))))
-    (λ p. record { node = record { object = record { namespace = p.0.0; id = p.0.1.0 }; relation = p.0.1.1 }; subject = record { object = record { namespace = p.1.0; id = p.1.1.0 }; relation = p.1.1.1 } }) (λ _. refl)
 
 abbrev pub coded_snap : Coded Snap
 coded_snap = code_by (Configured × snaps.Tuples) (coded× coded_config (map.code coded_tuple coded_unit)) (λ s. (s.config, s.tuples)) (λ p. record { config = p.0; tuples = p.1 }) (λ _. refl)
-
-abbrev is_put : EventKind → Bool
-is_put Put = true
-is_put Del = false
-
-abbrev kind : Bool → EventKind
-kind true = Put
-kind false = Del
-
-pub kind_back : (k : EventKind) → kind (is_put k) ≡ k
-kind_back Put = refl
-kind_back Del = refl
-
-abbrev coded_kind : Coded EventKind
-coded_kind = code_by Bool coded_bool is_put kind kind_back
-
-abbrev coded_event : Coded Event
-coded_event = code_by (Tuple × EventKind) (coded× coded_tuple coded_kind) (λ e. (e.tuple, e.kind)) (λ p. record { tuple = p.0; kind = p.1 }) (λ _. refl)
-
--- a commit is a configuration, or none and events
-abbrev parts : Commit Configured → Option Configured × List Event
-parts (Tuples events) = (None, events)
-parts (Config config) = (Some config, [])
-
-abbrev whole : Option Configured × List Event → Commit Configured
-whole (None, events) = Tuples events
-whole (Some config, events) = Config config
-
-pub parts_whole : (c : Commit Configured) → whole (parts c) ≡ c
-parts_whole (Tuples events) = refl
-parts_whole (Config config) = refl
-
-abbrev coded_commit : Coded (Commit Configured)
-coded_commit = code_by (Option Configured × List Event) (coded× (coded_option coded_config) (coded_list coded_event)) parts whole parts_whole
 
 abbrev pub coded_retained : Coded Retained
 coded_retained = code_by (ℕ × (ℕ × (Snap × List (Commit Configured)))) (coded× coded_ℕ (coded× coded_ℕ (coded× coded_snap (coded_list coded_commit))))

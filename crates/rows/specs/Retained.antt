@@ -1,9 +1,7 @@
 -- What is retained of a history: what its floor holds, and the commits above it (Zanzibar, section 2.2).
 use Rattle.std.specs.Prelude.{ℕ, ◌+◌, ◌-◌, ◌≤◌, [], ◌∷◌, ◌++◌, length, take, drop, Bool, false}
 use Rattle.std.specs.List.{list_any}
-use Rattle.std.specs.Ordering.{eq_by_cmp}
-use Rattle.names.specs.Order.{node_cmp, is_same_tuple}
-use Rattle.names.specs.declared.node.Node.{Node}
+use Rattle.names.specs.Order.{is_same_tuple}
 use Rattle.names.specs.declared.tuple.Tuple.{Tuple}
 use Rattle.names.specs.declared.commit.Commit.{Commit}
 use Rattle.names.specs.declared.commit.Commit.TheVariants.{Tuples, Config}
@@ -71,6 +69,8 @@ commits_between r from to = take (to - from) (drop (from - r.floor) r.commits)
 abbrev pub is_touched_after : Retained → Tuple → ℕ → Bool
 is_touched_after r t rev = list_any (touches t) (drop (rev - r.floor) r.commits)
 
--- the tuple is of the node
-abbrev pub is_of : Node → Tuple → Bool
-is_of node t = eq_by_cmp node_cmp t.node node
+-- the revision of the last configuration among the commits above rev, or else base
+abbrev pub last_config : ℕ → ℕ → History → ℕ
+last_config base rev [] = base
+last_config base rev (Tuples events ∷ h) = last_config base (rev + 1) h
+last_config base rev (Config config ∷ h) = last_config (rev + 1) (rev + 1) h

@@ -1,23 +1,18 @@
 //! Commits as they are kept.
-ghost use Rattle.std.specs.Prelude.{◌≡◌, ◌≤◌, ◌++◌, ◌∷◌, [], length, drop, OnOk, OnErr, IfOk};
-ghost use Rattle.meaning.specs.History.{puts_in};
-ghost use Rattle.meaning.specs.Verdict.{max_rows};
+ghost use Rattle.std.specs.Prelude.{◌≡◌, ◌<◌, ◌≤◌, ◌+◌, ◌-◌, ◌^◌, ◌++◌, ◌∷◌, [], List, length, take, drop, OnOk, OnErr, IfOk};
+ghost use Rattle.meaning.specs.History.{History, puts_in};
+ghost use Rattle.meaning.specs.Verdict.{max_rev, max_rows};
+ghost use Rattle.names.specs.declared.commit.Event.{Event};
+ghost use Rattle.rows.specs.Retained.{last_config};
 
 use config::Config;
-use names::{Commit, Event, EventKind, Items};
+use names::{Commit, EventKind};
+use rows_core::{KeptCommit, KeptEvent};
 use std::alloc::{AllocError, Global};
 
-/// A commit of copies of the events.
-pub(crate) fn kept_events(alloc: Global, events: &[Event]) -> Result<Commit<Config>, AllocError>
-    ensures { IfOk result (λ c. c ≡ Commit.Tuples events.now) }
-{
-    let events = events.to_vec(alloc)?;
-    Ok(Commit::Tuples(Items::of(events)))
-}
-
 pub(crate) fn push_commit(
-    commits: &mut Vec<Commit<Config>>,
-    commit: Commit<Config>,
+    commits: &mut Vec<KeptCommit>,
+    commit: KeptCommit,
 ) -> Result<(), AllocError>
     ensures ok { OnOk result (commits.new.items ≡ commits.old.items ++ commit ∷ []) }
     ensures err { OnErr result (commits.new.items ≡ commits.old.items) }
@@ -26,14 +21,72 @@ pub(crate) fn push_commit(
     Ok(())
 }
 
+/// Takes the newest commit off.
+pub(crate) fn drop_newest(commits: &mut Vec<KeptCommit>)
+    ensures { commits.new.items ≡ take (length commits.old.items - 1) commits.old.items }
+{
+    let _count = commits.as_slice().len();
+    let _ = commits.pop();
+}
+
+/// The events of the newest commit, where it is one of events.
+pub(crate) fn newest_events(commits: &[KeptCommit]) -> &[KeptEvent]
+    ensures { (h : History) (events : List Event) → commits.now ≡ h ++ Commit.Tuples events ∷ [] → result.now ≡ events }
+{
+    match commits.last() {
+        Some(commit) => events_or_none(commit),
+        None => &[],
+    }
+}
+
+fn events_or_none(commit: &KeptCommit) -> &[KeptEvent]
+    ensures { (events : List Event) → commit.now ≡ Commit.Tuples events → result.now ≡ events }
+{
+    match commit.events() {
+        Some(events) => events,
+        None => &[],
+    }
+}
+
+/// The commits as they are outside.
+pub(crate) fn copies(
+    alloc: Global,
+    commits: &[KeptCommit],
+) -> Result<Vec<Commit<Config>>, AllocError>
+    ensures { IfOk result (λ v. v.items ≡ commits.now) }
+{
+    let mut copies = Vec::new(alloc);
+    for commit in commits {
+        copies.push(commit.commit(alloc)?)?;
+    }
+    Ok(copies)
+}
+
+/// The revision of the last configuration among the commits above `rev`, or else `base`.
+pub(crate) fn last_config(base: u64, rev: u64, commits: &[KeptCommit]) -> u64
+    requires { rev + length commits.now ≤ max_rev }
+    ensures { result ≡ last_config base rev commits.now }
+{
+    let mut last = base;
+    let mut at = rev;
+    for commit in commits {
+        at += 1;
+        if commit.events().is_none() {
+            last = at;
+        }
+    }
+    last
+}
+
 /// How many rows the events make.
-pub(crate) fn puts_in(events: &[Event]) -> u64
+pub(crate) fn puts_in(events: &[KeptEvent]) -> u64
     requires { puts_in events.now ≤ max_rows }
-    ensures { result ≡ puts_in events.now }
+    ensures puts { result ≡ puts_in events.now }
+    ensures in_memory { length events.now < 2 ^ 63 }
 {
     let mut puts = 0;
     for event in events {
-        match event.kind {
+        match event.kind() {
             EventKind::Put => puts += 1,
             EventKind::Del => {}
         }
@@ -42,7 +95,7 @@ pub(crate) fn puts_in(events: &[Event]) -> u64
 }
 
 /// Drops the oldest commits.
-pub(crate) fn drop_commits(commits: &mut Vec<Commit<Config>>, count: usize)
+pub(crate) fn drop_commits(commits: &mut Vec<KeptCommit>, count: usize)
     requires { count ≤ length commits.old.items }
     ensures { commits.new.items ≡ drop count commits.old.items }
 {

@@ -40,8 +40,8 @@ impl Rows {
         ensures ok { OnOk result (config_cause (newest_of self.now) config.now ≡ None) }
         ensures err { IfErr result (ConfigRefused (newest_of self.now) config.now) }
     {
-        if let Some(tuple) = self.tuple_in_the_way(config) {
-            return Err(Refusal::TupleInTheWay(tuple.clone()?));
+        if let Some(tuple) = self.tuple_in_the_way(config)? {
+            return Err(Refusal::TupleInTheWay(tuple));
         }
         if self.newest() + 1 > MAX_REV {
             return Err(Refusal::Full);

@@ -2,17 +2,12 @@
 //! asked at any retained revision.
 #![tactic(auto)]
 
-mod change;
 mod committed;
 mod dated;
 mod events;
 mod judge;
 mod law;
-mod lists;
 mod loaded;
-mod mark;
-mod marking;
-mod nodes;
 mod refusing;
 mod rows;
 mod view;

@@ -1,27 +1,25 @@
 //! Histories.
 ghost use Rattle.std.specs.Prelude.{◌≡◌, ℕ, ◌+◌, ◌-◌, ◌<◌, ◌≤◌, List, [], ◌∷◌, ◌++◌, length, take, drop, filter, IfOk, OnOk, OnErr, not};
 ghost use Rattle.std.specs.List.{find};
-ghost use Rattle.std.specs.Option.{option_copied};
 ghost use Rattle.meaning.specs.Admits.{admits};
 ghost use Rattle.meaning.specs.Snap.{empty_snap};
 ghost use Rattle.names.specs.declared.tuple.Tuple.{Tuple};
 ghost use Rattle.meaning.specs.TupleSet as set;
 ghost use Rattle.meaning.specs.Verdict.{max_rev, max_rows};
-ghost use Rattle.rows.specs.Retained.{newest, IsRetained, snap_at, spans_of, newest_of, with_commit, without_newest, trimmed, HasRoom, commits_between, is_touched_after, is_of};
+ghost use Rattle.rows.specs.Retained.{newest, IsRetained, snap_at, spans_of, newest_of, with_commit, without_newest, trimmed, HasRoom, commits_between, is_touched_after, last_config};
+ghost use Rattle.rows_core.specs.Marks.{is_of};
 ghost use Rattle.rows.specs.Loads.{retained_of, loaded_to, IsWithin};
 
-use crate::committed::{drop_commits, kept_events, push_commit, puts_in};
+use crate::committed::{
+    copies, drop_commits, drop_newest, last_config, newest_events, push_commit, puts_in,
+};
 use crate::dated::{Dated, config_up_to, drop_config, push_config, settle_configs};
-use crate::lists::{first_refused, tuples_at};
 use crate::loaded::{Counts, Loaded};
-use crate::mark::{Mark, last_rev, stands_at};
-use crate::marking::{based, put_all, settle_commits, undo};
-use crate::nodes::tuples_of;
 use crate::view::View;
 use config::Config;
 use names::{Commit, Event, Node, Tuple};
+use rows_core::{KeptCommit, Marked};
 use std::alloc::{AllocError, Global};
-use std::collections::BTreeMap;
 use std::marker::Model;
 
 /// The history from the floor on.
@@ -32,8 +30,8 @@ pub struct Rows {
     floor: u64,
     config: Config,
     configs: Vec<Dated>,
-    tuples: BTreeMap<Tuple, Vec<Mark>>,
-    commits: Vec<Commit<Config>>,
+    tuples: Marked,
+    commits: Vec<KeptCommit>,
     counts: Counts,
 }
 
@@ -62,7 +60,7 @@ impl Rows {
             floor: 0,
             config: Config::empty(alloc),
             configs: Vec::new(alloc),
-            tuples: BTreeMap::new(alloc),
+            tuples: Marked::new(alloc),
             commits: Vec::new(alloc),
             counts: Counts { rows: 0, tuples: 0 },
         }
@@ -94,7 +92,7 @@ impl Rows {
             floor: loaded.floor,
             config: loaded.config.again(alloc)?,
             configs: Vec::new(alloc),
-            tuples: based(alloc, tuples)?,
+            tuples: Marked::based(alloc, tuples)?,
             commits: Vec::new(alloc),
             counts: Counts {
                 rows: count,
@@ -152,10 +150,7 @@ impl Rows {
         requires { IsRetained self.now rev }
         ensures { result ≡ set.contains (snap_at self.now rev).tuples tuple.now }
     {
-        match self.tuples.get(tuple) {
-            Some(marks) => stands_at(marks, rev),
-            None => false,
-        }
+        self.tuples.stands_at(tuple, rev)
     }
 
     /// The tuples at a revision.
@@ -163,7 +158,7 @@ impl Rows {
         requires { IsRetained self.now rev }
         ensures { IfOk result (λ v. v.items ≡ set.items (snap_at self.now rev).tuples) }
     {
-        tuples_at(alloc, &self.tuples, rev)
+        self.tuples.tuples_at(alloc, rev)
     }
 
     /// The tuples of the node at a revision.
@@ -176,14 +171,14 @@ impl Rows {
         requires { IsRetained self.now rev }
         ensures { IfOk result (λ v. v.items ≡ filter (is_of node.now) (set.items (snap_at self.now rev).tuples)) }
     {
-        tuples_of(alloc, &self.tuples, rev, node)
+        self.tuples.tuples_of(alloc, rev, node)
     }
 
     /// The first current tuple that the configuration does not admit.
-    pub(crate) fn tuple_in_the_way(&self, config: &Config) -> Option<&Tuple>
-        ensures { option_copied result ≡ find (λ t. not (admits config.now t)) (set.items (newest_of self.now).held.tuples) }
+    pub(crate) fn tuple_in_the_way(&self, config: &Config) -> Result<Option<Tuple>, AllocError>
+        ensures { IfOk result (λ o. o ≡ find (λ t. not (admits config.now t)) (set.items (newest_of self.now).held.tuples)) }
     {
-        first_refused(&self.tuples, config)
+        self.tuples.first_refused(self.alloc, config)
     }
 
     /// The configuration at a revision.
@@ -195,15 +190,32 @@ impl Rows {
     }
 
     /// The commits of the revisions above one, up to another.
-    pub fn events(&self, from: u64, to: u64) -> &[Commit<Config>]
+    pub fn events(
+        &self,
+        alloc: Global,
+        from: u64,
+        to: u64,
+    ) -> Result<Vec<Commit<Config>>, AllocError>
         requires from { self.now.floor ≤ from }
         requires order { from ≤ to }
         requires to { to ≤ newest self.now }
-        ensures { result.now ≡ commits_between self.now from to }
+        ensures { IfOk result (λ v. v.items ≡ commits_between self.now from to) }
     {
         let start = (from - self.floor) as usize;
         let end = (to - self.floor) as usize;
-        &self.commits[start..end]
+        copies(alloc, &self.commits[start..end])
+    }
+
+    /// The revision of the last configuration among the commits above `from`, up to `to`, or else `base`.
+    pub fn last_config(&self, base: u64, from: u64, to: u64) -> u64
+        requires from { self.now.floor ≤ from }
+        requires order { from ≤ to }
+        requires to { to ≤ newest self.now }
+        ensures { result ≡ last_config base from (commits_between self.now from to) }
+    {
+        let start = (from - self.floor) as usize;
+        let end = (to - self.floor) as usize;
+        last_config(base, from, &self.commits[start..end])
     }
 
     /// Whether no commit above the revision has an event on the tuple.
@@ -211,10 +223,7 @@ impl Rows {
         requires { self.now.floor ≤ rev }
         ensures { result ≡ not (is_touched_after self.now tuple.now rev) }
     {
-        match self.tuples.get(tuple) {
-            Some(marks) => last_rev(marks) <= rev,
-            None => true,
-        }
+        self.tuples.last_rev(tuple) <= rev
     }
 
     /// Adds a commit. For want of memory it changes nothing.
@@ -235,17 +244,18 @@ impl Rows {
         ensures err { OnErr result (self.new ≡ self.old) }
     {
         let rev = self.newest() + 1;
-        let kept = kept_events(self.alloc, events)?;
-        let change = put_all(self.alloc, &mut self.tuples, events, rev)?;
-        match push_commit(&mut self.commits, kept) {
-            Ok(()) => {
+        let kept = self.tuples.keep(self.alloc, events)?;
+        push_commit(&mut self.commits, kept)?;
+        let events = newest_events(&self.commits);
+        match self.tuples.put_all(events, rev) {
+            Ok(change) => {
                 self.counts.rows += puts_in(events);
                 self.counts.tuples += change.come as u64;
                 self.counts.tuples -= change.gone as u64;
                 Ok(())
             }
             Err(e) => {
-                let _ = undo(&mut self.tuples, events);
+                drop_newest(&mut self.commits);
                 Err(e)
             }
         }
@@ -261,7 +271,8 @@ impl Rows {
             rev,
             config: config.again(self.alloc)?,
         };
-        let kept = Commit::Config(config.again(self.alloc)?);
+        let again = config.again(self.alloc)?;
+        let kept = KeptCommit::of_config(self.alloc, again)?;
         push_config(&mut self.configs, dated)?;
         match push_commit(&mut self.commits, kept) {
             Ok(()) => Ok(()),
@@ -280,15 +291,14 @@ impl Rows {
         let Some(commit) = self.commits.pop() else {
             return;
         };
-        match commit {
-            Commit::Tuples(events) => {
-                let events = events.as_slice();
-                let change = undo(&mut self.tuples, events);
+        match commit.events() {
+            Some(events) => {
+                let change = self.tuples.undo(events);
                 self.counts.rows -= puts_in(events);
                 self.counts.tuples += change.gone as u64;
                 self.counts.tuples -= change.come as u64;
             }
-            Commit::Config(_) => drop_config(&mut self.configs),
+            None => drop_config(&mut self.configs),
         }
     }
 
@@ -303,7 +313,7 @@ impl Rows {
         }
         let count = (floor - self.floor) as usize;
         let settled = &self.commits[..count];
-        self.counts.rows = settle_commits(&mut self.tuples, settled, self.counts.rows);
+        self.counts.rows = self.tuples.settle(settled, self.counts.rows);
         drop_commits(&mut self.commits, count);
         settle_configs(&mut self.config, &mut self.configs, floor);
         self.floor = floor;

@@ -93,6 +93,20 @@ fn is_unchanged(rows: &Rows, tuple: &Tuple, rev: u64) -> bool {
     rows.unchanged(tuple, rev)
 }
 
+// How many commits the revisions bring, and the revision of the last configuration among them, or else 99.
+fn brought(
+    alloc: Global,
+    rows: &Rows,
+    from: u64,
+    to: u64,
+) -> Result<Option<(usize, u64)>, AllocError> {
+    if from < rows.floor() || to < from || to > rows.newest() {
+        return Ok(None);
+    }
+    let commits = rows.events(alloc, from, to)?;
+    Ok(Some((commits.len(), rows.last_config(99, from, to))))
+}
+
 // The configuration, a put, and a delete.
 fn three_commits(alloc: Global) -> Result<Rows, Refusal> {
     let mut rows = Rows::new(alloc, &nothing(alloc))?;
@@ -214,5 +228,17 @@ fn a_commit_is_taken_back(rt: HostRuntime) -> Result<(), Fail> {
     assert!(rt; holds_at(&rows, 2, &ann));
     assert_eq!(rt; rows.counts().tuples, 1);
     assert_eq!(rt; rows.number(), 7);
+    Ok(())
+}
+
+#[test]
+fn the_last_configuration_is_found(rt: HostRuntime) -> Result<(), Fail> {
+    let alloc = rt.alloc();
+    let mut rows = three_commits(alloc)?;
+    assert!(rt; brought(alloc, &rows, 0, 3)? == Some((3, 1)));
+    assert!(rt; brought(alloc, &rows, 1, 3)? == Some((2, 99)));
+    assert!(rt; is_committed(&mut rows, &configuration(alloc)?)?);
+    assert!(rt; brought(alloc, &rows, 0, 4)? == Some((4, 4)));
+    assert!(rt; brought(alloc, &rows, 2, 3)? == Some((1, 99)));
     Ok(())
 }

@@ -1,5 +1,4 @@
 pub mod Putting
-pub mod Taking
 pub mod Waiting
 pub mod Happened
 pub mod Rising

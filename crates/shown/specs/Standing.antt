@@ -1,10 +1,8 @@
 -- What a list of steps leaves.
 use Rattle.std.specs.Prelude.{◌≡◌, ◌≤◌, ◌+◌, ℕ, List, [], ◌∷◌, fold, min}
-use Rattle.names.specs.declared.commit.Commit.TheVariants as kinds
 use Rattle.meaning.specs.Snap.{empty_snap}
-use Rattle.meaning.specs.History.{History}
 use Rattle.meaning.specs.TupleSet as set
-use Rattle.rows.specs.Retained.{Retained, newest, newest_of, spans_of, with_commit, commits_between}
+use Rattle.rows.specs.Retained.{Retained, newest, newest_of, spans_of, with_commit, commits_between, last_config}
 use Rattle.rows.specs.Loads.{IsWithin, retained_of}
 use Rattle.rows.specs.Follows.{IsNext}
 use Rattle.shown.specs.declared.step.Part.{Part}
@@ -31,12 +29,6 @@ nothing = record { kept = nothing_kept; base = 0; index = 0; hot = 0 }
 -- Opening brings what the tables held, with the three revisions at the newest.
 abbrev pub opened : Retained → Standing
 opened r = record { kept = r; base = newest r; index = newest r; hot = newest r }
-
--- the revision of the last configuration among the commits above rev, or else base
-abbrev pub last_config : ℕ → ℕ → History → ℕ
-last_config base rev [] = base
-last_config base rev (kinds.Tuples events ∷ h) = last_config base (rev + 1) h
-last_config base rev (kinds.Config config ∷ h) = last_config (rev + 1) (rev + 1) h
 
 -- so many commits further, and no further than the newest
 abbrev pub moved : Retained → ℕ → ℕ → ℕ

@@ -1,5 +1,5 @@
 //! The published state.
-ghost use Rattle.std.specs.Prelude.{◌≡◌, ◌≤◌, ◌+◌, ◌↔◌, length, min, None, true, false, IsTrue, IfOk, IfErr, OnOk, OnErr};
+ghost use Rattle.std.specs.Prelude.{◌≡◌, ◌≤◌, ◌↔◌, min, None, true, false, IsTrue, IfOk, IfErr, OnOk, OnErr};
 ghost use Rattle.meaning.specs.Admits.{has_relation};
 ghost use Rattle.meaning.specs.Config.{rel_of};
 ghost use Rattle.meaning.specs.Membership.{IsMember};
@@ -8,7 +8,7 @@ ghost use Rattle.plain.specs.Causes.{CheckCause};
 ghost use Rattle.rows.specs.Follows.{IsAccepted};
 ghost use Rattle.rows.specs.Judging.{WriteRefused, ConfigRefused};
 ghost use Rattle.rows.specs.Retained.{IsRetained, newest, newest_of, snap_at};
-ghost use Rattle.shown.specs.Standing.{nothing, after_step, after_take, moved, last_config, state_of, HasRoom};
+ghost use Rattle.shown.specs.Standing.{nothing, after_step, after_take, moved, state_of, HasRoom};
 ghost use Rattle.shown.specs.Answers.{IsAskedAt, IsChecked, CheckRefused};
 ghost use Rattle.shown.specs.declared.step.Part.TheVariants.{Index, Hot};
 
@@ -208,7 +208,7 @@ impl Shown {
         ensures { self.new ≡ after_take self.old Index commits }
     {
         let to = self.moved(self.index, commits);
-        self.base = last_config(self.base, self.index, self.rows.events(self.index, to));
+        self.base = self.rows.last_config(self.base, self.index, to);
         self.index = to;
     }
 
@@ -221,21 +221,4 @@ impl Shown {
         let newest = self.rows.newest();
         (cursor + commits as u64).min(newest)
     }
-}
-
-/// The revision of the last configuration among the commits above `rev`, or else `base`.
-fn last_config(base: u64, rev: u64, commits: &[Commit<Config>]) -> u64
-    requires { rev + length commits.now ≤ max_rev }
-    ensures { result ≡ last_config base rev commits.now }
-{
-    let mut last = base;
-    let mut at = rev;
-    for commit in commits {
-        at += 1;
-        match commit {
-            Commit::Config(_) => last = at,
-            Commit::Tuples(_) => {}
-        }
-    }
-    last
 }

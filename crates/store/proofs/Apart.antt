@@ -13,11 +13,11 @@ use Rattle.store.specs.Written.{Lived, Revised, IsSpan, is_before, are_apart, ar
 use Rattle.store.specs.Following.{Precedes, Ascends}
 
 -- each is related to each that comes after it
-abbrev Ordered : {A : Type 0} → (A → A → Type 0) → List A → Type 0
+abbrev pub Ordered : {A : Type 0} → (A → A → Type 0) → List A → Type 0
 Ordered R [] = Unit {0}
 Ordered R (x ∷ xs) = All (R x) xs × Ordered R xs
 
-ordered : {A : Type 0} (R : A → A → Type 0) → ((x y z : A) → R x y → R y z → R x z) → (xs : List A) → AllAdjacentBelow R xs (length xs) → Ordered R xs
+pub ordered : {A : Type 0} (R : A → A → Type 0) → ((x y z : A) → R x y → R y z → R x z) → (xs : List A) → AllAdjacentBelow R xs (length xs) → Ordered R xs
 ordered R trans [] adj = tt
 ordered R trans (x ∷ []) adj = (All-nil (R x), tt)
 ordered {A} R trans (x ∷ y ∷ ys) adj =
@@ -66,15 +66,31 @@ apart_one a b (inr e) = by_same (is_same_tuple a.tuple b.tuple)
     by_same true = ap (λ x. x || is_before b a) (before a b e.1 e.2)
     by_same false = refl
 
-pub apart : {A : Type 0} (f : A → Lived) (floor newest : ℕ) (xs : List A) → AllAdjacentBelow (λ a b. Precedes (f a) (f b)) xs (length xs) → All (λ s. IsSpan floor newest (f s)) xs → Pairwise are_apart (map f xs)
-apart {A} f floor newest xs adj all =
-    let R : A → A → Type 0 = λ a b. PrecedesEnding (f a) (f b) in
-    pairwise f R are_apart (λ x y h. apart_one (f x) (f y) h.0) xs
-    (ordered R (λ x y z. follows (f x) (f y) (f z)) xs (λ k d lt. (adj k d lt, ending (f (get_or xs (k + 1) d)) (all (k + 1) d lt).ends)))
+in_order : {A : Type 0} (f : A → Lived) (floor newest : ℕ) (xs : List A) → AllAdjacentBelow (λ a b. Precedes (f a) (f b)) xs (length xs) → All (λ s. IsSpan floor newest (f s)) xs
+    → Ordered (λ a b. PrecedesEnding (f a) (f b)) xs
+in_order {A} f floor newest xs adj all =
+    ordered (λ a b. PrecedesEnding (f a) (f b)) (λ x y z. follows (f x) (f y) (f z)) xs (λ k d lt. (adj k d lt, ending (f (get_or xs (k + 1) d)) (all (k + 1) d lt).ends))
   where
     ending : (b : Lived) → (b.removed ≡ 0) ⊎ ((b.added < b.removed) × (floor < b.removed) × (b.removed ≤ newest)) → Ends b
     ending b (inl z) = inl z
     ending b (inr e) = inr e.0
+
+pub apart : {A : Type 0} (f : A → Lived) (floor newest : ℕ) (xs : List A) → AllAdjacentBelow (λ a b. Precedes (f a) (f b)) xs (length xs) → All (λ s. IsSpan floor newest (f s)) xs → Pairwise are_apart (map f xs)
+apart {A} f floor newest xs adj all =
+    let R : A → A → Type 0 = λ a b. PrecedesEnding (f a) (f b) in
+    pairwise f R are_apart (λ x y h. apart_one (f x) (f y) h.0) xs (in_order f floor newest xs adj all)
+
+-- each precedes each that comes after it
+abbrev pub InTurn : List Lived → Type 0
+InTurn [] = Unit {0}
+InTurn (l ∷ ls) = All (Precedes l) ls × InTurn ls
+
+turned : {A : Type 0} (f : A → Lived) (xs : List A) → Ordered (λ a b. PrecedesEnding (f a) (f b)) xs → InTurn (map f xs)
+turned f [] h = tt
+turned f (x ∷ xs) h = (All-map (Precedes (f x)) f xs (λ k y lt. (h.0 k y lt).0), turned f xs h.1)
+
+pub in_turn : {A : Type 0} (f : A → Lived) (floor newest : ℕ) (xs : List A) → AllAdjacentBelow (λ a b. Precedes (f a) (f b)) xs (length xs) → All (λ s. IsSpan floor newest (f s)) xs → InTurn (map f xs)
+in_turn f floor newest xs adj all = turned f xs (in_order f floor newest xs adj all)
 
 -- configurations
 distinct_one : (floor : ℕ) (a b : Revised) → Ascends floor a b → are_distinct floor a b ≡ true

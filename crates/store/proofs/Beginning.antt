@@ -20,7 +20,7 @@ use Rattle.names.specs.Order.{tuple_cmp}
 abbrev blank : ℕ → Written
 blank number = record { number = number; floor = 0; newest = 0; spans = []; configs = [] }
 
-len_none : set.len set.empty ≡ 0
+pub len_none : set.len set.empty ≡ 0
 len_none = map.len-empty tuple_cmp (Unit {0})
 
 blank_sound : (number : ℕ) → 1 ≤ number → number < 2 ^ 63 → IsSound (blank number)

@@ -27,7 +27,7 @@ use Rattle.rows.specs.Follows.{IsNext}
 use Rattle.store.specs.Written.{Lived, Revised, Written, IsSpan, IsSound, IsRevised, is_alive, is_moved, tuples_of, is_put_at, event_at, events_at, config_at, commit_of, commit_at, commits_above, config_up_to, is_one, brings_one, history_of}
 use Rattle.store.proofs.Picking.{In, same_bool, found, any_in, all_in, all_from, any_same, any_none, pair_in}
 use Rattle.store.proofs.Living.{is_of, contains_of, alive_still}
-use Rattle.store.proofs.Held.{puts, held_newest, last_still}
+use Rattle.store.proofs.Held.{puts, whole_of, held_newest, last_still}
 use Rattle.store.proofs.Events.{with_events, Stand}
 use Rattle.store.proofs.Standing.{Admitted}
 use Rattle.store.proofs.Causes.{Accepted, accepted, any_map}
@@ -130,10 +130,10 @@ module _ (w : Written) (sound : IsSound w) where
           more h = omega (arith, h)
 
   held_config : (newest_of (history_of w)).held.config ≡ config_up_to w.newest w.configs
-  held_config = ap (λ (s : Snap). s.config) (held_newest w sound)
+  held_config = ap (λ (s : Snap). s.config) (held_newest w (whole_of w sound))
 
   pub held_tuples : (newest_of (history_of w)).held.tuples ≡ tuples_of (is_alive w.newest) w.spans
-  held_tuples = ap (λ (s : Snap). s.tuples) (held_newest w sound)
+  held_tuples = ap (λ (s : Snap). s.tuples) (held_newest w (whole_of w sound))
 
   pub admitted_onwards : (config : Configured) → Admitted config w.newest w.spans → Admitted config (w.newest + 1) w.spans
   admitted_onwards config h = all_from (λ l. is_alive (w.newest + 1) l ≡ true → admits config l.tuple ≡ true) w.spans

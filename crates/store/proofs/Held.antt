@@ -1,6 +1,6 @@
 -- What is alive at a revision is what the history holds there.
 use Rattle.std.proofs.Common.{◌≡◌, ℕ, ◌+◌, ◌-◌, ◌<◌, ◌≤◌, List, [], ◌∷◌, take, refl, sym, ap, ◌∙◌, inl, inr, arith, zero, suc}
-use Rattle.std.specs.Prelude.{Bool, true, false, cond, not, ◌&&◌, ◌||◌, ◌==◌, map, nat_le, nat_lt, Option, Some, None}
+use Rattle.std.specs.Prelude.{Bool, true, false, cond, not, ◌&&◌, ◌||◌, ◌==◌, map, All, nat_le, nat_lt, Option, Some, None}
 use Rattle.std.specs.List.{list_any}
 use Rattle.std.specs.Ordering.{eq_by_cmp}
 use Rattle.std.proofs.lemmas.Bool.{true≢false, and_parts, and_from, leb-true, eqb-true, eqb-false, lt-ltb, le-ltb, le-leb, eq-eqb, not-true}
@@ -15,7 +15,7 @@ use Rattle.meaning.specs.Snap.{Snap}
 use Rattle.meaning.specs.History.{after_kind, replay, after_commit, after_commits}
 use Rattle.meaning.proofs.TupleSets.{contains_items, contains_insert, contains_remove, same_tuples}
 use Rattle.rows.specs.Retained.{snap_at, newest_of}
-use Rattle.store.specs.Written.{Revised, Written, IsSound, Pairwise, is_alive, is_moved, tuples_of, is_put_at, events_at, config_at, commit_of, commit_at, commits_above, last_up_to, config_up_to, are_distinct, is_one, history_of}
+use Rattle.store.specs.Written.{Revised, Written, IsSpan, IsSound, Pairwise, is_alive, is_moved, tuples_of, is_put_at, events_at, config_at, commit_of, commit_at, commits_above, last_up_to, config_up_to, are_apart, are_distinct, is_one, brings_one, history_of}
 use Rattle.store.proofs.Picking.{In, same_bool, found, any_in, all_in}
 use Rattle.store.proofs.Living.{is_of, one_tuple, contains_of, alive_next}
 
@@ -142,7 +142,18 @@ last_here floor rev (c ∷ cs) config some apart h = by_here (last_here floor re
 abbrev pub snap_in : Written → ℕ → Snap
 snap_in w rev = record { config = config_up_to rev w.configs; tuples = tuples_of (is_alive rev) w.spans }
 
-module _ (w : Written) (sound : IsSound w) where
+-- rows of a history, whatever their number
+pub record IsWhole (w : Written) : Type 0 where
+  pub order : w.floor ≤ w.newest
+  pub spans_are : All (IsSpan w.floor w.newest) w.spans
+  pub apart : Pairwise are_apart w.spans
+  pub distinct : Pairwise (are_distinct w.floor) w.configs
+  pub whole : (rev : ℕ) → w.floor < rev → rev ≤ w.newest → brings_one w rev ≡ true
+
+pub whole_of : (w : Written) → IsSound w → IsWhole w
+whole_of w sound = record { order = sound.order; spans_are = sound.spans_are; apart = sound.apart; distinct = sound.distinct; whole = sound.whole }
+
+module _ (w : Written) (sound : IsWhole w) where
   has_next : (rev : ℕ) (t : Tuple) → set.contains (tuples_of (is_alive (rev + 1)) w.spans) t
       ≡ cond (list_any (is_of t (is_moved (rev + 1))) w.spans) (is_put_at (rev + 1) w.spans t) (set.contains (tuples_of (is_alive rev) w.spans) t)
   has_next rev t =
@@ -211,5 +222,5 @@ commits_take w (suc n) (suc m) rev h = ap (λ cs. commit_at w (rev + 1) ∷ cs) 
 pub held_at : (w : Written) → IsSound w → (rev : ℕ) → w.floor ≤ rev → rev ≤ w.newest → snap_at (history_of w) rev ≡ snap_in w rev
 held_at w sound rev low high =
     ap (after_commits (snap_in w w.floor)) (commits_take w (rev - w.floor) (w.newest - w.floor) w.floor (omega arith))
-    ∙ held_above w sound (rev - w.floor) w.floor (omega arith) (omega arith)
+    ∙ held_above w (whole_of w sound) (rev - w.floor) w.floor (omega arith) (omega arith)
     ∙ ap (snap_in w) (omega arith)

@@ -1,8 +1,8 @@
 -- The events of a revision span by span are its events in the order of tuples, where that order is theirs.
 use Rattle.std.proofs.Common.{◌≡◌, ℕ, ◌<◌, List, [], ◌∷◌, ◌++◌, refl, ap, sym, subst, ◌∙◌, arith}
-use Rattle.std.specs.Prelude.{Bool, true, false, Some, None, length, cond, not, ◌&&◌, ◌||◌, ◌==◌, filter, map}
+use Rattle.std.specs.Prelude.{Bool, true, false, Option, Some, None, length, cond, not, ◌&&◌, ◌||◌, ◌==◌, filter, map}
 use mathlib.Core.Bool.{true≢false}
-use Rattle.std.proofs.lemmas.Bool.{eqb-true, eq-eqb}
+use Rattle.std.proofs.lemmas.Bool.{eqb-true, eq-eqb, not-true}
 use Rattle.std.specs.declared.cmp.Ordering.TheVariants.{Less}
 use Rattle.std.specs.List.{list_any, AllByRecursion}
 use Rattle.std.specs.List.Sorted.{IsStrictlySortedBy}
@@ -18,7 +18,7 @@ use Rattle.names.specs.declared.commit.Commit.TheVariants as kinds
 use Rattle.meaning.specs.Config.{Configured}
 use Rattle.meaning.specs.TupleSet as set
 use Rattle.meaning.proofs.TupleSets.{contains_from_list, same_tuples, items_from_list, exact_tuples, tuples_total}
-use Rattle.store.specs.Written.{Lived, is_moved, is_put_at, event_at, events_at, tuples_of}
+use Rattle.store.specs.Written.{Lived, is_moved, is_one, is_put_at, event_at, events_at, tuples_of}
 use Rattle.store.specs.Moves.{moves, tuples_in, IsCommit, goes_on, event_if, put_of, del_of}
 
 pub same_is : (q t : Tuple) → is_same_tuple q t ≡ true → q ≡ t
@@ -236,3 +236,19 @@ tuples_are es some sorted rev spans e =
       is = ap (λ (l : List Event). kinds.Tuples l) (e ∙ events_are rev spans (subst P e sorted));
       one = sym (some_moved rev spans) ∙ sym (ap some_event e) ∙ some_some es some;
     }
+
+len_none : (es : List Event) → some_event es ≡ false → length es ≡ 0
+len_none [] h = refl
+len_none (e ∷ es) h = absurd (true≢false h)
+
+len_some : (es : List Event) → some_event es ≡ true → 0 < length es
+len_some [] h = absurd (true≢false (sym h))
+len_some (e ∷ es) h = omega arith
+
+-- a revision that brings a configuration brings no events, and one that brings none brings some
+pub config_alone : (rev : ℕ) (spans : List Lived) (config : Configured) (es : List Event) → es ≡ moves rev spans → (o : Option Configured) → Some config ≡ o → is_one o (list_any (is_moved rev) spans) ≡ true → length es ≡ 0
+config_alone rev spans config es e o is one =
+    len_none es (ap some_event e ∙ some_moved rev spans ∙ not-true (list_any (is_moved rev) spans) (ap (λ o. is_one o (list_any (is_moved rev) spans)) is ∙ one))
+
+pub events_come : (rev : ℕ) (spans : List Lived) (es : List Event) → es ≡ moves rev spans → (o : Option Configured) → None ≡ o → is_one o (list_any (is_moved rev) spans) ≡ true → 0 < length es
+events_come rev spans es e o is one = len_some es (ap some_event e ∙ some_moved rev spans ∙ ap (λ o. is_one o (list_any (is_moved rev) spans)) is ∙ one)

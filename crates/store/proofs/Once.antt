@@ -44,20 +44,20 @@ has_from (y ∷ ys) x (inr i) = later (has_from ys x i)
     later : Contains ys x → Contains (y ∷ ys) x
     later (k, small, e) = (suc k, omega (arith, small), e)
 
-in_permuted : {A : Type 0} (xs ys : List A) (x : A) → IsPermutation xs ys → In x xs → In x ys
+pub in_permuted : {A : Type 0} (xs ys : List A) (x : A) → IsPermutation xs ys → In x xs → In x ys
 in_permuted xs ys x p i = in_from ys x (Contains-permutation xs ys x p (has_from xs x i))
 
-in_map : {A B : Type 0} (f : A → B) (xs : List A) (x : A) → In x xs → In (f x) (map f xs)
+pub in_map : {A B : Type 0} (f : A → B) (xs : List A) (x : A) → In x xs → In (f x) (map f xs)
 in_map f [] x i = absurd i
 in_map f (y ∷ ys) x (inl e) = inl (ap f e)
 in_map f (y ∷ ys) x (inr i) = inr (in_map f ys x i)
 
-in_unmap : {A B : Type 0} (f : A → B) (xs : List A) (y : B) → In y (map f xs) → (x : A) × In x xs × (y ≡ f x)
+pub in_unmap : {A B : Type 0} (f : A → B) (xs : List A) (y : B) → In y (map f xs) → (x : A) × In x xs × (y ≡ f x)
 in_unmap f [] y i = absurd i
 in_unmap f (x ∷ xs) y (inl e) = (x, inl refl, e)
 in_unmap f (x ∷ xs) y (inr i) = let r = in_unmap f xs y i in (r.0, inr r.1, r.2)
 
-any_both : {A : Type 0} (p : A → Bool) (xs ys : List A) → ((x : A) → In x xs → In x ys) → ((x : A) → In x ys → In x xs) → list_any p xs ≡ list_any p ys
+pub any_both : {A : Type 0} (p : A → Bool) (xs ys : List A) → ((x : A) → In x xs → In x ys) → ((x : A) → In x ys → In x xs) → list_any p xs ≡ list_any p ys
 any_both p xs ys f b = same_bool (list_any p xs) (list_any p ys)
     (λ h. let r = found p xs h in any_in p ys r.0 (f r.0 r.1) r.2)
     (λ h. let r = found p ys h in any_in p xs r.0 (b r.0 r.1) r.2)
@@ -95,10 +95,10 @@ one_config texts c d p q =
     let relations = map_once defined_texts IsNamed one_defined c.relations d.relations p.named.1 q.named.1 (ap (λ (t : ConfigTexts). t.relations) same) in
     λ i. record { namespaces = (same i).namespaces; relations = relations i }
 
-one_some : {A : Type 0} (o : Option A) (a b : A) → o ≡ Some a → o ≡ Some b → a ≡ b
+pub one_some : {A : Type 0} (o : Option A) (a b : A) → o ≡ Some a → o ≡ Some b → a ≡ b
 one_some o a b p q = cc
 
-one_described : (bytes : List ℕ) (c d : Configured) → Describes bytes c → Describes bytes d → c ≡ d
+pub one_described : (bytes : List ℕ) (c d : Configured) → Describes bytes c → Describes bytes d → c ≡ d
 one_described bytes c d p q =
     let data_is = one_some _ p.says.data_read q.says.data_read p.says.reads.reads q.says.reads.reads in
     let texts_is = one_some _ p.texts q.texts p.says.shape (ap config_read data_is ∙ q.says.shape) in
@@ -117,22 +117,30 @@ one_dated c d p q e =
     let config = one_described (canonical d.config) c.config d.config describes q.describes in
     λ i. record { rev = (e i).rev; config = config i }
 
-module _ (h : Contents) (v w : Written) (is_v : IsWritten h v) (is_w : IsWritten h w) (sound_v : IsSound v) (sound_w : IsSound w) where
-  spans_in : (l : Lived) → In l v.spans → In l w.spans
+-- each row is what a row of a history may be
+pub record HasRows (w : Written) : Type 0 where
+  pub spans_are : All (IsSpan w.floor w.newest) w.spans
+  pub configs_are : All (IsRevised w.newest) w.configs
+
+pub rows_in : (w : Written) → IsSound w → HasRows w
+rows_in w sound = record { spans_are = sound.spans_are; configs_are = sound.configs_are }
+
+module _ (h : Contents) (v w : Written) (is_v : IsWritten h v) (is_w : IsWritten h w) (rows_v : HasRows v) (rows_w : HasRows w) where
+  pub spans_in : (l : Lived) → In l v.spans → In l w.spans
   spans_in l i = by_row (in_unmap span_of w.spans (span_of l) (in_permuted _ _ (span_of l) (IsPermutation-trans _ _ _ (IsPermutation-sym _ _ is_v.spans) is_w.spans) (in_map span_of v.spans l i)))
     where
       by_row : (m : Lived) × In m w.spans × (span_of l ≡ span_of m) → In l w.spans
       by_row (m, j, e) = subst (λ x. In x w.spans)
-          (sym (one_span l m (all_in (IsSpan v.floor v.newest) v.spans sound_v.spans_are l i).spelled (all_in (IsSpan w.floor w.newest) w.spans sound_w.spans_are m j).spelled e)) j
+          (sym (one_span l m (all_in (IsSpan v.floor v.newest) v.spans rows_v.spans_are l i).spelled (all_in (IsSpan w.floor w.newest) w.spans rows_w.spans_are m j).spelled e)) j
 
-  configs_in : (c : Revised) → In c v.configs → In c w.configs
+  pub configs_in : (c : Revised) → In c v.configs → In c w.configs
   configs_in c i = by_row (in_unmap dated_of w.configs (dated_of c) (in_permuted _ _ (dated_of c) (IsPermutation-trans _ _ _ (IsPermutation-sym _ _ is_v.configs) is_w.configs) (in_map dated_of v.configs c i)))
     where
       by_row : (d : Revised) × In d w.configs × (dated_of c ≡ dated_of d) → In c w.configs
       by_row (d, j, e) = subst (λ x. In x w.configs)
-          (sym (one_dated c d (all_in (IsRevised v.newest) v.configs sound_v.configs_are c i).valid (all_in (IsRevised w.newest) w.configs sound_w.configs_are d j).valid e)) j
+          (sym (one_dated c d (all_in (IsRevised v.newest) v.configs rows_v.configs_are c i).valid (all_in (IsRevised w.newest) w.configs rows_w.configs_are d j).valid e)) j
 
-  entries_in : (e : Entry) → In e (entries_of v) → In e (entries_of w)
+  pub entries_in : (e : Entry) → In e (entries_of v) → In e (entries_of w)
   entries_in e i = in_permuted _ _ e (IsPermutation-trans _ _ _ (IsPermutation-sym _ _ is_v.entries) is_w.entries) i
 
 -- an entry of the state with a key has the value of that key
@@ -144,7 +152,7 @@ value_at key e w (inr (inr (inl x))) k = inr (inr (inl (ap (λ (y : Entry). byte
 value_at key e w (inr (inr (inr (inl x)))) k = inr (inr (inr (ap (λ (y : Entry). bytes_eq key y.key) (sym x) ∙ k, ap (λ (y : Entry). y.value) x)))
 value_at key e w (inr (inr (inr (inr i)))) k = absurd i
 
-floor_is : (n : ℕ) (w : Written) → In (entry (codes "floor") n) (entries_of w) → n ≡ w.floor
+pub floor_is : (n : ℕ) (w : Written) → In (entry (codes "floor") n) (entries_of w) → n ≡ w.floor
 floor_is n w i = by_value (value_at (codes "floor") (entry (codes "floor") n) w i refl)
   where
     by_value : ((bytes_eq (codes "floor") (codes "floor") ≡ true) × (n ≡ w.floor)) ⊎ (((bytes_eq (codes "floor") (codes "format") ≡ true) × (n ≡ 1))
@@ -154,7 +162,7 @@ floor_is n w i = by_value (value_at (codes "floor") (entry (codes "floor") n) w 
     by_value (inr (inr (inl x))) = absurd (true≢false (sym x.0))
     by_value (inr (inr (inr x))) = absurd (true≢false (sym x.0))
 
-newest_is : (n : ℕ) (w : Written) → In (entry (codes "newest") n) (entries_of w) → n ≡ w.newest
+pub newest_is : (n : ℕ) (w : Written) → In (entry (codes "newest") n) (entries_of w) → n ≡ w.newest
 newest_is n w i = by_value (value_at (codes "newest") (entry (codes "newest") n) w i refl)
   where
     by_value : ((bytes_eq (codes "newest") (codes "floor") ≡ true) × (n ≡ w.floor)) ⊎ (((bytes_eq (codes "newest") (codes "format") ≡ true) × (n ≡ 1))
@@ -164,7 +172,7 @@ newest_is n w i = by_value (value_at (codes "newest") (entry (codes "newest") n)
     by_value (inr (inr (inl x))) = x.1
     by_value (inr (inr (inr x))) = absurd (true≢false (sym x.0))
 
-number_is : (n : ℕ) (w : Written) → In (entry (codes "store") n) (entries_of w) → n ≡ w.number
+pub number_is : (n : ℕ) (w : Written) → In (entry (codes "store") n) (entries_of w) → n ≡ w.number
 number_is n w i = by_value (value_at (codes "store") (entry (codes "store") n) w i refl)
   where
     by_value : ((bytes_eq (codes "store") (codes "floor") ≡ true) × (n ≡ w.floor)) ⊎ (((bytes_eq (codes "store") (codes "format") ≡ true) × (n ≡ 1))
@@ -177,7 +185,7 @@ number_is n w i = by_value (value_at (codes "store") (entry (codes "store") n) w
 -- ---- configurations by revision
 
 -- no two are of one revision
-distinct_revs : (floor : ℕ) (cs : List Revised) → Pairwise (are_distinct floor) cs → (c d : Revised) → In c cs → In d cs → c.rev ≡ d.rev → c ≡ d
+pub distinct_revs : (floor : ℕ) (cs : List Revised) → Pairwise (are_distinct floor) cs → (c d : Revised) → In c cs → In d cs → c.rev ≡ d.rev → c ≡ d
 distinct_revs floor cs apart c d i j same = by_pair (pair_in (are_distinct floor) both cs apart c d i j)
   where
     turned : (x y : Bool) → (x || y) ≡ (y || x)
@@ -196,7 +204,7 @@ distinct_revs floor cs apart c d i j same = by_pair (pair_in (are_distinct floor
     by_pair (inl e) = e
     by_pair (inr e) = absurd (true≢false (sym e ∙ ap (λ b. cond b false (nat_lt floor c.rev || nat_lt floor d.rev)) (eq-eqb c.rev d.rev same)))
 
-at_in : (at : ℕ) (cs : List Revised) (x : Configured) → config_at at cs ≡ Some x → (c : Revised) × In c cs × (c.rev ≡ at) × (c.config ≡ x)
+pub at_in : (at : ℕ) (cs : List Revised) (x : Configured) → config_at at cs ≡ Some x → (c : Revised) × In c cs × (c.rev ≡ at) × (c.config ≡ x)
 at_in at [] x h = cc
 at_in at (c ∷ cs) x h = by_here (c.rev == at) refl h (at_in at cs x)
   where
@@ -204,7 +212,7 @@ at_in at (c ∷ cs) x h = by_here (c.rev == at) refl h (at_in at cs x)
     by_here true e h rest = (c, inl refl, eqb-true c.rev at e, cc)
     by_here false e h rest = let r = rest h in (r.0, inr r.1, r.2, r.3)
 
-at_none : (at : ℕ) (cs : List Revised) → config_at at cs ≡ None → (c : Revised) → In c cs → c.rev ≡ at → ⊥
+pub at_none : (at : ℕ) (cs : List Revised) → config_at at cs ≡ None → (c : Revised) → In c cs → c.rev ≡ at → ⊥
 at_none at [] h c i = absurd i
 at_none at (d ∷ cs) h c i = by_here (d.rev == at) refl h i (at_none at cs)
   where
@@ -213,7 +221,7 @@ at_none at (d ∷ cs) h c i = by_here (d.rev == at) refl h i (at_none at cs)
     by_here false e h (inl x) rest same = eqb-false d.rev at e (ap (λ (y : Revised). y.rev) (sym x) ∙ same)
     by_here false e h (inr j) rest same = rest h c j same
 
-same_at : (floor at : ℕ) (cs ds : List Revised) → Pairwise (are_distinct floor) ds → ((c : Revised) → In c cs → In c ds) → ((c : Revised) → In c ds → In c cs) → config_at at cs ≡ config_at at ds
+pub same_at : (floor at : ℕ) (cs ds : List Revised) → Pairwise (are_distinct floor) ds → ((c : Revised) → In c cs → In c ds) → ((c : Revised) → In c ds → In c cs) → config_at at cs ≡ config_at at ds
 same_at floor at cs ds apart f b = by_both (config_at at cs) refl (config_at at ds) refl
   where
     by_both : (o : Option Configured) → config_at at cs ≡ o → (p : Option Configured) → config_at at ds ≡ p → o ≡ p
@@ -249,7 +257,7 @@ last_most at (d ∷ cs) c i low = by_first (nat_le d.rev at) refl (nat_lt (last_
     by_first false e b f (inl x) rest = let y = ap (λ (z : Revised). z.rev) x in absurd (true≢false (sym (le-leb d.rev at (omega (arith, y, low))) ∙ e))
     by_first false e b f (inr j) rest = rest j low
 
-same_last : (floor at : ℕ) (cs ds : List Revised) → Pairwise (are_distinct floor) ds → ((c : Revised) → In c cs → In c ds) → ((c : Revised) → In c ds → In c cs)
+pub same_last : (floor at : ℕ) (cs ds : List Revised) → Pairwise (are_distinct floor) ds → ((c : Revised) → In c cs → In c ds) → ((c : Revised) → In c ds → In c cs)
     → ((c : Revised) → In c ds → 0 < c.rev) → last_up_to at cs ≡ last_up_to at ds
 same_last floor at cs ds apart f b some = by_both (last_in at cs) (last_in at ds)
   where
@@ -287,11 +295,12 @@ whole_history : (a b c d : ℕ) (s t : Snap) (h k : History) → a ≡ b → c �
 whole_history a b c d s t h k p q r e = cc
 
 -- rows are one history at most
-pub history_once : (h : Contents) (v w : Written) → IsWritten h v → IsSound v → IsWritten h w → IsSound w → history_of v ≡ history_of w
-history_once h v w is_v sound_v is_w sound_w =
-    let f = spans_in h v w is_v is_w sound_v sound_w in let b = spans_in h w v is_w is_v sound_w sound_v in
-    let cf = configs_in h v w is_v is_w sound_v sound_w in let cb = configs_in h w v is_w is_v sound_w sound_v in
-    let entries = entries_in h v w is_v is_w sound_v sound_w in
+pub history_once : (h : Contents) (v w : Written) → IsWritten h v → HasRows v → IsWritten h w → IsSound w → history_of v ≡ history_of w
+history_once h v w is_v rows_v is_w sound_w =
+    let rows_w = rows_in w sound_w in
+    let f = spans_in h v w is_v is_w rows_v rows_w in let b = spans_in h w v is_w is_v rows_w rows_v in
+    let cf = configs_in h v w is_v is_w rows_v rows_w in let cb = configs_in h w v is_w is_v rows_w rows_v in
+    let entries = entries_in h v w is_v is_w rows_v rows_w in
     let floor : v.floor ≡ w.floor = floor_is v.floor w (entries _ (inl refl)) in
     let newest : v.newest ≡ w.newest = newest_is v.newest w (entries _ (inr (inr (inl refl)))) in
     let number : v.number ≡ w.number = number_is v.number w (entries _ (inr (inr (inr (inl refl))))) in
@@ -302,4 +311,4 @@ history_once h v w is_v sound_v is_w sound_w =
     ∙ ap (λ n. commits_above w n (v.newest - n)) floor ∙ ap (λ n. commits_above w w.floor (n - w.floor)) newest)
 
 pub history_same : (h : Contents) (r q : Retained) → IsHistory h r → IsHistory h q → r ≡ q
-history_same h r q (v, is_v, sound_v, e) (w, is_w, sound_w, f) = sym e ∙ history_once h v w is_v sound_v is_w sound_w ∙ f
+history_same h r q (v, is_v, sound_v, e) (w, is_w, sound_w, f) = sym e ∙ history_once h v w is_v (rows_in v sound_v) is_w sound_w ∙ f

@@ -40,6 +40,3 @@ drop_next xs i x lt is = drop-cons xs i x lt ∙ ap (λ y. y ∷ drop (suc i) xs
 pub drop_all : {A : Type 0} (xs : List A) → drop (length xs) xs ≡ []
 drop_all [] = refl
 drop_all (x ∷ xs) = drop_all xs
-
-pub related_or : {A : Type 0} (R : A → A → Type 0) (xs : List A) (i j : ℕ) (x y d : A) → i < length xs → j < length xs → R (get_or xs i x) (get_or xs j y) → R (get_or xs i d) (get_or xs j d)
-related_or {A} R xs i j x y d p q h = related_at R xs i j (get_or xs i x) (get_or xs j y) d p q (get_or_default xs i x (get_or xs i x) p) (get_or_default xs j y (get_or xs j y) q) h

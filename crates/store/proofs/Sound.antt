@@ -1,7 +1,8 @@
 -- Rows that pass the tests are a history.
-use Rattle.std.proofs.Common.{◌≡◌, ℕ, ◌+◌, ◌<◌, ◌≤◌, List, [], length, ap, sym, subst, ◌∙◌, true, arith}
-use Rattle.std.specs.Prelude.{map, All, IsPermutation}
+use Rattle.std.proofs.Common.{◌≡◌, ℕ, ◌+◌, ◌-◌, ◌<◌, ◌≤◌, List, [], length, ap, sym, subst, ◌∙◌, true, arith}
+use Rattle.std.specs.Prelude.{map, filter, All, IsPermutation}
 use Rattle.std.specs.List.Sorted.{IsStrictlySortedBy}
+use Rattle.std.proofs.lemmas.List.{length-map}
 use Rattle.std.proofs.lemmas.List.Elements.{All-map}
 use Rattle.std.proofs.lemmas.List.Sorted.{IsPermutation-trans}
 use Rattle.names.specs.Order.{tuple_cmp}
@@ -13,7 +14,7 @@ use Rattle.meaning.specs.TupleSet as set
 use Rattle.meaning.specs.History.{rows_of}
 use Rattle.meaning.specs.Verdict.{max_rev, max_rows, max_tuples}
 use Rattle.meaning.proofs.TupleSets.{len_items, items_from_list}
-use Rattle.rows.specs.Retained.{Retained, newest_of, spans_of}
+use Rattle.rows.specs.Retained.{Retained, spans_of}
 use Rattle.rows.specs.Loads.{retained_of, IsWithin}
 use Rattle.rows.specs.declared.loaded.Loaded.{Loaded}
 use Rattle.store_core.specs.Tables.{Contents, Dated, Entry}
@@ -23,13 +24,15 @@ use Rattle.store_core.specs.declared.stored.StoredSpan.{StoredSpan}
 use Rattle.store_core.specs.declared.stored.StoredConfig.{StoredConfig}
 use Rattle.store_core.specs.declared.stored.StoredEntry.{StoredEntry}
 use Rattle.store.specs.Written.{Lived, Written, IsSpan, IsRevised, IsSound, IsHistory, history_of, commits_above, brings_one, is_alive, config_up_to, span_of, dated_of, entries_of}
-use Rattle.store.specs.Reading.{lived_of, revised_of, written_of, IsHead, ArePlaced}
+use Rattle.store.specs.Reading.{lived_of, revised_of, written_of, current, IsHead, ArePlaced}
 use Rattle.store.specs.declared.lived.LivedSpan.{LivedSpan}
 use Rattle.store.specs.declared.lived.RevisedConfig.{RevisedConfig}
 use Rattle.store.specs.declared.lived.Head.{Head}
 use Rattle.store.proofs.Apart.{apart, distinct}
 use Rattle.store.proofs.CommitRuns.{length_above}
-use Rattle.store.proofs.Once.{history_once}
+use Rattle.store.proofs.Held.{IsWhole, whole_of}
+use Rattle.store.proofs.Current.{len_alive, len_current}
+use Rattle.store.proofs.Once.{rows_in, history_once}
 
 -- what was built
 pub built : (number floor : ℕ) (config g : Configured) (tuples ts : List Tuple) (commits cs : List (Commit Configured)) → config ≡ g → tuples ≡ ts → commits ≡ cs
@@ -49,25 +52,51 @@ within l w n sorted commits revs rows = record {
   rows = let len = len_sorted l.tuples sorted in omega (arith, len, rows);
 }
 
+-- a history has no more spans than it may
+pub room_refused : (w : Written) (tuples : List Tuple) (commits : List (Commit Configured)) → tuples ≡ map (λ l. l.tuple) (filter (is_alive w.floor) w.spans) → commits ≡ commits_above w w.floor (w.newest - w.floor)
+    → max_rows < length tuples + rows_of commits → IsSound w → ⊥
+room_refused w tuples commits are above more sound =
+    let len = len_alive w.floor w.spans sound.apart in
+    let same = ap length are ∙ length-map (filter (is_alive w.floor) w.spans) (λ (l : Lived). l.tuple) in
+    let rows = ap rows_of above in
+    let most = sound.rows in
+    omega (arith, len, same, rows, most, more)
+
+-- nor more tuples
+pub many_refused : (head : Head) (spans : List LivedSpan) (configs : List RevisedConfig) → max_tuples < current spans → IsSound (written_of head spans configs) → ⊥
+many_refused head spans configs many sound =
+    let len = len_current head spans configs (whole_of (written_of head spans configs) sound) in
+    let most = sound.tuples in
+    omega (arith, many, len, most)
+
 -- what was read
 pub sound : (head : Head) (spans : List LivedSpan) (configs : List RevisedConfig) → IsHead head
     → All (λ s. IsSpan head.floor head.newest (lived_of s)) spans → All (λ c. IsRevised head.newest (revised_of c)) configs → ArePlaced head configs spans
     → ((rev : ℕ) → head.floor < rev → rev ≤ head.newest → brings_one (written_of head spans configs) rev ≡ true)
-    → (r : Retained) → r ≡ history_of (written_of head spans configs) → spans_of r ≤ max_rows → set.len (newest_of r).held.tuples ≤ max_tuples
+    → (r : Retained) → r ≡ history_of (written_of head spans configs) → spans_of r ≤ max_rows → current spans ≤ max_tuples
     → IsSound (written_of head spans configs)
-sound head spans configs is are revised placed whole r same rows tuples = record {
+sound head spans configs is are revised placed whole r same rows few = record {
   number_is = (is.numbered, is.signed);
   order = is.order;
   revs = is.revs;
-  spans_are = All-map (IsSpan head.floor head.newest) lived_of spans are;
-  apart = apart lived_of head.floor head.newest spans placed.apart are;
+  spans_are = rows_are.spans_are;
+  apart = rows_are.apart;
   configs_are = All-map (IsRevised head.newest) revised_of configs revised;
-  distinct = distinct revised_of head.floor configs placed.distinct;
+  distinct = rows_are.distinct;
   whole = whole;
   admitted = λ rev above below. All-map (λ (l : Lived). is_alive rev l ≡ true → admits (config_up_to rev (map revised_of configs)) l.tuple ≡ true) lived_of spans (λ k d lt. placed.admitted k d lt rev above);
   rows = let P : Retained → Type 0 = λ x. spans_of x ≤ max_rows in subst P same rows;
-  tuples = let P : Retained → Type 0 = λ x. set.len (newest_of x).held.tuples ≤ max_tuples in subst P same tuples;
+  tuples = let len = len_current head spans configs rows_are in omega (arith, len, few);
 }
+  where
+    rows_are : IsWhole (written_of head spans configs)
+    rows_are = record {
+      order = is.order;
+      spans_are = All-map (IsSpan head.floor head.newest) lived_of spans are;
+      apart = apart lived_of head.floor head.newest spans placed.apart are;
+      distinct = distinct revised_of head.floor configs placed.distinct;
+      whole = whole;
+    }
 
 pub history : (h : Contents) (s : Stored) (head : Head) (spans : List LivedSpan) (configs : List RevisedConfig) (es : List StoredEntry) (cs : List StoredConfig) (ss : List StoredSpan)
     → es ≡ s.entries.items → cs ≡ s.configs.items → ss ≡ s.spans.items
@@ -90,4 +119,4 @@ history h s head spans configs es cs ss e c p entries dated perm sound r same lo
     )
 
 pub one_history : (h : Contents) (r s : Retained) → IsHistory h r → IsHistory h s → r ≡ s
-one_history h r s (v, as_v, sound_v, is_v) (w, as_w, sound_w, is_w) = sym is_v ∙ history_once h v w as_v sound_v as_w sound_w ∙ is_w
+one_history h r s (v, as_v, sound_v, is_v) (w, as_w, sound_w, is_w) = sym is_v ∙ history_once h v w as_v (rows_in v sound_v) as_w sound_w ∙ is_w

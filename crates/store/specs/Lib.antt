@@ -5,3 +5,4 @@ pub mod Kept
 pub mod Moves
 pub mod Reading
 pub mod Following
+pub mod Refused

@@ -1,5 +1,5 @@
 -- What the program reads, as rows.
-use Rattle.std.specs.Prelude.{◌≡◌, ◌≤◌, ◌<◌, ◌^◌, List, All, length, map, string_bytes}
+use Rattle.std.specs.Prelude.{◌≡◌, ◌≤◌, ◌<◌, ◌^◌, ◌==◌, ℕ, List, All, count_by, length, map, string_bytes}
 use Rattle.std.specs.List.{AllAdjacentBelow}
 use Rattle.names.specs.Spelling.{subject_text}
 use Rattle.names.specs.declared.tuple.Tuple.{Tuple}
@@ -20,6 +20,10 @@ revised_of c = record { rev = c.rev; config = c.config }
 abbrev pub written_of : Head → List LivedSpan → List RevisedConfig → Written
 written_of head spans configs =
     record { number = head.number; floor = head.floor; newest = head.newest; spans = map lived_of spans; configs = map revised_of configs }
+
+-- how many spans have not ended
+abbrev pub current : List LivedSpan → ℕ
+current spans = count_by (λ s. s.removed == 0) spans
 
 -- the texts are the tuple's
 pub record Spells (text : TupleText) (t : Tuple) : Type 0 where

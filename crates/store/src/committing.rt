@@ -1,13 +1,16 @@
 //! The commits above the floor, from rows.
-ghost use Rattle.std.specs.Prelude.{◌≡◌, ◌≤◌, ◌<◌, ◌+◌, ◌-◌, ◌++◌, ◌∷◌, [], ℕ, true, OnOk, map, filter, length, IsTrue, IfOk, List};
-ghost use Rattle.std.specs.declared.cmp.Ordering.TheVariants.{Less};
+ghost use Rattle.std.specs.Prelude.{◌≡◌, ◌≤◌, ◌<◌, ◌+◌, ◌-◌, ◌++◌, ◌∷◌, [], ℕ, true, nat_le, OnOk, map, filter, length, IfOk, IfErr, List, All};
+ghost use Rattle.std.specs.List.{list_any, AllAdjacentBelow};
 ghost use Rattle.std.specs.List.Sorted.{IsStrictlySortedBy};
 ghost use Rattle.names.specs.Order.{tuple_cmp};
 ghost use Rattle.meaning.specs.History.{rows_of, commit_rows, puts_in};
 ghost use Rattle.meaning.specs.Verdict.{max_rows};
-ghost use Rattle.store.specs.Written.{Lived, commits_above, config_at, brings_one, is_alive};
+ghost use Rattle.store.specs.Written.{Lived, IsSpan, commits_above, config_at, brings_one, is_alive, is_moved, is_one};
 ghost use Rattle.store.specs.Moves.{moves, tuples_in, IsCommit};
+ghost use Rattle.store.specs.Following.{Precedes};
 ghost use Rattle.store.specs.Reading.{written_of, lived_of, revised_of};
+ghost use Rattle.store.specs.Refused.{DeservedBy, IsWholeAbove};
+ghost use Rattle.store.specs.declared.unread.Unread.TheVariants.{Memory};
 
 use crate::configs::config_at;
 use crate::lived::{Head, LivedSpan, RevisedConfig};
@@ -16,33 +19,12 @@ use crate::unread::Unread;
 use config::Config;
 use names::{Commit, Event, EventKind, Items, Tuple};
 use std::alloc::Global;
-use std::cmp::Ordering;
 
 const MAX_ROWS: usize = 4_000_000;
 
-fn precedes(a: &Tuple, b: &Tuple) -> bool
-    ensures { IsTrue result → tuple_cmp a.now b.now ≡ Less }
-{
-    match a.cmp(b) {
-        Ordering::Less => true,
-        Ordering::Equal => false,
-        Ordering::Greater => false,
-    }
-}
-
-fn are_in_order(events: &[Event]) -> bool
-    ensures { IsTrue result → IsStrictlySortedBy tuple_cmp (tuples_in events.now) }
-{
-    for i in 1..events.len() {
-        if !precedes(&events[i - 1].tuple, &events[i].tuple) {
-            return false;
-        }
-    }
-    true
-}
-
 fn config_commit(alloc: Global, config: &Config, events: &[Event]) -> Result<Commit<Config>, Unread>
-    ensures { IfOk result (λ c. (rev : ℕ) (spans : List Lived) → events.now ≡ moves rev spans → IsCommit rev spans (Some config.now) c) }
+    ensures is { IfOk result (λ c. (rev : ℕ) (spans : List Lived) → events.now ≡ moves rev spans → IsCommit rev spans (Some config.now) c) }
+    ensures fault { IfErr result (DeservedBy (length events.now ≡ 0)) }
 {
     if events.len() != 0 {
         return Err(Unread::Fault);
@@ -51,9 +33,11 @@ fn config_commit(alloc: Global, config: &Config, events: &[Event]) -> Result<Com
 }
 
 fn tuples_commit(events: Vec<Event>) -> Result<Commit<Config>, Unread>
-    ensures { IfOk result (λ c. (rev : ℕ) (spans : List Lived) → events.items ≡ moves rev spans → IsCommit rev spans None c) }
+    requires { IsStrictlySortedBy tuple_cmp (tuples_in events.items) }
+    ensures is { IfOk result (λ c. (rev : ℕ) (spans : List Lived) → events.items ≡ moves rev spans → IsCommit rev spans None c) }
+    ensures fault { IfErr result (DeservedBy (0 < length events.items)) }
 {
-    if events.as_slice().len() == 0 || !are_in_order(&events) {
+    if events.as_slice().len() == 0 {
         return Err(Unread::Fault);
     }
     Ok(Commit::Tuples(Items::of(events)))
@@ -66,7 +50,9 @@ fn commit_at(
     rev: u64,
     events: Vec<Event>,
 ) -> Result<Commit<Config>, Unread>
-    ensures { IfOk result (λ c. (spans : List Lived) → events.items ≡ moves rev spans → IsCommit rev spans (config_at rev (map revised_of configs.now)) c) }
+    requires { IsStrictlySortedBy tuple_cmp (tuples_in events.items) }
+    ensures is { IfOk result (λ c. (spans : List Lived) → events.items ≡ moves rev spans → IsCommit rev spans (config_at rev (map revised_of configs.now)) c) }
+    ensures fault { IfErr result (DeservedBy ((spans : List Lived) × (events.items ≡ moves rev spans) × (is_one (config_at rev (map revised_of configs.now)) (list_any (is_moved rev) spans) ≡ true))) }
 {
     match config_at(configs, rev) {
         Some(config) => config_commit(alloc, config, &events),
@@ -81,9 +67,12 @@ pub(crate) fn read_commits(
     configs: &[RevisedConfig],
     spans: &[LivedSpan],
 ) -> Result<Vec<Commit<Config>>, Unread>
-    requires { head.floor ≤ head.newest }
+    requires order { head.floor ≤ head.newest }
+    requires spans { All (λ s. IsSpan head.floor head.newest (lived_of s)) spans.now }
+    requires apart { AllAdjacentBelow (λ a b. Precedes (lived_of a) (lived_of b)) spans.now (length spans.now) }
     ensures commits { IfOk result (λ v. v.items ≡ commits_above (written_of head spans.now configs.now) head.floor (head.newest - head.floor)) }
     ensures whole { IfOk result (λ v. (rev : ℕ) → head.floor < rev → rev ≤ head.newest → brings_one (written_of head spans.now configs.now) rev ≡ true) }
+    ensures fault { IfErr result (DeservedBy (IsWholeAbove (written_of head spans.now configs.now))) }
 {
     let mut slots = events_by_revision(alloc, head, spans)?;
     let mut commits = Vec::new(alloc);
@@ -102,7 +91,8 @@ fn is_alive(span: &LivedSpan, rev: u64) -> bool
 }
 
 fn push_copy(tuples: &mut Vec<Tuple>, tuple: &Tuple) -> Result<(), Unread>
-    ensures { OnOk result (tuples.new.items ≡ tuples.old.items ++ tuple.now ∷ []) }
+    ensures pushed { OnOk result (tuples.new.items ≡ tuples.old.items ++ tuple.now ∷ []) }
+    ensures fault { IfErr result (λ e. e ≡ Memory) }
 {
     tuples.push(tuple.clone()?)?;
     Ok(())
@@ -110,7 +100,8 @@ fn push_copy(tuples: &mut Vec<Tuple>, tuple: &Tuple) -> Result<(), Unread>
 
 /// The tuples that are there at a revision.
 pub(crate) fn tuples_at(alloc: Global, spans: &[LivedSpan], rev: u64) -> Result<Vec<Tuple>, Unread>
-    ensures { IfOk result (λ v. v.items ≡ map (λ l. l.tuple) (filter (is_alive rev) (map lived_of spans.now))) }
+    ensures are { IfOk result (λ v. v.items ≡ map (λ l. l.tuple) (filter (is_alive rev) (map lived_of spans.now))) }
+    ensures fault { IfErr result (λ e. e ≡ Memory) }
 {
     let mut tuples = Vec::new(alloc);
     for span in spans {
@@ -119,18 +110,6 @@ pub(crate) fn tuples_at(alloc: Global, spans: &[LivedSpan], rev: u64) -> Result<
         }
     }
     Ok(tuples)
-}
-
-/// Whether the tuples are in order, each once.
-pub(crate) fn are_sorted(tuples: &[Tuple]) -> bool
-    ensures { IsTrue result → IsStrictlySortedBy tuple_cmp tuples.now }
-{
-    for i in 1..tuples.len() {
-        if !precedes(&tuples[i - 1], &tuples[i]) {
-            return false;
-        }
-    }
-    true
 }
 
 fn puts_in(events: &[Event]) -> usize
@@ -157,7 +136,7 @@ fn commit_rows(commit: &Commit<Config>) -> usize
 
 /// Whether so many tuples at the floor and the puts of the commits are within the limit.
 pub(crate) fn has_room(tuples: usize, commits: &[Commit<Config>]) -> bool
-    ensures { IsTrue result → tuples + rows_of commits.now ≤ max_rows }
+    ensures { result ≡ nat_le (tuples + rows_of commits.now) max_rows }
 {
     if MAX_ROWS < tuples {
         return false;

@@ -1,13 +1,15 @@
 //! The configurations, read.
-ghost use Rattle.std.specs.Prelude.{◌≡◌, ◌≤◌, ◌<◌, ◌⊎◌, true, map, length, IsTrue, IfOk, All};
+ghost use Rattle.std.specs.Prelude.{◌≡◌, ◌≤◌, ◌<◌, ◌⊎◌, ℕ, true, false, map, length, IsTrue, IfOk, IfErr, All};
 ghost use Rattle.std.specs.List.{AllAdjacentBelow};
 ghost use Rattle.std.specs.Option.{option_copied};
 ghost use Rattle.meaning.specs.Admits.{admits};
 ghost use Rattle.meaning.specs.Config.{empty_config};
 ghost use Rattle.store_core.specs.Stored.{dated_in};
-ghost use Rattle.store.specs.Written.{IsRevised, dated_of, config_at, config_up_to, is_alive};
+ghost use Rattle.store.specs.declared.lived.RevisedConfig.{RevisedConfig};
+ghost use Rattle.store.specs.Written.{IsSpan, IsRevised, Pairwise, are_distinct, dated_of, config_at, config_up_to, is_alive};
 ghost use Rattle.store.specs.Following.{Ascends, IsAdmitted, is_between};
 ghost use Rattle.store.specs.Reading.{lived_of, revised_of};
+ghost use Rattle.store.specs.Refused.{DeservedBy, IsOfConfig, AreConfigs, IsAdmittedTo};
 
 use crate::lived::{Head, LivedSpan, RevisedConfig};
 use crate::unread::Unread;
@@ -19,6 +21,7 @@ use store_core::StoredConfig;
 fn read_config(alloc: Global, newest: u64, stored: &StoredConfig) -> Result<RevisedConfig, Unread>
     ensures same { IfOk result (λ c. dated_of (revised_of c) ≡ dated_in stored.now) }
     ensures is { IfOk result (λ c. IsRevised newest (revised_of c)) }
+    ensures fault { IfErr result (DeservedBy (IsOfConfig newest stored.now)) }
 {
     let config = Config::from_json(alloc, stored.text.as_bytes())?;
     let text = config.to_json(alloc)?;
@@ -39,6 +42,7 @@ pub(crate) fn read_configs(
 ) -> Result<Vec<RevisedConfig>, Unread>
     ensures same { IfOk result (λ v. map dated_of (map revised_of v.items) ≡ map dated_in stored.now) }
     ensures are { IfOk result (λ v. All (λ c. IsRevised newest (revised_of c)) v.items) }
+    ensures fault { IfErr result (DeservedBy (All (IsOfConfig newest) stored.now)) }
 {
     let mut configs = Vec::new(alloc);
     for config in stored {
@@ -49,10 +53,12 @@ pub(crate) fn read_configs(
 
 /// Whether the revisions ascend, and all but the first are above the floor.
 pub(crate) fn are_ascending(floor: u64, configs: &[RevisedConfig]) -> bool
-    ensures { IsTrue result → AllAdjacentBelow (λ a b. Ascends floor (revised_of a) (revised_of b)) configs.now (length configs.now) }
+    ensures passes { IsTrue result → AllAdjacentBelow (λ a b. Ascends floor (revised_of a) (revised_of b)) configs.now (length configs.now) }
+    ensures refuses { result ≡ false → AllAdjacentBelow (λ (a b : RevisedConfig). a.rev ≤ b.rev) configs.now (length configs.now) → ¬ (Pairwise (are_distinct floor) (map revised_of configs.now)) }
 {
     for i in 1..configs.len() {
-        if configs[i].rev <= configs[i - 1].rev || configs[i].rev <= floor {
+        let rev = configs[i].rev;
+        if rev <= configs[i - 1].rev || rev <= floor {
             return false;
         }
     }
@@ -95,7 +101,7 @@ pub(crate) fn config_up_to<'a>(
 }
 
 fn admits(config: &Config, tuple: &Tuple) -> bool
-    ensures { IsTrue result → admits config.now tuple.now ≡ true }
+    ensures { result ≡ admits config.now tuple.now }
 {
     match config.admits(tuple) {
         Ok(()) => true,
@@ -110,7 +116,8 @@ fn is_between(span: &LivedSpan, from: u64, rev: u64) -> bool
 }
 
 fn later(a: u64, b: u64) -> u64
-    ensures { (result ≡ a) ⊎ (result ≡ b) }
+    ensures either { (result ≡ a) ⊎ (result ≡ b) }
+    ensures most { (a ≤ result) × (b ≤ result) }
 {
     if a < b { b } else { a }
 }
@@ -123,7 +130,8 @@ pub(crate) fn is_admitted(
     span: &LivedSpan,
 ) -> bool
     requires { empty.now ≡ empty_config }
-    ensures { IsTrue result → IsAdmitted floor (map revised_of configs.now) (lived_of span.now) }
+    ensures passes { IsTrue result → IsAdmitted floor (map revised_of configs.now) (lived_of span.now) }
+    ensures refuses { result ≡ false → (newest : ℕ) → AreConfigs floor newest (map revised_of configs.now) → IsSpan floor newest (lived_of span.now) → ¬ (IsAdmittedTo floor newest (map revised_of configs.now) (lived_of span.now)) }
 {
     let from = later(floor, span.added);
     if !admits(config_up_to(empty, configs, from), &span.tuple) {
@@ -145,7 +153,8 @@ pub(crate) fn are_admitted(
     spans: &[LivedSpan],
 ) -> bool
     requires { empty.now ≡ empty_config }
-    ensures { IsTrue result → All (λ s. IsAdmitted floor (map revised_of configs.now) (lived_of s)) spans.now }
+    ensures passes { IsTrue result → All (λ s. IsAdmitted floor (map revised_of configs.now) (lived_of s)) spans.now }
+    ensures refuses { result ≡ false → (newest : ℕ) → AreConfigs floor newest (map revised_of configs.now) → All (λ s. IsSpan floor newest (lived_of s)) spans.now → ¬ (All (λ s. IsAdmittedTo floor newest (map revised_of configs.now) (lived_of s)) spans.now) }
 {
     for span in spans {
         if !is_admitted(empty, configs, floor, span) {

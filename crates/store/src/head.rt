@@ -1,9 +1,10 @@
 //! The values of the state.
-ghost use Rattle.std.specs.Prelude.{◌≡◌, ◌<◌, map, length, IsTrue, IfSome, [], slice_index_or};
+ghost use Rattle.std.specs.Prelude.{◌≡◌, ◌<◌, ℕ, map, length, false, IsTrue, IfSome, None, [], slice_index_or};
 ghost use Rattle.store_core.specs.Stored.{entry_in};
 ghost use Rattle.store_core.specs.declared.stored.StoredEntry.{StoredEntry};
 ghost use Rattle.store.specs.Written.{entry, entries_of};
 ghost use Rattle.store.specs.Reading.{written_of, IsHead};
+ghost use Rattle.store.specs.Refused.{AreOfHead};
 
 use crate::lived::Head;
 use store_core::StoredEntry;
@@ -13,13 +14,15 @@ const MAX_REV: u64 = 1_000_000_000_000;
 const NUMBERS: u64 = 0x8000_0000_0000_0000;
 
 fn is_entry(stored: &StoredEntry, key: &str) -> bool
-    ensures { IsTrue result → entry_in stored.now ≡ entry key.now stored.now.value }
+    ensures passes { IsTrue result → entry_in stored.now ≡ entry key.now stored.now.value }
+    ensures refuses { result ≡ false → (value : ℕ) → ¬ (entry_in stored.now ≡ entry key.now value) }
 {
     stored.key.as_str() == key
 }
 
 fn is_within(head: Head) -> bool
-    ensures { IsTrue result → IsHead head }
+    ensures passes { IsTrue result → IsHead head }
+    ensures refuses { result ≡ false → ¬ (IsHead head) }
 {
     1 <= head.number && head.number < NUMBERS && head.floor <= head.newest && head.newest <= MAX_REV
 }
@@ -28,6 +31,7 @@ fn is_within(head: Head) -> bool
 pub(crate) fn read_head(entries: &[StoredEntry]) -> Option<Head>
     ensures entries { IfSome result (λ head. map entry_in entries.now ≡ entries_of (written_of head [] [])) }
     ensures within { IfSome result IsHead }
+    ensures refuses { result ≡ None → ¬ (AreOfHead entries.now) }
 {
     if entries.len() != 4 {
         return None;

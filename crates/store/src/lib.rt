@@ -21,4 +21,5 @@ mod texts;
 mod unread;
 
 pub use keeping::make_tables;
+pub use reading::read;
 pub use store::Store;

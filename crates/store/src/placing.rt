@@ -1,8 +1,9 @@
 //! The events of each revision above the floor.
-ghost use Rattle.std.specs.Prelude.{◌≡◌, ◌≤◌, ◌<◌, ◌≢◌, ◌+◌, ◌-◌, ◌==◌, ◌&&◌, ◌++◌, ◌∷◌, [], ℕ, not, map, length, IfOk, OnOk};
+ghost use Rattle.std.specs.Prelude.{◌≡◌, ◌≤◌, ◌<◌, ◌≢◌, ◌+◌, ◌-◌, ◌==◌, ◌&&◌, ◌++◌, ◌∷◌, [], ℕ, not, map, length, IfOk, IfErr, OnOk};
 ghost use Rattle.names.specs.declared.commit.Event.{Event};
 ghost use Rattle.store.specs.Moves.{moves, slot, event_if, put_of, del_of, goes_on};
 ghost use Rattle.store.specs.Reading.{lived_of};
+ghost use Rattle.store.specs.declared.unread.Unread.TheVariants.{Memory};
 
 use crate::lived::{Head, LivedSpan};
 use crate::unread::Unread;
@@ -13,6 +14,7 @@ use std::mem;
 fn no_events(alloc: Global, count: usize) -> Result<Vec<Vec<Event>>, Unread>
     ensures len { IfOk result (λ v. length v.items ≡ count) }
     ensures none { IfOk result (λ v. (k : ℕ) → slot v.items k ≡ []) }
+    ensures fault { IfErr result (λ e. e ≡ Memory) }
 {
     let mut slots = Vec::with_capacity(alloc, count)?;
     for i in 0..count {
@@ -22,7 +24,8 @@ fn no_events(alloc: Global, count: usize) -> Result<Vec<Vec<Event>>, Unread>
 }
 
 fn add(events: &mut Vec<Event>, event: Event) -> Result<(), Unread>
-    ensures { OnOk result (events.new.items ≡ events.old.items ++ event ∷ []) }
+    ensures pushed { OnOk result (events.new.items ≡ events.old.items ++ event ∷ []) }
+    ensures fault { IfErr result (λ e. e ≡ Memory) }
 {
     events.push(event)?;
     Ok(())
@@ -31,6 +34,7 @@ fn add(events: &mut Vec<Event>, event: Event) -> Result<(), Unread>
 fn push_at(slots: &mut Vec<Vec<Event>>, at: usize, event: Event) -> Result<(), Unread>
     ensures len { OnOk result (length slots.new.items ≡ length slots.old.items) }
     ensures placed { OnOk result ((k : ℕ) → k < length slots.old.items → slot slots.new.items k ≡ slot slots.old.items k ++ event_if (at == k) event) }
+    ensures fault { IfErr result (λ e. e ≡ Memory) }
 {
     if at < slots.len() {
         add(&mut slots[at], event)?;
@@ -55,6 +59,7 @@ fn place(
 ) -> Result<(), Unread>
     ensures len { OnOk result (length slots.new.items ≡ length slots.old.items) }
     ensures placed { OnOk result ((k : ℕ) → k < length slots.old.items → slot slots.new.items k ≡ slot slots.old.items k ++ event_if (rev == floor + (k + 1)) (record { tuple = tuple.now; kind = kind })) }
+    ensures fault { IfErr result (λ e. e ≡ Memory) }
 {
     if rev <= floor {
         return Ok(());
@@ -72,6 +77,7 @@ fn place_span(
 ) -> Result<(), Unread>
     ensures len { OnOk result (length slots.new.items ≡ length slots.old.items) }
     ensures placed { OnOk result ((k : ℕ) → k < length slots.old.items → slot slots.new.items k ≡ (slot slots.old.items k ++ event_if (span.now.added == floor + (k + 1)) (put_of (lived_of span.now))) ++ event_if ((span.now.removed == floor + (k + 1)) && not on) (del_of (lived_of span.now))) }
+    ensures fault { IfErr result (λ e. e ≡ Memory) }
 {
     place(slots, floor, span.added, &span.tuple, EventKind::Put)?;
     if on {
@@ -100,6 +106,7 @@ pub(crate) fn events_by_revision(
     requires { head.floor ≤ head.newest }
     ensures len { IfOk result (λ v. length v.items ≡ head.newest - head.floor) }
     ensures placed { IfOk result (λ v. (k : ℕ) → k < length v.items → slot v.items k ≡ moves (head.floor + (k + 1)) (map lived_of spans.now)) }
+    ensures fault { IfErr result (λ e. e ≡ Memory) }
 {
     let mut slots = no_events(alloc, (head.newest - head.floor) as usize)?;
     for i in 0..spans.len() {

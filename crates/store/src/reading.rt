@@ -1,15 +1,15 @@
 //! A store's history, read from its tables.
-ghost use Rattle.std.specs.Prelude.{◌≡◌, ◌≤◌, ◌<◌, ℕ, true, All, IsTrue, IfOk};
-ghost use Rattle.meaning.specs.TupleSet as set;
+ghost use Rattle.std.specs.Prelude.{◌≡◌, ◌≤◌, ◌<◌, ℕ, true, false, nat_le, All, IfOk, IfErr, IsTrue, Err};
 ghost use Rattle.meaning.specs.Verdict.{max_tuples};
-ghost use Rattle.rows.specs.Retained.{Retained, newest_of};
+ghost use Rattle.rows.specs.Retained.{Retained};
 ghost use Rattle.rows.specs.Loads.{retained_of, IsWithin};
 ghost use Rattle.store_core.specs.Tables.{Contents};
-ghost use Rattle.store_core.specs.Stored.{Loads};
+ghost use Rattle.store_core.specs.Stored.{Loads, IsInOrder};
 ghost use Rattle.store.specs.Written.{history_of, brings_one, IsRevised, IsSpan, IsSound, IsHistory};
-ghost use Rattle.store.specs.Reading.{lived_of, revised_of, written_of, IsHead, ArePlaced};
+ghost use Rattle.store.specs.Reading.{lived_of, revised_of, written_of, current, IsHead, ArePlaced};
+ghost use Rattle.store.specs.Refused.{DeservedBy, IsWholeAbove, AreListed, IsOfHistory};
 
-use crate::committing::{are_sorted, has_room, read_commits, tuples_at};
+use crate::committing::{has_room, read_commits, tuples_at};
 use crate::configs::{are_admitted, are_ascending, config_up_to, read_configs};
 use crate::head::read_head;
 use crate::lived::{Head, LivedSpan, RevisedConfig};
@@ -17,27 +17,30 @@ use crate::spans::{are_apart, read_spans};
 use crate::unread::Unread;
 use config::Config;
 use names::Items;
-use rows::{Loaded, Rows};
+use rows::Loaded;
 use std::alloc::Global;
 use store_core::Stored;
 use tables::TablesError;
 
-const MAX_TUPLES: u64 = 1_000_000;
+const MAX_TUPLES: usize = 1_000_000;
 
 // Whether the rows are enough for the revisions: each brings an event or a configuration.
 fn are_enough(head: Head, configs: &[RevisedConfig], spans: &[LivedSpan]) -> bool
-    requires { head.floor ≤ head.newest }
+    requires { IsHead head }
+    ensures { result ≡ false → ¬ (IsWholeAbove (written_of head spans.now configs.now)) }
 {
     let most = spans.len().saturating_mul(2).saturating_add(configs.len());
     head.newest - head.floor <= most as u64
 }
 
 fn are_placed(alloc: Global, head: Head, configs: &[RevisedConfig], spans: &[LivedSpan]) -> bool
-    ensures { IsTrue result → ArePlaced head configs.now spans.now }
+    ensures passes { IsTrue result → ArePlaced head configs.now spans.now }
+    ensures refuses { result ≡ false → AreListed configs.now spans.now → ¬ (IsSound (written_of head spans.now configs.now)) }
 {
-    are_apart(spans)
-        && are_ascending(head.floor, configs)
-        && are_admitted(&Config::empty(alloc), configs, head.floor, spans)
+    if !are_apart(spans) || !are_ascending(head.floor, configs) {
+        return false;
+    }
+    are_admitted(&Config::empty(alloc), configs, head.floor, spans)
 }
 
 fn build(
@@ -46,14 +49,17 @@ fn build(
     configs: &[RevisedConfig],
     spans: &[LivedSpan],
 ) -> Result<Loaded, Unread>
-    requires { IsHead head }
+    requires head { IsHead head }
+    requires spans { All (λ s. IsSpan head.floor head.newest (lived_of s)) spans.now }
+    requires placed { ArePlaced head configs.now spans.now }
     ensures same { IfOk result (λ l. retained_of l ≡ history_of (written_of head spans.now configs.now)) }
     ensures within { IfOk result IsWithin }
     ensures whole { IfOk result (λ l. (rev : ℕ) → head.floor < rev → rev ≤ head.newest → brings_one (written_of head spans.now configs.now) rev ≡ true) }
+    ensures fault { IfErr result (DeservedBy (IsSound (written_of head spans.now configs.now))) }
 {
     let tuples = tuples_at(alloc, spans, head.floor)?;
     let commits = read_commits(alloc, head, configs, spans)?;
-    if !are_sorted(&tuples) || !has_room(tuples.as_slice().len(), &commits) {
+    if !has_room(tuples.as_slice().len(), &commits) {
         return Err(Unread::Fault);
     }
     let config = config_up_to(&Config::empty(alloc), configs, head.floor).again(alloc)?;
@@ -66,13 +72,17 @@ fn build(
     })
 }
 
-// Whether the tuples of the newest revision are within the limit.
-fn is_small(alloc: Global, loaded: &Loaded) -> Result<bool, Unread>
-    requires { IsWithin loaded.now }
-    ensures { IfOk result (λ small. IsTrue small → set.len (newest_of (retained_of loaded.now)).held.tuples ≤ max_tuples) }
+// Whether the spans that have not ended are within the limit of tuples.
+fn is_small(spans: &[LivedSpan]) -> bool
+    ensures { result ≡ nat_le (current spans.now) max_tuples }
 {
-    let rows = Rows::new(alloc, loaded)?;
-    Ok(rows.counts().tuples <= MAX_TUPLES)
+    let mut current = 0;
+    for span in spans {
+        if span.removed == 0 {
+            current += 1;
+        }
+    }
+    current <= MAX_TUPLES
 }
 
 // The history of rows that each are what a row may be.
@@ -88,14 +98,15 @@ fn judge(
     ensures sound { IfOk result (λ l. IsSound (written_of head spans.now configs.now)) }
     ensures same { IfOk result (λ l. retained_of l ≡ history_of (written_of head spans.now configs.now)) }
     ensures within { IfOk result IsWithin }
+    ensures fault { IfErr result (DeservedBy (AreListed configs.now spans.now × IsSound (written_of head spans.now configs.now))) }
 {
-    if !are_enough(head, configs, spans) || !are_placed(alloc, head, configs, spans) {
+    if !are_enough(head, configs, spans)
+        || !are_placed(alloc, head, configs, spans)
+        || !is_small(spans)
+    {
         return Err(Unread::Fault);
     }
     let loaded = build(alloc, head, configs, spans)?;
-    if !is_small(alloc, &loaded)? {
-        return Err(Unread::Fault);
-    }
     Ok(loaded)
 }
 
@@ -103,6 +114,7 @@ fn read_rows(alloc: Global, stored: &Stored) -> Result<Loaded, Unread>
     ensures held { IfOk result (λ l. (h : Contents) → Loads h stored.now → IsHistory h (retained_of l)) }
     ensures same { IfOk result (λ l. (h : Contents) (r : Retained) → Loads h stored.now → IsHistory h r → retained_of l ≡ r) }
     ensures within { IfOk result IsWithin }
+    ensures fault { IfErr result (DeservedBy (IsOfHistory stored.now)) }
 {
     let Some(head) = read_head(stored.entries.as_slice()) else {
         return Err(Unread::Fault);
@@ -113,11 +125,13 @@ fn read_rows(alloc: Global, stored: &Stored) -> Result<Loaded, Unread>
     Ok(loaded)
 }
 
-/// What the tables held, as a history. Rows that are no history are a fault.
-pub(crate) fn read(alloc: Global, stored: &Stored) -> Result<Loaded, TablesError>
+/// The history that rows of the tables are. Rows that are no history are refused as a fault, and, where each list
+/// is in the order of [`Stored`], no others.
+pub fn read(alloc: Global, stored: &Stored) -> Result<Loaded, TablesError>
     ensures held { IfOk result (λ l. (h : Contents) → Loads h stored.now → IsHistory h (retained_of l)) }
     ensures same { IfOk result (λ l. (h : Contents) (r : Retained) → Loads h stored.now → IsHistory h r → retained_of l ≡ r) }
     ensures within { IfOk result IsWithin }
+    ensures fault { result ≡ Err TablesError.Fault → IsInOrder stored.now → (h : Contents) (r : Retained) → Loads h stored.now → ¬ (IsHistory h r) }
 {
     match read_rows(alloc, stored) {
         Ok(loaded) => Ok(loaded),

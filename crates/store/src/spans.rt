@@ -1,11 +1,12 @@
 //! The spans of tuples, read.
-ghost use Rattle.std.specs.Prelude.{◌≡◌, ◌⊎◌, ◌<◌, ◌≤◌, map, length, IsTrue, IfOk, All, IsPermutation};
+ghost use Rattle.std.specs.Prelude.{◌≡◌, ◌⊎◌, ◌<◌, ◌≤◌, ℕ, false, map, length, IsTrue, IfOk, IfErr, All, IsPermutation};
 ghost use Rattle.std.specs.List.{AllAdjacentBelow};
 ghost use Rattle.names.specs.Spelling.{IsTuple};
 ghost use Rattle.store_core.specs.Stored.{span_in};
 ghost use Rattle.store.specs.Written.{IsSpan, span_of, are_apart, Pairwise};
 ghost use Rattle.store.specs.Following.{Precedes};
 ghost use Rattle.store.specs.Reading.{lived_of, Spells};
+ghost use Rattle.store.specs.Refused.{DeservedBy, IsOfTuple, IsOfSpan, IsListed};
 
 use crate::lived::{Head, LivedSpan};
 use crate::unread::Unread;
@@ -17,6 +18,7 @@ use store_core::{StoredSpan, TupleText};
 fn read_tuple(alloc: Global, text: &TupleText) -> Result<Tuple, Unread>
     ensures same { IfOk result (Spells text.now) }
     ensures is { IfOk result IsTuple }
+    ensures fault { IfErr result (DeservedBy (IsOfTuple text.now)) }
 {
     let namespace = Name::parse(alloc, text.namespace.as_str())?;
     let id = ObjectId::parse(alloc, text.object.as_str())?;
@@ -31,6 +33,7 @@ fn is_span(head: Head, added: u64, removed: u64) -> bool
     ensures begins { IsTrue result → 0 < added }
     ensures begun { IsTrue result → added ≤ head.newest }
     ensures ends { IsTrue result → (removed ≡ 0) ⊎ ((added < removed) × (head.floor < removed) × (removed ≤ head.newest)) }
+    ensures refuses { result ≡ false → 0 < added → added ≤ head.newest → ¬ ((removed ≡ 0) ⊎ ((added < removed) × (head.floor < removed) × (removed ≤ head.newest))) }
 {
     if added == 0 || head.newest < added {
         return false;
@@ -41,6 +44,7 @@ fn is_span(head: Head, added: u64, removed: u64) -> bool
 fn read_span(alloc: Global, head: Head, stored: &StoredSpan) -> Result<LivedSpan, Unread>
     ensures same { IfOk result (λ s. span_of (lived_of s) ≡ span_in stored.now) }
     ensures is { IfOk result (λ s. IsSpan head.floor head.newest (lived_of s)) }
+    ensures fault { IfErr result (DeservedBy (IsOfSpan head.floor head.newest stored.now)) }
 {
     if !is_span(head, stored.added, stored.removed) {
         return Err(Unread::Fault);
@@ -56,6 +60,7 @@ fn read_span(alloc: Global, head: Head, stored: &StoredSpan) -> Result<LivedSpan
 fn read_each(alloc: Global, head: Head, stored: &[StoredSpan]) -> Result<Vec<LivedSpan>, Unread>
     ensures same { IfOk result (λ v. map span_of (map lived_of v.items) ≡ map span_in stored.now) }
     ensures are { IfOk result (λ v. All (λ s. IsSpan head.floor head.newest (lived_of s)) v.items) }
+    ensures fault { IfErr result (DeservedBy (All (IsOfSpan head.floor head.newest) stored.now)) }
 {
     let mut spans = Vec::new(alloc);
     for span in stored {
@@ -72,6 +77,8 @@ pub(crate) fn read_spans(
 ) -> Result<Vec<LivedSpan>, Unread>
     ensures same { IfOk result (λ v. IsPermutation (map span_in stored.now) (map span_of (map lived_of v.items))) }
     ensures are { IfOk result (λ v. All (λ s. IsSpan head.floor head.newest (lived_of s)) v.items) }
+    ensures listed { IfOk result (λ v. AllAdjacentBelow (λ a b. IsListed (lived_of a) (lived_of b)) v.items (length v.items)) }
+    ensures fault { IfErr result (DeservedBy (All (IsOfSpan head.floor head.newest) stored.now)) }
 {
     let mut spans = read_each(alloc, head, stored)?;
     spans.sort_unstable();
@@ -79,7 +86,8 @@ pub(crate) fn read_spans(
 }
 
 fn precedes(a: &LivedSpan, b: &LivedSpan) -> bool
-    ensures { IsTrue result → Precedes (lived_of a.now) (lived_of b.now) }
+    ensures passes { IsTrue result → Precedes (lived_of a.now) (lived_of b.now) }
+    ensures refuses { result ≡ false → ¬ (Precedes (lived_of a.now) (lived_of b.now)) }
 {
     match a.tuple.cmp(&b.tuple) {
         Ordering::Less => true,
@@ -90,7 +98,8 @@ fn precedes(a: &LivedSpan, b: &LivedSpan) -> bool
 
 /// Whether no two spans of one tuple overlap. Spans in their order are enough.
 pub(crate) fn are_apart(spans: &[LivedSpan]) -> bool
-    ensures { IsTrue result → AllAdjacentBelow (λ a b. Precedes (lived_of a) (lived_of b)) spans.now (length spans.now) }
+    ensures passes { IsTrue result → AllAdjacentBelow (λ a b. Precedes (lived_of a) (lived_of b)) spans.now (length spans.now) }
+    ensures refuses { result ≡ false → AllAdjacentBelow (λ a b. IsListed (lived_of a) (lived_of b)) spans.now (length spans.now) → (floor newest : ℕ) → All (IsSpan floor newest) (map lived_of spans.now) → ¬ (Pairwise are_apart (map lived_of spans.now)) }
 {
     for i in 1..spans.len() {
         if !precedes(&spans[i - 1], &spans[i]) {

@@ -1,7 +1,7 @@
 use Rattle.std.proofs.Common.{◌≡◌, ◌<◌, ◌-◌, ℕ, List, length, take, suc, ap, sym, ◌∙◌, arith}
 use Rattle.rows.specs.declared.dated.Dated.{Dated}
 use Rattle.rows.specs.Kept.{config_from}
-use Rattle.rows.proofs.MarkRuns.{config_counts, config_late}
+use Rattle.rows.proofs.Dating.{config_counts, config_late}
 use Rattle.rows.proofs.dated.config_up_to.Goals as goal
 
 pub returns-then-dated-rev : goal.returns-then-dated-rev

@@ -6,7 +6,7 @@ use Rattle.store.specs.Moves.{IsCommit}
 use Rattle.store.proofs.Moving.{config_is}
 use Rattle.store.proofs.committing.config_commit.Goals as goal
 
-pub returns : goal.returns
-returns c = λ rev spans e.
+pub returns-clause-is : goal.returns-clause-is
+returns-clause-is c = λ rev spans e.
     let Q : Configured → Type 0 = λ g. IsCommit rev spans (Some c.args.config.now) (kinds.Config g) in
     subst Q (sym c.in_ok-again.ensures) (config_is c.args.config.now c.args.events.now c.if-events-ne0.false rev spans e)

@@ -1,8 +1,15 @@
-use Rattle.std.proofs.Common.{◌<◌, ◌++◌, ◌∷◌, [], List, ℕ, length, map, ap, sym, ◌∙◌, arith}
+use Rattle.std.proofs.Common.{◌<◌, ◌+◌, ◌++◌, ◌∷◌, [], List, ℕ, length, map, ap, sym, subst, ◌∙◌, arith}
+use Rattle.std.specs.List.Sorted.{IsStrictlySortedBy}
+use Rattle.std.proofs.lemmas.List.Elements.{All-map}
+use Rattle.names.specs.Order.{tuple_cmp}
 use Rattle.names.specs.declared.commit.Commit.{Commit}
+use Rattle.names.specs.declared.commit.Event.{Event}
 use Rattle.meaning.specs.Config.{Configured}
-use Rattle.store.specs.Written.{commits_above}
+use Rattle.store.specs.Written.{IsSpan, commits_above}
+use Rattle.store.specs.Moves.{tuples_in}
 use Rattle.store.specs.Reading.{written_of, lived_of}
+use Rattle.store.proofs.Apart.{in_turn}
+use Rattle.store.proofs.Sequence.{moves_sorted}
 use Rattle.store.proofs.CommitRuns.{one_more, whole_more, differs}
 use Rattle.store.proofs.committing.read_commits.Goals as goal
 
@@ -13,7 +20,7 @@ loop-i-preserved c =
     let floor = c.args.head.floor in
     let before : i < length c.loop-i.slots.items = omega (arith, c.loop-i-test.true, c.loop-i.invariant.len) in
     let P : ℕ → Type 0 = λ n. n < length c.loop-i.slots.items in
-    let one = c.in_ok-commit_at.ensures (map lived_of c.args.spans.now) (c.take_events-events.ensures.taken ∙ c.loop-i.invariant.left i (omega arith) before) in
+    let one = c.in_ok-commit_at.ensures.is (map lived_of c.args.spans.now) (c.take_events-events.ensures.taken ∙ c.loop-i.invariant.left i (omega arith) before) in
     record {
       commits =
           c.in_ok-push.ensures.items
@@ -24,3 +31,13 @@ loop-i-preserved c =
       len = c.take_events-events.ensures.len ∙ c.loop-i.invariant.len;
       left = λ k le lt. c.take_events-events.ensures.rest k (differs k i le) ∙ c.loop-i.invariant.left k (omega (arith, le)) (omega (arith, lt, c.take_events-events.ensures.len));
     }
+
+pub commit_at-requires : goal.commit_at-requires
+commit_at-requires c =
+    let i = c.loop-i.i in
+    let before : i < length c.loop-i.slots.items = omega (arith, c.loop-i-test.true, c.loop-i.invariant.len) in
+    let P : List Event → Type 0 = λ es. IsStrictlySortedBy tuple_cmp (tuples_in es) in
+    subst P (sym (c.take_events-events.ensures.taken ∙ c.loop-i.invariant.left i (omega arith) before))
+    (moves_sorted c.args.head.floor c.args.head.newest (c.args.head.floor + (i + 1)) (omega arith) (map lived_of c.args.spans.now)
+    (in_turn lived_of c.args.head.floor c.args.head.newest c.args.spans.now c.requires.apart c.requires.spans)
+    (All-map (IsSpan c.args.head.floor c.args.head.newest) lived_of c.args.spans.now c.requires.spans))

@@ -1,21 +1,29 @@
-use Rattle.std.proofs.Common.{◌+◌, ◌-◌, ◌≤◌, List, length, ap, sym, subst, ◌∙◌, refl, arith}
+use Rattle.std.proofs.Common.{◌+◌, ◌-◌, ◌≤◌, List, length, map, ap, sym, subst, ◌∙◌, arith}
 use Rattle.std.specs.List.Sorted.{IsStrictlySortedBy}
 use Rattle.names.specs.Order.{tuple_cmp}
 use Rattle.names.specs.declared.tuple.Tuple.{Tuple}
 use Rattle.meaning.specs.History.{rows_of}
 use Rattle.meaning.specs.Verdict.{max_rev, max_rows}
-use Rattle.store.specs.Reading.{written_of}
-use Rattle.store.proofs.Sound.{within}
+use Rattle.std.proofs.lemmas.Bool.{leb-true, leb-false}
+use Rattle.store.specs.Reading.{lived_of, written_of}
+use Rattle.store.proofs.Sound.{within, room_refused}
+use Rattle.store.proofs.Apart.{in_turn}
+use Rattle.store.proofs.Sequence.{alive_sorted}
 use Rattle.store.proofs.reading.build.Goals as goal
 
 pub returns-clause-within : goal.returns-clause-within
 returns-clause-within c =
     let P : List Tuple → Type 0 = λ ts. IsStrictlySortedBy tuple_cmp ts in
     let tuples = ap length (c.of.ensures ∙ sym c.as_slice.ensures.value) in
-    let commits = ap rows_of (c.of-2.ensures ∙ sym c.deref-else-not-are_sorted.ensures.value) in
-    let room = c.if-not-has_room.ensures refl in
-    let revs : c.args.head.floor + (c.args.head.newest - c.args.head.floor) ≤ max_rev = omega (arith, c.requires.order, c.requires.revs) in
+    let commits = ap rows_of (c.of-2.ensures ∙ sym c.deref.ensures.value) in
+    let room = leb-true _ max_rows (sym c.if-not-has_room.ensures) in
+    let revs : c.args.head.floor + (c.args.head.newest - c.args.head.floor) ≤ max_rev = omega (arith, c.requires.head.order, c.requires.head.revs) in
     let rows : length c.of.result + rows_of c.of-2.result ≤ max_rows = omega (arith, tuples, commits, room) in
     within _ (written_of c.args.head c.args.spans.now c.args.configs.now) (c.args.head.newest - c.args.head.floor)
-    (subst P (c.deref.ensures.value ∙ sym c.of.ensures) (c.if-not-are_sorted.ensures refl))
+    (subst P (sym (c.of.ensures ∙ c.in_ok-tuples.ensures.are)) (alive_sorted c.args.head.floor (map lived_of c.args.spans.now) (in_turn lived_of c.args.head.floor c.args.head.newest c.args.spans.now c.requires.placed.apart c.requires.spans)))
     (c.of-2.ensures ∙ c.in_ok-commits.ensures.commits) revs rows
+
+pub returns-then-not-has_room-clause-fault : goal.returns-then-not-has_room-clause-fault
+returns-then-not-has_room-clause-fault c = λ sound.
+    room_refused (written_of c.args.head c.args.spans.now c.args.configs.now) c.as_slice.result.now c.deref.result.now (c.as_slice.ensures.value ∙ c.in_ok-tuples.ensures.are) (c.deref.ensures.value ∙ c.in_ok-commits.ensures.commits)
+    (leb-false _ max_rows (sym c.if-not-has_room.ensures)) sound

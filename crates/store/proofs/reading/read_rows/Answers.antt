@@ -1,11 +1,16 @@
-use Rattle.std.proofs.Common.{List, map, ap, sym, subst, ◌∙◌}
-use Rattle.std.specs.Prelude.{IsPermutation}
+use Rattle.std.proofs.Common.{List, length, map, ap, sym, subst, ◌∙◌, refl}
+use Rattle.std.specs.Prelude.{All, IsPermutation}
+use Rattle.std.specs.List.{AllAdjacentBelow}
+use Rattle.std.proofs.lemmas.Result.{err_from_is_err_and}
 use Rattle.rows.specs.Loads.{retained_of}
 use Rattle.store_core.specs.Stored.{span_in}
-use Rattle.store.specs.Written.{span_of, dated_of}
-use Rattle.store.specs.Reading.{lived_of, revised_of}
+use Rattle.store.specs.Written.{IsSpan, IsRevised, IsSound, span_of, dated_of}
+use Rattle.store.specs.Reading.{lived_of, revised_of, written_of}
+use Rattle.store.specs.Refused.{IsOfSpan, IsOfConfig, IsListed, AreListed, IsOfHistory}
 use Rattle.store.specs.declared.lived.LivedSpan.{LivedSpan}
 use Rattle.store.specs.declared.lived.RevisedConfig.{RevisedConfig}
+use Rattle.store.proofs.Deserving.{deserved}
+use Rattle.store.proofs.Transfer.{head_of, configs_of, rows_of, judged_of}
 use Rattle.store.proofs.Sound.{history, one_history}
 use Rattle.store.proofs.reading.read_rows.Goals as goal
 
@@ -21,3 +26,35 @@ returns-clause-held c = λ h loads.
 
 pub returns-clause-same : goal.returns-clause-same
 returns-clause-same c = λ h r loads is. one_history h (retained_of c.in_ok-loaded.loaded) r (returns-clause-held c h loads) is
+
+pub returns-in_default-clause-fault : goal.returns-in_default-clause-fault
+returns-in_default-clause-fault c = λ is. c.in_default.ensures.refuses refl (head_of c.args.stored.now c.as_slice.result.now c.as_slice.ensures.value is)
+
+pub returns-in_err-configs-clause-fault : goal.returns-in_err-configs-clause-fault
+returns-in_err-configs-clause-fault c =
+    let p = err_from_is_err_and c.from_residual.result c.from_residual.ensures.1 in
+    rw (p.1, p.2) (deserved (All (IsOfConfig c.in-Some.head.newest) c.as_slice-2.result.now) (IsOfHistory c.args.stored.now) _
+    (configs_of c.args.stored.now c.as_slice.result.now c.as_slice.ensures.value c.in-Some.head c.in-Some.ensures.entries c.as_slice-2.result.now c.as_slice-2.ensures.value) c.in_err-configs.ensures.fault)
+
+pub returns-in_err-spans-clause-fault : goal.returns-in_err-spans-clause-fault
+returns-in_err-spans-clause-fault c =
+    let p = err_from_is_err_and c.from_residual-in_err-spans.result c.from_residual-in_err-spans.ensures.1 in
+    rw (p.1, p.2) (deserved (All (IsOfSpan c.in-Some.head.floor c.in-Some.head.newest) c.as_slice-3.result.now) (IsOfHistory c.args.stored.now) _
+    (rows_of c.args.stored.now c.as_slice.result.now c.as_slice.ensures.value c.in-Some.head c.in-Some.ensures.entries c.as_slice-3.result.now c.as_slice-3.ensures.value) c.in_err-spans.ensures.fault)
+
+pub returns-in_err-loaded-clause-fault : goal.returns-in_err-loaded-clause-fault
+returns-in_err-loaded-clause-fault c =
+    let p = err_from_is_err_and c.from_residual-in_err-loaded.result c.from_residual-in_err-loaded.ensures.1 in
+    let head = c.in-Some.head in
+    let P : List LivedSpan → Type 0 = λ l. IsPermutation (map span_in c.as_slice-3.result.now) (map span_of (map lived_of l)) in
+    let L : List LivedSpan → Type 0 = λ l. AllAdjacentBelow (λ a b. IsListed (lived_of a) (lived_of b)) l (length l) in
+    let S : List LivedSpan → Type 0 = All (λ l. IsSpan head.floor head.newest (lived_of l)) in
+    let C : List RevisedConfig → Type 0 = All (λ r. IsRevised head.newest (revised_of r)) in
+    let spans_are = sym c.deref-2.ensures.value in
+    let configs_are = c.deref.ensures.value in
+    rw (p.1, p.2) (deserved (AreListed c.deref.result.now c.deref-2.result.now × IsSound (written_of head c.deref-2.result.now c.deref.result.now)) (IsOfHistory c.args.stored.now) _
+    (judged_of c.args.stored.now c.as_slice.result.now c.as_slice.ensures.value head c.in-Some.ensures.entries c.as_slice-2.result.now c.as_slice-3.result.now c.as_slice-2.ensures.value c.as_slice-3.ensures.value
+    c.deref-2.result.now c.deref.result.now
+    (ap (λ (l : List RevisedConfig). map dated_of (map revised_of l)) configs_are ∙ c.in_ok-configs.ensures.same)
+    (subst P spans_are c.in_ok-spans.ensures.same) (subst S spans_are c.in_ok-spans.ensures.are) (subst C (sym configs_are) c.in_ok-configs.ensures.are) (subst L spans_are c.in_ok-spans.ensures.listed))
+    c.in_err-loaded.ensures.fault)

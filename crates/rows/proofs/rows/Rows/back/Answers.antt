@@ -6,13 +6,15 @@ use Rattle.names.specs.declared.commit.Commit.TheVariants as kinds
 use Rattle.meaning.specs.TupleSet as set
 use Rattle.meaning.specs.Config.{Configured}
 use Rattle.meaning.specs.History.{History, replay, after_commits}
-use Rattle.rows.specs.declared.mark.Mark.{Mark}
+use Rattle.rows_core.specs.declared.mark.Mark.{Mark}
 use Rattle.rows.specs.declared.dated.Dated.{Dated}
 use Rattle.rows.specs.declared.loaded.Counts.{Counts}
 use Rattle.rows.specs.Retained.{Retained, newest, with_commit, without_newest}
-use Rattle.rows.specs.Kept.{marks_after, base_marks, base_tuples, retained, IsKept, AreMarks, GoesOn, Changes}
+use Rattle.rows_core.specs.Marks.{marks_after, base_marks, base_tuples, AreMarks, GoesOn, Changes}
+use Rattle.rows.specs.Kept.{retained, IsKept}
 use Rattle.meaning.specs.Snap.{Snap}
-use Rattle.rows.proofs.Committing.{kept_back, kept_back_config, kept_as, retained_is, marks_before, before_these, tuples_within, rows_push, after_push, last_off}
+use Rattle.rows_core.proofs.Settling.{after_push}
+use Rattle.rows.proofs.Committing.{kept_back, kept_back_config, kept_as, retained_is, marks_before, before_these, tuples_within, rows_push, last_off}
 use Rattle.rows.proofs.rows.Rows.back.Goals as goal
 
 pub puts_in-requires : goal.puts_in-requires
@@ -20,8 +22,8 @@ puts_in-requires c =
     let s = c.self.inside in
     let h : History = c.pop.new.self.items in
     let r : Retained = record { number = s.number; floor = s.floor; base = record { config = s.config; tuples = base_tuples s.tuples }; commits = h } in
-    let es : List Event = c.as_slice-events.result.now in
-    let split : s.commits.items ≡ h ++ kinds.Tuples es ∷ [] = c.in-Some.ensures.items ∙ ap (λ (x : Commit Configured). h ++ x ∷ []) (c.in-Tuples.is ∙ ap (λ (x : List Event). kinds.Tuples x) (sym c.as_slice-events.ensures)) in
+    let es : List Event = c.in-Some-events.events.now in
+    let split : s.commits.items ≡ h ++ kinds.Tuples es ∷ [] = c.in-Some.ensures.items ∙ ap (λ (x : Commit Configured). h ++ x ∷ []) c.in-Some-events.ensures.some in
     let old : IsKept (with_commit r (kinds.Tuples es)) s.tuples s.configs.items s.counts =
     subst (λ (x : History). IsKept (retained s.number s.floor s.config s.tuples x) s.tuples s.configs.items s.counts) split c.self.invariant in
     let rows = old.rows in
@@ -34,14 +36,14 @@ overflow_sub-self c =
     let s = c.self.inside in
     let h : History = c.pop.new.self.items in
     let r : Retained = record { number = s.number; floor = s.floor; base = record { config = s.config; tuples = base_tuples s.tuples }; commits = h } in
-    let es : List Event = c.as_slice-events.result.now in
-    let split : s.commits.items ≡ h ++ kinds.Tuples es ∷ [] = c.in-Some.ensures.items ∙ ap (λ (x : Commit Configured). h ++ x ∷ []) (c.in-Tuples.is ∙ ap (λ (x : List Event). kinds.Tuples x) (sym c.as_slice-events.ensures)) in
+    let es : List Event = c.in-Some-events.events.now in
+    let split : s.commits.items ≡ h ++ kinds.Tuples es ∷ [] = c.in-Some.ensures.items ∙ ap (λ (x : Commit Configured). h ++ x ∷ []) c.in-Some-events.ensures.some in
     let old : IsKept (with_commit r (kinds.Tuples es)) s.tuples s.configs.items s.counts =
     subst (λ (x : History). IsKept (retained s.number s.floor s.config s.tuples x) s.tuples s.configs.items s.counts) split c.self.invariant in
     let rows = old.rows in
     let few = old.few in
     let more = rows_push h (kinds.Tuples es) in
-    let puts = c.puts_in.ensures in
+    let puts = c.puts_in.ensures.puts in
     omega (arith, rows, more, puts)
 
 pub overflow_add-self : goal.overflow_add-self
@@ -49,8 +51,8 @@ overflow_add-self c =
     let s = c.self.inside in
     let h : History = c.pop.new.self.items in
     let r : Retained = record { number = s.number; floor = s.floor; base = record { config = s.config; tuples = base_tuples s.tuples }; commits = h } in
-    let es : List Event = c.as_slice-events.result.now in
-    let split : s.commits.items ≡ h ++ kinds.Tuples es ∷ [] = c.in-Some.ensures.items ∙ ap (λ (x : Commit Configured). h ++ x ∷ []) (c.in-Tuples.is ∙ ap (λ (x : List Event). kinds.Tuples x) (sym c.as_slice-events.ensures)) in
+    let es : List Event = c.in-Some-events.events.now in
+    let split : s.commits.items ≡ h ++ kinds.Tuples es ∷ [] = c.in-Some.ensures.items ∙ ap (λ (x : Commit Configured). h ++ x ∷ []) c.in-Some-events.ensures.some in
     let old : IsKept (with_commit r (kinds.Tuples es)) s.tuples s.configs.items s.counts =
     subst (λ (x : History). IsKept (retained s.number s.floor s.config s.tuples x) s.tuples s.configs.items s.counts) split c.self.invariant in
     let rows = old.rows in
@@ -59,71 +61,73 @@ overflow_add-self c =
     let within = tuples_within r.base (h ++ kinds.Tuples es ∷ []) in
     let tuples = old.tuples in
     let gone = c.undo-change.ensures.gone in
-    omega (arith, within, tuples, few, gone)
+    let in_memory = c.puts_in.ensures.in_memory in
+    omega (arith, within, tuples, few, gone, in_memory)
 
-pub overflow_sub-self-in-Tuples : goal.overflow_sub-self-in-Tuples
-overflow_sub-self-in-Tuples c =
+pub overflow_sub-self-in-Some-events : goal.overflow_sub-self-in-Some-events
+overflow_sub-self-in-Some-events c =
     let s = c.self.inside in
     let h : History = c.pop.new.self.items in
     let r : Retained = record { number = s.number; floor = s.floor; base = record { config = s.config; tuples = base_tuples s.tuples }; commits = h } in
-    let es : List Event = c.as_slice-events.result.now in
-    let split : s.commits.items ≡ h ++ kinds.Tuples es ∷ [] = c.in-Some.ensures.items ∙ ap (λ (x : Commit Configured). h ++ x ∷ []) (c.in-Tuples.is ∙ ap (λ (x : List Event). kinds.Tuples x) (sym c.as_slice-events.ensures)) in
+    let es : List Event = c.in-Some-events.events.now in
+    let split : s.commits.items ≡ h ++ kinds.Tuples es ∷ [] = c.in-Some.ensures.items ∙ ap (λ (x : Commit Configured). h ++ x ∷ []) c.in-Some-events.ensures.some in
     let old : IsKept (with_commit r (kinds.Tuples es)) s.tuples s.configs.items s.counts =
     subst (λ (x : History). IsKept (retained s.number s.floor s.config s.tuples x) s.tuples s.configs.items s.counts) split c.self.invariant in
     let before : Tuple → List Mark = λ q. base_marks (set.contains r.base.tuples q) ++ marks_after r.floor r.commits q in
     let goes : GoesOn before s.tuples (newest r + 1) es = marks_before r s.tuples (kinds.Tuples es) old.marks in
-    let marks : AreMarks c.undo-change.new.map r.base.tuples r.floor r.commits = c.undo-change.ensures.marks before (newest r + 1) goes in
+    let marks : AreMarks c.undo-change.new.self r.base.tuples r.floor r.commits = c.undo-change.ensures.marks before (newest r + 1) goes in
     let changes : Changes before es c.undo-change.result = c.undo-change.ensures.change before (newest r + 1) goes in
     let tuples : s.counts.tuples ≡ set.len (replay (after_commits r.base h).tuples es) = old.tuples ∙ ap (λ (x : Snap). set.len x.tuples) (after_push r.base h (kinds.Tuples es)) in
     let left = changes (after_commits r.base r.commits).tuples (before_these r) in
     omega (arith, left, tuples)
 
-pub invariant_of-self-in-Tuples : goal.invariant_of-self-in-Tuples
-invariant_of-self-in-Tuples c =
+pub invariant_of-self-in-Some-events : goal.invariant_of-self-in-Some-events
+invariant_of-self-in-Some-events c =
     let s = c.self.inside in
     let h : History = c.pop.new.self.items in
     let r : Retained = record { number = s.number; floor = s.floor; base = record { config = s.config; tuples = base_tuples s.tuples }; commits = h } in
-    let es : List Event = c.as_slice-events.result.now in
-    let split : s.commits.items ≡ h ++ kinds.Tuples es ∷ [] = c.in-Some.ensures.items ∙ ap (λ (x : Commit Configured). h ++ x ∷ []) (c.in-Tuples.is ∙ ap (λ (x : List Event). kinds.Tuples x) (sym c.as_slice-events.ensures)) in
+    let es : List Event = c.in-Some-events.events.now in
+    let split : s.commits.items ≡ h ++ kinds.Tuples es ∷ [] = c.in-Some.ensures.items ∙ ap (λ (x : Commit Configured). h ++ x ∷ []) c.in-Some-events.ensures.some in
     let old : IsKept (with_commit r (kinds.Tuples es)) s.tuples s.configs.items s.counts =
     subst (λ (x : History). IsKept (retained s.number s.floor s.config s.tuples x) s.tuples s.configs.items s.counts) split c.self.invariant in
     let before : Tuple → List Mark = λ q. base_marks (set.contains r.base.tuples q) ++ marks_after r.floor r.commits q in
     let goes : GoesOn before s.tuples (newest r + 1) es = marks_before r s.tuples (kinds.Tuples es) old.marks in
-    let marks : AreMarks c.undo-change.new.map r.base.tuples r.floor r.commits = c.undo-change.ensures.marks before (newest r + 1) goes in
+    let marks : AreMarks c.undo-change.new.self r.base.tuples r.floor r.commits = c.undo-change.ensures.marks before (newest r + 1) goes in
     let changes : Changes before es c.undo-change.result = c.undo-change.ensures.change before (newest r + 1) goes in
     let counts : Counts = record { rows = s.counts.rows - c.puts_in.result; tuples = s.counts.tuples + c.undo-change.result.gone - c.undo-change.result.come } in
-    let kept : IsKept r c.undo-change.new.map s.configs.items counts =
-    kept_back r s.tuples c.undo-change.new.map s.configs.items s.counts counts es c.undo-change.result old marks changes (ap (λ (n : ℕ). s.counts.rows - n) c.puts_in.ensures) refl in
-    kept_as s.number s.floor s.config c.undo-change.new.map r.base.tuples h s.configs.items counts kept
+    let kept : IsKept r c.undo-change.new.self s.configs.items counts =
+    kept_back r s.tuples c.undo-change.new.self s.configs.items s.counts counts es c.undo-change.result old marks changes (ap (λ (n : ℕ). s.counts.rows - n) c.puts_in.ensures.puts) refl in
+    kept_as s.number s.floor s.config c.undo-change.new.self r.base.tuples h s.configs.items counts kept
 
-pub returns-in-Tuples : goal.returns-in-Tuples
-returns-in-Tuples c =
+pub returns-in-Some-events : goal.returns-in-Some-events
+returns-in-Some-events c =
     let s = c.self.inside in
     let h : History = c.pop.new.self.items in
     let r : Retained = record { number = s.number; floor = s.floor; base = record { config = s.config; tuples = base_tuples s.tuples }; commits = h } in
-    let es : List Event = c.as_slice-events.result.now in
-    let split : s.commits.items ≡ h ++ kinds.Tuples es ∷ [] = c.in-Some.ensures.items ∙ ap (λ (x : Commit Configured). h ++ x ∷ []) (c.in-Tuples.is ∙ ap (λ (x : List Event). kinds.Tuples x) (sym c.as_slice-events.ensures)) in
+    let es : List Event = c.in-Some-events.events.now in
+    let split : s.commits.items ≡ h ++ kinds.Tuples es ∷ [] = c.in-Some.ensures.items ∙ ap (λ (x : Commit Configured). h ++ x ∷ []) c.in-Some-events.ensures.some in
     let old : IsKept (with_commit r (kinds.Tuples es)) s.tuples s.configs.items s.counts =
     subst (λ (x : History). IsKept (retained s.number s.floor s.config s.tuples x) s.tuples s.configs.items s.counts) split c.self.invariant in
     let before : Tuple → List Mark = λ q. base_marks (set.contains r.base.tuples q) ++ marks_after r.floor r.commits q in
     let goes : GoesOn before s.tuples (newest r + 1) es = marks_before r s.tuples (kinds.Tuples es) old.marks in
-    let marks : AreMarks c.undo-change.new.map r.base.tuples r.floor r.commits = c.undo-change.ensures.marks before (newest r + 1) goes in
+    let marks : AreMarks c.undo-change.new.self r.base.tuples r.floor r.commits = c.undo-change.ensures.marks before (newest r + 1) goes in
     let changes : Changes before es c.undo-change.result = c.undo-change.ensures.change before (newest r + 1) goes in
     let counts : Counts = record { rows = s.counts.rows - c.puts_in.result; tuples = s.counts.tuples + c.undo-change.result.gone - c.undo-change.result.come } in
-    let kept : IsKept r c.undo-change.new.map s.configs.items counts =
-    kept_back r s.tuples c.undo-change.new.map s.configs.items s.counts counts es c.undo-change.result old marks changes (ap (λ (n : ℕ). s.counts.rows - n) c.puts_in.ensures) refl in
-    retained_is s.number s.floor s.config c.undo-change.new.map r.base.tuples h kept.marks
+    let kept : IsKept r c.undo-change.new.self s.configs.items counts =
+    kept_back r s.tuples c.undo-change.new.self s.configs.items s.counts counts es c.undo-change.result old marks changes (ap (λ (n : ℕ). s.counts.rows - n) c.puts_in.ensures.puts) refl in
+    retained_is s.number s.floor s.config c.undo-change.new.self r.base.tuples h kept.marks
     ∙ ap (λ (x : History). record { number = s.number; floor = s.floor; base = r.base; commits = x }) (sym (last_off h (kinds.Tuples es)))
     ∙ ap (λ (x : History). without_newest (retained s.number s.floor s.config s.tuples x)) (sym split)
     ∙ ap without_newest c.self.view_is
 
-pub invariant_of-self-in-Config : goal.invariant_of-self-in-Config
-invariant_of-self-in-Config c =
+pub invariant_of-self-in-None : goal.invariant_of-self-in-None
+invariant_of-self-in-None c =
     let s = c.self.inside in
     let h : History = c.pop.new.self.items in
     let r : Retained = record { number = s.number; floor = s.floor; base = record { config = s.config; tuples = base_tuples s.tuples }; commits = h } in
-    let split : s.commits.items ≡ h ++ kinds.Config c.in-Config.field-0 ∷ [] = c.in-Some.ensures.items ∙ ap (λ (x : Commit Configured). h ++ x ∷ []) c.in-Config.is in
-    let old : IsKept (with_commit r (kinds.Config c.in-Config.field-0)) s.tuples s.configs.items s.counts =
+    let config : Configured = c.in-None.ensures.none.0 in
+    let split : s.commits.items ≡ h ++ kinds.Config config ∷ [] = c.in-Some.ensures.items ∙ ap (λ (x : Commit Configured). h ++ x ∷ []) c.in-None.ensures.none.1 in
+    let old : IsKept (with_commit r (kinds.Config config)) s.tuples s.configs.items s.counts =
     subst (λ (x : History). IsKept (retained s.number s.floor s.config s.tuples x) s.tuples s.configs.items s.counts) split c.self.invariant in
     subst (λ (ds : List Dated). IsKept r s.tuples ds s.counts) (sym c.drop_config.ensures)
-    (kept_back_config r s.tuples s.configs.items s.counts c.in-Config.field-0 old)
+    (kept_back_config r s.tuples s.configs.items s.counts config old)

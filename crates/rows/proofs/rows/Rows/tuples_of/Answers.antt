@@ -2,9 +2,11 @@ use Rattle.std.proofs.Common.{◌≤◌, ap, sym, subst, ◌∙◌, refl}
 use Rattle.std.specs.Prelude.{filter}
 use Rattle.std.proofs.lemmas.Result.{IfOk-weaker}
 use Rattle.meaning.specs.TupleSet as set
-use Rattle.rows.specs.Retained.{Retained, snap_at, is_of}
-use Rattle.rows.specs.Kept.{retained, stands}
-use Rattle.rows.proofs.Listing.{items_by}
+use Rattle.rows_core.specs.Marks.{is_of}
+use Rattle.rows.specs.Retained.{Retained, snap_at}
+use Rattle.rows_core.specs.Marks.{stands}
+use Rattle.rows.specs.Kept.{retained}
+use Rattle.rows_core.proofs.Listing.{items_by}
 use Rattle.rows.proofs.Retaining.{stands_at}
 use Rattle.rows.proofs.rows.Rows.tuples_of.Goals as goal
 

@@ -6,8 +6,9 @@ use Rattle.meaning.specs.History.{History}
 use Rattle.rows.specs.declared.dated.Dated.{Dated}
 use Rattle.rows.specs.declared.loaded.Loaded.{Loaded}
 use Rattle.rows.specs.declared.loaded.Counts.{Counts}
-use Rattle.rows.specs.Kept.{marks_at, base_marks, retained, IsKept}
-use Rattle.rows.proofs.MarkRuns.{take_none}
+use Rattle.rows_core.specs.Marks.{marks_at, base_marks}
+use Rattle.rows.specs.Kept.{retained, IsKept}
+use Rattle.rows_core.proofs.MarkRuns.{take_none}
 use Rattle.rows.proofs.Committing.{kept_as, retained_is}
 use Rattle.rows.proofs.Loading.{kept_none}
 use Rattle.rows.proofs.rows.Rows.with_base.Goals as goal

@@ -1,0 +1,91 @@
+-- The configurations with their revisions, and what the revisions hold.
+use Rattle.std.proofs.Common.{◌≡◌, ℕ, ◌+◌, ◌<◌, ◌≤◌, List, [], ◌∷◌, ◌++◌, length, take, drop, zero, suc, get_or, refl, ap, sym, ◌∙◌, arith}
+use Rattle.std.specs.Prelude.{cond, nat_le}
+use Rattle.std.proofs.Math.Seq.{take-suc}
+use Rattle.std.proofs.lemmas.Bool.{le-leb, lt-leb}
+use Rattle.names.specs.declared.commit.Event.{Event}
+use Rattle.names.specs.declared.commit.Commit.TheVariants as kinds
+use Rattle.meaning.specs.Config.{Configured}
+use Rattle.meaning.specs.Snap.{Snap}
+use Rattle.meaning.specs.History.{History, after_commit, after_commits}
+use Rattle.rows_core.proofs.MarkRuns.{take_none}
+use Rattle.rows.specs.declared.dated.Dated.{Dated}
+use Rattle.rows.specs.Kept.{dated_after, config_from, settled_config, dated_above}
+
+-- the configuration of a revision
+late_config : (config : Configured) (n rev : ℕ) (h : History) → rev ≤ n → config_from config (dated_after n h) rev ≡ config
+late_config config n rev [] small = refl
+late_config config n rev (kinds.Tuples es ∷ h) small = late_config config (n + 1) rev h (omega (arith, small))
+late_config config n rev (kinds.Config c ∷ h) small =
+    ap (λ b. config_from (cond b c config) (dated_after (n + 1) h) rev) (lt-leb (n + 1) rev (omega (arith, small))) ∙ late_config config (n + 1) rev h (omega (arith, small))
+
+pub config_of : (s : Snap) (n k : ℕ) (h : History) → (after_commits s (take k h)).config ≡ config_from s.config (dated_after n h) (n + k)
+config_of s n zero h = ap (λ (cs : History). (after_commits s cs).config) (take_none h) ∙ sym (late_config s.config n (n + 0) h (omega arith))
+config_of s n (suc k) [] = refl
+config_of s n (suc k) (kinds.Tuples es ∷ h) =
+    config_of (after_commit s (kinds.Tuples es)) (n + 1) k h
+    ∙ ap (λ r. config_from s.config (dated_after (n + 1) h) r) (omega arith)
+config_of s n (suc k) (kinds.Config c ∷ h) =
+    config_of (after_commit s (kinds.Config c)) (n + 1) k h
+    ∙ ap (λ r. config_from c (dated_after (n + 1) h) r) (omega arith)
+    ∙ ap (λ b. config_from (cond b c s.config) (dated_after (n + 1) h) (n + suc k)) (sym (le-leb (n + 1) (n + suc k) (omega arith)))
+
+pub dated_push : (n : ℕ) (h : History) (c : Configured) → dated_after n (h ++ kinds.Config c ∷ []) ≡ dated_after n h ++ record { rev = n + length h + 1; config = c } ∷ []
+dated_push n [] c = ap (λ r. record { rev = r; config = c } ∷ []) (omega arith)
+dated_push n (kinds.Tuples es ∷ h) c = dated_push (n + 1) h c ∙ ap (λ r. dated_after (n + 1) h ++ record { rev = r; config = c } ∷ []) (omega arith)
+dated_push n (kinds.Config b ∷ h) c = ap (λ ds. record { rev = n + 1; config = b } ∷ ds) (dated_push (n + 1) h c ∙ ap (λ r. dated_after (n + 1) h ++ record { rev = r; config = c } ∷ []) (omega arith))
+
+pub dated_same : (n : ℕ) (h : History) (es : List Event) → dated_after n (h ++ kinds.Tuples es ∷ []) ≡ dated_after n h
+dated_same n [] es = refl
+dated_same n (kinds.Tuples fs ∷ h) es = dated_same (n + 1) h es
+dated_same n (kinds.Config b ∷ h) es = ap (λ ds. record { rev = n + 1; config = b } ∷ ds) (dated_same (n + 1) h es)
+
+-- the last configuration that counts
+config_more : (config : Configured) (ds : List Dated) (d : Dated) (rev : ℕ) → config_from config (ds ++ d ∷ []) rev ≡ cond (nat_le d.rev rev) d.config (config_from config ds rev)
+config_more config [] d rev = refl
+config_more config (x ∷ ds) d rev = config_more (cond (nat_le x.rev rev) x.config config) ds d rev
+
+-- where the one at k counts, it decides; else those before it do
+module _ (config : Configured) (ds : List Dated) (k : ℕ) (d : Dated) (rev : ℕ) (small : k < length ds) (is : d ≡ get_or ds k d) where
+  config_at : config_from config (take (suc k) ds) rev ≡ cond (nat_le d.rev rev) d.config (config_from config (take k ds) rev)
+  config_at = ap (λ xs. config_from config xs rev) (take-suc ds k d small ∙ ap (λ x. take k ds ++ x ∷ []) (sym is)) ∙ config_more config (take k ds) d rev
+
+  pub config_counts : d.rev ≤ rev → config_from config (take (suc k) ds) rev ≡ d.config
+  config_counts h = config_at ∙ ap (λ b. cond b d.config (config_from config (take k ds) rev)) (le-leb d.rev rev h)
+
+  pub config_late : rev < d.rev → config_from config (take (suc k) ds) rev ≡ config_from config (take k ds) rev
+  config_late h = config_at ∙ ap (λ b. cond b d.config (config_from config (take k ds) rev)) (lt-leb d.rev rev h)
+
+-- those up to a revision taken into what the floor holds
+drop_none : {A : Type 0} (xs : List A) → drop 0 xs ≡ xs
+drop_none [] = refl
+drop_none (x ∷ xs) = refl
+
+none_settled : (config : Configured) (n rev : ℕ) (h : History) → rev ≤ n → settled_config config (dated_after n h) rev ≡ config
+none_settled config n rev [] small = refl
+none_settled config n rev (kinds.Tuples es ∷ h) small = none_settled config (n + 1) rev h (omega (arith, small))
+none_settled config n rev (kinds.Config c ∷ h) small = ap (λ b. cond b (settled_config c (dated_after (n + 1) h) rev) config) (lt-leb (n + 1) rev (omega (arith, small)))
+
+all_above : (n rev : ℕ) (h : History) → rev ≤ n → dated_above rev (dated_after n h) ≡ dated_after n h
+all_above n rev [] small = refl
+all_above n rev (kinds.Tuples es ∷ h) small = all_above (n + 1) rev h (omega (arith, small))
+all_above n rev (kinds.Config c ∷ h) small =
+    ap (λ b. cond b (dated_above rev (dated_after (n + 1) h)) (record { rev = n + 1; config = c } ∷ dated_after (n + 1) h)) (lt-leb (n + 1) rev (omega (arith, small)))
+
+pub config_settled : (s : Snap) (n k : ℕ) (h : History) → settled_config s.config (dated_after n h) (n + k) ≡ (after_commits s (take k h)).config
+config_settled s n zero h = none_settled s.config n (n + 0) h (omega arith) ∙ ap (λ (x : History). (after_commits s x).config) (sym (take_none h))
+config_settled s n (suc k) [] = refl
+config_settled s n (suc k) (kinds.Tuples es ∷ h) =
+    ap (λ r. settled_config s.config (dated_after (n + 1) h) r) (omega arith) ∙ config_settled (after_commit s (kinds.Tuples es)) (n + 1) k h
+config_settled s n (suc k) (kinds.Config c ∷ h) =
+    ap (λ b. cond b (settled_config c (dated_after (n + 1) h) (n + suc k)) s.config) (le-leb (n + 1) (n + suc k) (omega arith))
+    ∙ ap (λ r. settled_config c (dated_after (n + 1) h) r) (omega arith) ∙ config_settled (after_commit s (kinds.Config c)) (n + 1) k h
+
+pub dated_settled : (n k : ℕ) (h : History) → dated_above (n + k) (dated_after n h) ≡ dated_after (n + k) (drop k h)
+dated_settled n zero h = all_above n (n + 0) h (omega arith) ∙ ap (λ r. dated_after r h) (omega arith) ∙ ap (dated_after (n + 0)) (sym (drop_none h))
+dated_settled n (suc k) [] = refl
+dated_settled n (suc k) (kinds.Tuples es ∷ h) =
+    ap (λ r. dated_above r (dated_after (n + 1) h)) (omega arith) ∙ dated_settled (n + 1) k h ∙ ap (λ r. dated_after r (drop k h)) (omega arith)
+dated_settled n (suc k) (kinds.Config c ∷ h) =
+    ap (λ b. cond b (dated_above (n + suc k) (dated_after (n + 1) h)) (record { rev = n + 1; config = c } ∷ dated_after (n + 1) h)) (le-leb (n + 1) (n + suc k) (omega arith))
+    ∙ ap (λ r. dated_above r (dated_after (n + 1) h)) (omega arith) ∙ dated_settled (n + 1) k h ∙ ap (λ r. dated_after r (drop k h)) (omega arith)

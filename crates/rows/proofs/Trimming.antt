@@ -1,0 +1,89 @@
+-- Commits taken into what the floor holds.
+use Rattle.std.proofs.Common.{◌≡◌, ℕ, ◌+◌, ◌-◌, ◌≤◌, List, [], ◌∷◌, ◌++◌, length, take, drop, zero, suc, refl, ap, sym, ◌∙◌, append_assoc, arith}
+use Rattle.names.specs.declared.tuple.Tuple.{Tuple}
+use Rattle.names.specs.declared.commit.Commit.TheVariants as kinds
+use Rattle.meaning.specs.TupleSet as set
+use Rattle.meaning.specs.Snap.{Snap}
+use Rattle.meaning.specs.History.{History, after_commit, after_commits, rows_of}
+use Rattle.rows.specs.declared.dated.Dated.{Dated}
+use Rattle.rows.specs.declared.loaded.Counts.{Counts}
+use Rattle.rows.specs.Retained.{Retained, newest, spans_of, snap_at, trimmed}
+use Rattle.rows_core.specs.Marks.{Entries, commit_marks, marks_after, marks_at, base_marks, AreMarks, AreMarksFrom, IsLater}
+use Rattle.rows.specs.Kept.{settled_config, dated_above, dated_after, IsKept}
+use Rattle.rows_core.proofs.MarkRuns.{take_none}
+use Rattle.rows_core.proofs.Bases.{based_after}
+use Rattle.rows.proofs.Committing.{tuples_within}
+use Rattle.rows.proofs.Dating.{config_settled, dated_settled}
+
+drop_none : {A : Type 0} (xs : List A) → drop 0 xs ≡ xs
+drop_none [] = refl
+drop_none (x ∷ xs) = refl
+
+-- a history in two parts
+marks_split : (f k : ℕ) (h : History) (q : Tuple) → marks_after f h q ≡ marks_after f (take k h) q ++ marks_after (f + k) (drop k h) q
+marks_split f zero h q =
+    ap (λ n. marks_after n h q) (omega arith) ∙ ap (λ (x : History). marks_after (f + 0) x q) (sym (drop_none h))
+    ∙ ap (λ (x : History). marks_after f x q ++ marks_after (f + 0) (drop 0 h) q) (sym (take_none h))
+marks_split f (suc k) [] q = refl
+marks_split f (suc k) (c ∷ h) q =
+    ap (λ ms. commit_marks (f + 1) c q ++ ms) (marks_split (f + 1) k h q)
+    ∙ sym (append_assoc (commit_marks (f + 1) c q) (marks_after (f + 1) (take k h) q) (marks_after (f + 1 + k) (drop k h) q))
+    ∙ ap (λ n. (commit_marks (f + 1) c q ++ marks_after (f + 1) (take k h) q) ++ marks_after n (drop k h) q) (omega arith)
+
+rows_split : (k : ℕ) (h : History) → rows_of h ≡ rows_of (take k h) + rows_of (drop k h)
+rows_split zero h = let a = ap rows_of (take_none h) in let b = ap rows_of (drop_none h) in omega (arith, a, b)
+rows_split (suc k) [] = refl
+rows_split (suc k) (c ∷ h) = let rest = rows_split k h in omega (arith, rest)
+
+after_split : (s : Snap) (k : ℕ) (h : History) → after_commits s h ≡ after_commits (after_commits s (take k h)) (drop k h)
+after_split s zero h = ap (after_commits s) (sym (drop_none h)) ∙ ap (λ (x : History). after_commits (after_commits s x) (drop 0 h)) (sym (take_none h))
+after_split s (suc k) [] = refl
+after_split s (suc k) (c ∷ h) = after_split (after_commit s c) k h
+
+length_split : (k : ℕ) (h : History) → k ≤ length h → length (drop k h) + k ≡ length h
+length_split zero h fits = let same = ap length (drop_none h) in omega (arith, same)
+length_split (suc k) [] fits = absurd (omega (arith, fits))
+length_split (suc k) (c ∷ h) fits = let rest = length_split k h (omega (arith, fits)) in omega (arith, rest)
+
+-- the whole
+whole : (floor rev : ℕ) → floor ≤ rev → floor + (rev - floor) ≡ rev
+whole floor rev h = omega (arith, h)
+
+pub later_of : (r : Retained) (floor : ℕ) → IsLater (λ q. marks_after floor (drop (floor - r.floor) r.commits) q)
+later_of r floor q = based_after floor (drop (floor - r.floor) r.commits) q
+
+pub marks_from : (r : Retained) (m : Entries) (floor : ℕ) → AreMarks m r.base.tuples r.floor r.commits → r.floor ≤ floor
+    → AreMarksFrom m r.base.tuples r.floor (take (floor - r.floor) r.commits) (λ q. marks_after floor (drop (floor - r.floor) r.commits) q)
+marks_from r m floor marks h q =
+    marks q
+    ∙ ap (λ ms. base_marks (set.contains r.base.tuples q) ++ ms)
+    (marks_split r.floor (floor - r.floor) r.commits q ∙ ap (λ n. marks_after r.floor (take (floor - r.floor) r.commits) q ++ marks_after n (drop (floor - r.floor) r.commits) q) (whole r.floor floor h))
+
+pub kept_trimmed : (r : Retained) (m n : Entries) (ds es : List Dated) (old new : Counts) (floor : ℕ) → r.floor ≤ floor → floor ≤ newest r
+    → IsKept r m ds old → AreMarks n (snap_at r floor).tuples floor (drop (floor - r.floor) r.commits)
+    → es ≡ dated_above floor ds → new.rows ≡ set.len (snap_at r floor).tuples + rows_of (drop (floor - r.floor) r.commits) → new.tuples ≡ old.tuples
+    → IsKept (trimmed r floor) n es new
+kept_trimmed r m n ds es old new floor above below kept marks dated rows tuples =
+    let k : ℕ = floor - r.floor in
+    let long = length_split k r.commits (omega (arith, above, below)) in
+    let within = tuples_within r.base (take k r.commits) in
+    let split = rows_split k r.commits in
+    let revs = kept.revs in
+    let few = kept.few in
+    record {
+      marks = marks;
+      configs_right = dated ∙ ap (dated_above floor) kept.configs_right ∙ ap (λ x. dated_above x (dated_after r.floor r.commits)) (sym (whole r.floor floor above))
+          ∙ dated_settled r.floor k r.commits ∙ ap (λ x. dated_after x (drop k r.commits)) (whole r.floor floor above);
+      rows = rows;
+      tuples = tuples ∙ kept.tuples ∙ ap (λ (x : Snap). set.len x.tuples) (after_split r.base k r.commits);
+      revs = omega (arith, long, revs, above, below);
+      few = omega (arith, within, split, few);
+    }
+
+pub config_trimmed : (r : Retained) (ds : List Dated) (floor : ℕ) → r.floor ≤ floor → ds ≡ dated_after r.floor r.commits → settled_config r.base.config ds floor ≡ (snap_at r floor).config
+config_trimmed r ds floor above is =
+    ap (λ es. settled_config r.base.config es floor) is ∙ ap (λ x. settled_config r.base.config (dated_after r.floor r.commits) x) (sym (whole r.floor floor above))
+    ∙ config_settled r.base r.floor (floor - r.floor) r.commits
+
+pub spans_split : (r : Retained) (floor : ℕ) → spans_of r ≡ set.len r.base.tuples + rows_of (take (floor - r.floor) r.commits) + rows_of (drop (floor - r.floor) r.commits)
+spans_split r floor = let split = rows_split (floor - r.floor) r.commits in omega (arith, split)

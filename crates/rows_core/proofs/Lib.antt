@@ -1,0 +1,15 @@
+pub mod Joining
+pub mod Cutting
+pub mod Spellings
+pub mod Admitted
+pub mod Bases
+pub mod Basing
+pub mod Coming
+pub mod Decoding
+pub mod Listing
+pub mod MarkRuns
+pub mod Picking
+pub mod Placing
+pub mod Settling
+pub mod Steps
+pub mod Together

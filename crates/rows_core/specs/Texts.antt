@@ -1,0 +1,27 @@
+-- The map as it stands in memory: tuples as texts.
+use Rattle.std.specs.Prelude.{ℕ, List, [], ◌∷◌, map}
+use Rattle.std.specs.BTreeMap.{BTreeMap}
+use Rattle.std.specs.Global.{Global}
+use Rattle.std.specs.Box.{boxed_str_bytes}
+use Rattle.std.specs.declared.boxed.BoxedStr.{BoxedStr}
+use Rattle.names.specs.declared.tuple.Tuple.{Tuple}
+use Rattle.rows_core.specs.declared.mark.Mark.{Mark}
+use Rattle.rows_core.specs.Spelled.{tuple_of, IsSpelling}
+use Rattle.rows_core.specs.Marks.{Entries}
+
+-- texts, each with the marks of the tuple that it spells
+abbrev pub Texts : Type 0
+Texts = List (BoxedStr Global × List Mark)
+
+abbrev pub entry_of : BoxedStr Global × List Mark → Tuple × List Mark
+entry_of e = (tuple_of (boxed_str_bytes e.0), e.1)
+
+-- the tuples that the texts spell, with their marks
+abbrev pub entries_of : Texts → Entries
+entries_of [] = []
+entries_of (e ∷ es) = entry_of e ∷ entries_of es
+
+-- each text spells a tuple
+abbrev pub AreSpelled : Texts → Type 0
+AreSpelled [] = Unit {0}
+AreSpelled (e ∷ es) = IsSpelling (boxed_str_bytes e.0) × AreSpelled es
