@@ -3,6 +3,8 @@
 
 usage: tables.py PROGRAM [TUPLES ..]      writes of 1, 16 and 256 operations; then opening, memory and size with that
                                           many tuples (10000 100000 1000000 where none are given)
+       tables.py PROGRAM spans TUPLES     memory with one span a tuple, and with four: each tuple is deleted and
+                                          inserted again three times
 """
 import os
 import sqlite3
@@ -20,8 +22,8 @@ SCHEMA = (
 )
 
 
-def write(first, operations):
-    ops = (f'{{"op":"insert","tuple":"group:g{i}#member@user:u{i}"}}' for i in range(first, first + operations))
+def write(first, operations, kind="insert"):
+    ops = (f'{{"op":"{kind}","tuple":"group:g{i}#member@user:u{i}"}}' for i in range(first, first + operations))
     return 'write {"ops":[' + ",".join(ops) + "]}\n"
 
 
@@ -91,7 +93,24 @@ def time_opening(program, path, tuples):
     )
 
 
+def weigh_spans(program, path, tuples):
+    """A run over a file keeps in memory what the history takes, and what sqlite has of the file's pages."""
+    _, least = run(program, [], [CONFIG])
+    lines = [CONFIG] + [write(i, 250) for i in range(0, tuples, 250)]
+    for spans in (1, 4):
+        if spans > 1:
+            for _ in range(spans - 1):
+                lines += [write(i, 250, kind) for kind in ("delete", "insert") for i in range(0, tuples, 250)]
+        fresh(path)
+        seconds, most = run(program, ["--db", path, "--store", "1"], lines)
+        print(f"{tuples:8} tuples of {spans} spans: {(most - least) / tuples:.0f} bytes a tuple, {seconds:.0f} s")
+
+
 def main(words):
+    if len(words) == 3 and words[1] == "spans":
+        with tempfile.TemporaryDirectory() as folder:
+            weigh_spans(words[0], os.path.join(folder, "store.db"), int(words[2]))
+        return
     if not words:
         sys.exit(__doc__)
     with tempfile.TemporaryDirectory() as folder:

@@ -1,5 +1,5 @@
 -- A commit more, or one less.
-use Rattle.std.proofs.Common.{◌≡◌, ℕ, ◌+◌, ◌-◌, ◌≤◌, List, [], ◌∷◌, ◌++◌, length, take, refl, ap, sym, subst, ◌∙◌, append_assoc, arith, length-append}
+use Rattle.std.proofs.Common.{◌≡◌, ℕ, ◌+◌, ◌-◌, ◌≤◌, List, [], ◌∷◌, ◌++◌, length, take, ap, sym, subst, ◌∙◌, append_assoc, arith, length-append}
 use Rattle.std.specs.Prelude.{Bool, true, false, cond}
 use Rattle.std.specs.Prelude.{Result, Ok, Err, OnErr}
 use Rattle.std.proofs.Math.Seq.{take-append_seam}
@@ -16,7 +16,6 @@ use Rattle.meaning.specs.Config.{Configured}
 use Rattle.meaning.specs.Snap.{Snap}
 use Rattle.meaning.specs.History.{History, after_kind, after_event, replay, after_commit, after_commits, rows_of, commit_rows, puts_in, puts_of_kind}
 use Rattle.meaning.proofs.TupleSets.{len_insert, len_remove}
-use Rattle.rows_core.specs.declared.mark.Mark.{Mark}
 use Rattle.rows.specs.declared.dated.Dated.{Dated}
 use Rattle.rows_core.specs.declared.change.Change.{Change}
 use Rattle.rows.specs.declared.loaded.Counts.{Counts}

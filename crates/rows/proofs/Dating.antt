@@ -1,7 +1,7 @@
 -- The configurations with their revisions, and what the revisions hold.
 use Rattle.std.proofs.Common.{◌≡◌, ℕ, ◌+◌, ◌<◌, ◌≤◌, List, [], ◌∷◌, ◌++◌, length, take, drop, zero, suc, get_or, refl, ap, sym, ◌∙◌, arith}
 use Rattle.std.specs.Prelude.{cond, nat_le}
-use Rattle.std.proofs.Math.Seq.{take-suc}
+use Rattle.std.proofs.Math.Seq.{take-suc, drop-cons}
 use Rattle.std.proofs.lemmas.Bool.{le-leb, lt-leb}
 use Rattle.names.specs.declared.commit.Event.{Event}
 use Rattle.names.specs.declared.commit.Commit.TheVariants as kinds
@@ -10,7 +10,7 @@ use Rattle.meaning.specs.Snap.{Snap}
 use Rattle.meaning.specs.History.{History, after_commit, after_commits}
 use Rattle.rows_core.proofs.MarkRuns.{take_none}
 use Rattle.rows.specs.declared.dated.Dated.{Dated}
-use Rattle.rows.specs.Kept.{dated_after, config_from, settled_config, dated_above}
+use Rattle.rows.specs.Kept.{dated_after, config_from, settled_config, last_or, dated_above}
 
 -- the configuration of a revision
 late_config : (config : Configured) (n rev : ℕ) (h : History) → rev ≤ n → config_from config (dated_after n h) rev ≡ config
@@ -55,6 +55,28 @@ module _ (config : Configured) (ds : List Dated) (k : ℕ) (d : Dated) (rev : �
 
   pub config_late : rev < d.rev → config_from config (take (suc k) ds) rev ≡ config_from config (take k ds) rev
   config_late h = config_at ∙ ap (λ b. cond b d.config (config_from config (take k ds) rev)) (lt-leb d.rev rev h)
+
+-- the last configuration of those taken
+last_more : (config : Configured) (ds : List Dated) (d : Dated) → last_or config (ds ++ d ∷ []) ≡ d.config
+last_more config [] d = refl
+last_more config (x ∷ ds) d = last_more x.config ds d
+
+pub last_at : (config : Configured) (ds : List Dated) (k : ℕ) (d : Dated) → k < length ds → d ≡ get_or ds k d → last_or config (take (suc k) ds) ≡ d.config
+last_at config ds k d small is = ap (last_or config) (take-suc ds k d small ∙ ap (λ x. take k ds ++ x ∷ []) (sym is)) ∙ last_more config (take k ds) d
+
+-- where the next one counts, it is taken
+module _ (rev : ℕ) (ds : List Dated) (k : ℕ) (d : Dated) (small : k < length ds) (is : d ≡ get_or ds k d) where
+  next_is : drop k ds ≡ d ∷ drop (suc k) ds
+  next_is = drop-cons ds k d small ∙ ap (λ x. x ∷ drop (suc k) ds) (sym is)
+
+  pub settled_more : (config : Configured) → d.rev ≤ rev → settled_config (last_or config (take k ds)) (drop k ds) rev ≡ settled_config (last_or config (take (suc k) ds)) (drop (suc k) ds) rev
+  settled_more config h =
+      ap (λ xs. settled_config (last_or config (take k ds)) xs rev) next_is
+      ∙ ap (λ b. cond b (settled_config d.config (drop (suc k) ds) rev) (last_or config (take k ds))) (le-leb d.rev rev h)
+      ∙ ap (λ c. settled_config c (drop (suc k) ds) rev) (sym (last_at config ds k d small is))
+
+  pub above_more : d.rev ≤ rev → dated_above rev (drop k ds) ≡ dated_above rev (drop (suc k) ds)
+  above_more h = ap (dated_above rev) next_is ∙ ap (λ b. cond b (dated_above rev (drop (suc k) ds)) (d ∷ drop (suc k) ds)) (le-leb d.rev rev h)
 
 -- those up to a revision taken into what the floor holds
 drop_none : {A : Type 0} (xs : List A) → drop 0 xs ≡ xs

@@ -1,5 +1,5 @@
 -- Making a history from what tables held.
-use Rattle.std.proofs.Common.{◌≡◌, ℕ, ◌+◌, ◌<◌, ◌≤◌, List, [], ◌∷◌, ◌++◌, length, take, zero, suc, refl, ap, sym, ◌∙◌, arith, get_or}
+use Rattle.std.proofs.Common.{◌≡◌, ℕ, ◌+◌, ◌<◌, ◌≤◌, List, [], ◌∷◌, length, take, zero, suc, refl, ap, sym, ◌∙◌, arith, get_or}
 use Rattle.std.specs.List.Sorted.{IsStrictlySortedBy}
 use Rattle.std.proofs.lemmas.List.{append-nil}
 use Rattle.std.proofs.Math.Seq.{take-length}
@@ -9,7 +9,7 @@ use Rattle.names.specs.declared.commit.Commit.{Commit}
 use Rattle.meaning.specs.TupleSet as set
 use Rattle.meaning.specs.Config.{Configured}
 use Rattle.meaning.specs.History.{History, rows_of, commit_rows}
-use Rattle.meaning.proofs.TupleSets.{contains_from_list, items_from_list, len_items}
+use Rattle.meaning.proofs.TupleSets.{items_from_list, len_items}
 use Rattle.rows.specs.declared.loaded.Loaded.{Loaded}
 use Rattle.rows.specs.declared.loaded.Counts.{Counts}
 use Rattle.rows.specs.Retained.{with_commit, HasRoom}

@@ -2,7 +2,6 @@
 use Rattle.std.proofs.Common.{◌≡◌, ℕ, ◌+◌, ◌-◌, ◌≤◌, List, ap, sym, ◌∙◌, arith}
 use Rattle.names.specs.declared.tuple.Tuple.{Tuple}
 use Rattle.meaning.specs.TupleSet as set
-use Rattle.rows_core.specs.declared.mark.Mark.{Mark}
 use Rattle.rows.specs.declared.dated.Dated.{Dated}
 use Rattle.rows.specs.Retained.{Retained, snap_at}
 use Rattle.rows_core.specs.Marks.{Entries, marks_at, marks_after, stands, stands_from, AreMarks}

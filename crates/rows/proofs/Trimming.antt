@@ -1,14 +1,13 @@
 -- Commits taken into what the floor holds.
 use Rattle.std.proofs.Common.{◌≡◌, ℕ, ◌+◌, ◌-◌, ◌≤◌, List, [], ◌∷◌, ◌++◌, length, take, drop, zero, suc, refl, ap, sym, ◌∙◌, append_assoc, arith}
 use Rattle.names.specs.declared.tuple.Tuple.{Tuple}
-use Rattle.names.specs.declared.commit.Commit.TheVariants as kinds
 use Rattle.meaning.specs.TupleSet as set
 use Rattle.meaning.specs.Snap.{Snap}
 use Rattle.meaning.specs.History.{History, after_commit, after_commits, rows_of}
 use Rattle.rows.specs.declared.dated.Dated.{Dated}
 use Rattle.rows.specs.declared.loaded.Counts.{Counts}
 use Rattle.rows.specs.Retained.{Retained, newest, spans_of, snap_at, trimmed}
-use Rattle.rows_core.specs.Marks.{Entries, commit_marks, marks_after, marks_at, base_marks, AreMarks, AreMarksFrom, IsLater}
+use Rattle.rows_core.specs.Marks.{Entries, commit_marks, marks_after, base_marks, AreMarks, AreMarksFrom, IsLater}
 use Rattle.rows.specs.Kept.{settled_config, dated_above, dated_after, IsKept}
 use Rattle.rows_core.proofs.MarkRuns.{take_none}
 use Rattle.rows_core.proofs.Bases.{based_after}

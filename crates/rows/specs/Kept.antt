@@ -26,6 +26,11 @@ abbrev pub settled_config : Configured → List Dated → ℕ → Configured
 settled_config config [] rev = config
 settled_config config (d ∷ ds) rev = cond (nat_le d.rev rev) (settled_config d.config ds rev) config
 
+-- the last of the configurations
+abbrev pub last_or : Configured → List Dated → Configured
+last_or config [] = config
+last_or config (d ∷ ds) = last_or d.config ds
+
 -- the configurations without the first ones up to a revision
 abbrev pub dated_above : ℕ → List Dated → List Dated
 dated_above rev [] = []

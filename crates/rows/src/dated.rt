@@ -1,9 +1,11 @@
 //! Configurations with their revisions.
-ghost use Rattle.std.specs.Prelude.{◌≡◌, ◌++◌, ◌∷◌, [], ◌-◌, length, take, OnOk, OnErr};
-ghost use Rattle.rows.specs.Kept.{config_from, settled_config, dated_above};
+ghost use Rattle.std.specs.Prelude.{◌≡◌, ◌≤◌, ◌++◌, ◌∷◌, [], ◌-◌, length, take, drop, OnOk, OnErr};
+ghost use Rattle.meaning.specs.Config.{Configured};
+ghost use Rattle.rows.specs.Kept.{config_from, settled_config, last_or, dated_above};
 
 use config::Config;
 use std::alloc::AllocError;
+use std::mem::swap;
 
 /// The configuration of a commit, and the commit's revision.
 #[derive(Debug, Drop)]
@@ -47,11 +49,34 @@ pub(crate) fn settle_configs(config: &mut Config, configs: &mut Vec<Dated>, rev:
     ensures config { config.new ≡ settled_config config.old configs.old.items rev }
     ensures configs { configs.new.items ≡ dated_above rev configs.old.items }
 {
-    while !configs.is_empty() && configs[0].rev <= rev {
-        let Dated {
-            rev: _,
-            config: next,
-        } = configs.remove(0);
-        *config = next;
+    let count = count_up_to(configs, rev);
+    if count > 0 {
+        let last = &mut configs[count - 1];
+        swap(config, &mut last.config);
+        drop_configs(configs, count);
     }
+}
+
+/// How many of the first configurations are up to a revision.
+fn count_up_to(configs: &[Dated], rev: u64) -> usize
+    ensures within { result ≤ length configs.now }
+    ensures config { (config : Configured) → settled_config config configs.now rev ≡ last_or config (take result configs.now) }
+    ensures above { dated_above rev configs.now ≡ drop result configs.now }
+{
+    for i in 0..configs.len() {
+        if configs[i].rev > rev {
+            return i;
+        }
+    }
+    configs.len()
+}
+
+/// Drops the first configurations.
+fn drop_configs(configs: &mut Vec<Dated>, count: usize)
+    requires { count ≤ length configs.old.items }
+    ensures { configs.new.items ≡ drop count configs.old.items }
+{
+    let left = configs.as_slice().len() - count;
+    configs.rotate_left(count);
+    configs.truncate(left);
 }
