@@ -9,16 +9,17 @@ use Rattle.std.proofs.lemmas.List.Elements.{All-nil, All-weaker, Contains-get_or
 use Rattle.std.proofs.lemmas.Bool.{leb-true}
 use Rattle.serde_json.proofs.OnLiterals.{serde_json_on_literals}
 use Rattle.serde_json.specs.Written.{compact_text}
+use Rattle.names.specs.declared.limits.TheConstants.{MAX_CONFIG_LEN, MAX_NAMESPACES, MAX_RELATIONS, MAX_TYPES, MAX_REWRITE_DEPTH, MAX_REWRITE_NODES}
 use Rattle.meaning.specs.Form.{Form, Forms, This, Computed, TupleTo, Union, Intersection, Exclusion, none, more}
 use Rattle.meaning.specs.Config.{Configured, Defined, IsWhole, AreWhole, IsSome, empty_config}
 use Rattle.meaning.proofs.Lists.{contains_none}
 use Rattle.config_core.specs.Canonical.{config_data}
 use Rattle.config_core.specs.Order.{name_cmp, relation_cmp}
-use Rattle.config_core.specs.Reading.{max_size, max_depth, Describes, IsWritable}
+use Rattle.config_core.specs.Reading.{Describes, IsWritable}
 use Rattle.config_core.specs.Size.{form_nodes, form_depth, is_some, has_parts, all_have_parts}
 use Rattle.config_core.specs.Spelling.{IsName, IsNamed}
 use Rattle.config.specs.Causes.{Accepts}
-use Rattle.config.specs.Kept.{IsKept}
+use Rattle.config.specs.Invariant.{IsConfig}
 use Rattle.config.specs.Valid.{is_small, is_within}
 use Rattle.config.proofs.Tested.{both_true, all_test}
 
@@ -50,8 +51,8 @@ empty_short : length (compact_text (config_data empty_config)) ≡ 17
 unfolding serde_json_on_literals
 empty_short = refl
 
-pub kept_empty : IsKept empty_config []
-kept_empty = record {
+pub empty_is_config : IsConfig empty_config []
+empty_is_config = record {
   valid = record {
     name = (All-nil IsName, All-nil IsNamed);
     limit = refl;
@@ -72,22 +73,22 @@ kept_empty = record {
 at_most : (a b : ℕ) → nat_le a b ≡ true → a ≤ b
 at_most a b e = leb-true a b e
 
-pub shallow : (c : Configured) → is_within c ≡ true → All (λ d. form_depth d.form ≤ max_depth) c.relations
+pub shallow : (c : Configured) → is_within c ≡ true → All (λ d. form_depth d.form ≤ MAX_REWRITE_DEPTH) c.relations
 shallow c within k d lt =
     let e = c.relations in
-    let small = (both_true (nat_le (length c.namespaces) 64 && nat_le (length c.relations) 256) (list_all is_small c.relations) within).1 in
+    let small = (both_true (nat_le (length c.namespaces) MAX_NAMESPACES && nat_le (length c.relations) MAX_RELATIONS) (list_all is_small c.relations) within).1 in
     let x : Defined = slice_index_or c.relations k d in
     let one = all_test is_small c.relations x small (Contains-get_or c.relations k d lt) in
-    at_most (form_depth x.form) 16 (both_true (nat_le (length x.types) 32 && nat_le (form_nodes x.form) 64) (nat_le (form_depth x.form) 16) one).1
+    at_most (form_depth x.form) MAX_REWRITE_DEPTH (both_true (nat_le (length x.types) MAX_TYPES && nat_le (form_nodes x.form) MAX_REWRITE_NODES) (nat_le (form_depth x.form) MAX_REWRITE_DEPTH) one).1
 
-pub accepts_back : (c : Configured) (levels text : List ℕ) → IsKept c levels → text ≡ compact_text (config_data c) → (IsWritable c → Describes text c) → Accepts text c
+pub accepts_back : (c : Configured) (levels text : List ℕ) → IsConfig c levels → text ≡ compact_text (config_data c) → (IsWritable c → Describes text c) → Accepts text c
 accepts_back c levels text kept is back = record {
-  size = let short : length (compact_text (config_data c)) ≤ max_size = kept.short in omega (arith, short, ap length is);
+  size = let short : length (compact_text (config_data c)) ≤ MAX_CONFIG_LEN = kept.short in omega (arith, short, ap length is);
   describes = back (record { named = kept.valid.name; ordered = kept.ordered; parts = kept.parts; shallow = shallow c kept.valid.limit });
   valid = kept.valid;
 }
 
-pub text_read_back : {E : Type 0} (r : Result (String Global) E) (c d : Configured) (levels : List ℕ) → IsKept c levels → d ≡ c → IfOk r (λ s. string_bytes s ≡ compact_text (config_data d)) → IfOk r (λ s. IsWritable d → Describes (string_bytes s) d) → IfOk r (λ s. Accepts (string_bytes s) c)
+pub text_read_back : {E : Type 0} (r : Result (String Global) E) (c d : Configured) (levels : List ℕ) → IsConfig c levels → d ≡ c → IfOk r (λ s. string_bytes s ≡ compact_text (config_data d)) → IfOk r (λ s. IsWritable d → Describes (string_bytes s) d) → IfOk r (λ s. Accepts (string_bytes s) c)
 text_read_back (Ok s) c d levels kept same text back =
     accepts_back c levels (string_bytes s) kept (text ∙ ap (λ x. compact_text (config_data x)) same) (subst (λ x. IsWritable x → Describes (string_bytes s) x) same back)
 text_read_back (Err e) c d levels kept same text back = tt

@@ -29,7 +29,7 @@ pub record IsStep (c : Configured) (s : Step) : Type 0 where
 
 -- the steps in question were added, at most n, and nothing else
 pub record Adds (c : Configured) (old new : List Step) (InQuestion : Step → Type 0) (n : ℕ) : Type 0 where
-  pub kept : (s : Step) → Contains old s → Contains new s
+  pub remains : (s : Step) → Contains old s → Contains new s
   pub sound : (s : Step) → Contains new s → Contains old s ⊎ IsStep c s
   pub each : (s : Step) → InQuestion s → IsStep c s → Contains new s
   pub few : length new ≤ length old + n

@@ -2,7 +2,7 @@ pub mod Causes
 pub mod Codes
 pub mod Cycles
 pub mod Graph
-pub mod Kept
+pub mod Invariant
 pub mod Levels
 pub mod Refused
 pub mod Valid

@@ -2,6 +2,7 @@
 use Rattle.std.specs.Prelude.{◌≡◌, ℕ, ◌&&◌, ◌||◌, Bool, true, false, cond, not, List, [], ◌∷◌, Option, Some, None, Contains, length, nat_eq, nat_le, nat_lt}
 use Rattle.std.specs.List.{list_any, list_all}
 use Rattle.std.specs.Cmp.Lexicographic.{pointwise}
+use Rattle.names.specs.declared.limits.TheConstants.{MAX_NAMESPACES, MAX_RELATIONS, MAX_TYPES, MAX_REWRITE_NODES, MAX_REWRITE_DEPTH}
 use Rattle.names.specs.declared.relation.RelationName.{RelationName}
 use Rattle.names.specs.declared.relation.SubjectType.{SubjectType}
 use Rattle.names.specs.declared.cause.Cause.{Cause}
@@ -15,13 +16,13 @@ use Rattle.config_core.specs.Canonical.{is_this}
 use Rattle.config_core.specs.Size.{form_nodes, form_depth}
 use Rattle.config_core.specs.Spelling.{AreNamed}
 
--- at most 32 types, and 64 nodes and depth 16 in the rewrite
+-- so many types, and so many nodes and so deep a rewrite, are allowed
 abbrev pub is_small : Defined → Bool
-is_small d = nat_le (length d.types) 32 && nat_le (form_nodes d.form) 64 && nat_le (form_depth d.form) 16
+is_small d = nat_le (length d.types) MAX_TYPES && nat_le (form_nodes d.form) MAX_REWRITE_NODES && nat_le (form_depth d.form) MAX_REWRITE_DEPTH
 
--- at most 64 namespaces, and 256 relations in all
+-- so many namespaces, and so many relations in all, are allowed
 abbrev pub is_within : Configured → Bool
-is_within c = nat_le (length c.namespaces) 64 && nat_le (length c.relations) 256 && list_all is_small c.relations
+is_within c = nat_le (length c.namespaces) MAX_NAMESPACES && nat_le (length c.relations) MAX_RELATIONS && list_all is_small c.relations
 
 abbrev pub has_namespace : Configured → List ℕ → Bool
 has_namespace c n = list_any (pointwise nat_eq n) c.namespaces

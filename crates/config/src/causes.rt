@@ -11,13 +11,14 @@ ghost use Rattle.config.specs.Valid.{is_small, is_within, has_namespace, has_typ
 use crate::rewrites::{all_compute, all_have_tuplesets};
 use crate::sizes::is_small;
 use config_core::{Parts, Relation, Rewrite};
+use names::limits::{MAX_NAMESPACES, MAX_RELATIONS, MAX_TYPES};
 use names::{Cause, Name, SubjectType};
 
 fn are_small(relations: &[Relation]) -> bool
     ensures { result ≡ list_all is_small (map defined_of relations.now) }
 {
     for relation in relations {
-        if relation.types.as_slice().len() > 32 || !is_small(&relation.rewrite) {
+        if relation.types.as_slice().len() > MAX_TYPES || !is_small(&relation.rewrite) {
             return false;
         }
     }
@@ -27,7 +28,7 @@ fn are_small(relations: &[Relation]) -> bool
 fn are_within(namespaces: &[Name], relations: &[Relation]) -> bool
     ensures { result ≡ is_within (configured namespaces.now relations.now) }
 {
-    if namespaces.len() > 64 || relations.len() > 256 {
+    if namespaces.len() > MAX_NAMESPACES || relations.len() > MAX_RELATIONS {
         return false;
     }
     are_small(relations)

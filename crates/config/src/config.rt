@@ -7,11 +7,11 @@ ghost use Rattle.meaning.specs.Config.{rel_of};
 ghost use Rattle.config_core.specs.Canonical.{config_data};
 ghost use Rattle.config_core.specs.Forms.{defined_of};
 ghost use Rattle.config_core.specs.Parts.{configured};
-ghost use Rattle.config_core.specs.Reading.{max_size};
 
 use crate::causes::first_cause;
 use crate::levels::levels_of;
 use config_core::{Parts, Relation, read_configuration, text_of};
+use names::limits::MAX_CONFIG_LEN;
 use names::{Name, Node, Refusal, Tuple};
 use std::alloc::{AllocError, Global};
 use std::marker::Model;
@@ -29,7 +29,7 @@ impl Model for Config {
     ghost use Rattle.std.specs.Prelude.{map};
     ghost use Rattle.meaning.specs.Config.{Configured};
     ghost use Rattle.config.specs.Codes.{coded_config};
-    ghost use Rattle.config.specs.Kept.{IsKept};
+    ghost use Rattle.config.specs.Invariant.{IsConfig};
     ghost use Rattle.config_core.specs.Forms.{defined_of};
 
     ghost Value = { Configured };
@@ -38,7 +38,7 @@ impl Model for Config {
 
     ghost view = { λ c. record { namespaces = c.namespaces.items; relations = map defined_of c.relations.items } };
 
-    ghost invariant = { λ c. IsKept (record { namespaces = c.namespaces.items; relations = map defined_of c.relations.items }) c.levels.items };
+    ghost invariant = { λ c. IsConfig (record { namespaces = c.namespaces.items; relations = map defined_of c.relations.items }) c.levels.items };
 }
 
 impl Config {
@@ -116,6 +116,13 @@ impl Config {
         Err(Refusal::UnknownRelation)
     }
 
+    /// Whether the tuple is valid.
+    pub fn allows(&self, tuple: &Tuple) -> bool
+        ensures { result ≡ admits self.now tuple.now }
+    {
+        is_declared(&self.relations, tuple)
+    }
+
     /// The canonical text: members in byte order, types in the order given, and no member that says what
     /// holds without it.
     pub fn to_json(&self, alloc: Global) -> Result<String, AllocError>
@@ -142,10 +149,10 @@ impl Config {
 
 /// Whether the canonical text can be read again.
 fn is_short(alloc: Global, namespaces: &[Name], relations: &[Relation]) -> Result<bool, AllocError>
-    ensures { IfOk result (λ short. IsTrue short → length (compact_text (config_data (configured namespaces.now relations.now))) ≤ max_size) }
+    ensures { IfOk result (λ short. IsTrue short → length (compact_text (config_data (configured namespaces.now relations.now))) ≤ MAX_CONFIG_LEN) }
 {
     let text = text_of(alloc, namespaces, relations)?;
-    Ok(text.len() <= 65_536)
+    Ok(text.len() <= MAX_CONFIG_LEN)
 }
 
 fn has_node(relations: &[Relation], node: &Node) -> bool

@@ -1,5 +1,6 @@
 //! The graph of a configuration: its relations by their places, and their steps.
 ghost use Rattle.std.specs.Prelude.{◌≡◌, ◌<◌, ◌≤◌, ◌↔◌, IsTrue, IfOk, OnOk, length};
+ghost use Rattle.names.specs.declared.limits.TheConstants.{MAX_RELATIONS};
 ghost use Rattle.config_core.specs.Parts.{parts_of};
 ghost use Rattle.config.specs.Graph.{IsStep, Adds, IsGraph};
 
@@ -55,7 +56,7 @@ fn add_steps(parts: &Parts, from: usize, to: usize, steps: &mut Vec<Step>) -> Re
 /// Adds the steps that start at the place.
 fn add_steps_from(parts: &Parts, from: usize, steps: &mut Vec<Step>) -> Result<(), AllocError>
     requires from { from < length parts.now.relations.items }
-    requires few { length parts.now.relations.items ≤ 256 }
+    requires few { length parts.now.relations.items ≤ MAX_RELATIONS }
     ensures { OnOk result (Adds (parts_of parts.now) steps.old.items steps.new.items (λ s. s.from ≡ from) 512) }
 {
     for to in 0..parts.relations.len() {
@@ -66,7 +67,7 @@ fn add_steps_from(parts: &Parts, from: usize, steps: &mut Vec<Step>) -> Result<(
 
 /// The graph of the configuration.
 pub(crate) fn graph_of(alloc: Global, parts: &Parts) -> Result<Graph, AllocError>
-    requires few { length parts.now.relations.items ≤ 256 }
+    requires few { length parts.now.relations.items ≤ MAX_RELATIONS }
     ensures count { IfOk result (λ g. g.count ≡ length (parts_of parts.now).relations) }
     ensures graph { IfOk result (λ g. IsGraph (parts_of parts.now) g.steps.items) }
     ensures few { IfOk result (λ g. length g.steps.items ≤ 131072) }

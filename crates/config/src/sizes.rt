@@ -4,6 +4,7 @@ ghost use Rattle.config_core.specs.Forms.{form_of, forms_of};
 ghost use Rattle.config_core.specs.Size.{form_nodes, forms_nodes, form_depth, forms_depth};
 
 use config_core::Rewrite;
+use names::limits::{MAX_REWRITE_DEPTH, MAX_REWRITE_NODES};
 
 /// What is left of so many nodes without those of the rewrite, if it has no more.
 #[cycle(nodes)]
@@ -71,20 +72,20 @@ fn are_shallow(parts: &[Rewrite], depth: u32) -> bool
 }
 
 fn has_few_nodes(rewrite: &Rewrite) -> bool
-    ensures { result ≡ nat_le (form_nodes (form_of rewrite.now)) 64 }
+    ensures { result ≡ nat_le (form_nodes (form_of rewrite.now)) MAX_REWRITE_NODES }
 {
-    nodes_left(rewrite, 64).is_some()
+    nodes_left(rewrite, MAX_REWRITE_NODES).is_some()
 }
 
 fn is_flat(rewrite: &Rewrite) -> bool
-    ensures { result ≡ nat_le (form_depth (form_of rewrite.now)) 16 }
+    ensures { result ≡ nat_le (form_depth (form_of rewrite.now)) MAX_REWRITE_DEPTH }
 {
-    is_shallow(rewrite, 16)
+    is_shallow(rewrite, MAX_REWRITE_DEPTH)
 }
 
-/// Whether the rewrite has at most 64 nodes and depth 16.
+/// Whether the rewrite has as few nodes as are allowed, and is no deeper.
 pub(crate) fn is_small(rewrite: &Rewrite) -> bool
-    ensures { result ≡ (nat_le (form_nodes (form_of rewrite.now)) 64 && nat_le (form_depth (form_of rewrite.now)) 16) }
+    ensures { result ≡ (nat_le (form_nodes (form_of rewrite.now)) MAX_REWRITE_NODES && nat_le (form_depth (form_of rewrite.now)) MAX_REWRITE_DEPTH) }
 {
     has_few_nodes(rewrite) && is_flat(rewrite)
 }

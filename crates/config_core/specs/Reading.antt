@@ -2,6 +2,7 @@
 use Rattle.std.specs.Prelude.{◌≡◌, ℕ, ◌<◌, ◌≤◌, List, Some, None, length, IsUtf8, IsTrue, All}
 use Rattle.serde_json.specs.Data.{Data}
 use Rattle.serde_json.specs.Read.{read}
+use Rattle.names.specs.declared.limits.TheConstants.{MAX_CONFIG_LEN, MAX_REWRITE_DEPTH}
 use Rattle.names.specs.declared.cause.Cause.{Cause}
 use Rattle.names.specs.declared.cause.Cause.TheVariants.{Size, Json, Shape, Name}
 use Rattle.names.specs.declared.refusal.Refusal.{Refusal}
@@ -12,14 +13,6 @@ use Rattle.config_core.specs.Shape.{config_read}
 use Rattle.config_core.specs.Spelling.{Spells, AreNamed}
 use Rattle.config_core.specs.Order.{IsOrdered}
 use Rattle.config_core.specs.Size.{has_parts, form_depth}
-
--- the most bytes that a configuration's text has
-abbrev pub max_size : ℕ
-max_size = 65536
-
--- the most rewrites that stand in each other
-abbrev pub max_depth : ℕ
-max_depth = 16
 
 -- the bytes are UTF-8, and `serde_json` reads them as the data
 pub record Reads (bytes : List ℕ) (d : Data) : Type 0 where
@@ -40,10 +33,10 @@ pub record Describes (bytes : List ℕ) (c : Configured) : Type 0 where
 
 -- why bytes are of no configuration: this cause applies, and none before it
 abbrev pub IsReadingCause : List ℕ → Cause → Type 0
-IsReadingCause bytes Size = max_size < length bytes
-IsReadingCause bytes Json = (length bytes ≤ max_size) × ((d : Data) → ¬ (Reads bytes d))
-IsReadingCause bytes Shape = (length bytes ≤ max_size) × ((d : Data) × Reads bytes d × (config_read d ≡ None))
-IsReadingCause bytes Name = (length bytes ≤ max_size) × ((texts : ConfigTexts) × Says bytes texts × ((c : Configured) → ¬ (Spells texts c)))
+IsReadingCause bytes Size = MAX_CONFIG_LEN < length bytes
+IsReadingCause bytes Json = (length bytes ≤ MAX_CONFIG_LEN) × ((d : Data) → ¬ (Reads bytes d))
+IsReadingCause bytes Shape = (length bytes ≤ MAX_CONFIG_LEN) × ((d : Data) × Reads bytes d × (config_read d ≡ None))
+IsReadingCause bytes Name = (length bytes ≤ MAX_CONFIG_LEN) × ((texts : ConfigTexts) × Says bytes texts × ((c : Configured) → ¬ (Spells texts c)))
 IsReadingCause bytes cause = ⊥
 
 abbrev pub ReadingRefused : List ℕ → Refusal → Type 0
@@ -56,4 +49,4 @@ pub record IsWritable (c : Configured) : Type 0 where
   pub named : AreNamed c
   pub ordered : IsOrdered c
   pub parts : All (λ d. IsTrue (has_parts d.form)) c.relations
-  pub shallow : All (λ d. form_depth d.form ≤ max_depth) c.relations
+  pub shallow : All (λ d. form_depth d.form ≤ MAX_REWRITE_DEPTH) c.relations

@@ -1,7 +1,7 @@
 //! Configurations, read from bytes.
 ghost use Rattle.std.specs.Prelude.{◌≤◌, IfOk, IfErr, IsTrue, All, length};
 ghost use Rattle.serde_json.specs.View.{view};
-ghost use Rattle.config_core.specs.Reading.{max_size, Reads, Says, Describes, ReadingRefused};
+ghost use Rattle.config_core.specs.Reading.{Reads, Says, Describes, ReadingRefused};
 ghost use Rattle.config_core.specs.Keyed.{AreOrdered};
 ghost use Rattle.config_core.specs.Order.{IsOrdered};
 ghost use Rattle.config_core.specs.Size.{has_parts};
@@ -11,17 +11,18 @@ ghost use Rattle.config_core.specs.Texts.{config_texts};
 use crate::draft::Draft;
 use crate::parts::{Parts, read_parts};
 use crate::shape::read_config;
+use names::limits::MAX_CONFIG_LEN;
 use names::{Cause, Refusal};
 use serde_json::Value;
 use std::alloc::Global;
 use std::str;
 
 fn read_value(alloc: Global, bytes: &[u8]) -> Result<Value, Refusal>
-    ensures size { IfOk result (λ _. length bytes.now ≤ max_size) }
+    ensures size { IfOk result (λ _. length bytes.now ≤ MAX_CONFIG_LEN) }
     ensures ok { IfOk result (λ v. Reads bytes.now (view v)) }
     ensures err { IfErr result (λ e. ReadingRefused bytes.now e) }
 {
-    if bytes.len() > 65536 {
+    if bytes.len() > MAX_CONFIG_LEN {
         return Err(Refusal::ConfigRefused(Cause::Size));
     }
     let Ok(text) = str::from_utf8(bytes) else {
@@ -40,7 +41,7 @@ fn read_value(alloc: Global, bytes: &[u8]) -> Result<Value, Refusal>
 }
 
 fn read_draft(alloc: Global, bytes: &[u8]) -> Result<Draft, Refusal>
-    ensures size { IfOk result (λ _. length bytes.now ≤ max_size) }
+    ensures size { IfOk result (λ _. length bytes.now ≤ MAX_CONFIG_LEN) }
     ensures ok { IfOk result (λ d. Says bytes.now (config_texts d)) }
     ensures ordered { IfOk result (λ d. AreOrdered (config_texts d)) }
     ensures err { IfErr result (λ e. ReadingRefused bytes.now e) }
@@ -56,7 +57,7 @@ fn read_draft(alloc: Global, bytes: &[u8]) -> Result<Draft, Refusal>
 /// applies: they are over 65,536 (`size`), they are no JSON (`json`), the value is of another form
 /// (`shape`), a text in a name's place is no name (`name`).
 pub fn read_configuration(alloc: Global, bytes: &[u8]) -> Result<Parts, Refusal>
-    ensures size { IfOk result (λ _. length bytes.now ≤ max_size) }
+    ensures size { IfOk result (λ _. length bytes.now ≤ MAX_CONFIG_LEN) }
     ensures ok { IfOk result (λ p. Describes bytes.now (parts_of p)) }
     ensures ordered { IfOk result (λ p. IsOrdered (parts_of p)) }
     ensures parts { IfOk result (λ p. All (λ d. IsTrue (has_parts d.form)) (parts_of p).relations) }

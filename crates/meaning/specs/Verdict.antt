@@ -1,6 +1,7 @@
 -- Why a write or a configuration is refused: each cause is looked for over the whole request before the next.
 use Rattle.std.specs.Prelude.{◌≡◌, ℕ, ◌+◌, ◌==◌, ◌&&◌, ◌||◌, List, [], ◌∷◌, map, length, Bool, true, false, cond, not, Option, Some, None, nat_lt, nat_le, IsPermutation}
 use Rattle.std.specs.List.{list_any, find}
+use Rattle.names.specs.declared.limits.TheConstants.{MAX_OPS, MAX_REV, MAX_ROWS, MAX_TUPLES}
 use Rattle.meaning.specs.TupleSet as set
 use Rattle.names.specs.Order.{tuple_cmp, is_same_tuple}
 use Rattle.names.specs.declared.tuple.Tuple.{Tuple}
@@ -16,19 +17,6 @@ use Rattle.meaning.specs.Config.{Configured, rel_of}
 use Rattle.meaning.specs.Snap.{Snap, Tuples}
 use Rattle.meaning.specs.Admits.{has_relation, admits}
 use Rattle.meaning.specs.History.{replay, puts_in}
-
--- the most current tuples, rows and revisions
-abbrev pub max_tuples : ℕ
-max_tuples = 1000000
-
-abbrev pub max_rows : ℕ
-max_rows = 4000000
-
-abbrev pub max_rev : ℕ
-max_rev = 1000000000000
-
-abbrev pub max_ops : ℕ
-max_ops = 256
 
 -- What a change is judged on: the newest revision, how many rows the history has, and what the revision holds.
 pub record Newest : Type 0 where
@@ -78,7 +66,7 @@ deletes_nothing tuples o = is_delete o.kind && not (set.contains tuples o.tuple)
 
 -- a limit would be passed
 abbrev pub is_full : Newest → List Event → Bool
-is_full n events = nat_lt max_tuples (set.len (replay n.held.tuples events)) || nat_lt max_rows (n.rows + puts_in events) || nat_lt max_rev (n.rev + 1)
+is_full n events = nat_lt MAX_TUPLES (set.len (replay n.held.tuples events)) || nat_lt MAX_ROWS (n.rows + puts_in events) || nat_lt MAX_REV (n.rev + 1)
 
 -- the first place at which a test is true, counted from n
 abbrev pub first_from : {A : Type 0} → (A → Bool) → ℕ → List A → Option ℕ
@@ -100,7 +88,7 @@ at_place why None = None
 
 -- there are 1 to 256 operations
 abbrev pub is_in_range : List Op → Bool
-is_in_range ops = nat_le 1 (length ops) && nat_le (length ops) max_ops
+is_in_range ops = nat_le 1 (length ops) && nat_le (length ops) MAX_OPS
 
 -- why the operations are refused, or nothing
 abbrev pub write_cause : Newest → List Op → Option Refusal
@@ -120,4 +108,4 @@ in_the_way None = None
 -- why a valid configuration is refused, or nothing: the first current tuple that it does not admit, or a limit
 abbrev pub config_cause : Newest → Configured → Option Refusal
 config_cause n config =
-    or_else (in_the_way (find (λ t. not (admits config t)) (set.items n.held.tuples))) (refused_if Full (nat_lt max_rev (n.rev + 1)))
+    or_else (in_the_way (find (λ t. not (admits config t)) (set.items n.held.tuples))) (refused_if Full (nat_lt MAX_REV (n.rev + 1)))

@@ -9,6 +9,7 @@ mod call;
 mod cause;
 mod commit;
 mod items;
+pub mod limits;
 mod name;
 mod node;
 mod object;

@@ -8,6 +8,7 @@ ghost use Rattle.names.specs.Refusals.{ReadCause};
 ghost use Rattle.names.specs.Names.{is_name, is_name_byte, is_lower};
 
 use crate::Refusal;
+use crate::limits::MAX_NAME_LEN;
 use std::alloc::{AllocError, Global};
 use std::cmp::Ordering;
 use std::fmt;
@@ -110,7 +111,7 @@ impl fmt::Display for Name {
 fn is_spelled(text: &[u8]) -> bool
     ensures { result ≡ is_name text.now }
 {
-    if text.is_empty() || text.len() > 32 {
+    if text.is_empty() || text.len() > MAX_NAME_LEN {
         return false;
     }
     is_lower_code(text[0]) && are_allowed(text)

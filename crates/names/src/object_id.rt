@@ -8,6 +8,7 @@ ghost use Rattle.names.specs.Refusals.{ReadCause};
 ghost use Rattle.names.specs.Names.{is_id, is_id_byte};
 
 use crate::Refusal;
+use crate::limits::MAX_ID_LEN;
 use crate::name::is_name_code;
 use std::alloc::{AllocError, Global};
 use std::cmp::Ordering;
@@ -111,7 +112,7 @@ impl fmt::Display for ObjectId {
 fn is_spelled(text: &[u8]) -> bool
     ensures { result ≡ is_id text.now }
 {
-    if text.is_empty() || text.len() > 64 {
+    if text.is_empty() || text.len() > MAX_ID_LEN {
         return false;
     }
     are_allowed(text)

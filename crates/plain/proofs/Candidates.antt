@@ -30,7 +30,7 @@ module _ (s : Source) (i k : ℕ) where
     module _ (object : Object) (old new : List Node) (gains : GainsNodes s object i k old new) where
       pub gains_none : ((get_or s.levels.now i 0 ≡ k) → r.name.namespace ≡ object.namespace → ⊥) → GainsNodes s object (i + 1) k old new
       gains_none none = record {
-        kept = gains.kept;
+        remains = gains.remains;
         gained = λ m e p. ⊎_elim (gains.gained m e) (λ q. absurd (none q.1 (ap (λ x. x.namespace) q.0 ∙ ap (λ o. o.namespace) e))) (placed_split m p);
         only = λ m c. ⊎_elim (λ h. inl h) (λ q. inr (q.0, placed_more m q.1)) (gains.only m c);
       }
@@ -39,7 +39,7 @@ module _ (s : Source) (i k : ℕ) where
       gains_push at named =
           let node : Node = record { object = object; relation = r.name.relation } in
           record {
-            kept = λ m c. Contains-append_left new (node ∷ []) m (gains.kept m c);
+            remains = λ m c. Contains-append_left new (node ∷ []) m (gains.remains m c);
             gained = λ m e p. ⊎_elim
                 (λ q. Contains-append_left new (node ∷ []) m (gains.gained m e q))
                 (λ q.
@@ -63,7 +63,7 @@ nodes_none s objects k = record {
 pub nodes_more : (s : Source) (objects : List Object) (i k : ℕ) (o : Object) (old new : List Node) → i < length objects → o ≡ get_or objects i o → GainsNodes s o (length s.relations.now) k old new → HasNodes s objects i k old → HasNodes s objects (i + 1) k new
 nodes_more s objects i k o old new lt is gains nodes = record {
   all = λ p j m h e q placed. ⊎_elim
-      (λ less. gains.kept m (nodes.all p j m less e q placed))
+      (λ less. gains.remains m (nodes.all p j m less e q placed))
       (λ more.
       let here : j ≡ i = omega (arith, more) in
       let same : p ≡ o = sym e ∙ ap (λ x. get_or objects x p) here ∙ get_or_default objects i p o lt ∙ sym is in

@@ -96,7 +96,7 @@ module _ (s : Source) (ready : IsReady s) where
 
         complete : ((m : Node) → Contains held m → IsKnown (snap_of s) m) → (m : Node) → Below at rule (suc k) m → Contains held m
         complete known = least_of rule (relation_grows (snap_of s) u) (relation_finitary (snap_of s) u) (λ p. at p k) (Below at rule k) (Contains held)
-            (λ m b. least.kept m ((done.exact m).1 b))
+            (λ m b. least.remains m ((done.exact m).1 b))
             (λ m here g. least.closed m
             (candidate m here (relation_known (snap_of s) u m (Contains held) (Below at rule k) all_whole known g))
             (relation_grows (snap_of s) u m (Contains held) (Contains held) (Below at rule k) (Contains lower) (λ p x. x) (λ p. ((done.exact p).1, (done.exact p).0)) g))

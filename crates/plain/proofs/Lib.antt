@@ -4,4 +4,4 @@ pub mod Candidates
 pub mod Alike
 pub mod Gather
 pub mod LevelSteps
-pub mod Kept
+pub mod OrderedSets

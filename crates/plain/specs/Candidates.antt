@@ -12,7 +12,7 @@ IsPlaced s i k m = (j : ℕ) × (r : Relation) × (j < i) × (slice_index_or s.r
 
 -- the list has gained the nodes of the object whose relations stand before i, with level k
 pub record GainsNodes (s : Source) (object : Object) (i k : ℕ) (old new : List Node) : Type 0 where
-  pub kept : (m : Node) → Contains old m → Contains new m
+  pub remains : (m : Node) → Contains old m → Contains new m
   pub gained : (m : Node) → m.object ≡ object → IsPlaced s i k m → Contains new m
   pub only : (m : Node) → Contains new m → Contains old m ⊎ ((m.object ≡ object) × IsPlaced s i k m)
 

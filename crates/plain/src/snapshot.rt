@@ -80,7 +80,7 @@ impl Snapshot {
         ensures { option_copied result ≡ find (λ t. not (admits config.now t)) (set.items self.now.tuples) }
     {
         let tuples = &self.tuples;
-        tuples.iter().find(|tuple| refuses(config, tuple))
+        tuples.iter().find(|tuple| !config.allows(tuple))
     }
 
     /// Puts the tuple, whether it is there or not.
@@ -116,14 +116,5 @@ impl Snapshot {
             levels: self.config.levels(),
             tuples: &self.tuples,
         }
-    }
-}
-
-fn refuses(config: &Config, tuple: &Tuple) -> bool
-    ensures { result ≡ not (admits config.now tuple.now) }
-{
-    match config.admits(tuple) {
-        Ok(()) => false,
-        Err(_) => true,
     }
 }

@@ -14,7 +14,7 @@ use Rattle.strata.proofs.Trails.{trail_one, trail_more}
 pub spread_none : (seen : List Seen) (marks : List Bool) (steps : List Step) → IsMarked marks seen → IsSpread seen marks seen marks steps 0
 spread_none seen marks steps marked = record {
   longer = omega arith;
-  kept = λ k d h. refl;
+  remains = λ k d h. refl;
   room = refl;
   long = refl;
   marked = marked;
@@ -36,7 +36,7 @@ taken_more seen steps i s at has before k t h is =
 pub spread_old : (seen : List Seen) (marks : List Bool) (seen_now : List Seen) (marks_now : List Bool) (steps : List Step) (i : ℕ) (s : Step) → ((d : Step) → get_or steps i d ≡ s) → IsTrue (get_or marks_now s.to false) → IsSpread seen marks seen_now marks_now steps i → IsSpread seen marks seen_now marks_now steps (i + 1)
 spread_old seen marks seen_now marks_now steps i s at mark spread = record {
   longer = spread.longer;
-  kept = spread.kept;
+  remains = spread.remains;
   room = spread.room;
   long = spread.long;
   marked = spread.marked;
@@ -78,11 +78,11 @@ spread_new seen marks seen_now marks_now steps i by s lt at place range leave fr
     let low : s.to < length marks_now = omega (arith, range, spread.long) in
     let place_now : by < length seen_now = omega (arith, place, spread.longer) in
     let has : Contains steps s = (i, lt, at s) in
-    let from : (d : Seen) → (get_or seen_now by d).node ≡ s.from = λ d. ap (λ z. z.node) (spread.kept by d place) ∙ sym (leave s d has) in
+    let from : (d : Seen) → (get_or seen_now by d).node ≡ s.from = λ d. ap (λ z. z.node) (spread.remains by d place) ∙ sym (leave s d has) in
     let fresh : HasNode seen_now s.to → ⊥ = λ h. let mark = (spread.marked s.to).1 h in cc in
     record {
       longer = let e = length_push seen_now x in omega (arith, e, spread.longer);
-      kept = λ k d h. let now : k < length seen_now = omega (arith, h, spread.longer) in get_or_append_left seen_now (x ∷ []) d k now ∙ spread.kept k d h;
+      remains = λ k d h. let now : k < length seen_now = omega (arith, h, spread.longer) in get_or_append_left seen_now (x ∷ []) d k now ∙ spread.remains k d h;
       room = let e = length_push seen_now x in let u = unmarked_more marks_now s.to low free in omega (arith, e, u, spread.room);
       long = length-set marks_now s.to true ∙ spread.long;
       marked = marked_more marks_now seen_now x low spread.marked;
@@ -119,8 +119,8 @@ search_one steps count x lt = record {
   done = λ k d s h. absurd (omega (arith, h));
 }
 
-has_kept : (seen seen_now : List Seen) (n : ℕ) → length seen ≤ length seen_now → ((k : ℕ) (d : Seen) → k < length seen → get_or seen_now k d ≡ get_or seen k d) → HasNode seen n → HasNode seen_now n
-has_kept seen seen_now n longer kept (x, (k, h, e), is) = (x, (k, omega (arith, h, longer), kept k x h ∙ e), is)
+has_still : (seen seen_now : List Seen) (n : ℕ) → length seen ≤ length seen_now → ((k : ℕ) (d : Seen) → k < length seen → get_or seen_now k d ≡ get_or seen k d) → HasNode seen n → HasNode seen_now n
+has_still seen seen_now n longer remains (x, (k, h, e), is) = (x, (k, omega (arith, h, longer), remains k x h ∙ e), is)
 
 pub search_more : (steps : List Step) (start count at : ℕ) (seen : List Seen) (marks : List Bool) (seen_now : List Seen) (marks_now : List Bool) (next : List Step) (from : ℕ) → at < length seen → ((d : Seen) → (get_or seen at d).node ≡ from) → ((s : Step) → Contains next s ↔ (Contains steps s × (s.from ≡ from))) → IsSpread seen marks seen_now marks_now next (length next) → IsSearch steps start count at seen marks → IsSearch steps start count (at + 1) seen_now marks_now
 search_more steps start count at seen marks seen_now marks_now next from lt node leaving spread search = record {
@@ -131,10 +131,10 @@ search_more steps start count at seen marks seen_now marks_now next from lt node
   done = λ k d s h c e. ⊎_elim
       (λ less.
       let low : k < length seen = omega (arith, less, lt) in
-      has_kept seen seen_now s.to spread.longer spread.kept (search.done k d s less c (e ∙ ap (λ z. z.node) (spread.kept k d low))))
+      has_still seen seen_now s.to spread.longer spread.remains (search.done k d s less c (e ∙ ap (λ z. z.node) (spread.remains k d low))))
       (λ more.
       let here : k ≡ at = omega (arith, h, more) in
-      let same : s.from ≡ from = e ∙ ap (λ q. (get_or seen_now q d).node) here ∙ ap (λ z. z.node) (spread.kept at d lt) ∙ node d in
+      let same : s.from ≡ from = e ∙ ap (λ q. (get_or seen_now q d).node) here ∙ ap (λ z. z.node) (spread.remains at d lt) ∙ node d in
       let at_next = (leaving s).1 (c, same) in
       spread.taken at_next.0 s at_next.1 at_next.2)
       (cases_lt k at);

@@ -36,7 +36,7 @@ unmarked marks = sum_by (λ mark. cond mark 0 1) marks
 -- the first n of the steps were taken from the place: what was seen stays, and they lead to what is seen now
 pub record IsSpread (seen : List Seen) (marks : List Bool) (seen_now : List Seen) (marks_now : List Bool) (steps : List Step) (n : ℕ) : Type 0 where
   pub longer : length seen ≤ length seen_now
-  pub kept : (k : ℕ) (d : Seen) → k < length seen → slice_index_or seen_now k d ≡ slice_index_or seen k d
+  pub remains : (k : ℕ) (d : Seen) → k < length seen → slice_index_or seen_now k d ≡ slice_index_or seen k d
   pub room : unmarked marks_now + length seen_now ≡ unmarked marks + length seen
   pub long : length marks_now ≡ length marks
   pub marked : IsMarked marks_now seen_now

@@ -14,14 +14,14 @@ use std::alloc::Global;
 use std::io::{Read, Write};
 use std::rt::Files;
 use tables::Listed;
-use zanz_core::{Watched, WatchedWriter, say};
+use zanz_core::{TrackedReader, TrackedWriter, say};
 
 // Prints what there is to say of a file's configuration, and answers the status that the process ends with.
 fn report<F: Files, W: Write>(
     alloc: Global,
     files: &F,
     path: &str,
-    writer: &mut WatchedWriter<W>,
+    writer: &mut TrackedWriter<W>,
 ) -> Result<u8, Fault>
     requires unbroken_writer { writer.old.failed ≡ false }
     ensures accepted { IfOk result (λ status. status ≡ 0 → Reported true (W.contents writer.old.inner) (W.contents writer.new.inner)) }
@@ -42,8 +42,8 @@ fn report<F: Files, W: Write>(
 fn run_at<R: Read, W: Write>(
     rt: &HostRuntime,
     place: &Place,
-    reader: &mut Watched<R>,
-    writer: &mut WatchedWriter<W>,
+    reader: &mut TrackedReader<R>,
+    writer: &mut TrackedWriter<W>,
 ) -> Result<(), Fault>
     requires unbroken_reader { reader.old.failed ≡ false }
     requires unbroken_writer { writer.old.failed ≡ false }
@@ -65,8 +65,8 @@ fn run_at<R: Read, W: Write>(
 fn obey<R: Read, W: Write>(
     rt: &HostRuntime,
     words: &[String],
-    reader: &mut Watched<R>,
-    writer: &mut WatchedWriter<W>,
+    reader: &mut TrackedReader<R>,
+    writer: &mut TrackedWriter<W>,
 ) -> Result<u8, Fault>
     requires unbroken_reader { reader.old.failed ≡ false }
     requires unbroken_writer { writer.old.failed ≡ false }
@@ -91,8 +91,8 @@ fn obey<R: Read, W: Write>(
 pub fn command<R: Read, W: Write, E: Write>(
     rt: &HostRuntime,
     words: &[String],
-    reader: &mut Watched<R>,
-    writer: &mut WatchedWriter<W>,
+    reader: &mut TrackedReader<R>,
+    writer: &mut TrackedWriter<W>,
     errors: &mut E,
 ) -> u8
     requires unbroken_reader { reader.old.failed ≡ false }

@@ -3,15 +3,16 @@ ghost use Rattle.std.specs.Prelude.{◌≡◌, ◌≢◌, IfErr};
 
 use crate::fault::Fault;
 use names::Refusal;
+use names::limits::MAX_CONFIG_LEN;
 use std::alloc::Global;
 use std::io::{ErrorKind, Read};
 use std::rt::Files;
 use std::{fs, io};
 
 /// The most bytes that are read of a file: one more than a configuration has.
-const MOST: u64 = 65_537;
+const MOST: u64 = MAX_CONFIG_LEN as u64 + 1;
 
-/// The first 65,537 bytes of a file, or all of it where it has fewer.
+/// The first bytes of a file, one more than a configuration has, or all of it where it has fewer.
 pub fn read_file<F: Files>(alloc: Global, files: &F, path: &str) -> Result<Vec<u8>, Fault>
     ensures { IfErr result (λ fault. fault ≢ Fault.CommandLine) }
 {

@@ -20,7 +20,7 @@ use names::Refusal;
 use std::io;
 use std::io::{BufWriter, ErrorKind};
 use std::process::ExitCode;
-use zanz_core::{Watched, WatchedWriter};
+use zanz_core::{TrackedReader, TrackedWriter};
 
 fn main(rt: HostRuntime) -> ExitCode {
     let status = match start(&rt) {
@@ -37,8 +37,8 @@ fn start(rt: &HostRuntime) -> Result<u8, Fault> {
     let Ok(out) = BufWriter::new(alloc, io::writer(rt)) else {
         return Err(Fault::Refused(Refusal::Memory));
     };
-    let mut reader = Watched::new(rt.reader());
-    let mut writer = WatchedWriter::new(out);
+    let mut reader = TrackedReader::new(rt.reader());
+    let mut writer = TrackedWriter::new(out);
     let mut errors = rt.stderr();
     Ok(command(rt, words.as_slice(), &mut reader, &mut writer, &mut errors))
 }

@@ -13,14 +13,14 @@ use names::Refusal;
 use std::alloc::Global;
 use std::io::{Read, Write};
 use tables::Tables;
-use zanz_core::{Watched, WatchedWriter, lines};
+use zanz_core::{TrackedReader, TrackedWriter, lines};
 
 /// Answers lines from the store that these tables keep.
 pub fn run<T: Tables + Drop, R: Read, W: Write>(
     alloc: Global,
     tables: T,
-    reader: &mut Watched<R>,
-    writer: &mut WatchedWriter<W>,
+    reader: &mut TrackedReader<R>,
+    writer: &mut TrackedWriter<W>,
 ) -> Result<(), Fault>
     requires unbroken_reader { reader.old.failed ≡ false }
     requires unbroken_writer { writer.old.failed ≡ false }
@@ -55,8 +55,8 @@ pub fn run<T: Tables + Drop, R: Read, W: Write>(
 fn serve<T: Tables + Drop, R: Read, W: Write>(
     alloc: Global,
     desk: &mut Desk<T>,
-    reader: &mut Watched<R>,
-    writer: &mut WatchedWriter<W>,
+    reader: &mut TrackedReader<R>,
+    writer: &mut TrackedWriter<W>,
 ) -> Result<(), Fault>
     requires unbroken_reader { reader.old.failed ≡ false }
     requires unbroken_writer { writer.old.failed ≡ false }

@@ -8,7 +8,7 @@ use std::alloc::{AllocError, Global};
 use std::io::{ErrorKind, Read, Write};
 use std::test::Fail;
 use std::{fs, io};
-use zanz_core::{Watched, WatchedWriter};
+use zanz_core::{TrackedReader, TrackedWriter};
 
 /// The words of a command line, of which the first is the program's.
 fn words_of(alloc: Global, line: &str) -> Result<Vec<String>, AllocError> {
@@ -31,8 +31,8 @@ fn ends(
 ) -> Result<bool, AllocError> {
     let alloc = rt.alloc();
     let words = words_of(alloc, line)?;
-    let mut reader = Watched::new(input.as_bytes());
-    let mut writer = WatchedWriter::new(Vec::new(alloc));
+    let mut reader = TrackedReader::new(input.as_bytes());
+    let mut writer = TrackedWriter::new(Vec::new(alloc));
     let mut errors = Vec::new(alloc);
     let ended = command(rt, words.as_slice(), &mut reader, &mut writer, &mut errors);
     let written = writer.inner().as_slice() == output.as_bytes();
@@ -246,8 +246,8 @@ impl Write for Broken {
 
 fn tells<R: Read, W: Write>(
     rt: &HostRuntime,
-    reader: &mut Watched<R>,
-    writer: &mut WatchedWriter<W>,
+    reader: &mut TrackedReader<R>,
+    writer: &mut TrackedWriter<W>,
     told: &str,
 ) -> Result<bool, AllocError>
     requires unbroken_reader { reader.old.failed ≡ false }
@@ -263,11 +263,11 @@ fn tells<R: Read, W: Write>(
 #[test]
 fn streams_that_fail_are_told(rt: HostRuntime) -> Result<(), Fail> {
     let alloc = rt.alloc();
-    let mut reader = Watched::new(Broken);
-    let mut writer = WatchedWriter::new(Vec::new(alloc));
+    let mut reader = TrackedReader::new(Broken);
+    let mut writer = TrackedWriter::new(Vec::new(alloc));
     assert!(rt; tells(&rt, &mut reader, &mut writer, "zanz: cannot read\n")?);
-    let mut reader = Watched::new(QUESTION.as_bytes());
-    let mut writer = WatchedWriter::new(Broken);
+    let mut reader = TrackedReader::new(QUESTION.as_bytes());
+    let mut writer = TrackedWriter::new(Broken);
     assert!(rt; tells(&rt, &mut reader, &mut writer, "zanz: cannot write\n")?);
     Ok(())
 }

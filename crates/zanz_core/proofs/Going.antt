@@ -5,15 +5,16 @@ use Rattle.std.specs.List.{flat_map}
 use Rattle.std.specs.Io.KnownBytes.{Appends, Keeps, Consumes}
 use Rattle.std.proofs.lemmas.List.{append-nil, take-append-drop, take_more, take_all}
 use Rattle.std.proofs.Math.Seq.{take-append_seam}
+use Rattle.names.specs.declared.limits.TheConstants.{MAX_BODY_LEN}
 use Rattle.names.specs.declared.call.Call.{Call}
 use Rattle.names.specs.Calls.{call_of}
 use Rattle.http_api.specs.Text.{lines_of, word_of, body_of, ended, HasNoEnd}
-use Rattle.zanz_core.specs.Kept.{Kept, kept, with_byte}
-use Rattle.http_api.specs.Machine.{Step, IsAnswer, Answers, Run, Fed, max_body}
+use Rattle.zanz_core.specs.PendingLine.{PendingLine, pending_of, with_byte}
+use Rattle.http_api.specs.Machine.{Step, IsAnswer, Answers, Run, Fed}
 use Rattle.http_api.specs.Wrote.{Wrote, WroteSome}
 use Rattle.http_api.specs.Served.{Served, Cut}
 use Rattle.zanz_core.specs.Going.{Going, CutShort}
-use Rattle.zanz_core.proofs.Keeping.{kept_more, fits_kept, whole_when_fits, call_kept, empty_from_kept}
+use Rattle.zanz_core.proofs.Keeping.{pending_more, fits_pending, whole_when_fits, call_pending, empty_from_pending}
 use Rattle.zanz_core.proofs.Feeding.{run_more, fed_none, fed_byte, fed_line, lines_of_fed, lines_of_rest}
 use Rattle.zanz_core.proofs.Writing.{appends_none, appends_both, appends_kept, some_after}
 
@@ -24,18 +25,18 @@ answer_by step t false call b1 b2 text u e h = h
 
 -- what is kept of a line decides its answer
 pub answer_kept : {S : Type 0} (step : Step S) (t : S) (line text : List ℕ) (u : S)
-    → IsAnswer step t (nat_le (length (kept line).body) max_body) (call_of (kept line).word) (kept line).body text u → Answers step t line text u
+    → IsAnswer step t (nat_le (length (pending_of line).body) MAX_BODY_LEN) (call_of (pending_of line).word) (pending_of line).body text u → Answers step t line text u
 answer_kept step t line text u h =
-    let P : Bool → Type 0 = λ b. IsAnswer step t b (call_of (kept line).word) (kept line).body text u in
-    let one : IsAnswer step t (nat_le (length (body_of line)) max_body) (call_of (kept line).word) (kept line).body text u = subst P (fits_kept max_body (body_of line)) h in
-    let Q : Option Call → Type 0 = λ c. IsAnswer step t (nat_le (length (body_of line)) max_body) c (kept line).body text u in
-    let two : IsAnswer step t (nat_le (length (body_of line)) max_body) (call_of (word_of line)) (kept line).body text u = subst Q (call_kept (word_of line)) one in
-    answer_by step t _ _ _ _ text u (whole_when_fits max_body (body_of line)) two
+    let P : Bool → Type 0 = λ b. IsAnswer step t b (call_of (pending_of line).word) (pending_of line).body text u in
+    let one : IsAnswer step t (nat_le (length (body_of line)) MAX_BODY_LEN) (call_of (pending_of line).word) (pending_of line).body text u = subst P (fits_pending MAX_BODY_LEN (body_of line)) h in
+    let Q : Option Call → Type 0 = λ c. IsAnswer step t (nat_le (length (body_of line)) MAX_BODY_LEN) c (pending_of line).body text u in
+    let two : IsAnswer step t (nat_le (length (body_of line)) MAX_BODY_LEN) (call_of (word_of line)) (pending_of line).body text u = subst Q (call_pending (word_of line)) one in
+    answer_by step t _ _ _ _ text u (whole_when_fits MAX_BODY_LEN (body_of line)) two
 
-pub going_none : {S : Type 0} (step : Step S) (s : S) (held : Option (List ℕ)) → Going step s held [] (kept []) s held
-going_none step s held = record { paused = record { rest = []; text = []; fed = fed_none step s; wrote = appends_none held }; kept_is = refl }
+pub going_none : {S : Type 0} (step : Step S) (s : S) (held : Option (List ℕ)) → Going step s held [] (pending_of []) s held
+going_none step s held = record { paused = record { rest = []; text = []; fed = fed_none step s; wrote = appends_none held }; pending_is = refl }
 
-pub going_byte : {S : Type 0} (step : Step S) (s : S) (held : Option (List ℕ)) (input : List ℕ) (line : Kept) (t : S) (holds : Option (List ℕ)) (b : ℕ) (line_after : Kept)
+pub going_byte : {S : Type 0} (step : Step S) (s : S) (held : Option (List ℕ)) (input : List ℕ) (line : PendingLine) (t : S) (holds : Option (List ℕ)) (b : ℕ) (line_after : PendingLine)
     → Going step s held input line t holds → b ≢ 10 → line_after ≡ with_byte line b → Going step s held (input ++ b ∷ []) line_after t holds
 going_byte step s held input line t holds b line_after g n e = record {
   paused = record {
@@ -44,7 +45,7 @@ going_byte step s held input line t holds b line_after g n e = record {
     fed = fed_byte step s input g.paused.rest g.paused.text t b g.paused.fed n;
     wrote = g.paused.wrote;
   };
-  kept_is = e ∙ ap (λ k. with_byte k b) g.kept_is ∙ kept_more g.paused.rest b;
+  pending_is = e ∙ ap (λ k. with_byte k b) g.pending_is ∙ pending_more g.paused.rest b;
 }
 
 short_from_fed : {S : Type 0} (step : Step S) (s : S) (held : Option (List ℕ)) (input rest text : List ℕ) (t : S) (holds : Option (List ℕ))
@@ -53,20 +54,20 @@ short_from_fed step s held input rest text t holds f w = record { more = rest; t
 
 answered_by : {S E : Type 0} (step : Step S) (r : Result (Unit {0}) E) (s : S) (held : Option (List ℕ)) (input rest text : List ℕ) (holds after : Option (List ℕ)) (u : S) (more : List ℕ)
     → Appends held holds text → Fed step s (input ++ 10 ∷ []) [] (text ++ more) u → Wrote r holds after more
-    → MatchResult r (λ _. Going step s held (input ++ 10 ∷ []) (kept []) u after) (λ _. CutShort step s held (input ++ 10 ∷ []) u after)
+    → MatchResult r (λ _. Going step s held (input ++ 10 ∷ []) (pending_of []) u after) (λ _. CutShort step s held (input ++ 10 ∷ []) u after)
 answered_by step (Ok x) s held input rest text holds after u more a f w =
-    record { paused = record { rest = []; text = text ++ more; fed = f; wrote = appends_both held holds after text more a w }; kept_is = refl }
+    record { paused = record { rest = []; text = text ++ more; fed = f; wrote = appends_both held holds after text more a w }; pending_is = refl }
 answered_by step (Err e) s held input rest text holds after u more a f w = short_from_fed step s held _ _ _ u after f (some_after held holds after text more a w)
 
 -- the line ends, and is answered
-pub going_line : {S E : Type 0} (step : Step S) (r : Result (Unit {0}) E) (s : S) (held : Option (List ℕ)) (input : List ℕ) (line : Kept) (t : S) (holds after : Option (List ℕ)) (text : List ℕ) (u : S) (line_after : Kept)
-    → Going step s held input line t holds → IsAnswer step t (nat_le (length line.body) max_body) (call_of line.word) line.body text u → Wrote r holds after text → line_after ≡ kept []
+pub going_line : {S E : Type 0} (step : Step S) (r : Result (Unit {0}) E) (s : S) (held : Option (List ℕ)) (input : List ℕ) (line : PendingLine) (t : S) (holds after : Option (List ℕ)) (text : List ℕ) (u : S) (line_after : PendingLine)
+    → Going step s held input line t holds → IsAnswer step t (nat_le (length line.body) MAX_BODY_LEN) (call_of line.word) line.body text u → Wrote r holds after text → line_after ≡ pending_of []
     → MatchResult r (λ _. Going step s held (input ++ 10 ∷ []) line_after u after) (λ _. CutShort step s held (input ++ 10 ∷ []) u after)
 going_line step r s held input line t holds after text u line_after g h w e =
-    let P : Kept → Type 0 = λ k. IsAnswer step t (nat_le (length k.body) max_body) (call_of k.word) k.body text u in
-    let a = answer_kept step t g.paused.rest text u (subst P g.kept_is h) in
+    let P : PendingLine → Type 0 = λ k. IsAnswer step t (nat_le (length k.body) MAX_BODY_LEN) (call_of k.word) k.body text u in
+    let a = answer_kept step t g.paused.rest text u (subst P g.pending_is h) in
     let f = fed_line step s input g.paused.rest g.paused.text t text u g.paused.fed a in
-    let Q : Kept → Type 0 = λ k. MatchResult r (λ _. Going step s held (input ++ 10 ∷ []) k u after) (λ _. CutShort step s held (input ++ 10 ∷ []) u after) in
+    let Q : PendingLine → Type 0 = λ k. MatchResult r (λ _. Going step s held (input ++ 10 ∷ []) k u after) (λ _. CutShort step s held (input ++ 10 ∷ []) u after) in
     subst Q (sym e) (answered_by step r s held input g.paused.rest g.paused.text holds after u text g.paused.wrote f w)
 
 -- bytes that were not fed change nothing
@@ -85,7 +86,7 @@ short_more step s held input t holds more c = record {
 one_more : (input bytes : List ℕ) (i d : ℕ) → i < length bytes → (input ++ take i bytes) ++ get_or bytes i d ∷ [] ≡ input ++ take (i + 1) bytes
 one_more input bytes i d h = append_assoc input (take i bytes) (get_or bytes i d ∷ []) ∙ ap (λ z. input ++ z) (sym (take_more bytes i d h))
 
-pub going_more : {S : Type 0} (step : Step S) (s : S) (held : Option (List ℕ)) (input bytes : List ℕ) (i d : ℕ) (line : Kept) (t : S) (holds : Option (List ℕ)) → i < length bytes
+pub going_more : {S : Type 0} (step : Step S) (s : S) (held : Option (List ℕ)) (input bytes : List ℕ) (i d : ℕ) (line : PendingLine) (t : S) (holds : Option (List ℕ)) → i < length bytes
     → Going step s held ((input ++ take i bytes) ++ get_or bytes i d ∷ []) line t holds → Going step s held (input ++ take (i + 1) bytes) line t holds
 going_more step s held input bytes i d line t holds h g = let P : List ℕ → Type 0 = λ z. Going step s held z line t holds in subst P (one_more input bytes i d h) g
 
@@ -96,7 +97,7 @@ short_within step s held input bytes i d t holds h c =
     let all : (input ++ take (i + 1) bytes) ++ drop (i + 1) bytes ≡ input ++ bytes = append_assoc input (take (i + 1) bytes) (drop (i + 1) bytes) ∙ ap (λ z. input ++ z) (take-append-drop (i + 1) bytes) in
     subst P all (short_more step s held _ t holds (drop (i + 1) bytes) (subst P (one_more input bytes i d h) c))
 
-pub going_all : {S : Type 0} (step : Step S) (s : S) (held : Option (List ℕ)) (input bytes : List ℕ) (i : ℕ) (line : Kept) (t : S) (holds : Option (List ℕ)) → length bytes ≤ i
+pub going_all : {S : Type 0} (step : Step S) (s : S) (held : Option (List ℕ)) (input bytes : List ℕ) (i : ℕ) (line : PendingLine) (t : S) (holds : Option (List ℕ)) → length bytes ≤ i
     → Going step s held (input ++ take i bytes) line t holds → Going step s held (input ++ bytes) line t holds
 going_all step s held input bytes i line t holds h g = let P : List ℕ → Type 0 = λ z. Going step s held z line t holds in subst P (ap (λ z. input ++ z) (take_all i bytes h)) g
 
@@ -110,16 +111,16 @@ lines_of_input : {S : Type 0} (step : Step S) (s : S) (input rest text : List �
 lines_of_input step s input rest text t f = rw f.split (lines_of_fed f.lines rest f.whole)
 
 -- the input ends where a line does
-pub served_whole : {S : Type 0} (step : Step S) (s : S) (held : Option (List ℕ)) (input : List ℕ) (line : Kept) (t : S) (holds : Option (List ℕ))
+pub served_whole : {S : Type 0} (step : Step S) (s : S) (held : Option (List ℕ)) (input : List ℕ) (line : PendingLine) (t : S) (holds : Option (List ℕ))
     → Going step s held input line t holds → (not line.spaced && length line.word == 0) ≡ true → Served step s held input t holds
 served_whole step s held input line t holds g e =
-    let P : Kept → Type 0 = λ k. (not k.spaced && length k.word == 0) ≡ true in
-    let none : g.paused.rest ≡ [] = empty_from_kept g.paused.rest (subst P g.kept_is e) in
+    let P : PendingLine → Type 0 = λ k. (not k.spaced && length k.word == 0) ≡ true in
+    let none : g.paused.rest ≡ [] = empty_from_pending g.paused.rest (subst P g.pending_is e) in
     let f = g.paused.fed in
     let all : lines_of input ≡ f.lines = lines_of_input step s input g.paused.rest g.paused.text t f ∙ ap (λ z. f.lines ++ lines_of z) none ∙ append-nil f.lines in
     record { text = g.paused.text; run = rw all f.run; wrote = g.paused.wrote }
 
-last_line : (rest : List ℕ) → HasNoEnd rest → (not (kept rest).spaced && length (kept rest).word == 0) ≡ false → lines_of rest ≡ rest ∷ []
+last_line : (rest : List ℕ) → HasNoEnd rest → (not (pending_of rest).spaced && length (pending_of rest).word == 0) ≡ false → lines_of rest ≡ rest ∷ []
 last_line [] h e = absurd (true≢false e)
 last_line (x ∷ rest) h e = lines_of_rest x rest h
 
@@ -131,17 +132,17 @@ ended_by step (Err x) s held input lines text holds after more u e ran a w =
     record { count = length lines; text = text ++ more; run = rw (e, take_all (length lines) lines (omega arith)) ran; wrote = some_after held holds after text more a w }
 
 -- the last line has no end, and is answered
-pub served_last : {S E : Type 0} (step : Step S) (r : Result (Unit {0}) E) (s : S) (held : Option (List ℕ)) (input : List ℕ) (line : Kept) (t : S) (holds after : Option (List ℕ)) (text : List ℕ) (u : S)
+pub served_last : {S E : Type 0} (step : Step S) (r : Result (Unit {0}) E) (s : S) (held : Option (List ℕ)) (input : List ℕ) (line : PendingLine) (t : S) (holds after : Option (List ℕ)) (text : List ℕ) (u : S)
     → Going step s held input line t holds → (not line.spaced && length line.word == 0) ≡ false
-    → IsAnswer step t (nat_le (length line.body) max_body) (call_of line.word) line.body text u → Wrote r holds after text
+    → IsAnswer step t (nat_le (length line.body) MAX_BODY_LEN) (call_of line.word) line.body text u → Wrote r holds after text
     → MatchResult r (λ _. Served step s held input u after) (λ _. Cut step s held input u after)
 served_last {S} {E} step r s held input line t holds after text u g e h w =
-    let P : Kept → Type 0 = λ k. (not k.spaced && length k.word == 0) ≡ false in
-    let Q : Kept → Type 0 = λ k. IsAnswer step t (nat_le (length k.body) max_body) (call_of k.word) k.body text u in
+    let P : PendingLine → Type 0 = λ k. (not k.spaced && length k.word == 0) ≡ false in
+    let Q : PendingLine → Type 0 = λ k. IsAnswer step t (nat_le (length k.body) MAX_BODY_LEN) (call_of k.word) k.body text u in
     let f = g.paused.fed in
-    let one : lines_of g.paused.rest ≡ g.paused.rest ∷ [] = last_line g.paused.rest f.partial (subst P g.kept_is e) in
+    let one : lines_of g.paused.rest ≡ g.paused.rest ∷ [] = last_line g.paused.rest f.partial (subst P g.pending_is e) in
     let all : lines_of input ≡ f.lines ++ g.paused.rest ∷ [] = lines_of_input step s input g.paused.rest g.paused.text t f ∙ ap (λ z. f.lines ++ z) one in
-    let a = answer_kept step t g.paused.rest text u (subst Q g.kept_is h) in
+    let a = answer_kept step t g.paused.rest text u (subst Q g.pending_is h) in
     let ran = run_more step f.lines s g.paused.text t g.paused.rest text u f.run a in
     ended_by step r s held input (f.lines ++ g.paused.rest ∷ []) g.paused.text holds after text u all ran g.paused.wrote w
 
@@ -155,8 +156,8 @@ consumes_more (Some s) None c xs ys h k = absurd h
 consumes_more (Some s) (Some t) None xs ys h k = absurd k
 consumes_more (Some s) (Some t) (Some u) xs ys h k = h ∙ ap (λ z. xs ++ z) k ∙ sym (append_assoc xs ys u)
 
-pub going_start : {S : Type 0} (step : Step S) (s : S) (held : Option (List ℕ)) (line : Kept) → line ≡ kept [] → Going step s held [] line s held
-going_start step s held line e = let P : Kept → Type 0 = λ k. Going step s held [] k s held in subst P (sym e) (going_none step s held)
+pub going_start : {S : Type 0} (step : Step S) (s : S) (held : Option (List ℕ)) (line : PendingLine) → line ≡ pending_of [] → Going step s held [] line s held
+going_start step s held line e = let P : PendingLine → Type 0 = λ k. Going step s held [] k s held in subst P (sym e) (going_none step s held)
 
 pub match_at_ok : {E : Type 0} (P Q : Type 0) (r : Result (Unit {0}) E) → is_err r ≡ false → MatchResult r (λ _. P) (λ _. Q) → P
 match_at_ok P Q (Ok x) e h = h
@@ -171,11 +172,11 @@ pub served_keeps : {S : Type 0} (step : Step S) (s : S) (held : Option (List ℕ
     → Served step s held input t holds → Keeps holds after → Served step s held input t after
 served_keeps step s held input t holds after v k = record { text = v.text; run = v.run; wrote = appends_kept held holds after v.text v.wrote k }
 
-pub going_keeps : {S : Type 0} (step : Step S) (s : S) (held : Option (List ℕ)) (input : List ℕ) (line : Kept) (t : S) (holds after : Option (List ℕ))
+pub going_keeps : {S : Type 0} (step : Step S) (s : S) (held : Option (List ℕ)) (input : List ℕ) (line : PendingLine) (t : S) (holds after : Option (List ℕ))
     → Going step s held input line t holds → Keeps holds after → Going step s held input line t after
 going_keeps step s held input line t holds after g k = record {
   paused = record { rest = g.paused.rest; text = g.paused.text; fed = g.paused.fed; wrote = appends_kept held holds after g.paused.text g.paused.wrote k };
-  kept_is = g.kept_is;
+  pending_is = g.pending_is;
 }
 
 all_written : (held holds after : Option (List ℕ)) (text : List ℕ) → Appends held holds text → Keeps holds after → WroteSome held after text
@@ -190,7 +191,7 @@ cut_from_served step s held input t holds after v k = record {
   wrote = all_written held holds after v.text v.wrote k;
 }
 
-pub cut_from_going : {S : Type 0} (step : Step S) (s : S) (held : Option (List ℕ)) (input : List ℕ) (line : Kept) (t : S) (holds after : Option (List ℕ))
+pub cut_from_going : {S : Type 0} (step : Step S) (s : S) (held : Option (List ℕ)) (input : List ℕ) (line : PendingLine) (t : S) (holds after : Option (List ℕ))
     → Going step s held input line t holds → Keeps holds after → Cut step s held input t after
 cut_from_going step s held input line t holds after g k =
     cut_from_short step s held input t after (short_from_fed step s held input g.paused.rest g.paused.text t after g.paused.fed (all_written held holds after g.paused.text g.paused.wrote k))

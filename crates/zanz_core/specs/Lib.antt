@@ -1,4 +1,4 @@
-pub mod Watching
-pub mod Kept
+pub mod Tracking
+pub mod PendingLine
 pub mod Going
 pub mod Ends

@@ -1,14 +1,15 @@
 //! Bytes that are fed to a line, and lines that are answered.
 ghost use Rattle.std.specs.Prelude.{ℕ, ◌≡◌, List, [], ◌∷◌, length, nat_le, true, OnOk};
+ghost use Rattle.names.specs.declared.limits.TheConstants.{MAX_BODY_LEN};
 ghost use Rattle.names.specs.Calls.{call_of};
-ghost use Rattle.http_api.specs.Machine.{IsAnswer, max_body};
+ghost use Rattle.http_api.specs.Machine.{IsAnswer};
 ghost use Rattle.http_api.specs.Wrote.{Wrote};
 ghost use Rattle.zanz_core.specs.Going.{GoesOn, ServesRest};
-ghost use Rattle.zanz_core.specs.Watching.{FailsWith};
+ghost use Rattle.zanz_core.specs.Tracking.{FailsWith};
 
 use crate::pending::Pending;
 use crate::put::{put, put_reply};
-use crate::watched_writer::WatchedWriter;
+use crate::tracked_writer::TrackedWriter;
 use http_api::Answers;
 use std::io;
 use std::io::Write;
@@ -19,12 +20,12 @@ const NO_ROUTE: &[u8] = b"404 {\"error\":{\"code\":0,\"name\":\"NoRoute\"}}\n";
 
 // Answers a line.
 fn answer_line<W: Write, A: Answers>(
-    writer: &mut WatchedWriter<W>,
+    writer: &mut TrackedWriter<W>,
     answers: &mut A,
     line: &Pending,
 ) -> io::Result<()>
     ensures answered { (text : List ℕ)
-        × IsAnswer A.step answers.old (nat_le (length line.now.body) max_body) (call_of line.now.word) line.now.body text answers.new
+        × IsAnswer A.step answers.old (nat_le (length line.now.body) MAX_BODY_LEN) (call_of line.now.word) line.now.body text answers.new
         × Wrote result (W.contents writer.old.inner) (W.contents writer.new.inner) text }
     ensures failed { FailsWith result writer.old.failed writer.new.failed }
 {
@@ -40,7 +41,7 @@ fn answer_line<W: Write, A: Answers>(
 
 // Takes the next byte, and answers the line that it ends.
 fn feed<W: Write, A: Answers>(
-    writer: &mut WatchedWriter<W>,
+    writer: &mut TrackedWriter<W>,
     answers: &mut A,
     line: &mut Pending,
     b: u8,
@@ -59,7 +60,7 @@ fn feed<W: Write, A: Answers>(
 
 /// Takes the next bytes, and answers the lines that they end.
 pub fn feed_all<W: Write, A: Answers>(
-    writer: &mut WatchedWriter<W>,
+    writer: &mut TrackedWriter<W>,
     answers: &mut A,
     line: &mut Pending,
     bytes: &[u8],
@@ -75,7 +76,7 @@ pub fn feed_all<W: Write, A: Answers>(
 
 // Answers the last line, where the input ends inside it.
 fn answer_rest<W: Write, A: Answers>(
-    writer: &mut WatchedWriter<W>,
+    writer: &mut TrackedWriter<W>,
     answers: &mut A,
     line: &Pending,
 ) -> io::Result<()>
@@ -90,7 +91,7 @@ fn answer_rest<W: Write, A: Answers>(
 
 /// Answers the last line, where the input ends inside it, and hands on what was written.
 pub fn finish<W: Write, A: Answers>(
-    writer: &mut WatchedWriter<W>,
+    writer: &mut TrackedWriter<W>,
     answers: &mut A,
     line: &Pending,
 ) -> io::Result<()>

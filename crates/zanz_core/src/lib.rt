@@ -2,7 +2,7 @@
 //!
 //! A line is a call's word, a space and a body; a reply's line is its status, a space and its body. What is
 //! written is stated as a function of what is read and of what the machine may answer, for any reader, any
-//! writer and any machine. The reader and the writer are watched, so that a fault is told exactly where one
+//! writer and any machine. The reader and the writer are tracked, so that a fault is told exactly where one
 //! of them failed, and nothing is waited for while an answer is held back.
 #![tactic(auto)]
 
@@ -12,10 +12,10 @@ mod put;
 mod served;
 #[cfg(test)]
 mod tests;
-mod watched;
-mod watched_writer;
+mod tracked_reader;
+mod tracked_writer;
 
 pub use put::say;
 pub use served::lines;
-pub use watched::Watched;
-pub use watched_writer::WatchedWriter;
+pub use tracked_reader::TrackedReader;
+pub use tracked_writer::TrackedWriter;

@@ -1,20 +1,18 @@
 //! The line that is being read.
 ghost use Rattle.std.specs.Prelude.{◌≡◌, [], IfOk, nat_le, length, ◌==◌, ◌&&◌, not};
 ghost use Rattle.names.specs.Calls.{call_of};
-ghost use Rattle.http_api.specs.Machine.{max_body};
-ghost use Rattle.zanz_core.specs.Kept.{kept, with_byte};
+ghost use Rattle.zanz_core.specs.PendingLine.{pending_of, with_byte};
 
 use names::Call;
+use names::limits::MAX_BODY_LEN;
 use std::alloc::{AllocError, Global};
 use std::marker::Model;
 
 // More than the longest word of a call has.
 const WORD: usize = 16;
 
-const MAX_BODY: usize = 65_536;
-
 // One more than a body may have.
-const BODY: usize = MAX_BODY + 1;
+const BODY: usize = MAX_BODY_LEN + 1;
 
 /// What is kept of a line while it is read: no more than decides its answer. It has its room from the start.
 #[derive(Drop)]
@@ -26,19 +24,19 @@ pub struct Pending {
 
 impl Model for Pending {
     ghost use Rattle.std.specs.Prelude.{◌≤◌, vec_capacity};
-    ghost use Rattle.zanz_core.specs.Kept.{Kept, word_kept, body_kept};
+    ghost use Rattle.zanz_core.specs.PendingLine.{PendingLine, word_room, body_room};
 
-    ghost Value = { Kept };
+    ghost Value = { PendingLine };
 
     ghost view = { λ p. record { word = p.word.items; spaced = p.spaced; body = p.body.items } };
 
-    ghost invariant = { λ p. (word_kept ≤ vec_capacity p.word) × (body_kept ≤ vec_capacity p.body) };
+    ghost invariant = { λ p. (word_room ≤ vec_capacity p.word) × (body_room ≤ vec_capacity p.body) };
 }
 
 impl Pending {
     /// An empty line.
     pub fn new(alloc: Global) -> Result<Pending, AllocError>
-        ensures { IfOk result (λ p. p ≡ kept []) }
+        ensures { IfOk result (λ p. p ≡ pending_of []) }
     {
         let word = Vec::with_capacity(alloc, WORD)?;
         let body = Vec::with_capacity(alloc, BODY)?;
@@ -66,7 +64,7 @@ impl Pending {
 
     /// Begins the next line.
     pub fn clear(&mut self)
-        ensures { self.new ≡ kept [] }
+        ensures { self.new ≡ pending_of [] }
     {
         self.word.clear();
         self.spaced = false;
@@ -82,9 +80,9 @@ impl Pending {
 
     /// Whether its body is not too long.
     pub fn fits(&self) -> bool
-        ensures { result ≡ nat_le (length self.now.body) max_body }
+        ensures { result ≡ nat_le (length self.now.body) MAX_BODY_LEN }
     {
-        self.body.len() <= MAX_BODY
+        self.body.len() <= MAX_BODY_LEN
     }
 
     /// The call that its word names.

@@ -4,9 +4,9 @@ ghost use Rattle.std.specs.List.{flat_map};
 ghost use Rattle.names.specs.Calls.{told};
 ghost use Rattle.http_api.specs.Text.{reply_line};
 ghost use Rattle.http_api.specs.Wrote.{Wrote};
-ghost use Rattle.zanz_core.specs.Watching.{FailsWith};
+ghost use Rattle.zanz_core.specs.Tracking.{FailsWith};
 
-use crate::watched_writer::WatchedWriter;
+use crate::tracked_writer::TrackedWriter;
 use itoa::Buffer;
 use names::Reply;
 use std::io;
@@ -15,7 +15,7 @@ use std::io::Write;
 const NO_MEMORY: &[u8] = b"503 {\"error\":{\"code\":21,\"name\":\"Memory\"}}\n";
 
 /// Writes the bytes. Where the writer fails, it holds a beginning of them.
-pub fn put<W: Write>(writer: &mut WatchedWriter<W>, bytes: &[u8]) -> io::Result<()>
+pub fn put<W: Write>(writer: &mut TrackedWriter<W>, bytes: &[u8]) -> io::Result<()>
     ensures wrote { Wrote result (W.contents writer.old.inner) (W.contents writer.new.inner) bytes.now }
     ensures failed { FailsWith result writer.old.failed writer.new.failed }
 {
@@ -28,7 +28,7 @@ pub fn put<W: Write>(writer: &mut WatchedWriter<W>, bytes: &[u8]) -> io::Result<
 }
 
 /// Writes the bytes and hands them on. Where the writer fails, it holds a beginning of them.
-pub fn say<W: Write>(writer: &mut WatchedWriter<W>, bytes: &[u8]) -> io::Result<()>
+pub fn say<W: Write>(writer: &mut TrackedWriter<W>, bytes: &[u8]) -> io::Result<()>
     ensures wrote { Wrote result (W.contents writer.old.inner) (W.contents writer.new.inner) bytes.now }
     ensures failed { FailsWith result writer.old.failed writer.new.failed }
     ensures flushed { OnOk result (writer.new.flushed ≡ true) }
@@ -38,7 +38,7 @@ pub fn say<W: Write>(writer: &mut WatchedWriter<W>, bytes: &[u8]) -> io::Result<
 }
 
 // Writes the parts, one after another.
-fn put_parts<W: Write>(writer: &mut WatchedWriter<W>, parts: &[&[u8]]) -> io::Result<()>
+fn put_parts<W: Write>(writer: &mut TrackedWriter<W>, parts: &[&[u8]]) -> io::Result<()>
     ensures wrote { Wrote result (W.contents writer.old.inner) (W.contents writer.new.inner) (flat_map (λ part. part.now) parts.now) }
     ensures failed { FailsWith result writer.old.failed writer.new.failed }
 {
@@ -49,7 +49,7 @@ fn put_parts<W: Write>(writer: &mut WatchedWriter<W>, parts: &[&[u8]]) -> io::Re
 }
 
 /// Writes the line of a reply.
-pub fn put_reply<W: Write>(writer: &mut WatchedWriter<W>, reply: &Reply) -> io::Result<()>
+pub fn put_reply<W: Write>(writer: &mut TrackedWriter<W>, reply: &Reply) -> io::Result<()>
     ensures wrote { Wrote result (W.contents writer.old.inner) (W.contents writer.new.inner) (reply_line (told reply.now)) }
     ensures failed { FailsWith result writer.old.failed writer.new.failed }
 {
@@ -59,7 +59,7 @@ pub fn put_reply<W: Write>(writer: &mut WatchedWriter<W>, reply: &Reply) -> io::
     }
 }
 
-fn put_said<W: Write>(writer: &mut WatchedWriter<W>, status: u16, body: &[u8]) -> io::Result<()>
+fn put_said<W: Write>(writer: &mut TrackedWriter<W>, status: u16, body: &[u8]) -> io::Result<()>
     ensures wrote { Wrote result (W.contents writer.old.inner) (W.contents writer.new.inner) (reply_line (Some (status, body.now))) }
     ensures failed { FailsWith result writer.old.failed writer.new.failed }
 {

@@ -6,8 +6,8 @@ ghost use Rattle.zanz_core.specs.Ends.{is_read_fault, is_write_fault};
 
 use crate::feed::{feed_all, finish};
 use crate::pending::Pending;
-use crate::watched::Watched;
-use crate::watched_writer::WatchedWriter;
+use crate::tracked_reader::TrackedReader;
+use crate::tracked_writer::TrackedWriter;
 use http_api::{Answers, End};
 use std::alloc::Global;
 use std::io::{Read, Write};
@@ -19,8 +19,8 @@ use std::io::{Read, Write};
 /// without the machine. The buffers are made first, and do not grow.
 pub fn lines<R: Read, W: Write, A: Answers>(
     alloc: Global,
-    reader: &mut Watched<R>,
-    writer: &mut WatchedWriter<W>,
+    reader: &mut TrackedReader<R>,
+    writer: &mut TrackedWriter<W>,
     answers: &mut A,
 ) -> End
     requires unbroken_reader { reader.old.failed ≡ false }

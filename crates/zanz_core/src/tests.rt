@@ -1,4 +1,4 @@
-use crate::{Watched, WatchedWriter, lines};
+use crate::{TrackedReader, TrackedWriter, lines};
 use http_api::{Answers, End};
 use names::{Call, Reply};
 use std::alloc::Global;
@@ -126,8 +126,8 @@ const OUTPUT: &str = "200 {\"a\":1}
 #[test]
 fn lines_are_answered(rt: HostRuntime) {
     let alloc = rt.alloc();
-    let mut reader = Watched::new(INPUT);
-    let mut writer = WatchedWriter::new(Vec::new(alloc));
+    let mut reader = TrackedReader::new(INPUT);
+    let mut writer = TrackedWriter::new(Vec::new(alloc));
     let end = lines(alloc, &mut reader, &mut writer, &mut Echo(alloc));
     assert_eq!(rt; end, End::Closed);
     assert_eq!(rt; writer.inner().as_slice(), OUTPUT.as_bytes());
@@ -137,8 +137,8 @@ fn lines_are_answered(rt: HostRuntime) {
 #[test]
 fn no_input_is_no_line(rt: HostRuntime) {
     let alloc = rt.alloc();
-    let mut reader = Watched::new(b"".as_slice());
-    let mut writer = WatchedWriter::new(Vec::new(alloc));
+    let mut reader = TrackedReader::new(b"".as_slice());
+    let mut writer = TrackedWriter::new(Vec::new(alloc));
     let end = lines(alloc, &mut reader, &mut writer, &mut Echo(alloc));
     assert_eq!(rt; end, End::Closed);
     assert!(rt; writer.inner().is_empty());
@@ -152,8 +152,8 @@ fn slow_and_interrupted_ends_change_nothing(rt: HostRuntime) {
         slow.interrupted_each = interrupted_each;
         let mut narrow = Narrow::new(alloc);
         narrow.interrupted_each = interrupted_each;
-        let mut reader = Watched::new(slow);
-        let mut writer = WatchedWriter::new(narrow);
+        let mut reader = TrackedReader::new(slow);
+        let mut writer = TrackedWriter::new(narrow);
         let end = lines(alloc, &mut reader, &mut writer, &mut Echo(alloc));
         assert_eq!(rt; end, End::Closed, "at {interrupted_each}");
         assert_eq!(rt; writer.inner().bytes.as_slice(), OUTPUT.as_bytes());
@@ -167,8 +167,8 @@ fn long_bodies(rt: HostRuntime) -> Result<(), Fail> {
         let mut input: Vec<u8> = Vec::from_slice(alloc, word)?;
         input.resize(word.len() + 65_537, b'x')?;
         input.extend_from_slice(b"\nstate y\n")?;
-        let mut reader = Watched::new(input.as_slice());
-        let mut writer = WatchedWriter::new(Vec::new(alloc));
+        let mut reader = TrackedReader::new(input.as_slice());
+        let mut writer = TrackedWriter::new(Vec::new(alloc));
         let end = lines(alloc, &mut reader, &mut writer, &mut Echo(alloc));
         assert_eq!(rt; end, End::Closed);
         assert_eq!(rt;
@@ -179,8 +179,8 @@ fn long_bodies(rt: HostRuntime) -> Result<(), Fail> {
     let mut input: Vec<u8> = Vec::from_slice(alloc, b"state ")?;
     input.resize(6 + 65_536, b'x')?;
     input.extend_from_slice(b"\nstate y\n")?;
-    let mut reader = Watched::new(input.as_slice());
-    let mut writer = WatchedWriter::new(Vec::new(alloc));
+    let mut reader = TrackedReader::new(input.as_slice());
+    let mut writer = TrackedWriter::new(Vec::new(alloc));
     let end = lines(alloc, &mut reader, &mut writer, &mut Echo(alloc));
     assert_eq!(rt; end, End::Closed);
     assert_eq!(rt; writer.inner().len(), 4 + 65_536 + 1 + 6);
@@ -191,8 +191,8 @@ fn long_bodies(rt: HostRuntime) -> Result<(), Fail> {
 fn a_long_line_without_a_space_has_no_body(rt: HostRuntime) -> Result<(), Fail> {
     let alloc = rt.alloc();
     let input: Vec<u8> = vec![in alloc; b'x'; 100_000]?;
-    let mut reader = Watched::new(input.as_slice());
-    let mut writer = WatchedWriter::new(Vec::new(alloc));
+    let mut reader = TrackedReader::new(input.as_slice());
+    let mut writer = TrackedWriter::new(Vec::new(alloc));
     let end = lines(alloc, &mut reader, &mut writer, &mut Echo(alloc));
     assert_eq!(rt; end, End::Closed);
     assert_eq!(rt;
@@ -215,8 +215,8 @@ fn a_reader_fails(rt: HostRuntime) {
     for (fails_at, want) in wanted {
         let mut slow = Slow::new(b"state a\nstate b\n");
         slow.fails_at = fails_at;
-        let mut reader = Watched::new(slow);
-        let mut writer = WatchedWriter::new(Vec::new(alloc));
+        let mut reader = TrackedReader::new(slow);
+        let mut writer = TrackedWriter::new(Vec::new(alloc));
         let end = lines(alloc, &mut reader, &mut writer, &mut Echo(alloc));
         assert_eq!(rt; end, End::ReadFault, "at {fails_at}");
         assert!(rt; reader.has_failed() && !writer.has_failed());
@@ -230,8 +230,8 @@ fn a_writer_fails(rt: HostRuntime) {
     for fails_at in 1u64..12 {
         let mut narrow = Narrow::new(alloc);
         narrow.fails_at = fails_at;
-        let mut reader = Watched::new(b"state a\nstate b\n".as_slice());
-        let mut writer = WatchedWriter::new(narrow);
+        let mut reader = TrackedReader::new(b"state a\nstate b\n".as_slice());
+        let mut writer = TrackedWriter::new(narrow);
         let end = lines(alloc, &mut reader, &mut writer, &mut Echo(alloc));
         assert_eq!(rt; end, End::WriteFault, "at {fails_at}");
         assert!(rt; writer.has_failed() && !reader.has_failed());
@@ -248,8 +248,8 @@ fn a_writer_fails(rt: HostRuntime) {
 fn a_full_writer_fails(rt: HostRuntime) {
     let alloc = rt.alloc();
     let mut room = [0u8; 9];
-    let mut reader = Watched::new(b"state a\nstate b\n".as_slice());
-    let mut writer = WatchedWriter::new(room.as_mut_slice());
+    let mut reader = TrackedReader::new(b"state a\nstate b\n".as_slice());
+    let mut writer = TrackedWriter::new(room.as_mut_slice());
     let end = lines(alloc, &mut reader, &mut writer, &mut Echo(alloc));
     assert_eq!(rt; end, End::WriteFault);
     assert!(rt; writer.has_failed());
@@ -269,8 +269,8 @@ fn a_flush_fails(rt: HostRuntime) {
     for (flush_fails_at, want_end, want) in wanted {
         let mut narrow = Narrow::new(alloc);
         narrow.flush_fails_at = flush_fails_at;
-        let mut reader = Watched::new(Slow::new(b"state a\nstate b"));
-        let mut writer = WatchedWriter::new(narrow);
+        let mut reader = TrackedReader::new(Slow::new(b"state a\nstate b"));
+        let mut writer = TrackedWriter::new(narrow);
         let end = lines(alloc, &mut reader, &mut writer, &mut Echo(alloc));
         assert_eq!(rt; end, want_end, "at {flush_fails_at}");
         assert_eq!(rt;

@@ -1,6 +1,6 @@
 use Rattle.std.proofs.Common.{◌≡◌, rules}
 use Rattle.plain.proofs.Gather.{had}
-use Rattle.plain.proofs.Kept.{put_object, had_object}
+use Rattle.plain.proofs.OrderedSets.{put_object, had_object}
 use Rattle.plain.proofs.membership.add_object.Goals as goal
 
 pub returns-in_ok-insert : goal.returns-in_ok-insert

@@ -1,6 +1,6 @@
 use Rattle.plain.specs.Source.{snap_of}
 use Rattle.plain.proofs.Alike.{member_alike}
-use Rattle.plain.proofs.Kept.{source_alike}
+use Rattle.plain.proofs.OrderedSets.{source_alike}
 use Rattle.plain.proofs.membership.check.Goals as goal
 
 pub returns-clause-ok : goal.returns-clause-ok

@@ -1,4 +1,4 @@
-use Rattle.plain.proofs.Kept.{members_all}
+use Rattle.plain.proofs.OrderedSets.{members_all}
 use Rattle.plain.proofs.membership.members.Goals as goal
 
 pub returns-clause-ok : goal.returns-clause-ok

@@ -1,7 +1,7 @@
 use Rattle.std.specs.Prelude.{◌↔◌, ◌⊎◌, Any, Contains}
 use Rattle.names.specs.declared.object.Object.{Object}
 use Rattle.plain.specs.Source.{snap_of}
-use Rattle.plain.proofs.Kept.{Joins}
+use Rattle.plain.proofs.OrderedSets.{Joins}
 use Rattle.plain.proofs.membership.members_among.Given as goal
 
 -- the members so far, and those among what is left

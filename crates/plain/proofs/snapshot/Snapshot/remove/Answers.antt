@@ -1,7 +1,7 @@
 use Rattle.std.proofs.Common.{ap, ◌∙◌}
 use Rattle.meaning.specs.TupleSet as set
 use Rattle.meaning.specs.Snap.{Snap}
-use Rattle.plain.proofs.Kept.{drop_tuple}
+use Rattle.plain.proofs.OrderedSets.{drop_tuple}
 use Rattle.plain.proofs.snapshot.Snapshot.remove.Goals as goal
 
 pub returns : goal.returns

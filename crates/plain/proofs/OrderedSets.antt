@@ -78,20 +78,6 @@ put_object old new key object is h o = (
     both true = refl
     both false = refl
 
--- why a tuple is not admitted
-none_there : (r : List Defined) (p q : Defined → Bool) → list_any p r ≡ false → list_any (λ d. p d && q d) r ≡ false
-none_there [] p q e = refl
-none_there (d ∷ ds) p q e =
-    elim (p d) as (λ b. (b || list_any p ds) ≡ false → ((b && q d) || list_any (λ x. p x && q x) ds) ≡ false) [
-      | true ↦ λ h. cc
-      | false ↦ λ h. none_there ds p q h
-    ] e
-
-pub not_admitted : (config : Configured) (t : Tuple) (e : Refusal) → AdmitCause config t e → admits config t ≡ false
-not_admitted config t UnknownRelation h = none_there config.relations (is_relation (rel_of t.node)) (declares t.subject) h
-not_admitted config t TypeRefused h = h.1
-not_admitted config t _ h = absurd h
-
 -- a source has the members of its snapshot
 pub source_alike : (S : Snap) (s : Source) → IsSourceOf S s → AreAlike (snap_of s) S
 source_alike S s of = record { relations = of.relations; tuples = of.tuples }

@@ -3,36 +3,36 @@ ghost use Rattle.std.specs.Prelude.{◌≡◌, ◌≢◌, ◌^◌, ◌<◌, fals
 ghost use Rattle.std.specs.IoError.{error_kind};
 ghost use Rattle.std.specs.Io.{ReadsAtMost};
 ghost use Rattle.std.specs.Io.KnownBytes.{ReadConsumes};
-ghost use Rattle.zanz_core.specs.Watching.{FailsWith};
+ghost use Rattle.zanz_core.specs.Tracking.{FailsWith};
 
-use crate::watched_writer::WatchedWriter;
+use crate::tracked_writer::TrackedWriter;
 use std::io;
 use std::io::{ErrorKind, Read};
 use std::marker::Model;
 
 /// A reader that remembers whether a read failed.
 #[derive(Drop)]
-pub struct Watched<R> {
+pub struct TrackedReader<R> {
     inner: R,
     failed: bool,
     turns: u64,
 }
 
-impl<R> Model for Watched<R> {
-    ghost use Rattle.zanz_core.specs.Watching.{WatchedReading};
+impl<R> Model for TrackedReader<R> {
+    ghost use Rattle.zanz_core.specs.Tracking.{TrackedReading};
 
-    ghost Value = { WatchedReading R };
+    ghost Value = { TrackedReading R };
 
     ghost view = { λ w. record { inner = w.inner; failed = w.failed; turns = w.turns } };
 }
 
-impl<R> Watched<R> {
+impl<R> TrackedReader<R> {
     /// A reader that has not failed.
-    pub fn new(inner: R) -> Watched<R>
+    pub fn new(inner: R) -> TrackedReader<R>
         ensures inner { result.inner ≡ inner }
         ensures failed { result.failed ≡ false }
     {
-        Watched {
+        TrackedReader {
             inner,
             failed: false,
             turns: 0,
@@ -47,12 +47,12 @@ impl<R> Watched<R> {
     }
 }
 
-impl<R: Read> Watched<R> {
+impl<R: Read> TrackedReader<R> {
     /// One read, while no answer is held back. A read that is interrupted is tried again; after 2^64 - 1
     /// tries in all it fails.
     pub(crate) fn read<W>(
         &mut self,
-        answered: &WatchedWriter<W>,
+        answered: &TrackedWriter<W>,
         buf: &mut [u8],
     ) -> io::Result<usize>
         requires { answered.now.flushed ≡ true }

@@ -1,19 +1,19 @@
--- What a configuration keeps.
+-- What holds of each configuration in memory.
 use Rattle.std.specs.Prelude.{ℕ, ◌<◌, ◌≤◌, ◌^◌, List, All, IsTrue, length}
 use Rattle.serde_json.specs.Written.{compact_text}
+use Rattle.names.specs.declared.limits.TheConstants.{MAX_CONFIG_LEN}
 use Rattle.meaning.specs.Config.{Configured}
 use Rattle.config_core.specs.Canonical.{config_data}
 use Rattle.config_core.specs.Order.{IsOrdered}
-use Rattle.config_core.specs.Reading.{max_size}
 use Rattle.config_core.specs.Size.{has_parts}
 use Rattle.config.specs.Levels.{AreLevels}
 use Rattle.config.specs.Valid.{IsValid}
 
 -- a valid configuration with its levels, whose canonical text can be read again
-pub record IsKept (c : Configured) (kept : List ℕ) : Type 0 where
+pub record IsConfig (c : Configured) (levels_are : List ℕ) : Type 0 where
   pub valid : IsValid c
   pub ordered : IsOrdered c
   pub parts : All (λ d. IsTrue (has_parts d.form)) c.relations
-  pub short : length (compact_text (config_data c)) ≤ max_size
-  pub levels : AreLevels c kept
-  pub small : All (λ l. l < 2 ^ 32) kept
+  pub short : length (compact_text (config_data c)) ≤ MAX_CONFIG_LEN
+  pub levels : AreLevels c levels_are
+  pub small : All (λ l. l < 2 ^ 32) levels_are

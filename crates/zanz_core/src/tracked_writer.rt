@@ -3,7 +3,7 @@ ghost use Rattle.std.specs.Prelude.{◌≡◌, ◌≢◌, ◌<◌, length, false
 ghost use Rattle.std.specs.IoError.{error_kind};
 ghost use Rattle.std.specs.Io.{WritesAtMost};
 ghost use Rattle.std.specs.Io.KnownBytes.{WriteAppends, Keeps};
-ghost use Rattle.zanz_core.specs.Watching.{FailsWith};
+ghost use Rattle.zanz_core.specs.Tracking.{FailsWith};
 
 use std::io;
 use std::io::{ErrorKind, Write};
@@ -11,28 +11,28 @@ use std::marker::Model;
 
 /// A writer that remembers whether a write failed, and whether it was flushed after the last one.
 #[derive(Drop)]
-pub struct WatchedWriter<W> {
+pub struct TrackedWriter<W> {
     inner: W,
     failed: bool,
     flushed: bool,
 }
 
-impl<W> Model for WatchedWriter<W> {
-    ghost use Rattle.zanz_core.specs.Watching.{WatchedWriting};
+impl<W> Model for TrackedWriter<W> {
+    ghost use Rattle.zanz_core.specs.Tracking.{TrackedWriting};
 
-    ghost Value = { WatchedWriting W };
+    ghost Value = { TrackedWriting W };
 
     ghost view = { λ w. record { inner = w.inner; failed = w.failed; flushed = w.flushed } };
 }
 
-impl<W> WatchedWriter<W> {
+impl<W> TrackedWriter<W> {
     /// A writer that has not failed. It holds nothing back.
-    pub fn new(inner: W) -> WatchedWriter<W>
+    pub fn new(inner: W) -> TrackedWriter<W>
         ensures inner { result.inner ≡ inner }
         ensures failed { result.failed ≡ false }
         ensures flushed { result.flushed ≡ true }
     {
-        WatchedWriter {
+        TrackedWriter {
             inner,
             failed: false,
             flushed: true,
@@ -46,7 +46,7 @@ impl<W> WatchedWriter<W> {
         self.failed
     }
 
-    /// The writer that is watched.
+    /// The writer that is tracked_reader.
     pub fn inner(&self) -> &W
         ensures { result.now ≡ self.now.inner }
     {
@@ -54,7 +54,7 @@ impl<W> WatchedWriter<W> {
     }
 }
 
-impl<W: Write> WatchedWriter<W> {
+impl<W: Write> TrackedWriter<W> {
     /// One write. It fails where the writer takes nothing. A write that is interrupted is tried again; after
     /// 2^64 - 1 tries it fails.
     pub(crate) fn write(&mut self, bytes: &[u8]) -> io::Result<usize>
