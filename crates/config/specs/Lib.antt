@@ -1,5 +1,4 @@
 pub mod Causes
-pub mod Codes
 pub mod Cycles
 pub mod Graph
 pub mod Invariant

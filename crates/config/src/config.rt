@@ -28,7 +28,7 @@ pub struct Config {
 impl Model for Config {
     ghost use Rattle.std.specs.Prelude.{map};
     ghost use Rattle.meaning.specs.Config.{Configured};
-    ghost use Rattle.config.specs.Codes.{coded_config};
+    ghost use Rattle.meaning.specs.inside.Codes.{coded_config};
     ghost use Rattle.config.specs.Invariant.{IsConfig};
     ghost use Rattle.config_core.specs.Forms.{defined_of};
 

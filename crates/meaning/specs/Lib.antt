@@ -9,3 +9,4 @@ pub mod Membership
 pub mod Reads
 pub mod History
 pub mod Verdict
+pub mod inside

@@ -1,4 +1,3 @@
-pub mod Codes
 pub mod Source
 pub mod Rounds
 pub mod Candidates

@@ -25,7 +25,7 @@ impl Model for Snapshot {
     ghost use Rattle.names.specs.Order.{tuple_cmp};
     ghost use Rattle.meaning.specs.TupleSet as set;
     ghost use Rattle.meaning.specs.Snap.{Snap};
-    ghost use Rattle.plain.specs.Codes.{coded_snap};
+    ghost use Rattle.meaning.specs.inside.Codes.{coded_snap};
 
     ghost Value = { Snap };
 

@@ -1,10 +1,19 @@
--- A configuration as numbers, by which its values are told apart.
-use Rattle.std.specs.Prelude.{◌≡◌, ℕ, Bool, List, [], ◌∷◌, Option, refl}
+-- Configurations, tuples, events, commits and snapshots as numbers, by which their values are told apart.
+use Rattle.std.specs.Prelude.{◌≡◌, ℕ, Bool, true, false, List, [], ◌∷◌, Option, Some, None, refl}
 use Rattle.std.proofs.Common.{zero, suc, ◌∙◌, ap}
 use Rattle.std.specs.Coded.{Coded, code_by, coded×, coded_ℕ, coded_list, coded_option, coded_bool}
+use base.Stored.{coded_unit}
+use Rattle.std.specs.FinMap as map
 use Rattle.names.specs.declared.relation.SubjectType.{SubjectType}
+use Rattle.names.specs.declared.tuple.Tuple.{Tuple}
+use Rattle.names.specs.declared.commit.Event.{Event}
+use Rattle.names.specs.declared.commit.EventKind.{EventKind}
+use Rattle.names.specs.declared.commit.EventKind.TheVariants.{Put, Del}
+use Rattle.names.specs.declared.commit.Commit.{Commit}
+use Rattle.names.specs.declared.commit.Commit.TheVariants as commits
 use Rattle.meaning.specs.Form.{Form, Forms, This, Computed, TupleTo, Union, Intersection, Exclusion, none, more}
 use Rattle.meaning.specs.Config.{Defined, Configured}
+use Rattle.meaning.specs.Snap.{Snap, Tuples}
 
 -- a form or a list of forms
 pub data Item : Type 0 where
@@ -77,3 +86,48 @@ coded_defined = code_by ((List ℕ × List ℕ) × (List SubjectType × (Form ×
 
 abbrev pub coded_config : Coded Configured
 coded_config = code_by (List (List ℕ) × List Defined) (coded× (coded_list (coded_list coded_ℕ)) (coded_list coded_defined)) (λ c. (c.namespaces, c.relations)) (λ p. record { namespaces = p.0; relations = p.1 }) (λ _. refl)
+
+abbrev coded_text : Coded (List ℕ)
+coded_text = coded_list coded_ℕ
+
+abbrev pub coded_tuple : Coded Tuple
+coded_tuple = code_by ((List ℕ × (List ℕ × List ℕ)) × (List ℕ × (List ℕ × Option (List ℕ)))) (coded× (coded× coded_text (coded× coded_text coded_text)) (coded× coded_text (coded× coded_text (coded_option coded_text))))
+    (λ t. ((t.node.object.namespace, (t.node.object.id, t.node.relation)), (t.subject.object.namespace, (t.subject.object.id, t.subject.relation))))
+    (λ p. record { node = record { object = record { namespace = p.0.0; id = p.0.1.0 }; relation = p.0.1.1 }; subject = record { object = record { namespace = p.1.0; id = p.1.1.0 }; relation = p.1.1.1 } }) (λ _. refl)
+
+abbrev puts : EventKind → Bool
+puts Put = true
+puts Del = false
+
+abbrev kind : Bool → EventKind
+kind true = Put
+kind false = Del
+
+pub kind_back : (k : EventKind) → kind (puts k) ≡ k
+kind_back Put = refl
+kind_back Del = refl
+
+abbrev pub coded_kind : Coded EventKind
+coded_kind = code_by Bool coded_bool puts kind kind_back
+
+abbrev pub coded_event : Coded Event
+coded_event = code_by (Tuple × EventKind) (coded× coded_tuple coded_kind) (λ e. (e.tuple, e.kind)) (λ p. record { tuple = p.0; kind = p.1 }) (λ _. refl)
+
+-- a commit is a configuration, or none and events
+abbrev parts : Commit Configured → Option Configured × List Event
+parts (commits.Tuples events) = (None, events)
+parts (commits.Config config) = (Some config, [])
+
+abbrev whole : Option Configured × List Event → Commit Configured
+whole (None, events) = commits.Tuples events
+whole (Some config, events) = commits.Config config
+
+pub parts_whole : (c : Commit Configured) → whole (parts c) ≡ c
+parts_whole (commits.Tuples events) = refl
+parts_whole (commits.Config config) = refl
+
+abbrev pub coded_commit : Coded (Commit Configured)
+coded_commit = code_by (Option Configured × List Event) (coded× (coded_option coded_config) (coded_list coded_event)) parts whole parts_whole
+
+abbrev pub coded_snap : Coded Snap
+coded_snap = code_by (Configured × Tuples) (coded× coded_config (map.code coded_tuple coded_unit)) (λ s. (s.config, s.tuples)) (λ p. record { config = p.0; tuples = p.1 }) (λ _. refl)
