@@ -1,0 +1,191 @@
+#!/usr/bin/env python3
+"""Lists the definitions that a public promise rests on, each with its file and its number of lines.
+
+usage: docs/statement.py [--inside] [CRATE::FUNCTION ..]      (default: zanz::run)
+
+It reads the contract of each function that is named, the definitions of specs/ that its clauses cite, and those that these
+cite in turn, and prints them by file: lowest crate first. --inside prints in their place the files of specs/ of which no
+definition is reached from the contract of any public function: what a reader of the promises can pass over.
+Comments, blank lines and imports are not counted. It reads files and changes nothing.
+"""
+import re
+import sys
+from pathlib import Path
+
+ROOT = Path(__file__).resolve().parent.parent
+WORD = re.compile(r"[^\s(){},;.:]+(?:\.[^\s(){},;.:]+)*")
+HEAD = re.compile(r"^( *)((?:(?:pub|abbrev|unfoldable|opaque|private) )*)(record |data )?([^\s:(){}]+)(?= |$)")
+SKIP = ("use ", "--", "unfolding ", "open ", "infix", "where", "mutual", "abbrev mutual", "module ")
+
+
+def crates():
+    rows = [row.split("#")[0] for row in (ROOT / "crates.txt").read_text().splitlines()]
+    return [re.split(r"[ :]", row)[0] for row in rows if row.strip()]
+
+
+class File:
+    """A file of definitions: what it imports, and the lines of each definition."""
+
+    def __init__(self, crate, path):
+        self.crate, self.path = crate, path
+        folder = ROOT / "crates" / crate / "specs"
+        self.module = ".".join(["Rattle", crate, "specs", *path.relative_to(folder).with_suffix("").parts])
+        self.imports, self.opened, self.definitions = {}, {}, {}
+        self.read(path.read_text().split("\n"))
+
+    def read(self, lines):
+        name = None
+        for line in lines:
+            found = re.match(r"(?:pub )?use ([\w.]+?)(?:\.\{([^}]*)\})?(?: as (\S+))?$", line.strip())
+            if found and line.strip().startswith(("use ", "pub use ")):
+                self.note_import(*found.groups())
+                continue
+            if not line.strip() or line.strip().startswith(SKIP):
+                continue
+            head = HEAD.match(line)
+            depth = len(head.group(1)) if head else 9
+            starts = head and depth <= 2 and (head.group(3) or re.match(r"[^=]*?:", line[len(head.group(1)) + len(head.group(2)) :]))
+            if starts and depth == 2 and name and self.is_record(name):
+                starts = False
+            if starts:
+                name = head.group(4)
+                self.definitions.setdefault(name, [])
+            elif head and depth <= 2 and head.group(4) in self.definitions and not (name and self.is_record(name) and depth == 2):
+                name = head.group(4)
+            if name:
+                self.definitions[name].append(line)
+
+    def is_record(self, name):
+        return bool(re.match(r" *(?:pub )?(record|data) ", self.definitions[name][0])) if self.definitions[name] else False
+
+    def note_import(self, path, names, alias):
+        if names is None:
+            self.opened[alias or path.rpartition(".")[2]] = path
+            return
+        for name in names.split(","):
+            old, _, new = name.strip().partition(" as ")
+            self.imports[(new or old).strip()] = path, old.strip()
+
+
+def constructors(file, name):
+    text = "\n".join(file.definitions[name])
+    return re.findall(r"(?m)^ +(?:pub )?(\S+) :", text) if re.match(r" *(?:pub )?data ", text) else []
+
+
+def resolve(files, imports, opened, own, word):
+    """Returns the file and the name of the definition that a word of a text is, if it is one of the repository's."""
+    if own and word in own.definitions:
+        return own, word
+    if word in imports:
+        path, name = imports[word]
+        if path in files:
+            return (files[path], name) if name in files[path].definitions else of_constructor(files[path], name)
+    if "." in word:
+        alias, _, name = word.partition(".")
+        name = name.split(".")[0]
+        path = opened.get(alias)
+        if path in files:
+            return (files[path], name) if name in files[path].definitions else of_constructor(files[path], name)
+    if own:
+        return of_constructor(own, word)
+    return None
+
+
+def of_constructor(file, word):
+    for name in file.definitions:
+        if word in constructors(file, name):
+            return file, name
+    return None
+
+
+def reached(files, first):
+    found, left = set(first), list(first)
+    while left:
+        file, name = left.pop()
+        for word in WORD.findall("\n".join(file.definitions[name])):
+            for part in {word, word.split(".")[0]}:
+                it = resolve(files, file.imports, file.opened, file, part)
+                if it and it not in found:
+                    found.add(it)
+                    left.append(it)
+    return found
+
+
+def clauses(path):
+    """Yields the public functions of a source file, each with the text of its clauses; a trait's and a type's ghost parts as one more."""
+    text = path.read_text()
+    for found in re.finditer(r"(?m)^( *)pub (?:const |final )*fn (\w+)[^\n]*\n(?:(?!\1[{}]\n|\1\}|\n\1(?:pub )?fn ).*\n)*?\1\{", text):
+        part = found.group(0)
+        at = re.search(r"(?m)^ *(?:requires|ensures|ghost)\b", part)
+        yield found.group(2), part[at.start() :] if at else ""
+    rest = [it for it in re.findall(r"(?m)^ *(?:pub )?ghost (?!use)[^\n]*(?:\n +[^\n]*)*?;", text)]
+    if "trait " in text:
+        rest += re.findall(r"(?m)^ *(?:requires|ensures)[^\n]*(?:\n {8,}[^\n]*)*", text)
+    yield "", "\n".join(rest)
+
+
+def cited(files, path, text):
+    imports, opened = {}, {}
+    for line in re.findall(r"(?m)^\s*ghost use ([^;]*);", path.read_text()):
+        found = re.match(r"([\w.]+?)(?:\.\{([^}]*)\})?(?: as (\S+))?$", line.strip().replace("\n", " "))
+        if found and found.group(2) is not None:
+            for name in found.group(2).split(","):
+                old, _, new = name.strip().partition(" as ")
+                imports[(new or old).strip()] = found.group(1), old.strip()
+        elif found:
+            opened[found.group(3) or found.group(1).rpartition(".")[2]] = found.group(1)
+    words = {part for word in WORD.findall(text) for part in {word, word.split(".")[0]}}
+    return {it for it in (resolve(files, imports, opened, None, word) for word in words) if it}
+
+
+def sources(crate):
+    return [it for it in sorted((ROOT / "crates" / crate / "src").rglob("*.rt")) if "tests" not in it.name]
+
+
+def of_functions(files, wanted):
+    first, ghosts = set(), set()
+    for crate in crates():
+        for path in sources(crate):
+            for name, text in clauses(path):
+                if not name:
+                    ghosts |= cited(files, path, text)
+                elif wanted is None or f"{crate}::{name}" in wanted:
+                    first |= cited(files, path, text)
+    # a contract that names a trait's or a type's ghost part rests on it
+    return first | (ghosts if wanted is None else {it for it in ghosts if it[0].crate in ("tables",)})
+
+
+def count(lines):
+    return sum(1 for it in lines if it.strip())
+
+
+def main(words):
+    order = crates()
+    files = {}
+    for crate in order:
+        folder = ROOT / "crates" / crate / "specs"
+        for path in sorted(folder.rglob("*.antt")) if folder.exists() else []:
+            if path.name != "Lib.antt":
+                file = File(crate, path)
+                files[file.module] = file
+    inside = "--inside" in words
+    wanted = [it for it in words if not it.startswith("--")] or ["zanz::run"]
+    found = reached(files, of_functions(files, None if inside else wanted))
+    if inside:
+        for file in files.values():
+            if file.definitions and not any(it[0] is file for it in found):
+                print(file.path.relative_to(ROOT))
+        return 0
+    total = names = shown = 0
+    for file in files.values():
+        own = [it for it in file.definitions if (file, it) in found]
+        if own:
+            lines = sum(count(file.definitions[it]) for it in own)
+            total, names, shown = total + lines, names + len(own), shown + 1
+            print(f"{file.path.relative_to(ROOT)}: {lines} lines: {', '.join(own)}")
+    print(f"{names} definitions, {total} lines, in {shown} of {len(files)} files")
+    return 0
+
+
+if __name__ == "__main__":
+    sys.exit(main(sys.argv[1:]))
