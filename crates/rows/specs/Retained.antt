@@ -48,8 +48,8 @@ abbrev pub without_newest : Retained → Retained
 without_newest r = record { number = r.number; floor = r.floor; base = r.base; commits = take (length r.commits - 1) r.commits }
 
 -- with a higher floor
-abbrev pub trimmed : Retained → ℕ → Retained
-trimmed r floor = record { number = r.number; floor = floor; base = snap_at r floor; commits = drop (floor - r.floor) r.commits }
+abbrev pub after_trim : Retained → ℕ → Retained
+after_trim r floor = record { number = r.number; floor = floor; base = snap_at r floor; commits = drop (floor - r.floor) r.commits }
 
 -- with the commit, the limits of revisions and rows still hold
 pub record HasRoom (r : Retained) (c : Commit Configured) : Type 0 where

@@ -6,19 +6,19 @@ ghost use Rattle.meaning.specs.Snap.{empty_snap};
 ghost use Rattle.names.specs.declared.tuple.Tuple.{Tuple};
 ghost use Rattle.meaning.specs.TupleSet as set;
 ghost use Rattle.meaning.specs.Verdict.{max_rev, max_rows};
-ghost use Rattle.rows.specs.Retained.{newest, IsRetained, snap_at, spans_of, newest_of, with_commit, without_newest, trimmed, HasRoom, commits_between, is_touched_after, last_config};
-ghost use Rattle.rows_core.specs.Marks.{is_of};
+ghost use Rattle.rows.specs.Retained.{newest, IsRetained, snap_at, spans_of, newest_of, with_commit, without_newest, after_trim, HasRoom, commits_between, is_touched_after, last_config};
+ghost use Rattle.rows_core.specs.Versions.{is_of};
 ghost use Rattle.rows.specs.Loads.{retained_of, loaded_to, IsWithin};
 
 use crate::committed::{
     copies, drop_commits, drop_newest, last_config, newest_events, push_commit, puts_in,
 };
-use crate::dated::{Dated, config_up_to, drop_config, push_config, settle_configs};
+use crate::config_at::{ConfigAt, config_up_to, drop_config, push_config, settle_configs};
 use crate::loaded::{Counts, Loaded};
 use crate::view::View;
 use config::Config;
 use names::{Commit, Event, Node, Tuple};
-use rows_core::{KeptCommit, Marked};
+use rows_core::{KeptCommit, VersionMap};
 use std::alloc::{AllocError, Global};
 use std::marker::Model;
 
@@ -29,8 +29,8 @@ pub struct Rows {
     number: u64,
     floor: u64,
     config: Config,
-    configs: Vec<Dated>,
-    tuples: Marked,
+    configs: Vec<ConfigAt>,
+    tuples: VersionMap,
     commits: Vec<KeptCommit>,
     counts: Counts,
 }
@@ -38,15 +38,15 @@ pub struct Rows {
 impl Model for Rows {
     ghost use Rattle.rows.specs.Retained.{Retained};
     ghost use Rattle.rows.specs.Codes.{coded_retained};
-    ghost use Rattle.rows.specs.Kept.{retained, IsKept};
+    ghost use Rattle.rows.specs.Representation.{as_retained, IsConsistent};
 
     ghost Value = { Retained };
 
     ghost coded = { coded_retained };
 
-    ghost view = { λ s. retained s.number s.floor s.config s.tuples s.commits.items };
+    ghost view = { λ s. as_retained s.number s.floor s.config s.tuples s.commits.items };
 
-    ghost invariant = { λ s. IsKept (retained s.number s.floor s.config s.tuples s.commits.items) s.tuples s.configs.items s.counts };
+    ghost invariant = { λ s. IsConsistent (as_retained s.number s.floor s.config s.tuples s.commits.items) s.tuples s.configs.items s.counts };
 }
 
 impl Rows {
@@ -60,7 +60,7 @@ impl Rows {
             floor: 0,
             config: Config::empty(alloc),
             configs: Vec::new(alloc),
-            tuples: Marked::new(alloc),
+            tuples: VersionMap::new(alloc),
             commits: Vec::new(alloc),
             counts: Counts { rows: 0, tuples: 0 },
         }
@@ -92,7 +92,7 @@ impl Rows {
             floor: loaded.floor,
             config: loaded.config.again(alloc)?,
             configs: Vec::new(alloc),
-            tuples: Marked::based(alloc, tuples)?,
+            tuples: VersionMap::based(alloc, tuples)?,
             commits: Vec::new(alloc),
             counts: Counts {
                 rows: count,
@@ -267,13 +267,13 @@ impl Rows {
         ensures err { OnErr result (self.new ≡ self.old) }
     {
         let rev = self.newest() + 1;
-        let dated = Dated {
+        let config_at = ConfigAt {
             rev,
             config: config.again(self.alloc)?,
         };
         let again = config.again(self.alloc)?;
         let kept = KeptCommit::of_config(self.alloc, again)?;
-        push_config(&mut self.configs, dated)?;
+        push_config(&mut self.configs, config_at)?;
         match push_commit(&mut self.commits, kept) {
             Ok(()) => Ok(()),
             Err(e) => {
@@ -305,15 +305,15 @@ impl Rows {
     /// Raises the floor: what lies below it goes. It takes no memory.
     pub fn trim(&mut self, floor: u64)
         requires { floor ≤ newest self.old }
-        ensures raised { self.old.floor ≤ floor → self.new ≡ trimmed self.old floor }
+        ensures raised { self.old.floor ≤ floor → self.new ≡ after_trim self.old floor }
         ensures kept { floor ≤ self.old.floor → self.new ≡ self.old }
     {
         if floor <= self.floor {
             return;
         }
         let count = (floor - self.floor) as usize;
-        let settled = &self.commits[..count];
-        self.counts.rows = self.tuples.settle(settled, self.counts.rows);
+        let below = &self.commits[..count];
+        self.counts.rows = self.tuples.settle(below, self.counts.rows);
         drop_commits(&mut self.commits, count);
         settle_configs(&mut self.config, &mut self.configs, floor);
         self.floor = floor;

@@ -134,7 +134,7 @@ fn lists(
 fn judged(alloc: Global, rows: &Rows, kind: OpKind, word: &str) -> Result<u8, Refusal> {
     let mut ops = Vec::new(alloc);
     ops.push(op_of(alloc, kind, word)?)?;
-    match rows.judge(&ops) {
+    match rows.verdict(&ops) {
         Ok(()) => Ok(0),
         Err(why) => Ok(why.number()),
     }

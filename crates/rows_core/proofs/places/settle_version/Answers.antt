@@ -1,0 +1,39 @@
+use Rattle.std.proofs.Common.{rules, ◌≡◌, List, [], ◌∷◌, ◌++◌, ap, sym, ◌∙◌, refl}
+use Rattle.std.specs.Prelude.{Option, Some, None, true}
+use Rattle.std.specs.Option.{option_map, option_copied_mut}
+use Rattle.std.specs.BTreeMap.{BTreeMap}
+use Rattle.std.specs.Box.{boxed_str_bytes}
+use Rattle.std.specs.Map.{lookup}
+use Rattle.rows_core.specs.declared.version.Version.{Version}
+use Rattle.rows_core.specs.Versions.{items_or, versions_at, drop_last, after_settle, is_based, base_versions}
+use Rattle.rows_core.specs.Texts.{entries_of, AreSpelled}
+use Rattle.rows_core.proofs.Decoding.{written, written_spelled, unwritten, versions_found, none_found, put_in, put_in_spelled}
+use Rattle.rows_core.proofs.places.settle_version.Goals as goal
+
+pub returns-in-Some-clause-spelled : goal.returns-in-Some-clause-spelled
+returns-in-Some-clause-spelled c =
+    written_spelled c.as_str.result.now c.as_str.ensures.spelling c.args.key.now c.as_str.ensures.read c.args.map.now.entries c.requires
+    (c.get_mut.follows.lender c.settle.new.self).entries c.settle.new.self (c.get_mut.follows.holds c.settle.new.self).0
+
+pub returns-in-Some-clause-versions : goal.returns-in-Some-clause-versions
+returns-in-Some-clause-versions c =
+    written c.as_str.result.now c.as_str.ensures.spelling c.args.key.now c.as_str.ensures.read c.args.map.now.entries c.requires
+    (c.get_mut.follows.lender c.settle.new.self).entries c.in-Some.versions.now c.settle.new.self after_settle
+    c.in-Some.ensures.value (c.get_mut.follows.holds c.settle.new.self).0 c.settle.ensures.versions
+
+pub returns-in-Some-clause-held : goal.returns-in-Some-clause-held
+returns-in-Some-clause-held c =
+    c.settle.ensures.held
+    ∙ ap (λ (o : Option (List Version)). is_based (items_or (option_map (λ (v : List Version). v) o))) c.in-Some.ensures.value
+    ∙ ap is_based (versions_found c.as_str.result.now c.as_str.ensures.spelling c.args.key.now c.as_str.ensures.read c.args.map.now.entries c.requires)
+
+pub returns-clause-versions : goal.returns-clause-versions
+returns-clause-versions c = λ q.
+    ap (λ (n : BTreeMap _ _). versions_at (entries_of n.entries) q) c.get_mut.follows.holds-at-none
+    ∙ unwritten c.as_str.result.now c.as_str.ensures.spelling c.args.key.now c.as_str.ensures.read c.args.map.now.entries c.requires q after_settle refl
+    (ap option_copied_mut (sym c.in_default.is) ∙ c.get_mut.ensures.value)
+
+pub returns-clause-held : goal.returns-clause-held
+returns-clause-held c =
+    ap is_based (none_found c.as_str.result.now c.as_str.ensures.spelling c.args.key.now c.as_str.ensures.read c.args.map.now.entries c.requires
+    (ap option_copied_mut (sym c.in_default.is) ∙ c.get_mut.ensures.value))
