@@ -1,5 +1,5 @@
--- How the history is kept: the versions of each tuple, the configurations with their revisions, and the commits.
-use Rattle.std.specs.Prelude.{◌≡◌, ℕ, ◌+◌, ◌≤◌, List, [], ◌∷◌, cond, nat_le}
+-- How the history stands in memory: the versions of each tuple, the configurations with their revisions, and the commits.
+use Rattle.std.specs.Prelude.{◌≡◌, ℕ, ◌+◌, ◌≤◌, List, [], ◌∷◌, cond, nat_le, take}
 use Rattle.names.specs.declared.commit.Commit.TheVariants as kinds
 use Rattle.meaning.specs.TupleSet as set
 use Rattle.meaning.specs.Config.{Configured}
@@ -31,11 +31,16 @@ abbrev pub last_or : Configured → List ConfigAt → Configured
 last_or config [] = config
 last_or config (d ∷ ds) = last_or d.config ds
 
+-- of the first so many configurations the last is that of the revision
+abbrev pub EndsAt : List ConfigAt → ℕ → ℕ → Type 0
+EndsAt configs rev count = (config : Configured) → config_after_settle config configs rev ≡ last_or config (take count configs)
+
 -- the configurations without the first ones up to a revision
 abbrev pub configs_above : ℕ → List ConfigAt → List ConfigAt
 configs_above rev [] = []
 configs_above rev (d ∷ ds) = cond (nat_le d.rev rev) (configs_above rev ds) (d ∷ ds)
 
+-- what is retained, by what stands in memory
 abbrev pub as_retained : ℕ → ℕ → Configured → Entries → History → Retained
 as_retained number floor config m commits = record { number = number; floor = floor; base = record { config = config; tuples = base_tuples m }; commits = commits }
 

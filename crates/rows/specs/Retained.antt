@@ -7,7 +7,7 @@ use Rattle.names.specs.declared.commit.Commit.{Commit}
 use Rattle.names.specs.declared.commit.Commit.TheVariants.{Tuples, Config}
 use Rattle.meaning.specs.TupleSet as set
 use Rattle.meaning.specs.Config.{Configured}
-use Rattle.meaning.specs.Snap.{Snap}
+use Rattle.meaning.specs.Snap.{Snap, empty_snap}
 use Rattle.meaning.specs.History.{History, after_commits, rows_of, commit_rows}
 use Rattle.meaning.specs.Verdict.{Newest, max_rev, max_rows}
 
@@ -17,6 +17,14 @@ pub record Retained : Type 0 where
   pub floor : ℕ
   pub base : Snap
   pub commits : History
+
+-- the store with this number and these commits, from its first on
+abbrev pub store_from : ℕ → History → Retained
+store_from number commits = record { number = number; floor = 0; base = empty_snap; commits = commits }
+
+-- the store with this number, before its first commit
+abbrev pub empty_store : ℕ → Retained
+empty_store number = store_from number []
 
 -- the newest revision
 abbrev pub newest : Retained → ℕ

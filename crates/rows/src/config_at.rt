@@ -1,7 +1,6 @@
 //! Configurations with their revisions.
 ghost use Rattle.std.specs.Prelude.{◌≡◌, ◌≤◌, ◌++◌, ◌∷◌, [], ◌-◌, length, take, drop, OnOk, OnErr};
-ghost use Rattle.meaning.specs.Config.{Configured};
-ghost use Rattle.rows.specs.Representation.{config_from, config_after_settle, last_or, configs_above};
+ghost use Rattle.rows.specs.Representation.{config_from, config_after_settle, EndsAt, configs_above};
 
 use config::Config;
 use std::alloc::AllocError;
@@ -43,7 +42,6 @@ pub(crate) fn push_config(
 pub(crate) fn drop_config(configs: &mut Vec<ConfigAt>)
     ensures { configs.new.items ≡ take (length configs.old.items - 1) configs.old.items }
 {
-    let _count = configs.as_slice().len();
     let _ = configs.pop();
 }
 
@@ -63,7 +61,7 @@ pub(crate) fn settle_configs(config: &mut Config, configs: &mut Vec<ConfigAt>, r
 /// How many of the first configurations are up to a revision.
 fn count_up_to(configs: &[ConfigAt], rev: u64) -> usize
     ensures within { result ≤ length configs.now }
-    ensures config { (config : Configured) → config_after_settle config configs.now rev ≡ last_or config (take result configs.now) }
+    ensures config { EndsAt configs.now rev result }
     ensures above { configs_above rev configs.now ≡ drop result configs.now }
 {
     for i in 0..configs.len() {

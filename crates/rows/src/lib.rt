@@ -1,5 +1,5 @@
-//! The history of a store: the versions of revisions on each tuple, and the commits above the floor. It is
-//! asked at any retained revision.
+//! The history of a store: the versions of each tuple, and the commits above the floor. It is asked at any
+//! retained revision.
 #![tactic(auto)]
 
 mod committed;

@@ -1,13 +1,11 @@
 //! Histories.
 ghost use Rattle.std.specs.Prelude.{◌≡◌, ℕ, ◌+◌, ◌-◌, ◌<◌, ◌≤◌, List, [], ◌∷◌, ◌++◌, length, take, drop, filter, IfOk, OnOk, OnErr, not};
 ghost use Rattle.std.specs.List.{find};
-ghost use Rattle.meaning.specs.Admits.{admits};
-ghost use Rattle.meaning.specs.Snap.{empty_snap};
 ghost use Rattle.names.specs.declared.tuple.Tuple.{Tuple};
 ghost use Rattle.meaning.specs.TupleSet as set;
 ghost use Rattle.meaning.specs.Verdict.{max_rev, max_rows};
-ghost use Rattle.rows.specs.Retained.{newest, IsRetained, snap_at, spans_of, newest_of, with_commit, without_newest, after_trim, HasRoom, commits_between, is_touched_after, last_config};
-ghost use Rattle.rows_core.specs.Versions.{is_of};
+ghost use Rattle.rows.specs.Retained.{newest, empty_store, IsRetained, snap_at, spans_of, newest_of, with_commit, without_newest, after_trim, HasRoom, commits_between, is_touched_after, last_config};
+ghost use Rattle.rows_core.specs.Versions.{is_of, refuses};
 ghost use Rattle.rows.specs.Loads.{retained_of, loaded_to, IsWithin};
 
 use crate::committed::{
@@ -52,7 +50,7 @@ impl Model for Rows {
 impl Rows {
     /// No commit, in a store that has no number yet. It takes no memory.
     pub fn empty(alloc: Global) -> Rows
-        ensures { result ≡ record { number = 0; floor = 0; base = empty_snap; commits = [] } }
+        ensures { result ≡ empty_store 0 }
     {
         Rows {
             alloc,
@@ -92,7 +90,7 @@ impl Rows {
             floor: loaded.floor,
             config: loaded.config.again(alloc)?,
             configs: Vec::new(alloc),
-            tuples: VersionMap::based(alloc, tuples)?,
+            tuples: VersionMap::of_base(alloc, tuples)?,
             commits: Vec::new(alloc),
             counts: Counts {
                 rows: count,
@@ -176,7 +174,7 @@ impl Rows {
 
     /// The first current tuple that the configuration does not admit.
     pub(crate) fn tuple_in_the_way(&self, config: &Config) -> Result<Option<Tuple>, AllocError>
-        ensures { IfOk result (λ o. o ≡ find (λ t. not (admits config.now t)) (set.items (newest_of self.now).held.tuples)) }
+        ensures { IfOk result (λ o. o ≡ find (refuses config.now) (set.items (newest_of self.now).held.tuples)) }
     {
         self.tuples.first_refused(self.alloc, config)
     }
@@ -219,7 +217,7 @@ impl Rows {
     }
 
     /// Whether no commit above the revision has an event on the tuple.
-    pub fn unchanged(&self, tuple: &Tuple, rev: u64) -> bool
+    pub fn is_unchanged(&self, tuple: &Tuple, rev: u64) -> bool
         requires { self.now.floor ≤ rev }
         ensures { result ≡ not (is_touched_after self.now tuple.now rev) }
     {
@@ -306,7 +304,7 @@ impl Rows {
     pub fn trim(&mut self, floor: u64)
         requires { floor ≤ newest self.old }
         ensures raised { self.old.floor ≤ floor → self.new ≡ after_trim self.old floor }
-        ensures kept { floor ≤ self.old.floor → self.new ≡ self.old }
+        ensures unchanged { floor ≤ self.old.floor → self.new ≡ self.old }
     {
         if floor <= self.floor {
             return;

@@ -90,7 +90,7 @@ fn is_unchanged(rows: &Rows, tuple: &Tuple, rev: u64) -> bool {
     if rev < rows.floor() {
         return false;
     }
-    rows.unchanged(tuple, rev)
+    rows.is_unchanged(tuple, rev)
 }
 
 // How many commits the revisions bring, and the revision of the last configuration among them, or else 99.

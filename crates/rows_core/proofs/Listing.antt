@@ -1,6 +1,6 @@
 -- The tuples of a revision in order, by the versions.
 use Rattle.std.proofs.Common.{◌≡◌, List, [], ◌∷◌, ◌++◌, suc, refl, ap, sym, subst, ◌∙◌, append_assoc, arith}
-use Rattle.std.specs.Prelude.{Bool, true, false, cond, ◌&&◌, ◌||◌, filter, Some, All}
+use Rattle.std.specs.Prelude.{Bool, true, false, cond, ◌&&◌, ◌||◌, filter, Some, All, Result, Ok, Err, IfOk}
 use Rattle.std.specs.List.{list_any, find}
 use Rattle.std.specs.Map.{lookup, keys_of}
 use Rattle.std.specs.List.Sorted.{IsStrictlySortedBy}
@@ -33,3 +33,8 @@ items_by m tuples p none ordered is =
     let same : tuples ≡ set.from_list ts = same_tuples tuples (set.from_list ts) (λ q.
     is q ∙ sym (contains_from_list ts q ∙ any_filtered (λ t. p (versions_at m t)) q (keys m) ∙ tested_key p none q m)) in
     ap set.items same ∙ items_from_list ts (IsStrictlySortedBy-filter tuple_cmp (λ t. p (versions_at m t)) (keys m) ordered)
+
+-- two facts of what was found
+pub both_ok : {T E : Type 0} (r : Result T E) (P Q : T → Type 0) → IfOk r P → IfOk r Q → IfOk r (λ x. P x × Q x)
+both_ok (Ok x) P Q p q = (p, q)
+both_ok (Err e) P Q p q = tt

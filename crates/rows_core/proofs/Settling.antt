@@ -17,7 +17,7 @@ use Rattle.meaning.specs.Snap.{Snap}
 use Rattle.meaning.specs.History.{History, after_kind, after_event, replay, after_commit, after_commits, puts_in, puts_of_kind, commit_rows, rows_of}
 use Rattle.meaning.proofs.TupleSets.{len_insert, len_remove}
 use Rattle.rows_core.specs.declared.version.Version.{Version}
-use Rattle.rows_core.specs.Versions.{Entries, is_put, version_of, versions_in, commit_versions, versions_at, versions_after, base_versions, is_based, after_settle, after_settle_first, AreVersionsBefore, AreVersionsFrom, IsLater}
+use Rattle.rows_core.specs.Versions.{Entries, is_put, version_of, versions_in, commit_versions, versions_at, versions_after, base_versions, is_based, after_settle, after_settle_first, AreVersionsBefore, AreVersionsFrom, IsLater, SettlesEvents, SettlesCommits, EndsWithEvents, EndsWithCommit}
 use Rattle.rows_core.proofs.VersionRuns.{after_one, take_none}
 use Rattle.rows_core.proofs.Bases.{not_zero, based_in, based_after}
 use Rattle.rows_core.proofs.Coming.{one, held_some}
@@ -127,16 +127,21 @@ ended_step m tuples rev es k e later ended new held small is is_later was held_n
     ∙ sums ended (set.len t) (set.len tuples) (puts_in (take k es)) (one (set.contains t e.tuple)) (set.len (after_event t e)) (puts_of_kind e.kind) (puts_in (take (suc k) es))
     sum (ended_one t e.kind e.tuple) (puts_more es k e small is)
 
--- one commit
-abbrev pub Settles : Entries → Entries → Commit Configured → ℕ → Type 0
-Settles m n c ended = (s : Snap) (rev : ℕ) (later : Tuple → List Version) → IsLater later → AreVersionsFrom m s.tuples rev (c ∷ []) later
-    → ((q : Tuple) → versions_at n q ≡ base_versions (set.contains (after_commit s c).tuples q) ++ later q) × (ended + set.len (after_commit s c).tuples ≡ set.len s.tuples + commit_rows c)
-
-pub settles_config : (m : Entries) (config : Configured) → Settles m m (kinds.Config config) 0
-settles_config m config = λ s rev later is_later was. (was, omega arith)
-
 pub one_commit : (m : Entries) (tuples : Tuples) (rev : ℕ) (es : List Event) (later : Tuple → List Version) → AreVersionsFrom m tuples rev (kinds.Tuples es ∷ []) later → AreVersionsBefore m tuples rev es later
 one_commit m tuples rev es later was q = was q ∙ ap (λ ms. base_versions (set.contains tuples q) ++ (ms ++ later q)) (append-nil (versions_in (rev + 1) es q))
+
+-- one commit, of events or of a configuration
+pub settles_events : (m n : Entries) (es : List Event) → SettlesEvents m es n → SettlesCommits m (kinds.Tuples es ∷ []) n
+settles_events m n es settles = λ s rev later is_later was. settles s.tuples rev later is_later (one_commit m s.tuples rev es later was)
+
+pub ends_with_events : (m : Entries) (es : List Event) (ended : ℕ) → EndsWithEvents m es ended → EndsWithCommit m (kinds.Tuples es) ended
+ends_with_events m es ended ends = λ s rev later is_later was. ends s.tuples rev later is_later (one_commit m s.tuples rev es later was)
+
+pub settles_config : (m : Entries) (config : Configured) → SettlesCommits m (kinds.Config config ∷ []) m
+settles_config m config = λ s rev later is_later was. was
+
+pub ends_with_config : (m : Entries) (config : Configured) → EndsWithCommit m (kinds.Config config) 0
+ends_with_config m config = λ s rev later is_later was. omega arith
 
 based_all : (n : ℕ) (h : History) (q : Tuple) (later : List Version) → is_based later ≡ false → is_based (versions_after n h q ++ later) ≡ false
 based_all n [] q later is = is
@@ -153,19 +158,20 @@ first_commit m tuples rev c h later was q =
     (append_assoc (commit_versions (rev + 1) c q) (versions_after (rev + 1) h q) (later q) ∙ ap (λ ms. ms ++ (versions_after (rev + 1) h q ++ later q)) (sym (append-nil (commit_versions (rev + 1) c q))))
 
 pub commit_step : (m n : Entries) (s : Snap) (rev : ℕ) (h : History) (k : ℕ) (c : Commit Configured) (later : Tuple → List Version) (ended : ℕ)
-    → k < length h → c ≡ get_or h k c → IsLater later → Settles m n c ended → AreVersionsFrom m (after_commits s (take k h)).tuples (rev + k) (drop k h) later
+    → k < length h → c ≡ get_or h k c → IsLater later → SettlesCommits m (c ∷ []) n → EndsWithCommit m c ended → AreVersionsFrom m (after_commits s (take k h)).tuples (rev + k) (drop k h) later
     → AreVersionsFrom n (after_commits s (take (suc k) h)).tuples (rev + suc k) (drop (suc k) h) later
     × (ended + set.len (after_commits s (take (suc k) h)).tuples ≡ set.len (after_commits s (take k h)).tuples + commit_rows c)
-commit_step m n s rev h k c later ended small is is_later settles was =
+commit_step m n s rev h k c later ended small is is_later settles ends was =
     let here : AreVersionsFrom m (after_commits s (take k h)).tuples (rev + k) (c ∷ drop (suc k) h) later =
     subst (λ (x : History). AreVersionsFrom m (after_commits s (take k h)).tuples (rev + k) x later) (drop_here h k c small is) was in
-    let both = settles (after_commits s (take k h)) (rev + k) (λ q. versions_after (rev + k + 1) (drop (suc k) h) q ++ later q) (λ q. based_all (rev + k + 1) (drop (suc k) h) q (later q) (is_later q))
-    (first_commit m (after_commits s (take k h)).tuples (rev + k) c (drop (suc k) h) later here) in
+    let rest : Tuple → List Version = λ q. versions_after (rev + k + 1) (drop (suc k) h) q ++ later q in
+    let rest_later : IsLater rest = λ q. based_all (rev + k + 1) (drop (suc k) h) q (later q) (is_later q) in
+    let first = first_commit m (after_commits s (take k h)).tuples (rev + k) c (drop (suc k) h) later here in
     let next : after_commit (after_commits s (take k h)) c ≡ after_commits s (take (suc k) h) = sym (ap (after_commits s) (take_more h k c small is) ∙ after_push s (take k h) c) in
     let place : rev + k + 1 ≡ rev + suc k = omega arith in (
-      λ q. both.0 q ∙ ap (λ (x : Snap). base_versions (set.contains x.tuples q) ++ (versions_after (rev + k + 1) (drop (suc k) h) q ++ later q)) next
+      λ q. settles (after_commits s (take k h)) (rev + k) rest rest_later first q ∙ ap (λ (x : Snap). base_versions (set.contains x.tuples q) ++ (versions_after (rev + k + 1) (drop (suc k) h) q ++ later q)) next
           ∙ ap (λ r. base_versions (set.contains (after_commits s (take (suc k) h)).tuples q) ++ (versions_after r (drop (suc k) h) q ++ later q)) place,
-      ap (λ (x : Snap). ended + set.len x.tuples) (sym next) ∙ both.1,
+      ap (λ (x : Snap). ended + set.len x.tuples) (sym next) ∙ ends (after_commits s (take k h)) (rev + k) rest rest_later first,
     )
 
 pub rows_here : (h : History) (k : ℕ) (c : Commit Configured) → k < length h → c ≡ get_or h k c → rows_of (drop k h) ≡ commit_rows c + rows_of (drop (suc k) h)

@@ -7,7 +7,7 @@ use Rattle.std.specs.declared.boxed.BoxedStr.{BoxedStr}
 use Rattle.names.specs.declared.tuple.Tuple.{Tuple}
 use Rattle.rows_core.specs.declared.version.Version.{Version}
 use Rattle.rows_core.specs.Spelled.{tuple_of, IsSpelling}
-use Rattle.rows_core.specs.Versions.{Entries}
+use Rattle.rows_core.specs.Versions.{Entries, HasSame, ChangesAt}
 
 -- texts, each with the versions of the tuple that it spells
 abbrev pub Texts : Type 0
@@ -25,3 +25,11 @@ entries_of (e ∷ es) = entry_of e ∷ entries_of es
 abbrev pub AreSpelled : Texts → Type 0
 AreSpelled [] = Unit {0}
 AreSpelled (e ∷ es) = IsSpelling (boxed_str_bytes e.0) × AreSpelled es
+
+-- the same of the texts: the versions of each tuple stay
+abbrev pub TextsStay : Texts → Texts → Type 0
+TextsStay old new = HasSame (entries_of old) (entries_of new)
+
+-- the versions of one tuple change so, and those of the others stay
+abbrev pub TextsChangeAt : Tuple → (List Version → List Version) → Texts → Texts → Type 0
+TextsChangeAt t f old new = ChangesAt t f (entries_of old) (entries_of new)

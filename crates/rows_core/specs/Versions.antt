@@ -1,5 +1,5 @@
--- The versions of tuples: each tuple has a version for each event on it.
-use Rattle.std.specs.Prelude.{◌≡◌, ℕ, ◌+◌, ◌-◌, ◌==◌, List, [], ◌∷◌, ◌++◌, length, take, drop, filter, Bool, true, false, cond, nat_le, Option, Some, None}
+-- The versions of tuples: each tuple has a version for each event on it, and one where the floor holds it.
+use Rattle.std.specs.Prelude.{◌≡◌, ℕ, ◌+◌, ◌-◌, ◌==◌, List, [], ◌∷◌, ◌++◌, length, take, drop, filter, Bool, true, false, cond, not, nat_le, Option, Some, None}
 use Rattle.std.specs.Ordering.{eq_by_cmp}
 use Rattle.std.specs.Map.{lookup, keys_of}
 use Rattle.names.specs.Order.{node_cmp, is_same_tuple}
@@ -13,7 +13,9 @@ use Rattle.names.specs.declared.commit.Commit.TheVariants as kinds
 use Rattle.meaning.specs.TupleSet as set
 use Rattle.meaning.specs.TupleSet.{Tuples}
 use Rattle.meaning.specs.Config.{Configured}
-use Rattle.meaning.specs.History.{History, replay}
+use Rattle.meaning.specs.Admits.{admits}
+use Rattle.meaning.specs.Snap.{Snap}
+use Rattle.meaning.specs.History.{History, replay, after_commit, after_commits, puts_in, commit_rows, rows_of}
 use Rattle.rows_core.specs.declared.version.Version.{Version}
 use Rattle.rows_core.specs.declared.change.Change.{Change}
 
@@ -107,9 +109,33 @@ GoesOn before m rev events = (q : Tuple) → versions_at m q ≡ before q ++ ver
 abbrev pub HasThese : Tuples → (Tuple → List Version) → Type 0
 HasThese tuples versions = (q : Tuple) → set.contains tuples q ≡ is_there (versions q)
 
+-- the versions of each tuple stay
+abbrev pub HasSame : Entries → Entries → Type 0
+HasSame old new = (q : Tuple) → versions_at new q ≡ versions_at old q
+
+-- the versions of one tuple change so, and those of the others stay
+abbrev pub ChangesAt : Tuple → (List Version → List Version) → Entries → Entries → Type 0
+ChangesAt t f old new = (q : Tuple) → versions_at new q ≡ cond (is_same_tuple q t) (f (versions_at old q)) (versions_at old q)
+
+-- with one version more
+abbrev pub with_version : Version → List Version → List Version
+with_version v vs = vs ++ v ∷ []
+
+-- the only versions are of what the floor holds
+abbrev pub HasBase : Entries → Tuples → Type 0
+HasBase m tuples = (q : Tuple) → versions_at m q ≡ base_versions (set.contains tuples q)
+
 -- so many tuples come with the events, and so many go
 abbrev pub Changes : (Tuple → List Version) → List Event → Change → Type 0
 Changes before events change = (tuples : Tuples) → HasThese tuples before → set.len (replay tuples events) + change.gone ≡ set.len tuples + change.come
+
+-- the versions without those of the events
+abbrev pub TakesOff : Entries → List Event → Entries → Type 0
+TakesOff old events new = (before : Tuple → List Version) (rev : ℕ) → GoesOn before old rev events → (q : Tuple) → versions_at new q ≡ before q
+
+-- so many tuples came with the events that the versions end with, and so many went
+abbrev pub HasChanged : Entries → List Event → Change → Type 0
+HasChanged old events change = (before : Tuple → List Version) (rev : ℕ) → GoesOn before old rev events → Changes before events change
 
 -- the oldest version taken into what the floor holds
 abbrev pub after_settle_first : List Version → List Version
@@ -130,6 +156,43 @@ AreVersionsFrom m tuples rev h later = (q : Tuple) → versions_at m q ≡ base_
 -- no version of these is of what the floor holds
 abbrev pub IsLater : (Tuple → List Version) → Type 0
 IsLater later = (q : Tuple) → is_based (later q) ≡ false
+
+-- the events of the revision above the floor are taken into what the floor holds
+abbrev pub SettlesEvents : Entries → List Event → Entries → Type 0
+SettlesEvents old events new = (tuples : Tuples) (rev : ℕ) (later : Tuple → List Version) → IsLater later → AreVersionsBefore old tuples rev events later
+    → (q : Tuple) → versions_at new q ≡ base_versions (set.contains (replay tuples events) q) ++ later q
+
+-- so many spans end with them
+abbrev pub EndsWithEvents : Entries → List Event → ℕ → Type 0
+EndsWithEvents old events ended = (tuples : Tuples) (rev : ℕ) (later : Tuple → List Version) → IsLater later → AreVersionsBefore old tuples rev events later
+    → ended + set.len (replay tuples events) ≡ set.len tuples + puts_in events
+
+-- the commits above the floor are taken into what the floor holds
+abbrev pub SettlesCommits : Entries → History → Entries → Type 0
+SettlesCommits old commits new = (s : Snap) (rev : ℕ) (later : Tuple → List Version) → IsLater later → AreVersionsFrom old s.tuples rev commits later
+    → (q : Tuple) → versions_at new q ≡ base_versions (set.contains (after_commits s commits).tuples q) ++ later q
+
+-- so many spans end with the one commit
+abbrev pub EndsWithCommit : Entries → Commit Configured → ℕ → Type 0
+EndsWithCommit old commit ended = (s : Snap) (rev : ℕ) (later : Tuple → List Version) → IsLater later → AreVersionsFrom old s.tuples rev (commit ∷ []) later
+    → ended + set.len (after_commit s commit).tuples ≡ set.len s.tuples + commit_rows commit
+
+-- of the spans those are left that do not end with the commits
+abbrev pub LeavesSpans : Entries → History → ℕ → ℕ → Type 0
+LeavesSpans old commits spans left = (s : Snap) (rev others : ℕ) (later : Tuple → List Version) → IsLater later → AreVersionsFrom old s.tuples rev commits later
+    → spans ≡ set.len s.tuples + rows_of commits + others → left ≡ set.len (after_commits s commits).tuples + others
+
+-- the tuples that stand at a revision
+abbrev pub tuples_at : Entries → ℕ → List Tuple
+tuples_at m rev = filter (λ t. stands (versions_at m t) rev) (keys m)
+
+-- the tuples whose last version is a put
+abbrev pub newest_tuples : Entries → List Tuple
+newest_tuples m = filter (λ t. is_there (versions_at m t)) (keys m)
+
+-- the configuration does not admit the tuple
+abbrev pub refuses : Configured → Tuple → Bool
+refuses config t = not (admits config t)
 
 -- the tuple is of the node
 abbrev pub is_of : Node → Tuple → Bool

@@ -1,5 +1,4 @@
-//! The versions of revisions on each tuple, and the events and commits that make them, with each tuple as one
-//! text.
+//! The versions of each tuple, and the events and commits that make them, with each tuple as one text.
 #![tactic(auto)]
 
 mod change;

@@ -1,12 +1,11 @@
 //! The tuples of a revision, in order.
-ghost use Rattle.std.specs.Prelude.{◌≡◌, ◌++◌, ◌∷◌, [], filter, not, IfOk, OnOk};
+ghost use Rattle.std.specs.Prelude.{◌≡◌, ◌++◌, ◌∷◌, [], filter, IfOk, OnOk};
 ghost use Rattle.std.specs.Box.{boxed_str_bytes};
 ghost use Rattle.std.specs.List.{find};
 ghost use Rattle.std.specs.List.Sorted.{IsStrictlySortedBy};
-ghost use Rattle.meaning.specs.Admits.{admits};
 ghost use Rattle.names.specs.Order.{tuple_cmp};
 ghost use Rattle.rows_core.specs.Spelled.{tuple_of, IsSpelling};
-ghost use Rattle.rows_core.specs.Versions.{keys, versions_at, is_there, is_of, stands};
+ghost use Rattle.rows_core.specs.Versions.{keys, is_of, tuples_at, newest_tuples, refuses};
 
 use crate::tuple_ref::{TupleRef, node_text};
 use crate::version_map::VersionMap;
@@ -18,7 +17,7 @@ use std::boxed::BoxedStr;
 impl VersionMap {
     /// All tuples that stand at a revision.
     pub fn tuples_at(&self, alloc: Global, rev: u64) -> Result<Vec<Tuple>, AllocError>
-        ensures found { IfOk result (λ v. v.items ≡ filter (λ t. stands (versions_at self.now t) rev) (keys self.now)) }
+        ensures found { IfOk result (λ v. v.items ≡ tuples_at self.now rev) }
         ensures ordered { IsStrictlySortedBy tuple_cmp (keys self.now) }
     {
         let texts = self.texts();
@@ -34,7 +33,8 @@ impl VersionMap {
     /// The tuples of the node that stand at a revision. Their texts stand together: they begin with the
     /// node's.
     pub fn tuples_of(&self, alloc: Global, rev: u64, node: &Node) -> Result<Vec<Tuple>, AllocError>
-        ensures { IfOk result (λ v. IsStrictlySortedBy tuple_cmp (keys self.now) × (v.items ≡ filter (is_of node.now) (filter (λ t. stands (versions_at self.now t) rev) (keys self.now)))) }
+        ensures found { IfOk result (λ v. v.items ≡ filter (is_of node.now) (tuples_at self.now rev)) }
+        ensures ordered { IfOk result (λ v. IsStrictlySortedBy tuple_cmp (keys self.now)) }
     {
         let texts = self.texts();
         let least = node_text(alloc, node)?;
@@ -52,7 +52,7 @@ impl VersionMap {
 
     /// The first tuple, of those whose last version is a put, that the configuration does not admit.
     pub fn first_refused(&self, alloc: Global, config: &Config) -> Result<Option<Tuple>, AllocError>
-        ensures found { IfOk result (λ o. o ≡ find (λ t. not (admits config.now t)) (filter (λ t. is_there (versions_at self.now t)) (keys self.now))) }
+        ensures found { IfOk result (λ o. o ≡ find (refuses config.now) (newest_tuples self.now)) }
         ensures ordered { IsStrictlySortedBy tuple_cmp (keys self.now) }
     {
         let texts = self.texts();
@@ -84,7 +84,7 @@ fn push_tuple(alloc: Global, tuples: &mut Vec<Tuple>, text: &BoxedStr) -> Result
 }
 
 fn refuses(config: &Config, tuple: &Tuple) -> bool
-    ensures { result ≡ not (admits config.now tuple.now) }
+    ensures { result ≡ refuses config.now tuple.now }
 {
     match config.admits(tuple) {
         Ok(()) => false,

@@ -1,12 +1,10 @@
 //! The versions at one text.
-ghost use Rattle.std.specs.Prelude.{◌≡◌, true, ◌++◌, ◌∷◌, [], List, cond, IfOk, OnOk, OnErr};
+ghost use Rattle.std.specs.Prelude.{◌≡◌, true, ◌∷◌, [], IfOk, OnOk, OnErr};
 ghost use Rattle.std.specs.Option.{option_map};
-ghost use Rattle.names.specs.Order.{is_same_tuple};
-ghost use Rattle.names.specs.declared.tuple.Tuple.{Tuple as TupleValue};
-ghost use Rattle.rows_core.specs.Versions.{items_or, versions_at, is_based, drop_last, after_settle, base_versions};
+ghost use Rattle.rows_core.specs.Versions.{items_or, versions_at, is_based, with_version, drop_last, after_settle, base_versions};
 ghost use Rattle.std.specs.Box.{boxed_str_bytes};
 ghost use Rattle.rows_core.specs.Spelled.{tuple_of, IsSpelling};
-ghost use Rattle.rows_core.specs.Texts.{entries_of, AreSpelled};
+ghost use Rattle.rows_core.specs.Texts.{entries_of, AreSpelled, TextsStay, TextsChangeAt};
 
 use crate::tuple_ref::{TupleRef, spelled_text};
 use crate::version::{Version, Versions};
@@ -42,8 +40,8 @@ pub(crate) fn push_version(
 ) -> Result<(), AllocError>
     requires { AreSpelled map.old.entries }
     ensures spelled { AreSpelled map.new.entries }
-    ensures ok { OnOk result ((q : TupleValue) → versions_at (entries_of map.new.entries) q ≡ cond (is_same_tuple q key.now) (versions_at (entries_of map.old.entries) q ++ version ∷ []) (versions_at (entries_of map.old.entries) q)) }
-    ensures err { OnErr result ((q : TupleValue) → versions_at (entries_of map.new.entries) q ≡ versions_at (entries_of map.old.entries) q) }
+    ensures ok { OnOk result (TextsChangeAt key.now (with_version version) map.old.entries map.new.entries) }
+    ensures err { OnErr result (TextsStay map.old.entries map.new.entries) }
 {
     if let Some(versions) = map.get_mut(key.as_str()) {
         return match versions.add(version) {
@@ -62,7 +60,7 @@ pub(crate) fn push_version(
 pub(crate) fn pop_version(map: &mut Texts, key: &TupleRef<'_>)
     requires { AreSpelled map.old.entries }
     ensures spelled { AreSpelled map.new.entries }
-    ensures versions { (q : TupleValue) → versions_at (entries_of map.new.entries) q ≡ cond (is_same_tuple q key.now) (drop_last (versions_at (entries_of map.old.entries) q)) (versions_at (entries_of map.old.entries) q) }
+    ensures versions { TextsChangeAt key.now drop_last map.old.entries map.new.entries }
 {
     if let Some(versions) = map.get_mut(key.as_str()) {
         versions.drop_newest();
@@ -72,8 +70,8 @@ pub(crate) fn pop_version(map: &mut Texts, key: &TupleRef<'_>)
 pub(crate) fn settle_version(map: &mut Texts, key: &TupleRef<'_>) -> bool
     requires { AreSpelled map.old.entries }
     ensures spelled { AreSpelled map.new.entries }
-    ensures versions { (q : TupleValue) → versions_at (entries_of map.new.entries) q ≡ cond (is_same_tuple q key.now) (after_settle (versions_at (entries_of map.old.entries) q)) (versions_at (entries_of map.old.entries) q) }
-    ensures held { result ≡ is_based (versions_at (entries_of map.old.entries) key.now) }
+    ensures versions { TextsChangeAt key.now after_settle map.old.entries map.new.entries }
+    ensures was_based { result ≡ is_based (versions_at (entries_of map.old.entries) key.now) }
 {
     if let Some(versions) = map.get_mut(key.as_str()) {
         return versions.settle();
@@ -91,7 +89,7 @@ fn first_version(alloc: Global, shared: &ArcStr, version: Version) -> Result<Ver
 pub(crate) fn put_base(alloc: Global, map: &mut Texts, tuple: &Tuple) -> Result<(), AllocError>
     requires { AreSpelled map.old.entries }
     ensures spelled { AreSpelled map.new.entries }
-    ensures ok { OnOk result ((q : TupleValue) → versions_at (entries_of map.new.entries) q ≡ cond (is_same_tuple q tuple.now) (base_versions true) (versions_at (entries_of map.old.entries) q)) }
+    ensures ok { OnOk result (TextsChangeAt tuple.now (λ _. base_versions true) map.old.entries map.new.entries) }
 {
     let text = spelled_text(alloc, tuple)?;
     let shared = ArcStr::from_str(alloc, text.as_str())?;

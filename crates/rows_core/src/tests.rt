@@ -222,7 +222,7 @@ fn a_revision_between_two_events_has_the_first(rt: HostRuntime) -> Result<(), Fa
 
 fn comes_off(alloc: Global) -> Result<bool, Refusal> {
     let ann = Tuple::parse(alloc, ANN)?;
-    let mut map = VersionMap::based(alloc, &tuples_in(alloc, ANN)?)?;
+    let mut map = VersionMap::of_base(alloc, &tuples_in(alloc, ANN)?)?;
     let events = events_on(alloc, ANN, EventKind::Del)?;
     let done = map.put_all(&events, 1)?;
     let gone = done.gone == 1 && stands_then_not(&map, &ann, 0, 1);
@@ -238,7 +238,7 @@ fn events_are_taken_off_again(rt: HostRuntime) -> Result<(), Fail> {
 
 fn settles(alloc: Global) -> Result<bool, Refusal> {
     let ann = Tuple::parse(alloc, ANN)?;
-    let mut map = VersionMap::based(alloc, &tuples_in(alloc, ANN)?)?;
+    let mut map = VersionMap::of_base(alloc, &tuples_in(alloc, ANN)?)?;
     del(alloc, &mut map, ANN, 1)?;
     put(alloc, &mut map, ANN, 3)?;
     let mut commits = Vec::new(alloc);
@@ -255,7 +255,7 @@ fn what_settles_stands_at_the_floor(rt: HostRuntime) -> Result<(), Fail> {
 
 fn finds_the_refused(alloc: Global) -> Result<bool, Refusal> {
     let config = Config::from_json(alloc, CONFIG.as_bytes())?;
-    let mut map = VersionMap::based(alloc, &tuples_in(alloc, ANN)?)?;
+    let mut map = VersionMap::of_base(alloc, &tuples_in(alloc, ANN)?)?;
     let none = map.first_refused(alloc, &config)?.is_none();
     put(
         alloc,

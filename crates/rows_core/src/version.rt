@@ -97,7 +97,7 @@ impl Versions {
     /// tuple before.
     pub(crate) fn settle(&mut self) -> bool
         ensures versions { self.new ≡ after_settle self.old }
-        ensures held { result ≡ is_based self.old }
+        ensures was_based { result ≡ is_based self.old }
     {
         settle(&mut self.versions)
     }
@@ -167,7 +167,6 @@ fn one_version(alloc: Global, version: Version) -> Result<VecDeque<Version>, All
 fn drop_version(versions: &mut VecDeque<Version>)
     ensures { versions.new.items ≡ drop_last versions.old.items }
 {
-    let _count = versions.len();
     let _ = versions.pop_back();
 }
 
@@ -185,14 +184,14 @@ fn is_based(versions: &VecDeque<Version>) -> bool
 /// tuple before.
 fn settle(versions: &mut VecDeque<Version>) -> bool
     ensures versions { versions.new.items ≡ after_settle versions.old.items }
-    ensures held { result ≡ is_based versions.old.items }
+    ensures was_based { result ≡ is_based versions.old.items }
 {
-    let held = is_based(versions);
-    if held {
+    let was_based = is_based(versions);
+    if was_based {
         drop_first(versions);
     }
     settle_first(versions);
-    held
+    was_based
 }
 
 fn settle_first(versions: &mut VecDeque<Version>)

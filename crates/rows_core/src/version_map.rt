@@ -1,8 +1,6 @@
 //! The versions of every tuple.
-ghost use Rattle.std.specs.Prelude.{◌≡◌, true, ◌++◌, ◌∷◌, [], cond, OnOk, OnErr, IfOk};
-ghost use Rattle.names.specs.Order.{is_same_tuple};
-ghost use Rattle.names.specs.declared.tuple.Tuple.{Tuple as TupleValue};
-ghost use Rattle.rows_core.specs.Versions.{versions_at, is_there, is_based, last_rev, stands, drop_last, after_settle, base_versions};
+ghost use Rattle.std.specs.Prelude.{◌≡◌, true, [], OnOk, OnErr, IfOk};
+ghost use Rattle.rows_core.specs.Versions.{versions_at, is_there, is_based, last_rev, stands, with_version, drop_last, after_settle, base_versions, HasSame, ChangesAt};
 ghost use Rattle.rows_core.specs.Texts.{entries_of, AreSpelled};
 
 use crate::kept::{KeptCommit, KeptEvent};
@@ -109,15 +107,15 @@ impl VersionMap {
     }
 
     pub(crate) fn push(&mut self, event: &KeptEvent, version: Version) -> Result<(), AllocError>
-        ensures ok { OnOk result ((q : TupleValue) → versions_at self.new q ≡ cond (is_same_tuple q event.now.tuple) (versions_at self.old q ++ version ∷ []) (versions_at self.old q)) }
-        ensures err { OnErr result ((q : TupleValue) → versions_at self.new q ≡ versions_at self.old q) }
+        ensures ok { OnOk result (ChangesAt event.now.tuple (with_version version) self.old self.new) }
+        ensures err { OnErr result (HasSame self.old self.new) }
     {
         let key = event.tuple_ref();
         push_version(self.alloc, &mut self.map, &key, event.text(), version)
     }
 
     pub(crate) fn pop(&mut self, key: &TupleRef<'_>)
-        ensures { (q : TupleValue) → versions_at self.new q ≡ cond (is_same_tuple q key.now) (drop_last (versions_at self.old q)) (versions_at self.old q) }
+        ensures { ChangesAt key.now drop_last self.old self.new }
     {
         pop_version(&mut self.map, key);
     }
@@ -125,15 +123,15 @@ impl VersionMap {
     /// Takes the tuple's oldest version above the floor into what the floor holds. Says whether the floor held
     /// the tuple before.
     pub(crate) fn settle_one(&mut self, key: &TupleRef<'_>) -> bool
-        ensures versions { (q : TupleValue) → versions_at self.new q ≡ cond (is_same_tuple q key.now) (after_settle (versions_at self.old q)) (versions_at self.old q) }
-        ensures held { result ≡ is_based (versions_at self.old key.now) }
+        ensures versions { ChangesAt key.now after_settle self.old self.new }
+        ensures was_based { result ≡ is_based (versions_at self.old key.now) }
     {
         settle_version(&mut self.map, key)
     }
 
     /// Puts the tuple into what the floor holds.
     pub(crate) fn put_base(&mut self, tuple: &Tuple) -> Result<(), AllocError>
-        ensures { OnOk result ((q : TupleValue) → versions_at self.new q ≡ cond (is_same_tuple q tuple.now) (base_versions true) (versions_at self.old q)) }
+        ensures { OnOk result (ChangesAt tuple.now (λ _. base_versions true) self.old self.new) }
     {
         put_base(self.alloc, &mut self.map, tuple)
     }

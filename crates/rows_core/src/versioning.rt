@@ -1,12 +1,7 @@
 //! What events do to the versions.
-ghost use Rattle.std.specs.Prelude.{◌≡◌, ◌≤◌, ◌+◌, ℕ, ◌++◌, ◌∷◌, [], List, length, OnOk, OnErr, IfOk};
-ghost use Rattle.names.specs.declared.tuple.Tuple.{Tuple as TupleValue};
+ghost use Rattle.std.specs.Prelude.{◌≤◌, ◌∷◌, [], length, OnOk, OnErr, IfOk};
 ghost use Rattle.meaning.specs.TupleSet as set;
-ghost use Rattle.meaning.specs.TupleSet.{Tuples};
-ghost use Rattle.meaning.specs.Snap.{Snap};
-ghost use Rattle.meaning.specs.History.{replay, after_commit, after_commits, puts_in, commit_rows, rows_of};
-ghost use Rattle.rows_core.specs.declared.version.Version.{Version as VersionValue};
-ghost use Rattle.rows_core.specs.Versions.{versions_at, base_versions, GoesOn, Changes, IsLater, AreVersionsBefore, AreVersionsFrom};
+ghost use Rattle.rows_core.specs.Versions.{versions_at, GoesOn, Changes, HasChanged, HasBase, HasSame, TakesOff, SettlesEvents, EndsWithEvents, SettlesCommits, EndsWithCommit, LeavesSpans};
 
 use crate::change::Change;
 use crate::kept::{KeptCommit, KeptEvent};
@@ -17,8 +12,8 @@ use std::alloc::{AllocError, Global};
 
 impl VersionMap {
     /// The versions of the tuples that the floor holds.
-    pub fn based(alloc: Global, tuples: &[Tuple]) -> Result<VersionMap, AllocError>
-        ensures { IfOk result (λ m. (q : TupleValue) → versions_at m q ≡ base_versions (set.contains (set.from_list tuples.now) q)) }
+    pub fn of_base(alloc: Global, tuples: &[Tuple]) -> Result<VersionMap, AllocError>
+        ensures { IfOk result (λ m. HasBase m (set.from_list tuples.now)) }
     {
         let mut map = VersionMap::new(alloc);
         for i in 0..tuples.len() {
@@ -29,8 +24,8 @@ impl VersionMap {
 
     /// Takes the newest version of each event's tuple off again. It takes no memory.
     pub fn undo(&mut self, events: &[KeptEvent]) -> Change
-        ensures versions { (before : TupleValue → List VersionValue) (rev : ℕ) → GoesOn before self.old rev events.now → (q : TupleValue) → versions_at self.new q ≡ before q }
-        ensures change { (before : TupleValue → List VersionValue) (rev : ℕ) → GoesOn before self.old rev events.now → Changes before events.now result }
+        ensures versions { TakesOff self.old events.now self.new }
+        ensures change { HasChanged self.old events.now result }
         ensures come { result.come ≤ length events.now }
         ensures gone { result.gone ≤ length events.now }
     {
@@ -52,7 +47,7 @@ impl VersionMap {
         ensures change { IfOk result (λ change. Changes (versions_at self.old) events.now change) }
         ensures come { IfOk result (λ change. change.come ≤ length events.now) }
         ensures gone { IfOk result (λ change. change.gone ≤ length events.now) }
-        ensures err { OnErr result ((q : TupleValue) → versions_at self.new q ≡ versions_at self.old q) }
+        ensures err { OnErr result (HasSame self.old self.new) }
     {
         let mut change = Change::none();
         for i in 0..events.len() {
@@ -74,8 +69,8 @@ impl VersionMap {
     /// Takes the events of the revision above the floor into what the floor holds. Says how many spans end
     /// there.
     fn settle_events(&mut self, events: &[KeptEvent]) -> u64
-        ensures versions { (tuples : Tuples) (rev : ℕ) (later : TupleValue → List VersionValue) → IsLater later → AreVersionsBefore self.old tuples rev events.now later → (q : TupleValue) → versions_at self.new q ≡ base_versions (set.contains (replay tuples events.now) q) ++ later q }
-        ensures ended { (tuples : Tuples) (rev : ℕ) (later : TupleValue → List VersionValue) → IsLater later → AreVersionsBefore self.old tuples rev events.now later → result + set.len (replay tuples events.now) ≡ set.len tuples + puts_in events.now }
+        ensures versions { SettlesEvents self.old events.now self.new }
+        ensures ended { EndsWithEvents self.old events.now result }
     {
         let mut ended = 0;
         for i in 0..events.len() {
@@ -89,8 +84,8 @@ impl VersionMap {
     }
 
     fn settle_commit(&mut self, commit: &KeptCommit) -> u64
-        ensures versions { (s : Snap) (rev : ℕ) (later : TupleValue → List VersionValue) → IsLater later → AreVersionsFrom self.old s.tuples rev (commit.now ∷ []) later → (q : TupleValue) → versions_at self.new q ≡ base_versions (set.contains (after_commit s commit.now).tuples q) ++ later q }
-        ensures ended { (s : Snap) (rev : ℕ) (later : TupleValue → List VersionValue) → IsLater later → AreVersionsFrom self.old s.tuples rev (commit.now ∷ []) later → result + set.len (after_commit s commit.now).tuples ≡ set.len s.tuples + commit_rows commit.now }
+        ensures versions { SettlesCommits self.old (commit.now ∷ []) self.new }
+        ensures ended { EndsWithCommit self.old commit.now result }
     {
         match commit.events() {
             Some(events) => self.settle_events(events),
@@ -101,8 +96,8 @@ impl VersionMap {
     /// Takes the commits above the floor into what the floor holds. Says how many of the spans are left. It
     /// takes no memory.
     pub fn settle(&mut self, commits: &[KeptCommit], spans: u64) -> u64
-        ensures versions { (s : Snap) (rev : ℕ) (later : TupleValue → List VersionValue) → IsLater later → AreVersionsFrom self.old s.tuples rev commits.now later → (q : TupleValue) → versions_at self.new q ≡ base_versions (set.contains (after_commits s commits.now).tuples q) ++ later q }
-        ensures spans { (s : Snap) (rev others : ℕ) (later : TupleValue → List VersionValue) → IsLater later → AreVersionsFrom self.old s.tuples rev commits.now later → spans ≡ set.len s.tuples + rows_of commits.now + others → result ≡ set.len (after_commits s commits.now).tuples + others }
+        ensures versions { SettlesCommits self.old commits.now self.new }
+        ensures spans { LeavesSpans self.old commits.now spans result }
     {
         let mut left = spans;
         for i in 0..commits.len() {

@@ -21,9 +21,9 @@ returns-in-Some-clause-versions c =
     (c.get_mut.follows.lender c.settle.new.self).entries c.in-Some.versions.now c.settle.new.self after_settle
     c.in-Some.ensures.value (c.get_mut.follows.holds c.settle.new.self).0 c.settle.ensures.versions
 
-pub returns-in-Some-clause-held : goal.returns-in-Some-clause-held
-returns-in-Some-clause-held c =
-    c.settle.ensures.held
+pub returns-in-Some-clause-was_based : goal.returns-in-Some-clause-was_based
+returns-in-Some-clause-was_based c =
+    c.settle.ensures.was_based
     ∙ ap (λ (o : Option (List Version)). is_based (items_or (option_map (λ (v : List Version). v) o))) c.in-Some.ensures.value
     ∙ ap is_based (versions_found c.as_str.result.now c.as_str.ensures.spelling c.args.key.now c.as_str.ensures.read c.args.map.now.entries c.requires)
 
@@ -33,7 +33,7 @@ returns-clause-versions c = λ q.
     ∙ unwritten c.as_str.result.now c.as_str.ensures.spelling c.args.key.now c.as_str.ensures.read c.args.map.now.entries c.requires q after_settle refl
     (ap option_copied_mut (sym c.in_default.is) ∙ c.get_mut.ensures.value)
 
-pub returns-clause-held : goal.returns-clause-held
-returns-clause-held c =
+pub returns-clause-was_based : goal.returns-clause-was_based
+returns-clause-was_based c =
     ap is_based (none_found c.as_str.result.now c.as_str.ensures.spelling c.args.key.now c.as_str.ensures.read c.args.map.now.entries c.requires
     (ap option_copied_mut (sym c.in_default.is) ∙ c.get_mut.ensures.value))

@@ -16,10 +16,10 @@ use Rattle.rows.proofs.rows.Rows.with_base.Goals as goal
 pub invariant_of-result : goal.invariant_of-result
 invariant_of-result c =
     let l : Loaded = c.args.loaded.now in
-    let m = c.in_ok-based.field-0 in
+    let m = c.in_ok-of_base.field-0 in
     let n : ℕ = length c.as_slice-tuples.result.now in
     let counts : Counts = record { rows = n; tuples = n } in
-    let versions : (q : Tuple) → versions_at m q ≡ base_versions (set.contains (set.from_list l.tuples) q) = λ q. c.in_ok-based.ensures q ∙ ap (λ (ts : List Tuple). base_versions (set.contains (set.from_list ts) q)) c.as_slice-tuples.ensures in
+    let versions : (q : Tuple) → versions_at m q ≡ base_versions (set.contains (set.from_list l.tuples) q) = λ q. c.in_ok-of_base.ensures q ∙ ap (λ (ts : List Tuple). base_versions (set.contains (set.from_list ts) q)) c.as_slice-tuples.ensures in
     let long : n ≡ length l.tuples = ap (λ (ts : List Tuple). length ts) c.as_slice-tuples.ensures in
     let consistent : IsConsistent (as_retained l.number l.floor l.config m []) m [] counts = consistent_as l.number l.floor l.config m (set.from_list l.tuples) [] [] counts (consistent_none l m counts c.requires versions long long) in
     subst (λ (x : Configured). IsConsistent (as_retained l.number l.floor x m c.new-2.result.items) m c.new.result.items counts) (sym c.in_ok-again.ensures)
@@ -29,10 +29,10 @@ invariant_of-result c =
 pub returns : goal.returns
 returns c =
     let l : Loaded = c.args.loaded.now in
-    let m = c.in_ok-based.field-0 in
+    let m = c.in_ok-of_base.field-0 in
     let n : ℕ = length c.as_slice-tuples.result.now in
     let counts : Counts = record { rows = n; tuples = n } in
-    let versions : (q : Tuple) → versions_at m q ≡ base_versions (set.contains (set.from_list l.tuples) q) = λ q. c.in_ok-based.ensures q ∙ ap (λ (ts : List Tuple). base_versions (set.contains (set.from_list ts) q)) c.as_slice-tuples.ensures in
+    let versions : (q : Tuple) → versions_at m q ≡ base_versions (set.contains (set.from_list l.tuples) q) = λ q. c.in_ok-of_base.ensures q ∙ ap (λ (ts : List Tuple). base_versions (set.contains (set.from_list ts) q)) c.as_slice-tuples.ensures in
     let long : n ≡ length l.tuples = ap (λ (ts : List Tuple). length ts) c.as_slice-tuples.ensures in
     ap (λ (x : Configured). as_retained l.number l.floor x m c.new-2.result.items) c.in_ok-again.ensures
     ∙ ap (λ (h : History). as_retained l.number l.floor l.config m h) c.new-2.ensures.items

@@ -5,7 +5,7 @@ use Rattle.meaning.specs.TupleSet.{Tuples}
 use Rattle.meaning.specs.Config.{Configured}
 use Rattle.meaning.specs.History.{History, after_commits, rows_of}
 use Rattle.rows_core.specs.Versions.{versions_after, base_versions, AreVersionsFrom}
-use Rattle.rows_core.proofs.Settling.{Settles, commit_step, rows_here, take_all, drop_all}
+use Rattle.rows_core.proofs.Settling.{commit_step, rows_here, take_all, drop_all}
 use Rattle.rows_core.proofs.version_map.VersionMap.settle.Goals as goal
 
 pub loop-i-preserved : goal.loop-i-preserved
@@ -14,14 +14,12 @@ loop-i-preserved c =
     let k : ℕ = c.loop-i.i in
     let commit : Commit Configured = c.index-commits-i.result in
     let next : suc k ≡ k + 1 = omega arith in
-    let settles : Settles c.loop-i.self c.settle_commit.new.self commit c.settle_commit.result = λ s rev later is_later was.
-    (c.settle_commit.ensures.versions s rev later is_later was, c.settle_commit.ensures.ended s rev later is_later was) in
     record {
       versions = λ s rev later is_later was.
           subst (λ (n : ℕ). AreVersionsFrom c.settle_commit.new.self (after_commits s (take n h)).tuples (rev + n) (drop n h) later) next
-          (commit_step c.loop-i.self c.settle_commit.new.self s rev h k commit later c.settle_commit.result c.loop-i-test.true c.index-commits-i.is is_later settles (c.loop-i.invariant.versions s rev later is_later was)).0;
+          (commit_step c.loop-i.self c.settle_commit.new.self s rev h k commit later c.settle_commit.result c.loop-i-test.true c.index-commits-i.is is_later c.settle_commit.ensures.versions c.settle_commit.ensures.ended (c.loop-i.invariant.versions s rev later is_later was)).0;
       spans = λ s rev others later is_later was spans.
-          let step = (commit_step c.loop-i.self c.settle_commit.new.self s rev h k commit later c.settle_commit.result c.loop-i-test.true c.index-commits-i.is is_later settles (c.loop-i.invariant.versions s rev later is_later was)).1 in
+          let step = (commit_step c.loop-i.self c.settle_commit.new.self s rev h k commit later c.settle_commit.result c.loop-i-test.true c.index-commits-i.is is_later c.settle_commit.ensures.versions c.settle_commit.ensures.ended (c.loop-i.invariant.versions s rev later is_later was)).1 in
           let before = c.loop-i.invariant.spans s rev others later is_later was spans in
           let rows = rows_here h k commit c.loop-i-test.true c.index-commits-i.is in
           let less : c.saturating_sub-left.result ≡ c.loop-i.left - c.settle_commit.result = c.saturating_sub-left.ensures in

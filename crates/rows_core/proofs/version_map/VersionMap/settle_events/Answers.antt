@@ -28,7 +28,7 @@ loop-i-preserved c =
     ] in
     let changed : (q : Tuple) → versions_at c.settle_one.new.self q ≡ cond (is_same_tuple q e.tuple) (after_settle (versions_at c.loop-i.self q)) (versions_at c.loop-i.self q) = λ q.
     c.settle_one.ensures.versions q ∙ ap (λ (t : Tuple). cond (is_same_tuple q t) (after_settle (versions_at c.loop-i.self q)) (versions_at c.loop-i.self q)) c.tuple_ref-key.ensures in
-    let held : c.settle_one.result ≡ is_based (versions_at c.loop-i.self e.tuple) = c.settle_one.ensures.held ∙ ap (λ (t : Tuple). is_based (versions_at c.loop-i.self t)) c.tuple_ref-key.ensures in
+    let held : c.settle_one.result ≡ is_based (versions_at c.loop-i.self e.tuple) = c.settle_one.ensures.was_based ∙ ap (λ (t : Tuple). is_based (versions_at c.loop-i.self t)) c.tuple_ref-key.ensures in
     let ended_most : one c.settle_one.result ≤ 1 = one_most c.settle_one.result in
     record {
       most = omega (arith, most, ended, ended_most);

@@ -57,11 +57,13 @@ returns-then-not-starts_with c =
     ap (λ (es : Texts). pick (passes node c.in_ok-least.ensures.is f) (entries_of es)) steps
     ∙ none_left node c.in_ok-least.ensures.is f e rest (subst AreSpelled steps c.loop-text.invariant.spelled)
     (subst (λ (es : Texts). IsStrictlySortedBy text_cmp (keys_of es)) steps c.loop-text.invariant.sorted)
-    (subst (AreFrom (spelled_node node)) steps c.loop-text.invariant.above).0 past in (
-      ordered,
-      sym (append-nil c.loop-text.tuples.items) ∙ ap (λ (ts : List Tuple). c.loop-text.tuples.items ++ ts) (sym none) ∙ c.loop-text.invariant.all
-          ∙ picked_both (is_of node) f c.args.self.now ∙ ap (filter (is_of node)) (picked_is (λ ms. stands ms c.args.rev) c.args.self.now ordered),
-    )
+    (subst (AreFrom (spelled_node node)) steps c.loop-text.invariant.above).0 past in
+    record {
+      found =
+          sym (append-nil c.loop-text.tuples.items) ∙ ap (λ (ts : List Tuple). c.loop-text.tuples.items ++ ts) (sym none) ∙ c.loop-text.invariant.all
+          ∙ picked_both (is_of node) f c.args.self.now ∙ ap (filter (is_of node)) (picked_is (λ ms. stands ms c.args.rev) c.args.self.now ordered);
+      ordered = ordered;
+    }
 
 pub loop-text-preserved-in-Continue-branch-2 : goal.loop-text-preserved-in-Continue-branch-2
 loop-text-preserved-in-Continue-branch-2 c =
@@ -111,8 +113,12 @@ returns c =
     let node = c.args.node.now in
     let f : Tuple × List Version → Bool = λ x. stands x.1 c.args.rev in
     let none : c.loop-text.text-iterator ≡ [] = c.in-None.ensures.steps.0 in
-    let ordered : IsStrictlySortedBy tuple_cmp (keys c.args.self.now) = sorted_view c.texts-texts.result.now.entries c.args.self.now c.texts-texts.ensures.entries c.texts-texts.ensures.spelled c.range-text-items.ensures.ordered in (
-      ordered,
-      sym (append-nil c.loop-text.tuples.items) ∙ ap (λ (es : Texts). c.loop-text.tuples.items ++ pick (passes node c.in_ok-least.ensures.is f) (entries_of es)) (sym none) ∙ c.loop-text.invariant.all
-          ∙ picked_both (is_of node) f c.args.self.now ∙ ap (filter (is_of node)) (picked_is (λ ms. stands ms c.args.rev) c.args.self.now ordered),
-    )
+    let ordered : IsStrictlySortedBy tuple_cmp (keys c.args.self.now) = sorted_view c.texts-texts.result.now.entries c.args.self.now c.texts-texts.ensures.entries c.texts-texts.ensures.spelled c.range-text-items.ensures.ordered in
+    record {
+      found =
+          sym (append-nil c.loop-text.tuples.items)
+          ∙ ap (λ (es : Texts). c.loop-text.tuples.items ++ pick (passes node c.in_ok-least.ensures.is f) (entries_of es)) (sym none)
+          ∙ c.loop-text.invariant.all
+          ∙ picked_both (is_of node) f c.args.self.now ∙ ap (filter (is_of node)) (picked_is (λ ms. stands ms c.args.rev) c.args.self.now ordered);
+      ordered = ordered;
+    }

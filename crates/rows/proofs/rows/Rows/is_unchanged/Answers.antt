@@ -3,7 +3,7 @@ use Rattle.std.specs.Prelude.{not, nat_le}
 use Rattle.rows.specs.Retained.{Retained, is_touched_after}
 use Rattle.rows.specs.Representation.{as_retained}
 use Rattle.rows.proofs.Touching.{unchanged_is}
-use Rattle.rows.proofs.rows.Rows.unchanged.Goals as goal
+use Rattle.rows.proofs.rows.Rows.is_unchanged.Goals as goal
 
 pub returns : goal.returns
 returns c =

@@ -2,7 +2,7 @@ use Rattle.std.proofs.Common.{◌≡◌, ℕ, ◌+◌, take, ap, ◌∙◌, suc,
 use Rattle.meaning.specs.TupleSet as set
 use Rattle.rows_core.specs.Versions.{Entries, versions_at, base_versions}
 use Rattle.rows_core.proofs.Basing.{base_none, base_more}
-use Rattle.rows_core.proofs.version_map.VersionMap.based.Goals as goal
+use Rattle.rows_core.proofs.version_map.VersionMap.of_base.Goals as goal
 
 pub loop-i-init : goal.loop-i-init
 loop-i-init c = λ q. ap (λ (es : Entries). versions_at es q) c.new-map.ensures ∙ base_none c.args.tuples.now q
