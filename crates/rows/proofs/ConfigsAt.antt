@@ -9,6 +9,7 @@ use Rattle.meaning.specs.Config.{Configured}
 use Rattle.meaning.specs.Snap.{Snap}
 use Rattle.meaning.specs.History.{History, after_commit, after_commits}
 use Rattle.rows_core.proofs.VersionRuns.{take_none}
+use Rattle.rows_core.proofs.Settling.{drop_none}
 use Rattle.rows.specs.declared.config_at.ConfigAt.{ConfigAt}
 use Rattle.rows.specs.Representation.{configs_after, config_from, config_after_settle, last_or, configs_above}
 
@@ -79,10 +80,6 @@ module _ (rev : ℕ) (ds : List ConfigAt) (k : ℕ) (d : ConfigAt) (small : k < 
   above_more h = ap (configs_above rev) next_is ∙ ap (λ b. cond b (configs_above rev (drop (suc k) ds)) (d ∷ drop (suc k) ds)) (le-leb d.rev rev h)
 
 -- those up to a revision taken into what the floor holds
-drop_none : {A : Type 0} (xs : List A) → drop 0 xs ≡ xs
-drop_none [] = refl
-drop_none (x ∷ xs) = refl
-
 none_settles : (config : Configured) (n rev : ℕ) (h : History) → rev ≤ n → config_after_settle config (configs_after n h) rev ≡ config
 none_settles config n rev [] small = refl
 none_settles config n rev (kinds.Tuples es ∷ h) small = none_settles config (n + 1) rev h (omega (arith, small))

@@ -9,7 +9,8 @@ use Rattle.rows.specs.Representation.{configs_after, config_from}
 use Rattle.rows_core.proofs.VersionRuns.{snap_from, based_stands}
 use Rattle.rows.proofs.ConfigsAt.{config_of}
 
-whole : (floor rev : ℕ) → floor ≤ rev → floor + (rev - floor) ≡ rev
+-- a revision is the floor and what is above it
+pub whole : (floor rev : ℕ) → floor ≤ rev → floor + (rev - floor) ≡ rev
 whole floor rev h = omega (arith, h)
 
 -- a tuple stands at a revision where its versions say so

@@ -14,6 +14,7 @@ use Rattle.meaning.specs.History.{History}
 use Rattle.rows_core.specs.declared.version.Version.{Version}
 use Rattle.rows.specs.Retained.{Retained, touches, is_touched_after}
 use Rattle.rows_core.specs.Versions.{Entries, version_of, versions_in, commit_versions, versions_after, versions_at, base_versions, last_rev, last_rev_from, AreVersions}
+use Rattle.rows.proofs.Retaining.{whole}
 
 rev_in : (n r : ℕ) (es : List Event) (q : Tuple) (later : List Version) → last_rev_from n (versions_in r es q ++ later) ≡ last_rev_from (cond (list_any (λ e. is_same_tuple q e.tuple) es) r n) later
 rev_in n r [] q later = refl
@@ -74,9 +75,6 @@ touched_from n f (suc k) (c ∷ h) q small =
 based_rev : (b : Bool) (ms : List Version) → last_rev (base_versions b ++ ms) ≡ last_rev ms
 based_rev true ms = refl
 based_rev false ms = refl
-
-whole : (floor rev : ℕ) → floor ≤ rev → floor + (rev - floor) ≡ rev
-whole floor rev h = omega (arith, h)
 
 pub unchanged_is : (r : Retained) (m : Entries) (rev : ℕ) (q : Tuple) → AreVersions m r.base.tuples r.floor r.commits → r.floor ≤ rev → nat_le (last_rev (versions_at m q)) rev ≡ not (is_touched_after r q rev)
 unchanged_is r m rev q versions h =

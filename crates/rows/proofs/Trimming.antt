@@ -10,13 +10,11 @@ use Rattle.rows.specs.Retained.{Retained, newest, spans_of, snap_at, after_trim}
 use Rattle.rows_core.specs.Versions.{Entries, commit_versions, versions_after, base_versions, AreVersions, AreVersionsFrom, IsLater}
 use Rattle.rows.specs.Representation.{config_after_settle, configs_above, configs_after, IsConsistent}
 use Rattle.rows_core.proofs.VersionRuns.{take_none}
+use Rattle.rows_core.proofs.Settling.{drop_none}
 use Rattle.rows_core.proofs.Bases.{based_after}
 use Rattle.rows.proofs.Committing.{tuples_within}
+use Rattle.rows.proofs.Retaining.{whole}
 use Rattle.rows.proofs.ConfigsAt.{config_settles, configs_settle}
-
-drop_none : {A : Type 0} (xs : List A) → drop 0 xs ≡ xs
-drop_none [] = refl
-drop_none (x ∷ xs) = refl
 
 -- a history in two parts
 versions_split : (f k : ℕ) (h : History) (q : Tuple) → versions_after f h q ≡ versions_after f (take k h) q ++ versions_after (f + k) (drop k h) q
@@ -43,10 +41,6 @@ length_split : (k : ℕ) (h : History) → k ≤ length h → length (drop k h) 
 length_split zero h fits = let same = ap length (drop_none h) in omega (arith, same)
 length_split (suc k) [] fits = absurd (omega (arith, fits))
 length_split (suc k) (c ∷ h) fits = let rest = length_split k h (omega (arith, fits)) in omega (arith, rest)
-
--- the whole
-whole : (floor rev : ℕ) → floor ≤ rev → floor + (rev - floor) ≡ rev
-whole floor rev h = omega (arith, h)
 
 pub later_of : (r : Retained) (floor : ℕ) → IsLater (λ q. versions_after floor (drop (floor - r.floor) r.commits) q)
 later_of r floor q = based_after floor (drop (floor - r.floor) r.commits) q

@@ -12,6 +12,7 @@ use crate::rows::Rows;
 use crate::view::View;
 use config::Config;
 use names::{Op, OpKind, Refusal};
+use rows_core::refuses;
 
 /// The most operations of a write.
 const MAX_OPS: usize = 256;
@@ -107,7 +108,7 @@ fn some_unknown(config: &Config, ops: &[Op]) -> bool
 fn some_untyped(config: &Config, ops: &[Op]) -> bool
     ensures { result ≡ list_any (is_untyped config.now) ops.now }
 {
-    ops.iter().any(|op| is_untyped(config, op))
+    ops.iter().any(|op| refuses(config, &op.tuple))
 }
 
 /// Whether a tuple stands in two operations. Each is compared with those after it.
@@ -182,15 +183,6 @@ fn says_unknown(why: &Refusal) -> bool
     match why {
         Refusal::UnknownRelation => true,
         _ => false,
-    }
-}
-
-fn is_untyped(config: &Config, op: &Op) -> bool
-    ensures { result ≡ is_untyped config.now op.now }
-{
-    match config.admits(&op.tuple) {
-        Ok(()) => false,
-        Err(_) => true,
     }
 }
 

@@ -1,11 +1,11 @@
 -- The map as it stands in memory, and the tuples that its texts spell.
 use Rattle.std.proofs.Common.{◌≡◌, ℕ, List, [], ◌∷◌, refl, ap, sym, subst, ◌∙◌}
-use Rattle.std.specs.Prelude.{Bool, true, false, cond, Option, None, Some, IsSome}
+use Rattle.std.specs.Prelude.{Bool, true, false, cond, None, Some, IsSome}
 use Rattle.std.specs.Option.{option_map}
 use Rattle.std.specs.List.{AllByRecursion}
 use Rattle.std.specs.List.Sorted.{IsStrictlySortedBy}
 use Rattle.std.specs.Map.{lookup, set_value, keys_of}
-use Rattle.std.specs.BTreeMap.{insert_entry, is_at}
+use Rattle.std.specs.BTreeMap.{insert_entry}
 use Rattle.std.specs.Box.{boxed_str_bytes}
 use Rattle.std.specs.Global.{Global}
 use Rattle.std.specs.Ordering.{match_ordering, is_eq, nat_cmp}
@@ -20,7 +20,7 @@ use Rattle.rows_core.specs.Spelled.{tuple_of, IsSpelling}
 use Rattle.rows_core.specs.Versions.{Entries, versions_at, items_or, keys}
 use Rattle.rows_core.specs.Texts.{Texts, entry_of, entries_of, AreSpelled}
 use Rattle.rows_core.proofs.Spellings.{texts_order}
-use Rattle.rows_core.proofs.Placing.{placed, set_at, inserted_at, nothing_changed, stays}
+use Rattle.rows_core.proofs.Placing.{placed, set_at, inserted_at, nothing_changed}
 
 -- the order of the texts in the map
 abbrev pub text_cmp : BoxedStr Global → BoxedStr Global → Ordering

@@ -1,6 +1,6 @@
 -- A change at one tuple, as its versions.
 use Rattle.std.proofs.Common.{◌≡◌, List, [], ◌∷◌, refl, ap, sym, ◌∙◌}
-use Rattle.std.specs.Prelude.{Bool, true, false, cond, Option, None, Some, IsSome}
+use Rattle.std.specs.Prelude.{Bool, true, false, cond, Option, Some, IsSome}
 use Rattle.std.specs.Map.{lookup, set_value}
 use Rattle.std.specs.BTreeMap.{insert_entry}
 use Rattle.std.specs.Ordering.{match_ordering, is_eq}
@@ -8,12 +8,11 @@ use Rattle.std.specs.declared.cmp.Ordering.{Ordering}
 use Rattle.std.specs.declared.cmp.Ordering.TheVariants.{Less, Equal, Greater}
 use Rattle.std.specs.Cmp.{eq_by_cmp_equiv}
 use Rattle.std.proofs.lemmas.Map.{lookup-set_value}
-use mathlib.Core.Bool.{true≢false}
 use Rattle.names.specs.Order.{tuple_cmp, is_same_tuple}
 use Rattle.names.specs.declared.tuple.Tuple.{Tuple}
 use Rattle.meaning.proofs.TupleSets.{tuples_total, exact_tuples}
 use Rattle.rows_core.specs.declared.version.Version.{Version}
-use Rattle.rows_core.specs.Versions.{Entries, versions_at, items_or, drop_last}
+use Rattle.rows_core.specs.Versions.{Entries, versions_at, items_or}
 use Rattle.rows_core.proofs.Bases.{same_is, same_turned}
 
 same_versions : (es : Entries) (q key : Tuple) → is_same_tuple q key ≡ true → versions_at es key ≡ versions_at es q

@@ -1,5 +1,5 @@
 -- Commits taken into what the floor holds.
-use Rattle.std.proofs.Common.{◌≡◌, ℕ, ◌+◌, ◌-◌, ◌<◌, ◌≤◌, List, [], ◌∷◌, ◌++◌, length, take, drop, zero, suc, refl, ap, sym, subst, ◌∙◌, append_assoc, arith, get_or}
+use Rattle.std.proofs.Common.{◌≡◌, ℕ, ◌+◌, ◌-◌, ◌<◌, List, [], ◌∷◌, ◌++◌, length, take, drop, zero, suc, refl, ap, sym, subst, ◌∙◌, append_assoc, arith, get_or}
 use Rattle.std.specs.Prelude.{Bool, true, false, cond, ◌==◌}
 use Rattle.std.proofs.lemmas.List.{append-nil}
 use Rattle.std.proofs.Math.Seq.{take-length}
@@ -19,7 +19,7 @@ use Rattle.meaning.proofs.TupleSets.{len_insert, len_remove}
 use Rattle.rows_core.specs.declared.version.Version.{Version}
 use Rattle.rows_core.specs.Versions.{Entries, is_put, version_of, versions_in, commit_versions, versions_at, versions_after, base_versions, is_based, after_settle, after_settle_first, AreVersionsBefore, AreVersionsFrom, IsLater, SettlesEvents, SettlesCommits, EndsWithEvents, EndsWithCommit}
 use Rattle.rows_core.proofs.VersionRuns.{after_one, take_none}
-use Rattle.rows_core.proofs.Bases.{not_zero, based_in, based_after}
+use Rattle.rows_core.proofs.Bases.{not_zero, based_in}
 use Rattle.rows_core.proofs.Coming.{one, held_some}
 use Rattle.rows_core.proofs.Steps.{replay_more}
 
@@ -32,7 +32,7 @@ take_more [] k x small is = absurd (omega (arith, small))
 take_more (y ∷ ys) zero x small is = ap (λ zs. y ∷ zs) (take_none ys) ∙ ap (λ z. z ∷ []) (sym is)
 take_more (y ∷ ys) (suc k) x small is = ap (λ zs. y ∷ zs) (take_more ys k x (omega arith) is)
 
-drop_none : {A : Type 0} (xs : List A) → drop 0 xs ≡ xs
+pub drop_none : {A : Type 0} (xs : List A) → drop 0 xs ≡ xs
 drop_none [] = refl
 drop_none (x ∷ xs) = refl
 

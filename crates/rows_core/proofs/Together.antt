@@ -1,5 +1,5 @@
 -- The texts of a node's tuples stand together.
-use Rattle.std.proofs.Common.{◌≡◌, ℕ, List, [], ◌∷◌, ◌++◌, refl, ap, sym, subst, ◌∙◌}
+use Rattle.std.proofs.Common.{◌≡◌, ℕ, List, [], ◌∷◌, refl, ap, sym, subst, ◌∙◌}
 use Rattle.std.specs.Prelude.{Bool, true, false, cond, ◌&&◌, filter}
 use mathlib.Core.Bool.{true≢false}
 use Rattle.std.proofs.Math.Dec.{eqb}
@@ -21,7 +21,7 @@ use Rattle.names.specs.declared.node.Node.{Node}
 use Rattle.names.specs.declared.tuple.Tuple.{Tuple}
 use Rattle.rows_core.specs.declared.version.Version.{Version}
 use Rattle.rows_core.specs.Spelled.{spelled_node, tuple_of, IsSpelling}
-use Rattle.rows_core.specs.Versions.{Entries, is_of}
+use Rattle.rows_core.specs.Versions.{is_of}
 use Rattle.rows_core.specs.Texts.{Texts, entry_of, entries_of, AreSpelled}
 use Rattle.rows_core.proofs.Spellings.{starts_of_node, starts_not_below, none_starts_after}
 use Rattle.rows_core.proofs.Decoding.{text_cmp}

@@ -1,6 +1,5 @@
 -- The map as it stands in memory: tuples as texts.
-use Rattle.std.specs.Prelude.{ℕ, List, [], ◌∷◌, map}
-use Rattle.std.specs.BTreeMap.{BTreeMap}
+use Rattle.std.specs.Prelude.{List, [], ◌∷◌}
 use Rattle.std.specs.Global.{Global}
 use Rattle.std.specs.Box.{boxed_str_bytes}
 use Rattle.std.specs.declared.boxed.BoxedStr.{BoxedStr}

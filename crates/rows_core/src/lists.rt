@@ -83,7 +83,8 @@ fn push_tuple(alloc: Global, tuples: &mut Vec<Tuple>, text: &BoxedStr) -> Result
     Ok(())
 }
 
-fn refuses(config: &Config, tuple: &Tuple) -> bool
+/// Whether the configuration does not admit the tuple.
+pub fn refuses(config: &Config, tuple: &Tuple) -> bool
     ensures { result ≡ refuses config.now tuple.now }
 {
     match config.admits(tuple) {

@@ -1,15 +1,12 @@
-use Rattle.std.proofs.Common.{rules, ◌≡◌, List, [], ◌∷◌, ◌++◌, ap, sym, ◌∙◌, refl}
-use Rattle.std.specs.Prelude.{Option, Some, None, true}
-use Rattle.std.specs.Option.{option_map, option_copied_mut}
+use Rattle.std.proofs.Common.{List, [], ◌∷◌, ◌++◌, ap, sym, ◌∙◌}
+use Rattle.std.specs.Option.{option_copied_mut}
 use Rattle.std.specs.BTreeMap.{BTreeMap, insert_entry}
 use Rattle.std.specs.Global.{Global}
 use Rattle.std.specs.declared.boxed.BoxedStr.{BoxedStr}
-use Rattle.std.specs.Box.{boxed_str_bytes}
-use Rattle.std.specs.Map.{lookup}
 use Rattle.rows_core.specs.declared.version.Version.{Version}
-use Rattle.rows_core.specs.Versions.{items_or, versions_at, drop_last, after_settle, is_based, base_versions}
-use Rattle.rows_core.specs.Texts.{entries_of, AreSpelled}
-use Rattle.rows_core.proofs.Decoding.{text_cmp, written, written_spelled, unwritten, versions_found, none_found, put_in, put_in_spelled}
+use Rattle.rows_core.specs.Versions.{versions_at}
+use Rattle.rows_core.specs.Texts.{entries_of}
+use Rattle.rows_core.proofs.Decoding.{text_cmp, written, written_spelled, none_found, put_in, put_in_spelled}
 use Rattle.rows_core.proofs.Placing.{stays}
 use Rattle.rows_core.proofs.places.push_version.Goals as goal
 

@@ -1,13 +1,6 @@
-use Rattle.std.proofs.Common.{rules, ◌≡◌, List, [], ◌∷◌, ◌++◌, ap, sym, ◌∙◌, refl}
-use Rattle.std.specs.Prelude.{Option, Some, None, true}
-use Rattle.std.specs.Option.{option_map, option_copied_mut}
-use Rattle.std.specs.BTreeMap.{BTreeMap}
-use Rattle.std.specs.Box.{boxed_str_bytes}
-use Rattle.std.specs.Map.{lookup}
-use Rattle.rows_core.specs.declared.version.Version.{Version}
-use Rattle.rows_core.specs.Versions.{items_or, versions_at, drop_last, after_settle, is_based, base_versions}
-use Rattle.rows_core.specs.Texts.{entries_of, AreSpelled}
-use Rattle.rows_core.proofs.Decoding.{written, written_spelled, unwritten, versions_found, none_found, put_in, put_in_spelled}
+use Rattle.std.specs.Prelude.{true}
+use Rattle.rows_core.specs.Versions.{base_versions}
+use Rattle.rows_core.proofs.Decoding.{put_in, put_in_spelled}
 use Rattle.rows_core.proofs.places.put_base.Goals as goal
 
 pub returns-in-Ok-clause-spelled : goal.returns-in-Ok-clause-spelled

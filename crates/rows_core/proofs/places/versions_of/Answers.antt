@@ -1,13 +1,9 @@
-use Rattle.std.proofs.Common.{Bor, ◌≡◌, List, [], ◌∷◌, ◌++◌, ap, sym, ◌∙◌, refl}
-use Rattle.std.specs.Prelude.{Option, Some, None, true}
+use Rattle.std.proofs.Common.{Bor, ◌≡◌, List, ap, ◌∙◌, refl}
+use Rattle.std.specs.Prelude.{Option, Some, None}
 use Rattle.std.specs.Option.{option_map, option_copied}
-use Rattle.std.specs.BTreeMap.{BTreeMap}
-use Rattle.std.specs.Box.{boxed_str_bytes}
-use Rattle.std.specs.Map.{lookup}
 use Rattle.rows_core.specs.declared.version.Version.{Version}
-use Rattle.rows_core.specs.Versions.{items_or, versions_at, drop_last, after_settle, is_based, base_versions}
-use Rattle.rows_core.specs.Texts.{entries_of, AreSpelled}
-use Rattle.rows_core.proofs.Decoding.{written, written_spelled, unwritten, versions_found, none_found, put_in, put_in_spelled}
+use Rattle.rows_core.specs.Versions.{items_or}
+use Rattle.rows_core.proofs.Decoding.{versions_found}
 use Rattle.rows_core.proofs.places.versions_of.Goals as goal
 
 copied : (o : Option (Bor (List Version))) → items_or (option_map (λ versions. versions.now) o) ≡ items_or (option_map (λ (v : List Version). v) (option_copied o))

@@ -1,5 +1,5 @@
 use Rattle.std.proofs.Common.{◌≡◌, ◌∷◌, List, [], ap, sym, ◌∙◌}
-use Rattle.std.specs.Prelude.{Bool, true, Option, Some, None, not}
+use Rattle.std.specs.Prelude.{Bool, true, Some, not}
 use Rattle.std.specs.Box.{boxed_str_bytes}
 use Rattle.std.specs.List.{find}
 use Rattle.std.specs.Global.{Global}
@@ -8,7 +8,7 @@ use Rattle.names.specs.declared.tuple.Tuple.{Tuple}
 use Rattle.meaning.specs.Admits.{admits}
 use Rattle.rows_core.specs.declared.version.Version.{Version}
 use Rattle.rows_core.specs.Spelled.{tuple_of}
-use Rattle.rows_core.specs.Versions.{Entries, is_there}
+use Rattle.rows_core.specs.Versions.{is_there}
 use Rattle.rows_core.specs.Texts.{Texts, entry_of, entries_of}
 use Rattle.rows_core.proofs.Decoding.{sorted_view}
 use Rattle.rows_core.proofs.Picking.{pick, picked_is, find_here}

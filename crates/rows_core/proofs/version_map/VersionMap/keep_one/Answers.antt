@@ -1,4 +1,4 @@
-use Rattle.std.proofs.Common.{◌≡◌, List, ℕ, sym, subst, ap, ◌∙◌}
+use Rattle.std.proofs.Common.{◌≡◌, sym, subst, ap, ◌∙◌}
 use Rattle.std.specs.Arc.{arc_str_bytes}
 use Rattle.std.specs.Cmp.Lexicographic.{same_text}
 use Rattle.names.specs.declared.tuple.Tuple.{Tuple}

@@ -1,5 +1,5 @@
 use Rattle.std.proofs.Common.{◌≡◌, ◌++◌, ◌∷◌, ℕ, List, [], ap, sym, subst, ◌∙◌, append-nil}
-use Rattle.std.specs.Prelude.{Bool, true, false, ◌&&◌, filter}
+use Rattle.std.specs.Prelude.{Bool, true, false, filter}
 use Rattle.std.specs.Box.{boxed_str_bytes}
 use Rattle.std.specs.Map.{keys_of}
 use Rattle.std.specs.List.{starts_with}
