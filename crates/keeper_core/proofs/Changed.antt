@@ -17,7 +17,7 @@ use Rattle.rows.specs.Follows.{AreEventsOf, IsAccepted}
 use Rattle.shown.specs.declared.step.Step.{Step}
 use Rattle.shown.specs.declared.step.Step.TheVariants.{Commit}
 use Rattle.shown.specs.Standing.{Standing, standing}
-use Rattle.tables.specs.Storing.{grown}
+use Rattle.tables.specs.Storing.{one_more}
 use Rattle.keeper_core.specs.Posts.{Posts, ShowsMore, PostsStep, newest_shown}
 use Rattle.keeper_core.specs.Changes.{Told, Tells, WriteAccepted, ConfigAccepted, JudgedWith, CatchUpJudged, IsRefused, max_commits}
 use Rattle.keeper_core.specs.Posting.{NotPosted}
@@ -77,7 +77,7 @@ module _ {T : Type 0} (old mid new : Posts T) (more : ShowsMore old mid) (same :
 
   not_posted : (judged : Refusal → Type 0) (why : Refusal) → judged Memory → NotPosted why mid new → IsRefused old judged why new
   not_posted judged Memory memory not = record { shows = shows_on not.0; cause = (works, memory, not.1, not.2 ∙ same) }
-  not_posted judged StoreFault memory not = record { shows = shows_on not.0; cause = (works, not.1, not.2 ∙ ap grown same) }
+  not_posted judged StoreFault memory not = record { shows = shows_on not.0; cause = (works, not.1, not.2 ∙ ap one_more same) }
   not_posted judged _ memory not = absurd not
 
   pub refused : (judged : Refusal → Type 0) (r : Result Told Refusal) → judged Memory → IfErr r (λ why. NotPosted why mid new) → IfErr r (λ why. IsRefused old judged why new)

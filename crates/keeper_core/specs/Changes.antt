@@ -14,7 +14,7 @@ use Rattle.zookie.specs.declared.Zookie.{Zookie}
 use Rattle.rows.specs.Retained.{newest}
 use Rattle.rows.specs.Follows.{AreEventsOf, IsAccepted}
 use Rattle.rows.specs.Judging.{WriteRefused}
-use Rattle.tables.specs.Storing.{grown}
+use Rattle.tables.specs.Storing.{one_more}
 use Rattle.shown.specs.declared.step.Part.{Part}
 use Rattle.shown.specs.declared.step.Step.TheVariants.{Commit as CommitStep, Take}
 use Rattle.shown.specs.Standing.{standing, cursor_of}
@@ -86,7 +86,7 @@ CatchUpJudged commits _ = ⊥
 -- Why a change was refused, where `judged` says why it would be on the posted steps. After a fault every change asks to open the tables again.
 abbrev pub Refuses : {T : Type 0} → Posts T → (Refusal → Type 0) → Refusal → Posts T → Type 0
 Refuses old judged Reopen new = (old.failed ≡ true) × (new.failed ≡ true) × (new.faults ≡ old.faults)
-Refuses old judged StoreFault new = (old.failed ≡ false) × (new.failed ≡ true) × (new.faults ≡ grown old.faults)
+Refuses old judged StoreFault new = (old.failed ≡ false) × (new.failed ≡ true) × (new.faults ≡ one_more old.faults)
 Refuses old judged why new = (old.failed ≡ false) × judged why × (new.failed ≡ false) × (new.faults ≡ old.faults)
 
 -- nothing is posted, and this is why

@@ -13,33 +13,8 @@ use Rattle.rows.specs.Judging.{says_unknown}
 use Rattle.meaning.specs.Config.{Configured, Defined, rel_of}
 use Rattle.meaning.specs.Admits.{is_relation, declares, has_relation, admits}
 
-known_step : (a b x y : Bool) → (x ≡ true → y ≡ true) → ((a && b) || x) ≡ true → (a || y) ≡ true
-known_step true b x y rest h = refl
-known_step false b x y rest h = rest h
-
-known_in : (r : RelationName) (s : Subject) (ds : List Defined) → list_any (λ d. is_relation r d && declares s d) ds ≡ true → list_any (is_relation r) ds ≡ true
-known_in r s [] h = h
-known_in r s (d ∷ ds) h = known_step (is_relation r d) (declares s d) (list_any (λ d. is_relation r d && declares s d) ds) (list_any (is_relation r) ds) (known_in r s ds) h
-
--- what is admitted has a relation
-pub admits_known : (config : Configured) (t : Tuple) → admits config t ≡ true → has_relation config (rel_of t.node) ≡ true
-admits_known config t h = known_in (rel_of t.node) t.subject config.relations h
-
--- what has no relation is not admitted
-pub unknown_refused : (config : Configured) (t : Tuple) → has_relation config (rel_of t.node) ≡ false → admits config t ≡ false
-unknown_refused config t h = by_admitted (admits config t) refl
-  where
-    by_admitted : (b : Bool) → admits config t ≡ b → b ≡ false
-    by_admitted true is = absurd (true≢false (sym (admits_known config t is) ∙ h))
-    by_admitted false is = refl
-
 -- what a refusal of a tuple says
 pub unknown_by : (config : Configured) (t : Tuple) (why : Refusal) → AdmitCause config t why → says_unknown why ≡ not (has_relation config (rel_of t.node))
 unknown_by config t UnknownRelation h = ap not (sym h)
 unknown_by config t TypeRefused h = ap not (sym h.0)
 unknown_by config t _ h = absurd h
-
-pub untyped_by : (config : Configured) (t : Tuple) (why : Refusal) → AdmitCause config t why → true ≡ not (admits config t)
-untyped_by config t UnknownRelation h = ap not (sym (unknown_refused config t h))
-untyped_by config t TypeRefused h = ap not (sym h.1)
-untyped_by config t _ h = absurd h

@@ -16,14 +16,14 @@ use Rattle.meaning.specs.Config.{Configured}
 use Rattle.meaning.specs.Snap.{Snap}
 use Rattle.meaning.specs.History.{History, after_kind, after_event, replay, after_commit, after_commits, rows_of, commit_rows, puts_in, puts_of_kind}
 use Rattle.meaning.proofs.TupleSets.{len_insert, len_remove}
-use Rattle.rows.specs.declared.dated.Dated.{Dated}
+use Rattle.rows.specs.declared.config_at.ConfigAt.{ConfigAt}
 use Rattle.rows_core.specs.declared.change.Change.{Change}
 use Rattle.rows.specs.declared.loaded.Counts.{Counts}
 use Rattle.rows.specs.Retained.{Retained, newest, with_commit, HasRoom}
-use Rattle.rows_core.specs.Marks.{Entries, commit_marks, marks_at, marks_after, base_marks, is_there, AreMarks, GoesOn, HasThese, Changes}
-use Rattle.rows.specs.Kept.{dated_after, retained, IsKept}
-use Rattle.rows_core.proofs.MarkRuns.{marks_push, based_last, last_of}
-use Rattle.rows.proofs.Dating.{dated_push, dated_same}
+use Rattle.rows_core.specs.Versions.{Entries, commit_versions, versions_at, versions_after, base_versions, is_there, AreVersions, GoesOn, HasThese, Changes}
+use Rattle.rows.specs.Representation.{configs_after, as_retained, IsConsistent}
+use Rattle.rows_core.proofs.VersionRuns.{versions_push, based_last, last_of}
+use Rattle.rows.proofs.ConfigsAt.{configs_push, configs_same}
 use Rattle.rows_core.proofs.Bases.{base_is}
 use Rattle.rows_core.proofs.Settling.{after_push}
 
@@ -64,29 +64,29 @@ pub tuples_within : (s : Snap) (h : History) → set.len (after_commits s h).tup
 tuples_within s [] = omega arith
 tuples_within s (c ∷ h) = let first = within_commit s c in let rest = tuples_within (after_commit s c) h in omega (arith, first, rest)
 
--- the marks as those of any set of tuples that the floor holds
-pub retained_is : (number floor : ℕ) (config : Configured) (n : Entries) (tuples : Tuples) (h : History) → AreMarks n tuples floor h
-    → retained number floor config n h ≡ record { number = number; floor = floor; base = record { config = config; tuples = tuples }; commits = h }
-retained_is number floor config n tuples h marks = ap (λ (ts : Tuples). record { number = number; floor = floor; base = record { config = config; tuples = ts }; commits = h }) (base_is n tuples floor h marks)
+-- the versions as those of any set of tuples that the floor holds
+pub as_retained_is : (number floor : ℕ) (config : Configured) (n : Entries) (tuples : Tuples) (h : History) → AreVersions n tuples floor h
+    → as_retained number floor config n h ≡ record { number = number; floor = floor; base = record { config = config; tuples = tuples }; commits = h }
+as_retained_is number floor config n tuples h versions = ap (λ (ts : Tuples). record { number = number; floor = floor; base = record { config = config; tuples = ts }; commits = h }) (base_is n tuples floor h versions)
 
-pub kept_as : (number floor : ℕ) (config : Configured) (n : Entries) (tuples : Tuples) (h : History) (ds : List Dated) (counts : Counts)
-    → IsKept (record { number = number; floor = floor; base = record { config = config; tuples = tuples }; commits = h }) n ds counts
-    → IsKept (retained number floor config n h) n ds counts
-kept_as number floor config n tuples h ds counts kept = subst (λ (r : Retained). IsKept r n ds counts) (sym (retained_is number floor config n tuples h kept.marks)) kept
+pub consistent_as : (number floor : ℕ) (config : Configured) (n : Entries) (tuples : Tuples) (h : History) (ds : List ConfigAt) (counts : Counts)
+    → IsConsistent (record { number = number; floor = floor; base = record { config = config; tuples = tuples }; commits = h }) n ds counts
+    → IsConsistent (as_retained number floor config n h) n ds counts
+consistent_as number floor config n tuples h ds counts consistent = subst (λ (r : Retained). IsConsistent r n ds counts) (sym (as_retained_is number floor config n tuples h consistent.versions)) consistent
 
 -- the newest tuples
-pub newest_these : (r : Retained) (m : Entries) → AreMarks m r.base.tuples r.floor r.commits → HasThese (after_commits r.base r.commits).tuples (marks_at m)
-newest_these r m marks q = sym (ap is_there (marks q) ∙ based_last (set.contains r.base.tuples q) (marks_after r.floor r.commits q) ∙ last_of r.base r.floor r.commits q)
+pub newest_these : (r : Retained) (m : Entries) → AreVersions m r.base.tuples r.floor r.commits → HasThese (after_commits r.base r.commits).tuples (versions_at m)
+newest_these r m versions q = sym (ap is_there (versions q) ∙ based_last (set.contains r.base.tuples q) (versions_after r.floor r.commits q) ∙ last_of r.base r.floor r.commits q)
 
--- the same marks
-pub kept_same : (r : Retained) (m n : Entries) (ds : List Dated) (counts : Counts) → ((q : Tuple) → marks_at n q ≡ marks_at m q) → IsKept r m ds counts → IsKept r n ds counts
-kept_same r m n ds counts same kept = record {
-  marks = λ q. same q ∙ kept.marks q;
-  configs_right = kept.configs_right;
-  rows = kept.rows;
-  tuples = kept.tuples;
-  revs = kept.revs;
-  few = kept.few;
+-- the same versions
+pub consistent_same : (r : Retained) (m n : Entries) (ds : List ConfigAt) (counts : Counts) → ((q : Tuple) → versions_at n q ≡ versions_at m q) → IsConsistent r m ds counts → IsConsistent r n ds counts
+consistent_same r m n ds counts same consistent = record {
+  versions = λ q. same q ∙ consistent.versions q;
+  configs_right = consistent.configs_right;
+  rows = consistent.rows;
+  tuples = consistent.tuples;
+  revs = consistent.revs;
+  few = consistent.few;
 }
 
 -- a fact that holds anyway
@@ -95,109 +95,109 @@ on_err (Ok x) p = tt
 on_err (Err e) p = p
 
 -- one commit more
-pub marks_with : (r : Retained) (m n : Entries) (c : Commit Configured) → AreMarks m r.base.tuples r.floor r.commits
-    → ((q : Tuple) → marks_at n q ≡ marks_at m q ++ commit_marks (newest r + 1) c q) → AreMarks n r.base.tuples r.floor (r.commits ++ c ∷ [])
-marks_with r m n c marks more q =
+pub versions_with : (r : Retained) (m n : Entries) (c : Commit Configured) → AreVersions m r.base.tuples r.floor r.commits
+    → ((q : Tuple) → versions_at n q ≡ versions_at m q ++ commit_versions (newest r + 1) c q) → AreVersions n r.base.tuples r.floor (r.commits ++ c ∷ [])
+versions_with r m n c versions more q =
     more q
-    ∙ ap (λ ms. ms ++ commit_marks (newest r + 1) c q) (marks q)
-    ∙ append_assoc (base_marks (set.contains r.base.tuples q)) (marks_after r.floor r.commits q) (commit_marks (newest r + 1) c q)
-    ∙ ap (λ ms. base_marks (set.contains r.base.tuples q) ++ ms) (sym (marks_push r.floor r.commits c q))
+    ∙ ap (λ ms. ms ++ commit_versions (newest r + 1) c q) (versions q)
+    ∙ append_assoc (base_versions (set.contains r.base.tuples q)) (versions_after r.floor r.commits q) (commit_versions (newest r + 1) c q)
+    ∙ ap (λ ms. base_versions (set.contains r.base.tuples q) ++ ms) (sym (versions_push r.floor r.commits c q))
 
 come_gone : (old come gone next new : ℕ) → next + gone ≡ old + come → new ≡ (old + come) - gone → new ≡ next
 come_gone old come gone next new is now = omega (arith, is, now)
 
-pub kept_events : (r : Retained) (m n : Entries) (ds : List Dated) (old new : Counts) (es : List Event) (change : Change)
-    → IsKept r m ds old → HasRoom r (kinds.Tuples es) → GoesOn (marks_at m) n (newest r + 1) es → Changes (marks_at m) es change
+pub consistent_events : (r : Retained) (m n : Entries) (ds : List ConfigAt) (old new : Counts) (es : List Event) (change : Change)
+    → IsConsistent r m ds old → HasRoom r (kinds.Tuples es) → GoesOn (versions_at m) n (newest r + 1) es → Changes (versions_at m) es change
     → new.rows ≡ old.rows + puts_in es → new.tuples ≡ (old.tuples + change.come) - change.gone
-    → IsKept (with_commit r (kinds.Tuples es)) n ds new
-kept_events r m n ds old new es change kept room goes changes rows tuples =
-    let rows_old = kept.rows in
+    → IsConsistent (with_commit r (kinds.Tuples es)) n ds new
+consistent_events r m n ds old new es change consistent room goes changes rows tuples =
+    let rows_old = consistent.rows in
     let more = rows_push r.commits (kinds.Tuples es) in
     let longer = length_push r.commits (kinds.Tuples es) in
     let room_revs = room.revs in
     let room_rows = room.rows in
     record {
-      marks = marks_with r m n (kinds.Tuples es) kept.marks goes;
-      configs_right = kept.configs_right ∙ sym (dated_same r.floor r.commits es);
+      versions = versions_with r m n (kinds.Tuples es) consistent.versions goes;
+      configs_right = consistent.configs_right ∙ sym (configs_same r.floor r.commits es);
       rows = omega (arith, rows, rows_old, more);
       tuples =
           come_gone old.tuples change.come change.gone (set.len (replay (after_commits r.base r.commits).tuples es)) new.tuples
-          (changes (after_commits r.base r.commits).tuples (newest_these r m kept.marks) ∙ ap (λ k. k + change.come) (sym kept.tuples)) tuples
+          (changes (after_commits r.base r.commits).tuples (newest_these r m consistent.versions) ∙ ap (λ k. k + change.come) (sym consistent.tuples)) tuples
           ∙ ap (λ (s : Snap). set.len s.tuples) (sym (after_push r.base r.commits (kinds.Tuples es)));
       revs = omega (arith, room_revs, longer);
       few = omega (arith, room_rows, more);
     }
 
-pub kept_config : (r : Retained) (m : Entries) (ds : List Dated) (counts : Counts) (config : Configured)
-    → IsKept r m ds counts → HasRoom r (kinds.Config config)
-    → IsKept (with_commit r (kinds.Config config)) m (ds ++ record { rev = newest r + 1; config = config } ∷ []) counts
-kept_config r m ds counts config kept room =
-    let rows_old = kept.rows in
+pub consistent_config : (r : Retained) (m : Entries) (ds : List ConfigAt) (counts : Counts) (config : Configured)
+    → IsConsistent r m ds counts → HasRoom r (kinds.Config config)
+    → IsConsistent (with_commit r (kinds.Config config)) m (ds ++ record { rev = newest r + 1; config = config } ∷ []) counts
+consistent_config r m ds counts config consistent room =
+    let rows_old = consistent.rows in
     let more = rows_push r.commits (kinds.Config config) in
     let longer = length_push r.commits (kinds.Config config) in
     let room_revs = room.revs in
     let room_rows = room.rows in
     record {
-      marks = marks_with r m m (kinds.Config config) kept.marks (λ q. sym (append-nil (marks_at m q)));
-      configs_right = ap (λ es. es ++ record { rev = newest r + 1; config = config } ∷ []) kept.configs_right ∙ sym (dated_push r.floor r.commits config);
+      versions = versions_with r m m (kinds.Config config) consistent.versions (λ q. sym (append-nil (versions_at m q)));
+      configs_right = ap (λ es. es ++ record { rev = newest r + 1; config = config } ∷ []) consistent.configs_right ∙ sym (configs_push r.floor r.commits config);
       rows = omega (arith, rows_old, more);
-      tuples = kept.tuples ∙ ap (λ (s : Snap). set.len s.tuples) (sym (after_push r.base r.commits (kinds.Config config)));
+      tuples = consistent.tuples ∙ ap (λ (s : Snap). set.len s.tuples) (sym (after_push r.base r.commits (kinds.Config config)));
       revs = omega (arith, room_revs, longer);
       few = omega (arith, room_rows, more);
     }
 
 -- and off again
-pub marks_before : (r : Retained) (m : Entries) (c : Commit Configured) → AreMarks m r.base.tuples r.floor (r.commits ++ c ∷ [])
-    → (q : Tuple) → marks_at m q ≡ (base_marks (set.contains r.base.tuples q) ++ marks_after r.floor r.commits q) ++ commit_marks (newest r + 1) c q
-marks_before r m c marks q =
-    marks q
-    ∙ ap (λ ms. base_marks (set.contains r.base.tuples q) ++ ms) (marks_push r.floor r.commits c q)
-    ∙ sym (append_assoc (base_marks (set.contains r.base.tuples q)) (marks_after r.floor r.commits q) (commit_marks (newest r + 1) c q))
+pub versions_before : (r : Retained) (m : Entries) (c : Commit Configured) → AreVersions m r.base.tuples r.floor (r.commits ++ c ∷ [])
+    → (q : Tuple) → versions_at m q ≡ (base_versions (set.contains r.base.tuples q) ++ versions_after r.floor r.commits q) ++ commit_versions (newest r + 1) c q
+versions_before r m c versions q =
+    versions q
+    ∙ ap (λ ms. base_versions (set.contains r.base.tuples q) ++ ms) (versions_push r.floor r.commits c q)
+    ∙ sym (append_assoc (base_versions (set.contains r.base.tuples q)) (versions_after r.floor r.commits q) (commit_versions (newest r + 1) c q))
 
 gone_come : (old come gone next new : ℕ) → old + gone ≡ next + come → new ≡ (old + gone) - come → new ≡ next
 gone_come old come gone next new is now = omega (arith, is, now)
 
-pub before_these : (r : Retained) → HasThese (after_commits r.base r.commits).tuples (λ q. base_marks (set.contains r.base.tuples q) ++ marks_after r.floor r.commits q)
-before_these r q = sym (based_last (set.contains r.base.tuples q) (marks_after r.floor r.commits q) ∙ last_of r.base r.floor r.commits q)
+pub before_these : (r : Retained) → HasThese (after_commits r.base r.commits).tuples (λ q. base_versions (set.contains r.base.tuples q) ++ versions_after r.floor r.commits q)
+before_these r q = sym (based_last (set.contains r.base.tuples q) (versions_after r.floor r.commits q) ∙ last_of r.base r.floor r.commits q)
 
-pub kept_back : (r : Retained) (m n : Entries) (ds : List Dated) (old new : Counts) (es : List Event) (change : Change)
-    → IsKept (with_commit r (kinds.Tuples es)) m ds old
-    → ((q : Tuple) → marks_at n q ≡ base_marks (set.contains r.base.tuples q) ++ marks_after r.floor r.commits q)
-    → Changes (λ q. base_marks (set.contains r.base.tuples q) ++ marks_after r.floor r.commits q) es change
+pub consistent_back : (r : Retained) (m n : Entries) (ds : List ConfigAt) (old new : Counts) (es : List Event) (change : Change)
+    → IsConsistent (with_commit r (kinds.Tuples es)) m ds old
+    → ((q : Tuple) → versions_at n q ≡ base_versions (set.contains r.base.tuples q) ++ versions_after r.floor r.commits q)
+    → Changes (λ q. base_versions (set.contains r.base.tuples q) ++ versions_after r.floor r.commits q) es change
     → new.rows ≡ old.rows - puts_in es → new.tuples ≡ (old.tuples + change.gone) - change.come
-    → IsKept r n ds new
-kept_back r m n ds old new es change kept marks changes rows tuples =
-    let rows_old = kept.rows in
+    → IsConsistent r n ds new
+consistent_back r m n ds old new es change consistent versions changes rows tuples =
+    let rows_old = consistent.rows in
     let more = rows_push r.commits (kinds.Tuples es) in
     let longer = length_push r.commits (kinds.Tuples es) in
-    let old_revs = kept.revs in
-    let old_few = kept.few in
+    let old_revs = consistent.revs in
+    let old_few = consistent.few in
     record {
-      marks = marks;
-      configs_right = kept.configs_right ∙ dated_same r.floor r.commits es;
+      versions = versions;
+      configs_right = consistent.configs_right ∙ configs_same r.floor r.commits es;
       rows = omega (arith, rows, rows_old, more);
       tuples = gone_come old.tuples change.come change.gone (set.len (after_commits r.base r.commits).tuples) new.tuples
-          (ap (λ k. k + change.gone) (kept.tuples ∙ ap (λ (s : Snap). set.len s.tuples) (after_push r.base r.commits (kinds.Tuples es)))
+          (ap (λ k. k + change.gone) (consistent.tuples ∙ ap (λ (s : Snap). set.len s.tuples) (after_push r.base r.commits (kinds.Tuples es)))
           ∙ changes (after_commits r.base r.commits).tuples (before_these r)) tuples;
       revs = omega (arith, old_revs, longer);
       few = omega (arith, old_few, more);
     }
 
-pub kept_back_config : (r : Retained) (m : Entries) (ds : List Dated) (counts : Counts) (config : Configured)
-    → IsKept (with_commit r (kinds.Config config)) m ds counts → IsKept r m (take (length ds - 1) ds) counts
-kept_back_config r m ds counts config kept =
-    let rows_old = kept.rows in
+pub consistent_back_config : (r : Retained) (m : Entries) (ds : List ConfigAt) (counts : Counts) (config : Configured)
+    → IsConsistent (with_commit r (kinds.Config config)) m ds counts → IsConsistent r m (take (length ds - 1) ds) counts
+consistent_back_config r m ds counts config consistent =
+    let rows_old = consistent.rows in
     let more = rows_push r.commits (kinds.Config config) in
     let longer = length_push r.commits (kinds.Config config) in
-    let old_revs = kept.revs in
-    let old_few = kept.few in
+    let old_revs = consistent.revs in
+    let old_few = consistent.few in
     record {
-      marks = λ q. marks_before r m (kinds.Config config) kept.marks q ∙ append-nil (base_marks (set.contains r.base.tuples q) ++ marks_after r.floor r.commits q);
+      versions = λ q. versions_before r m (kinds.Config config) consistent.versions q ∙ append-nil (base_versions (set.contains r.base.tuples q) ++ versions_after r.floor r.commits q);
       configs_right =
-          ap (λ es. take (length es - 1) es) (kept.configs_right ∙ dated_push r.floor r.commits config)
-          ∙ last_off (dated_after r.floor r.commits) (record { rev = newest r + 1; config = config });
+          ap (λ es. take (length es - 1) es) (consistent.configs_right ∙ configs_push r.floor r.commits config)
+          ∙ last_off (configs_after r.floor r.commits) (record { rev = newest r + 1; config = config });
       rows = omega (arith, rows_old, more);
-      tuples = kept.tuples ∙ ap (λ (s : Snap). set.len s.tuples) (after_push r.base r.commits (kinds.Config config));
+      tuples = consistent.tuples ∙ ap (λ (s : Snap). set.len s.tuples) (after_push r.base r.commits (kinds.Config config));
       revs = omega (arith, old_revs, longer);
       few = omega (arith, old_few, more);
     }

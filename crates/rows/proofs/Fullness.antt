@@ -18,8 +18,8 @@ use Rattle.meaning.specs.History.{after_kind, after_event, replay, puts_in, puts
 use Rattle.meaning.specs.Verdict.{event_of, kind_of, is_delete, is_twice, is_full, max_tuples, max_rows, max_rev}
 use Rattle.meaning.proofs.TupleSets.{contains_items, len_items, len_insert, len_remove}
 use Rattle.rows.specs.Judging.{puts_tuple, adds_tuple, takes_tuple}
-use Rattle.rows_core.specs.Marks.{is_put}
-use Rattle.rows_core.proofs.MarkRuns.{after_one}
+use Rattle.rows_core.specs.Versions.{is_put}
+use Rattle.rows_core.proofs.VersionRuns.{after_one}
 use Rattle.rows_core.proofs.Bases.{same_turned}
 
 abbrev counted : (Op → Bool) → List Op → ℕ

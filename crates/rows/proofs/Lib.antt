@@ -1,4 +1,4 @@
-pub mod Dating
+pub mod ConfigsAt
 pub mod Retaining
 pub mod Touching
 pub mod Committing

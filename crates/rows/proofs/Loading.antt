@@ -14,9 +14,9 @@ use Rattle.rows.specs.declared.loaded.Loaded.{Loaded}
 use Rattle.rows.specs.declared.loaded.Counts.{Counts}
 use Rattle.rows.specs.Retained.{with_commit, HasRoom}
 use Rattle.rows.specs.Loads.{retained_of, loaded_to, IsWithin}
-use Rattle.rows_core.specs.Marks.{Entries, marks_at, base_marks}
-use Rattle.rows.specs.Kept.{IsKept}
-use Rattle.rows_core.proofs.MarkRuns.{take_none}
+use Rattle.rows_core.specs.Versions.{Entries, versions_at, base_versions}
+use Rattle.rows.specs.Representation.{IsConsistent}
+use Rattle.rows_core.proofs.VersionRuns.{take_none}
 use Rattle.rows_core.proofs.Settling.{take_more}
 use Rattle.rows.proofs.Committing.{rows_push, length_push}
 
@@ -35,15 +35,15 @@ length_take (suc k) [] = omega arith
 length_take (suc k) (x ∷ xs) = let rest = length_take k xs in omega (arith, rest)
 
 -- no commit yet
-pub kept_none : (l : Loaded) (m : Entries) (counts : Counts) → IsWithin l → ((q : Tuple) → marks_at m q ≡ base_marks (set.contains (set.from_list l.tuples) q))
+pub consistent_none : (l : Loaded) (m : Entries) (counts : Counts) → IsWithin l → ((q : Tuple) → versions_at m q ≡ base_versions (set.contains (set.from_list l.tuples) q))
     → counts.rows ≡ length l.tuples → counts.tuples ≡ length l.tuples
-    → IsKept (record { number = l.number; floor = l.floor; base = record { config = l.config; tuples = set.from_list l.tuples }; commits = [] }) m [] counts
-kept_none l m counts within marks rows tuples =
+    → IsConsistent (record { number = l.number; floor = l.floor; base = record { config = l.config; tuples = set.from_list l.tuples }; commits = [] }) m [] counts
+consistent_none l m counts within versions rows tuples =
     let len = len_is l.tuples within.ordered in
     let revs = within.revs in
     let few = within.rows in
     record {
-      marks = λ q. marks q ∙ sym (append-nil (base_marks (set.contains (set.from_list l.tuples) q)));
+      versions = λ q. versions q ∙ sym (append-nil (base_versions (set.contains (set.from_list l.tuples) q)));
       configs_right = refl;
       rows = omega (arith, rows, len);
       tuples = tuples ∙ len;

@@ -1,4 +1,4 @@
--- What is retained as numbers, by which its values are told apart.
+-- What is retained as numbers, which differ where its values do.
 use Rattle.std.specs.Prelude.{ℕ, List, refl}
 use Rattle.std.specs.Coded.{Coded, code_by, coded×, coded_ℕ, coded_list}
 use base.Stored.{coded_unit}

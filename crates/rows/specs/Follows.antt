@@ -1,5 +1,5 @@
 -- Which commits can follow: those that some accepted write gives, and configurations that are accepted.
-use Rattle.std.specs.Prelude.{◌≡◌, List, [], ◌∷◌, map, Bool, true, not, ◌&&◌, Option, None, IsPermutation, IsSorted}
+use Rattle.std.specs.Prelude.{◌≡◌, ◌↔◌, List, [], ◌∷◌, map, Bool, true, not, ◌&&◌, Option, None, IsPermutation, IsSorted}
 use Rattle.std.specs.Ordering.{is_lt}
 use Rattle.std.specs.declared.cmp.Ordering.{Ordering}
 use Rattle.names.specs.Order.{tuple_cmp}
@@ -56,6 +56,10 @@ touch_of e = record { kind = touch_kind e.kind; tuple = e.tuple }
 abbrev pub commit_cause : Newest → Commit Configured → Option Refusal
 commit_cause n (kinds.Tuples events) = or_else (refused_if Malformed (not (is_in_order events))) (write_cause n (map touch_of events))
 commit_cause n (kinds.Config config) = config_cause n config
+
+-- events follow where some accepted write gives them, and nowhere else
+abbrev pub FollowsWhereWritten : Newest → List Event → Type 0
+FollowsWhereWritten n events = (commit_cause n (kinds.Tuples events) ≡ None) ↔ IsWritten n events
 
 -- the commit can follow the history's newest
 abbrev pub IsNext : Retained → Commit Configured → Type 0

@@ -2,5 +2,5 @@ pub mod Retained
 pub mod Follows
 pub mod Loads
 pub mod Codes
-pub mod Kept
+pub mod Representation
 pub mod Judging

@@ -7,7 +7,7 @@ use Rattle.names.specs.declared.commit.Commit.{Commit}
 use Rattle.names.specs.declared.commit.Commit.TheVariants.{Tuples, Config}
 use Rattle.meaning.specs.TupleSet as set
 use Rattle.meaning.specs.Config.{Configured}
-use Rattle.meaning.specs.Snap.{Snap}
+use Rattle.meaning.specs.Snap.{Snap, empty_snap}
 use Rattle.meaning.specs.History.{History, after_commits, rows_of, commit_rows}
 use Rattle.meaning.specs.Verdict.{Newest, max_rev, max_rows}
 
@@ -17,6 +17,14 @@ pub record Retained : Type 0 where
   pub floor : ℕ
   pub base : Snap
   pub commits : History
+
+-- the store with this number and these commits, from its first on
+abbrev pub store_from : ℕ → History → Retained
+store_from number commits = record { number = number; floor = 0; base = empty_snap; commits = commits }
+
+-- the store with this number, before its first commit
+abbrev pub empty_store : ℕ → Retained
+empty_store number = store_from number []
 
 -- the newest revision
 abbrev pub newest : Retained → ℕ
@@ -48,8 +56,8 @@ abbrev pub without_newest : Retained → Retained
 without_newest r = record { number = r.number; floor = r.floor; base = r.base; commits = take (length r.commits - 1) r.commits }
 
 -- with a higher floor
-abbrev pub trimmed : Retained → ℕ → Retained
-trimmed r floor = record { number = r.number; floor = floor; base = snap_at r floor; commits = drop (floor - r.floor) r.commits }
+abbrev pub after_trim : Retained → ℕ → Retained
+after_trim r floor = record { number = r.number; floor = floor; base = snap_at r floor; commits = drop (floor - r.floor) r.commits }
 
 -- with the commit, the limits of revisions and rows still hold
 pub record HasRoom (r : Retained) (c : Commit Configured) : Type 0 where

@@ -25,7 +25,6 @@ pub(crate) fn push_commit(
 pub(crate) fn drop_newest(commits: &mut Vec<KeptCommit>)
     ensures { commits.new.items ≡ take (length commits.old.items - 1) commits.old.items }
 {
-    let _count = commits.as_slice().len();
     let _ = commits.pop();
 }
 

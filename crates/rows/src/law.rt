@@ -1,16 +1,15 @@
 //! What holds of the commits that can follow.
-ghost use Rattle.std.specs.Prelude.{◌≡◌, ◌↔◌, List, None};
+ghost use Rattle.std.specs.Prelude.{List};
 ghost use Rattle.names.specs.declared.commit.Event.{Event};
 ghost use Rattle.names.specs.declared.commit.Commit.{Commit};
-ghost use Rattle.names.specs.declared.commit.Commit.TheVariants.{Tuples};
 ghost use Rattle.meaning.specs.Config.{Configured};
 ghost use Rattle.meaning.specs.Verdict.{Newest};
 ghost use Rattle.rows.specs.Retained.{Retained, HasRoom};
-ghost use Rattle.rows.specs.Follows.{commit_cause, IsWritten, IsNext};
+ghost use Rattle.rows.specs.Follows.{FollowsWhereWritten, IsNext};
 
 /// Events are refused exactly where no write that is accepted gives them.
 pub fn refuses_what_no_write_gives()
-    ensures { (newest : Newest) (events : List Event) → (commit_cause newest (Tuples events) ≡ None) ↔ IsWritten newest events }
+    ensures { (newest : Newest) (events : List Event) → FollowsWhereWritten newest events }
 {}
 
 /// A commit that can follow has room.

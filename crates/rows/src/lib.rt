@@ -1,15 +1,15 @@
-//! The history of a store: the marks of revisions on each tuple, and the commits above the floor. It is
-//! asked at any retained revision.
+//! The history of a store: the versions of each tuple, and the commits above the floor. It is asked at any
+//! retained revision.
 #![tactic(auto)]
 
 mod committed;
-mod dated;
+mod config_at;
 mod events;
-mod judge;
 mod law;
 mod loaded;
 mod refusing;
 mod rows;
+mod verdict;
 mod view;
 
 pub use events::events_of;

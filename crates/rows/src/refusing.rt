@@ -5,8 +5,8 @@ ghost use Rattle.meaning.specs.Verdict.{config_cause};
 ghost use Rattle.rows.specs.Retained.{newest_of};
 ghost use Rattle.rows.specs.Follows.{is_in_order, is_below, touch_of, touch_kind, commit_cause};
 
-use crate::judge::MAX_REV;
 use crate::rows::Rows;
+use crate::verdict::MAX_REV;
 use config::Config;
 use names::{Commit, Event, EventKind, Op, OpKind};
 use std::alloc::{AllocError, Global};

@@ -1,24 +1,22 @@
 //! Histories.
 ghost use Rattle.std.specs.Prelude.{◌≡◌, ℕ, ◌+◌, ◌-◌, ◌<◌, ◌≤◌, List, [], ◌∷◌, ◌++◌, length, take, drop, filter, IfOk, OnOk, OnErr, not};
 ghost use Rattle.std.specs.List.{find};
-ghost use Rattle.meaning.specs.Admits.{admits};
-ghost use Rattle.meaning.specs.Snap.{empty_snap};
 ghost use Rattle.names.specs.declared.tuple.Tuple.{Tuple};
 ghost use Rattle.meaning.specs.TupleSet as set;
 ghost use Rattle.meaning.specs.Verdict.{max_rev, max_rows};
-ghost use Rattle.rows.specs.Retained.{newest, IsRetained, snap_at, spans_of, newest_of, with_commit, without_newest, trimmed, HasRoom, commits_between, is_touched_after, last_config};
-ghost use Rattle.rows_core.specs.Marks.{is_of};
+ghost use Rattle.rows.specs.Retained.{newest, empty_store, IsRetained, snap_at, spans_of, newest_of, with_commit, without_newest, after_trim, HasRoom, commits_between, is_touched_after, last_config};
+ghost use Rattle.rows_core.specs.Versions.{is_of, refuses};
 ghost use Rattle.rows.specs.Loads.{retained_of, loaded_to, IsWithin};
 
 use crate::committed::{
     copies, drop_commits, drop_newest, last_config, newest_events, push_commit, puts_in,
 };
-use crate::dated::{Dated, config_up_to, drop_config, push_config, settle_configs};
+use crate::config_at::{ConfigAt, config_up_to, drop_config, push_config, settle_configs};
 use crate::loaded::{Counts, Loaded};
 use crate::view::View;
 use config::Config;
 use names::{Commit, Event, Node, Tuple};
-use rows_core::{KeptCommit, Marked};
+use rows_core::{KeptCommit, VersionMap};
 use std::alloc::{AllocError, Global};
 use std::marker::Model;
 
@@ -29,8 +27,8 @@ pub struct Rows {
     number: u64,
     floor: u64,
     config: Config,
-    configs: Vec<Dated>,
-    tuples: Marked,
+    configs: Vec<ConfigAt>,
+    tuples: VersionMap,
     commits: Vec<KeptCommit>,
     counts: Counts,
 }
@@ -38,21 +36,21 @@ pub struct Rows {
 impl Model for Rows {
     ghost use Rattle.rows.specs.Retained.{Retained};
     ghost use Rattle.rows.specs.Codes.{coded_retained};
-    ghost use Rattle.rows.specs.Kept.{retained, IsKept};
+    ghost use Rattle.rows.specs.Representation.{as_retained, IsConsistent};
 
     ghost Value = { Retained };
 
     ghost coded = { coded_retained };
 
-    ghost view = { λ s. retained s.number s.floor s.config s.tuples s.commits.items };
+    ghost view = { λ s. as_retained s.number s.floor s.config s.tuples s.commits.items };
 
-    ghost invariant = { λ s. IsKept (retained s.number s.floor s.config s.tuples s.commits.items) s.tuples s.configs.items s.counts };
+    ghost invariant = { λ s. IsConsistent (as_retained s.number s.floor s.config s.tuples s.commits.items) s.tuples s.configs.items s.counts };
 }
 
 impl Rows {
     /// No commit, in a store that has no number yet. It takes no memory.
     pub fn empty(alloc: Global) -> Rows
-        ensures { result ≡ record { number = 0; floor = 0; base = empty_snap; commits = [] } }
+        ensures { result ≡ empty_store 0 }
     {
         Rows {
             alloc,
@@ -60,7 +58,7 @@ impl Rows {
             floor: 0,
             config: Config::empty(alloc),
             configs: Vec::new(alloc),
-            tuples: Marked::new(alloc),
+            tuples: VersionMap::new(alloc),
             commits: Vec::new(alloc),
             counts: Counts { rows: 0, tuples: 0 },
         }
@@ -92,7 +90,7 @@ impl Rows {
             floor: loaded.floor,
             config: loaded.config.again(alloc)?,
             configs: Vec::new(alloc),
-            tuples: Marked::based(alloc, tuples)?,
+            tuples: VersionMap::of_base(alloc, tuples)?,
             commits: Vec::new(alloc),
             counts: Counts {
                 rows: count,
@@ -176,7 +174,7 @@ impl Rows {
 
     /// The first current tuple that the configuration does not admit.
     pub(crate) fn tuple_in_the_way(&self, config: &Config) -> Result<Option<Tuple>, AllocError>
-        ensures { IfOk result (λ o. o ≡ find (λ t. not (admits config.now t)) (set.items (newest_of self.now).held.tuples)) }
+        ensures { IfOk result (λ o. o ≡ find (refuses config.now) (set.items (newest_of self.now).held.tuples)) }
     {
         self.tuples.first_refused(self.alloc, config)
     }
@@ -219,7 +217,7 @@ impl Rows {
     }
 
     /// Whether no commit above the revision has an event on the tuple.
-    pub fn unchanged(&self, tuple: &Tuple, rev: u64) -> bool
+    pub fn is_unchanged(&self, tuple: &Tuple, rev: u64) -> bool
         requires { self.now.floor ≤ rev }
         ensures { result ≡ not (is_touched_after self.now tuple.now rev) }
     {
@@ -267,13 +265,13 @@ impl Rows {
         ensures err { OnErr result (self.new ≡ self.old) }
     {
         let rev = self.newest() + 1;
-        let dated = Dated {
+        let config_at = ConfigAt {
             rev,
             config: config.again(self.alloc)?,
         };
         let again = config.again(self.alloc)?;
         let kept = KeptCommit::of_config(self.alloc, again)?;
-        push_config(&mut self.configs, dated)?;
+        push_config(&mut self.configs, config_at)?;
         match push_commit(&mut self.commits, kept) {
             Ok(()) => Ok(()),
             Err(e) => {
@@ -305,15 +303,15 @@ impl Rows {
     /// Raises the floor: what lies below it goes. It takes no memory.
     pub fn trim(&mut self, floor: u64)
         requires { floor ≤ newest self.old }
-        ensures raised { self.old.floor ≤ floor → self.new ≡ trimmed self.old floor }
-        ensures kept { floor ≤ self.old.floor → self.new ≡ self.old }
+        ensures raised { self.old.floor ≤ floor → self.new ≡ after_trim self.old floor }
+        ensures unchanged { floor ≤ self.old.floor → self.new ≡ self.old }
     {
         if floor <= self.floor {
             return;
         }
         let count = (floor - self.floor) as usize;
-        let settled = &self.commits[..count];
-        self.counts.rows = self.tuples.settle(settled, self.counts.rows);
+        let below = &self.commits[..count];
+        self.counts.rows = self.tuples.settle(below, self.counts.rows);
         drop_commits(&mut self.commits, count);
         settle_configs(&mut self.config, &mut self.configs, floor);
         self.floor = floor;

@@ -90,7 +90,7 @@ fn is_unchanged(rows: &Rows, tuple: &Tuple, rev: u64) -> bool {
     if rev < rows.floor() {
         return false;
     }
-    rows.unchanged(tuple, rev)
+    rows.is_unchanged(tuple, rev)
 }
 
 // How many commits the revisions bring, and the revision of the last configuration among them, or else 99.
@@ -134,7 +134,7 @@ fn lists(
 fn judged(alloc: Global, rows: &Rows, kind: OpKind, word: &str) -> Result<u8, Refusal> {
     let mut ops = Vec::new(alloc);
     ops.push(op_of(alloc, kind, word)?)?;
-    match rows.judge(&ops) {
+    match rows.verdict(&ops) {
         Ok(()) => Ok(0),
         Err(why) => Ok(why.number()),
     }

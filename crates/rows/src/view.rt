@@ -1,7 +1,7 @@
 //! Views.
 ghost use Rattle.std.specs.Prelude.{◌≡◌, filter, IfOk};
 ghost use Rattle.meaning.specs.TupleSet as set;
-ghost use Rattle.rows_core.specs.Marks.{is_of};
+ghost use Rattle.rows_core.specs.Versions.{is_of};
 ghost use Rattle.rows.specs.Retained.{IsRetained, snap_at};
 
 use crate::rows::Rows;

@@ -12,10 +12,10 @@ use Rattle.meaning.specs.TupleSet.{Tuples}
 use Rattle.meaning.specs.History.{after_kind, replay}
 use Rattle.meaning.proofs.TupleSets.{len_insert, len_remove, contains_iff, len_items}
 use Rattle.meaning.proofs.Lists.{contains_none}
-use Rattle.rows_core.specs.declared.mark.Mark.{Mark}
+use Rattle.rows_core.specs.declared.version.Version.{Version}
 use Rattle.rows_core.specs.declared.change.Change.{Change}
-use Rattle.rows_core.specs.Marks.{is_put, marks_in, last_from, is_there, HasThese, Changes}
-use Rattle.rows_core.proofs.MarkRuns.{last_in, last_two, take_none}
+use Rattle.rows_core.specs.Versions.{is_put, versions_in, last_from, is_there, HasThese, Changes}
+use Rattle.rows_core.proofs.VersionRuns.{last_in, last_two, take_none}
 use Rattle.rows_core.proofs.Steps.{replay_more}
 
 abbrev pub one : Bool → ℕ
@@ -45,20 +45,20 @@ pub after_len : (s : Tuples) (k : EventKind) (t : Tuple) → set.len (after_kind
 after_len s Put t = put_len (set.contains s t) (set.len s) _ (len_insert s t)
 after_len s Del t = del_len (set.contains s t) (set.len s) _ (held_some s t) (len_remove s t)
 
--- what the marks say after some events
-pub there_after : (s : Tuples) (before : List Mark) (rev : ℕ) (es : List Event) (q : Tuple) → set.contains s q ≡ is_there before → is_there (before ++ marks_in rev es q) ≡ set.contains (replay s es) q
+-- what the versions say after some events
+pub there_after : (s : Tuples) (before : List Version) (rev : ℕ) (es : List Event) (q : Tuple) → set.contains s q ≡ is_there before → is_there (before ++ versions_in rev es q) ≡ set.contains (replay s es) q
 there_after s before rev es q h =
-    last_two false before (marks_in rev es q)
-    ∙ ap (λ b. last_from b (marks_in rev es q)) (sym h)
-    ∙ ap (last_from (set.contains s q)) (sym (append-nil (marks_in rev es q)))
+    last_two false before (versions_in rev es q)
+    ∙ ap (λ b. last_from b (versions_in rev es q)) (sym h)
+    ∙ ap (last_from (set.contains s q)) (sym (append-nil (versions_in rev es q)))
     ∙ last_in s rev es q []
 
 sums : (a b c d e f g x y : ℕ) → a + b ≡ c + d → e + x ≡ a + y → f ≡ b + x → g ≡ d + y → e + f ≡ c + g
 sums a b c d e f g x y p q r s = omega (arith, p, q, r, s)
 
 -- one event more
-pub changes_more : (before : Tuple → List Mark) (rev : ℕ) (es : List Event) (k : ℕ) (e : Event) (old new : Change) (there : Bool)
-    → k < length es → e ≡ get_or es k e → there ≡ is_there (before e.tuple ++ marks_in rev (take k es) e.tuple)
+pub changes_more : (before : Tuple → List Version) (rev : ℕ) (es : List Event) (k : ℕ) (e : Event) (old new : Change) (there : Bool)
+    → k < length es → e ≡ get_or es k e → there ≡ is_there (before e.tuple ++ versions_in rev (take k es) e.tuple)
     → new.come ≡ old.come + one (is_put e.kind && not there) → new.gone ≡ old.gone + one (not (is_put e.kind) && there)
     → Changes before (take k es) old → Changes before (take (suc k) es) new
 changes_more before rev es k e old new there small is at come gone changes = λ s has.
@@ -71,22 +71,22 @@ changes_more before rev es k e old new there small is at come gone changes = λ 
     (gone ∙ ap (λ b. old.gone + one (not (is_put e.kind) && b)) there_is)
     (come ∙ ap (λ b. old.come + one (is_put e.kind && not b)) there_is)
 
-pub changes_none : (before : Tuple → List Mark) (es : List Event) (change : Change) → change.come ≡ 0 → change.gone ≡ 0 → Changes before (take 0 es) change
+pub changes_none : (before : Tuple → List Version) (es : List Event) (change : Change) → change.come ≡ 0 → change.gone ≡ 0 → Changes before (take 0 es) change
 changes_none before es change come gone = λ s has.
     ap (λ xs. set.len (replay s xs) + change.gone) (take_none es) ∙ ap (λ n. set.len s + n) (gone ∙ sym come)
 
-pub changes_all : (before : Tuple → List Mark) (es : List Event) (change : Change) (k : ℕ) → k ≡ length es → Changes before (take k es) change → Changes before es change
+pub changes_all : (before : Tuple → List Version) (es : List Event) (change : Change) (k : ℕ) → k ≡ length es → Changes before (take k es) change → Changes before es change
 changes_all before es change k is changes = λ s has. ap (λ xs. set.len (replay s xs) + change.gone) (sym (ap (λ n. take n es) is ∙ take-length es)) ∙ changes s has
 
 -- The same from the end: what the last events have changed.
-abbrev pub ChangedFrom : (Tuple → List Mark) → List Event → ℕ → Change → Type 0
+abbrev pub ChangedFrom : (Tuple → List Version) → List Event → ℕ → Change → Type 0
 ChangedFrom before es k change = (s : Tuples) → HasThese s before → set.len (replay s es) + change.gone ≡ set.len (replay s (take k es)) + change.come
 
 sums_back : (a b c d e f g x y : ℕ) → a + b ≡ c + d → c + x ≡ e + y → f ≡ b + x → g ≡ d + y → a + f ≡ e + g
 sums_back a b c d e f g x y p q r s = omega (arith, p, q, r, s)
 
-pub changed_more : (before : Tuple → List Mark) (rev : ℕ) (es : List Event) (k : ℕ) (e : Event) (old new : Change) (there : Bool)
-    → k < length es → e ≡ get_or es k e → there ≡ is_there (before e.tuple ++ marks_in rev (take k es) e.tuple)
+pub changed_more : (before : Tuple → List Version) (rev : ℕ) (es : List Event) (k : ℕ) (e : Event) (old new : Change) (there : Bool)
+    → k < length es → e ≡ get_or es k e → there ≡ is_there (before e.tuple ++ versions_in rev (take k es) e.tuple)
     → new.come ≡ old.come + one (is_put e.kind && not there) → new.gone ≡ old.gone + one (not (is_put e.kind) && there)
     → ChangedFrom before es (suc k) old → ChangedFrom before es k new
 changed_more before rev es k e old new there small is at come gone changed = λ s has.
@@ -99,9 +99,9 @@ changed_more before rev es k e old new there small is at come gone changed = λ 
     (gone ∙ ap (λ b. old.gone + one (not (is_put e.kind) && b)) there_is)
     (come ∙ ap (λ b. old.come + one (is_put e.kind && not b)) there_is)
 
-pub changed_none : (before : Tuple → List Mark) (es : List Event) (change : Change) (k : ℕ) → k ≡ length es → change.come ≡ 0 → change.gone ≡ 0 → ChangedFrom before es k change
+pub changed_none : (before : Tuple → List Version) (es : List Event) (change : Change) (k : ℕ) → k ≡ length es → change.come ≡ 0 → change.gone ≡ 0 → ChangedFrom before es k change
 changed_none before es change k is come gone = λ s has.
     ap (λ n. set.len (replay s es) + n) (gone ∙ sym come) ∙ ap (λ xs. set.len (replay s xs) + change.come) (sym (ap (λ n. take n es) is ∙ take-length es))
 
-pub changed_all : (before : Tuple → List Mark) (es : List Event) (change : Change) → ChangedFrom before es 0 change → Changes before es change
+pub changed_all : (before : Tuple → List Version) (es : List Event) (change : Change) → ChangedFrom before es 0 change → Changes before es change
 changed_all before es change changed = λ s has. changed s has ∙ ap (λ xs. set.len (replay s xs) + change.come) (take_none es)

@@ -1,11 +1,11 @@
 -- The map as it stands in memory, and the tuples that its texts spell.
 use Rattle.std.proofs.Common.{◌≡◌, ℕ, List, [], ◌∷◌, refl, ap, sym, subst, ◌∙◌}
-use Rattle.std.specs.Prelude.{Bool, true, false, cond, Option, None, Some, IsSome}
+use Rattle.std.specs.Prelude.{Bool, true, false, cond, None, Some, IsSome}
 use Rattle.std.specs.Option.{option_map}
 use Rattle.std.specs.List.{AllByRecursion}
 use Rattle.std.specs.List.Sorted.{IsStrictlySortedBy}
 use Rattle.std.specs.Map.{lookup, set_value, keys_of}
-use Rattle.std.specs.BTreeMap.{insert_entry, is_at}
+use Rattle.std.specs.BTreeMap.{insert_entry}
 use Rattle.std.specs.Box.{boxed_str_bytes}
 use Rattle.std.specs.Global.{Global}
 use Rattle.std.specs.Ordering.{match_ordering, is_eq, nat_cmp}
@@ -15,12 +15,12 @@ use Rattle.std.specs.declared.cmp.Ordering.TheVariants.{Less, Equal, Greater}
 use Rattle.std.specs.declared.boxed.BoxedStr.{BoxedStr}
 use Rattle.names.specs.Order.{tuple_cmp, is_same_tuple}
 use Rattle.names.specs.declared.tuple.Tuple.{Tuple}
-use Rattle.rows_core.specs.declared.mark.Mark.{Mark}
+use Rattle.rows_core.specs.declared.version.Version.{Version}
 use Rattle.rows_core.specs.Spelled.{tuple_of, IsSpelling}
-use Rattle.rows_core.specs.Marks.{Entries, marks_at, items_or, keys}
+use Rattle.rows_core.specs.Versions.{Entries, versions_at, items_or, keys}
 use Rattle.rows_core.specs.Texts.{Texts, entry_of, entries_of, AreSpelled}
 use Rattle.rows_core.proofs.Spellings.{texts_order}
-use Rattle.rows_core.proofs.Placing.{placed, set_at, inserted_at, nothing_changed, stays}
+use Rattle.rows_core.proofs.Placing.{placed, set_at, inserted_at, nothing_changed}
 
 -- the order of the texts in the map
 abbrev pub text_cmp : BoxedStr Global → BoxedStr Global → Ordering
@@ -38,15 +38,15 @@ module _ (text : List ℕ) (is : IsSpelling text) where
   pub looked_up : (es : Texts) → AreSpelled es → option_map (λ v. v) (lookup (is_text text) es) ≡ lookup (is_same_tuple (tuple_of text)) (entries_of es)
   looked_up [] s = refl
   looked_up (e ∷ es) s =
-      ap (λ b. option_map (λ (v : List Mark). v) (cond b (Some e.1) (lookup (is_text text) es))) (same_text text (boxed_str_bytes e.0) is s.0)
+      ap (λ b. option_map (λ (v : List Version). v) (cond b (Some e.1) (lookup (is_text text) es))) (same_text text (boxed_str_bytes e.0) is s.0)
       ∙ by_same (is_same_tuple (tuple_of text) (tuple_of (boxed_str_bytes e.0))) (looked_up es s.1)
     where
-      by_same : (b : Bool) → option_map (λ (v : List Mark). v) (lookup (is_text text) es) ≡ lookup (is_same_tuple (tuple_of text)) (entries_of es)
-          → option_map (λ (v : List Mark). v) (cond b (Some e.1) (lookup (is_text text) es)) ≡ cond b (Some e.1) (lookup (is_same_tuple (tuple_of text)) (entries_of es))
+      by_same : (b : Bool) → option_map (λ (v : List Version). v) (lookup (is_text text) es) ≡ lookup (is_same_tuple (tuple_of text)) (entries_of es)
+          → option_map (λ (v : List Version). v) (cond b (Some e.1) (lookup (is_text text) es)) ≡ cond b (Some e.1) (lookup (is_same_tuple (tuple_of text)) (entries_of es))
       by_same true rest = refl
       by_same false rest = rest
 
-  decoded_set : (es : Texts) (w : List Mark) → AreSpelled es → entries_of (set_value (is_text text) es w) ≡ set_value (is_same_tuple (tuple_of text)) (entries_of es) w
+  decoded_set : (es : Texts) (w : List Version) → AreSpelled es → entries_of (set_value (is_text text) es w) ≡ set_value (is_same_tuple (tuple_of text)) (entries_of es) w
   decoded_set [] w s = refl
   decoded_set (e ∷ es) w s =
       ap (λ b. entries_of (cond b ((e.0, w) ∷ es) (e ∷ set_value (is_text text) es w))) (same_text text (boxed_str_bytes e.0) is s.0)
@@ -57,7 +57,7 @@ module _ (text : List ℕ) (is : IsSpelling text) where
       by_same true rest = refl
       by_same false rest = ap (λ (fs : Entries). entry_of e ∷ fs) rest
 
-  spelled_set : (es : Texts) (w : List Mark) → AreSpelled es → AreSpelled (set_value (is_text text) es w)
+  spelled_set : (es : Texts) (w : List Version) → AreSpelled es → AreSpelled (set_value (is_text text) es w)
   spelled_set [] w s = s
   spelled_set (e ∷ es) w s = by_same (is_text text e.0) (spelled_set es w s.1)
     where
@@ -66,7 +66,7 @@ module _ (text : List ℕ) (is : IsSpelling text) where
       by_same false rest = (s.0, rest)
 
 -- a text put in
-module _ (k : BoxedStr Global) (v : List Mark) (is : IsSpelling (boxed_str_bytes k)) where
+module _ (k : BoxedStr Global) (v : List Version) (is : IsSpelling (boxed_str_bytes k)) where
   decoded_insert : (es : Texts) → AreSpelled es → entries_of (insert_entry text_cmp es k v) ≡ insert_entry tuple_cmp (entries_of es) (tuple_of (boxed_str_bytes k)) v
   decoded_insert [] s = refl
   decoded_insert (e ∷ es) s =
@@ -104,35 +104,35 @@ module _ (text : List ℕ) (is : IsSpelling text) (t : Tuple) (reads : tuple_of 
   found : option_map (λ v. v) (lookup (is_text text) es) ≡ lookup (is_same_tuple t) (entries_of es)
   found = looked_up text is es s ∙ ap (λ x. lookup (is_same_tuple x) (entries_of es)) reads
 
-  pub marks_found : items_or (option_map (λ v. v) (lookup (is_text text) es)) ≡ marks_at (entries_of es) t
-  marks_found = ap items_or found
+  pub versions_found : items_or (option_map (λ v. v) (lookup (is_text text) es)) ≡ versions_at (entries_of es) t
+  versions_found = ap items_or found
 
-  has_some : (old : List Mark) → Some old ≡ lookup (is_text text) es → IsSome (lookup (is_same_tuple t) (entries_of es))
-  has_some old h = subst IsSome (ap (option_map (λ (v : List Mark). v)) h ∙ found) refl
+  has_some : (old : List Version) → Some old ≡ lookup (is_text text) es → IsSome (lookup (is_same_tuple t) (entries_of es))
+  has_some old h = subst IsSome (ap (option_map (λ (v : List Version). v)) h ∙ found) refl
 
   -- what was lent there, written
-  pub written : (fs : Texts) (old new : List Mark) (f : List Mark → List Mark) → Some old ≡ lookup (is_text text) es → fs ≡ set_value (is_text text) es new → new ≡ f old
-      → (q : Tuple) → marks_at (entries_of fs) q ≡ cond (is_same_tuple q t) (f (marks_at (entries_of es) q)) (marks_at (entries_of es) q)
+  pub written : (fs : Texts) (old new : List Version) (f : List Version → List Version) → Some old ≡ lookup (is_text text) es → fs ≡ set_value (is_text text) es new → new ≡ f old
+      → (q : Tuple) → versions_at (entries_of fs) q ≡ cond (is_same_tuple q t) (f (versions_at (entries_of es) q)) (versions_at (entries_of es) q)
   written fs old new f was now gives =
       placed (entries_of es) (entries_of fs) t new f
       (λ q. ap (λ (ds : Entries). lookup (is_same_tuple q) ds) (ap entries_of now ∙ decoded_set text is es new s ∙ ap (λ x. set_value (is_same_tuple x) (entries_of es) new) reads)
       ∙ set_at (entries_of es) t new (has_some old was) q)
-      (gives ∙ ap f (ap items_or (ap (option_map (λ (v : List Mark). v)) was) ∙ marks_found))
+      (gives ∙ ap f (ap items_or (ap (option_map (λ (v : List Version). v)) was) ∙ versions_found))
 
-  pub written_spelled : (fs : Texts) (new : List Mark) → fs ≡ set_value (is_text text) es new → AreSpelled fs
+  pub written_spelled : (fs : Texts) (new : List Version) → fs ≡ set_value (is_text text) es new → AreSpelled fs
   written_spelled fs new now = subst AreSpelled (sym now) (spelled_set text is es new s)
 
-  pub none_found : None ≡ lookup (is_text text) es → [] ≡ marks_at (entries_of es) t
-  none_found h = ap items_or (ap (option_map (λ (v : List Mark). v)) h) ∙ marks_found
+  pub none_found : None ≡ lookup (is_text text) es → [] ≡ versions_at (entries_of es) t
+  none_found h = ap items_or (ap (option_map (λ (v : List Version). v)) h) ∙ versions_found
 
   -- nothing was there
-  pub unwritten : (q : Tuple) (f : List Mark → List Mark) → f [] ≡ [] → None ≡ lookup (is_text text) es → marks_at (entries_of es) q ≡ cond (is_same_tuple q t) (f (marks_at (entries_of es) q)) (marks_at (entries_of es) q)
+  pub unwritten : (q : Tuple) (f : List Version → List Version) → f [] ≡ [] → None ≡ lookup (is_text text) es → versions_at (entries_of es) q ≡ cond (is_same_tuple q t) (f (versions_at (entries_of es) q)) (versions_at (entries_of es) q)
   unwritten q f nil h = nothing_changed (entries_of es) q t f nil (none_found h)
 
--- a text with marks, put in
-module _ (k : BoxedStr Global) (v : List Mark) (is : IsSpelling (boxed_str_bytes k)) (t : Tuple) (reads : tuple_of (boxed_str_bytes k) ≡ t) (es fs : Texts) (s : AreSpelled es) (now : fs ≡ insert_entry text_cmp es k v) where
-  pub put_in : (f : List Mark → List Mark) → v ≡ f (marks_at (entries_of es) t)
-      → (q : Tuple) → marks_at (entries_of fs) q ≡ cond (is_same_tuple q t) (f (marks_at (entries_of es) q)) (marks_at (entries_of es) q)
+-- a text with versions, put in
+module _ (k : BoxedStr Global) (v : List Version) (is : IsSpelling (boxed_str_bytes k)) (t : Tuple) (reads : tuple_of (boxed_str_bytes k) ≡ t) (es fs : Texts) (s : AreSpelled es) (now : fs ≡ insert_entry text_cmp es k v) where
+  pub put_in : (f : List Version → List Version) → v ≡ f (versions_at (entries_of es) t)
+      → (q : Tuple) → versions_at (entries_of fs) q ≡ cond (is_same_tuple q t) (f (versions_at (entries_of es) q)) (versions_at (entries_of es) q)
   put_in f gives =
       placed (entries_of es) (entries_of fs) t v f
       (λ q. ap (λ (ds : Entries). lookup (is_same_tuple q) ds) (ap entries_of now ∙ decoded_insert k v is es s ∙ ap (λ x. insert_entry tuple_cmp (entries_of es) x v) reads)

@@ -7,7 +7,7 @@ pub mod Basing
 pub mod Coming
 pub mod Decoding
 pub mod Listing
-pub mod MarkRuns
+pub mod VersionRuns
 pub mod Picking
 pub mod Placing
 pub mod Settling

@@ -1,7 +1,7 @@
--- The tuples of a revision in order, by the marks.
-use Rattle.std.proofs.Common.{◌≡◌, List, [], ◌∷◌, ◌++◌, suc, refl, ap, sym, subst, ◌∙◌, append_assoc, arith}
-use Rattle.std.specs.Prelude.{Bool, true, false, cond, ◌&&◌, ◌||◌, filter, Some, All}
-use Rattle.std.specs.List.{list_any, find}
+-- The tuples of a revision in order, by the versions.
+use Rattle.std.proofs.Common.{◌≡◌, List, [], ◌∷◌, refl, ap, sym, ◌∙◌}
+use Rattle.std.specs.Prelude.{Bool, true, false, cond, ◌&&◌, ◌||◌, filter, Some, Result, Ok, Err, IfOk}
+use Rattle.std.specs.List.{list_any}
 use Rattle.std.specs.Map.{lookup, keys_of}
 use Rattle.std.specs.List.Sorted.{IsStrictlySortedBy}
 use Rattle.std.proofs.lemmas.List.Kept.{IsStrictlySortedBy-filter}
@@ -10,12 +10,12 @@ use Rattle.names.specs.declared.tuple.Tuple.{Tuple}
 use Rattle.meaning.specs.TupleSet as set
 use Rattle.meaning.specs.TupleSet.{Tuples}
 use Rattle.meaning.proofs.TupleSets.{contains_from_list, items_from_list, same_tuples}
-use Rattle.rows_core.specs.declared.mark.Mark.{Mark}
-use Rattle.rows_core.specs.Marks.{Entries, keys, marks_at, items_or}
+use Rattle.rows_core.specs.declared.version.Version.{Version}
+use Rattle.rows_core.specs.Versions.{Entries, keys, versions_at, items_or}
 use Rattle.rows_core.proofs.Bases.{any_filtered}
 
--- a tuple that is no key has no marks, so that a test which fails of none fails of it
-tested_key : (p : List Mark → Bool) → p [] ≡ false → (q : Tuple) (es : List (Tuple × List Mark))
+-- a tuple that is no key has no versions, so that a test which fails of none fails of it
+tested_key : (p : List Version → Bool) → p [] ≡ false → (q : Tuple) (es : List (Tuple × List Version))
     → (list_any (is_same_tuple q) (keys_of es) && p (items_or (lookup (is_same_tuple q) es))) ≡ p (items_or (lookup (is_same_tuple q) es))
 tested_key p none q [] = sym none
 tested_key p none q (e ∷ es) = by_same (is_same_tuple q e.0) (tested_key p none q es)
@@ -25,11 +25,16 @@ tested_key p none q (e ∷ es) = by_same (is_same_tuple q e.0) (tested_key p non
     by_same true rest = refl
     by_same false rest = rest
 
--- the items of a set whose members are those with such marks
-pub items_by : (m : Entries) (tuples : Tuples) (p : List Mark → Bool) → p [] ≡ false → IsStrictlySortedBy tuple_cmp (keys m)
-    → ((q : Tuple) → set.contains tuples q ≡ p (marks_at m q)) → set.items tuples ≡ filter (λ t. p (marks_at m t)) (keys m)
+-- the items of a set whose members are those with such versions
+pub items_by : (m : Entries) (tuples : Tuples) (p : List Version → Bool) → p [] ≡ false → IsStrictlySortedBy tuple_cmp (keys m)
+    → ((q : Tuple) → set.contains tuples q ≡ p (versions_at m q)) → set.items tuples ≡ filter (λ t. p (versions_at m t)) (keys m)
 items_by m tuples p none ordered is =
-    let ts : List Tuple = filter (λ t. p (marks_at m t)) (keys m) in
+    let ts : List Tuple = filter (λ t. p (versions_at m t)) (keys m) in
     let same : tuples ≡ set.from_list ts = same_tuples tuples (set.from_list ts) (λ q.
-    is q ∙ sym (contains_from_list ts q ∙ any_filtered (λ t. p (marks_at m t)) q (keys m) ∙ tested_key p none q m)) in
-    ap set.items same ∙ items_from_list ts (IsStrictlySortedBy-filter tuple_cmp (λ t. p (marks_at m t)) (keys m) ordered)
+    is q ∙ sym (contains_from_list ts q ∙ any_filtered (λ t. p (versions_at m t)) q (keys m) ∙ tested_key p none q m)) in
+    ap set.items same ∙ items_from_list ts (IsStrictlySortedBy-filter tuple_cmp (λ t. p (versions_at m t)) (keys m) ordered)
+
+-- two facts of what was found
+pub both_ok : {T E : Type 0} (r : Result T E) (P Q : T → Type 0) → IfOk r P → IfOk r Q → IfOk r (λ x. P x × Q x)
+both_ok (Ok x) P Q p q = (p, q)
+both_ok (Err e) P Q p q = tt

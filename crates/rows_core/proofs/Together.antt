@@ -1,5 +1,5 @@
 -- The texts of a node's tuples stand together.
-use Rattle.std.proofs.Common.{◌≡◌, ℕ, List, [], ◌∷◌, ◌++◌, refl, ap, sym, subst, ◌∙◌}
+use Rattle.std.proofs.Common.{◌≡◌, ℕ, List, [], ◌∷◌, refl, ap, sym, subst, ◌∙◌}
 use Rattle.std.specs.Prelude.{Bool, true, false, cond, ◌&&◌, filter}
 use mathlib.Core.Bool.{true≢false}
 use Rattle.std.proofs.Math.Dec.{eqb}
@@ -19,13 +19,13 @@ use Rattle.std.proofs.lemmas.List.Kept.{IsStrictlySortedBy-filter}
 use Rattle.names.specs.Spelling.{IsNode}
 use Rattle.names.specs.declared.node.Node.{Node}
 use Rattle.names.specs.declared.tuple.Tuple.{Tuple}
-use Rattle.rows_core.specs.declared.mark.Mark.{Mark}
+use Rattle.rows_core.specs.declared.version.Version.{Version}
 use Rattle.rows_core.specs.Spelled.{spelled_node, tuple_of, IsSpelling}
-use Rattle.rows_core.specs.Marks.{Entries, is_of}
+use Rattle.rows_core.specs.Versions.{is_of}
 use Rattle.rows_core.specs.Texts.{Texts, entry_of, entries_of, AreSpelled}
 use Rattle.rows_core.proofs.Spellings.{starts_of_node, starts_not_below, none_starts_after}
 use Rattle.rows_core.proofs.Decoding.{text_cmp}
-use Rattle.rows_core.proofs.Picking.{picked}
+use Rattle.rows_core.proofs.Picking.{pick}
 
 never : (b : Bool) → (b ≡ true → ⊥) → b ≡ false
 never true h = absurd (h refl)
@@ -85,28 +85,28 @@ module _ (least : BoxedStr Global) where
   from_sorted es sorted = subst (IsStrictlySortedBy text_cmp) (sym (keys_from es)) (IsStrictlySortedBy-filter text_cmp is_from (keys_of es) sorted)
 
 -- Those of a node. What passes is of the node.
-module _ (node : Node) (is : IsNode node) (f : Tuple × List Mark → Bool) where
-  abbrev pub passes : Tuple × List Mark → Bool
+module _ (node : Node) (is : IsNode node) (f : Tuple × List Version → Bool) where
+  abbrev pub passes : Tuple × List Version → Bool
   passes e = f e && is_of node e.0
 
-  fails : (e : Tuple × List Mark) → is_of node e.0 ≡ false → passes e ≡ false
+  fails : (e : Tuple × List Version) → is_of node e.0 ≡ false → passes e ≡ false
   fails e h = by_test (f e) (is_of node e.0) h
     where
       by_test : (a b : Bool) → b ≡ false → (a && b) ≡ false
       by_test true b h = h
       by_test false b h = refl
 
-  pub other : (e : BoxedStr Global × List Mark) → IsSpelling (boxed_str_bytes e.0) → starts_with eqb (boxed_str_bytes e.0) (spelled_node node) ≡ false → passes (entry_of e) ≡ false
+  pub other : (e : BoxedStr Global × List Version) → IsSpelling (boxed_str_bytes e.0) → starts_with eqb (boxed_str_bytes e.0) (spelled_node node) ≡ false → passes (entry_of e) ≡ false
   other e s h = fails (entry_of e) (sym (starts_of_node (boxed_str_bytes e.0) s node is) ∙ h)
 
-  pub both_pass : (e : BoxedStr Global × List Mark) → IsSpelling (boxed_str_bytes e.0) → f (entry_of e) ≡ true → starts_with eqb (boxed_str_bytes e.0) (spelled_node node) ≡ true → passes (entry_of e) ≡ true
+  pub both_pass : (e : BoxedStr Global × List Version) → IsSpelling (boxed_str_bytes e.0) → f (entry_of e) ≡ true → starts_with eqb (boxed_str_bytes e.0) (spelled_node node) ≡ true → passes (entry_of e) ≡ true
   both_pass e s holds h = ap (λ b. b && is_of node (tuple_of (boxed_str_bytes e.0))) holds ∙ sym (starts_of_node (boxed_str_bytes e.0) s node is) ∙ h
 
-  pub first_fails : (e : Tuple × List Mark) → f e ≡ false → passes e ≡ false
+  pub first_fails : (e : Tuple × List Version) → f e ≡ false → passes e ≡ false
   first_fails e misses = ap (λ b. b && is_of node e.0) misses
 
   -- none is left out below the node's text
-  pub from_all : (least : BoxedStr Global) → boxed_str_bytes least ≡ spelled_node node → (es : Texts) → AreSpelled es → picked passes (entries_of (from least es)) ≡ picked passes (entries_of es)
+  pub from_all : (least : BoxedStr Global) → boxed_str_bytes least ≡ spelled_node node → (es : Texts) → AreSpelled es → pick passes (entries_of (from least es)) ≡ pick passes (entries_of es)
   from_all least reads [] s = refl
   from_all least reads (e ∷ es) s = by_test (is_from least e.0) refl (from_all least reads es s.1)
     where
@@ -115,21 +115,21 @@ module _ (node : Node) (is : IsNode node) (f : Tuple × List Mark → Bool) wher
           never (starts_with eqb (boxed_str_bytes e.0) (spelled_node node)) (λ yes.
           starts_not_below (boxed_str_bytes e.0) (spelled_node node) yes (ap (slice_cmp nat_cmp (boxed_str_bytes e.0)) (sym reads) ∙ turned least e.0 ∙ below least (text_cmp least e.0) out))
 
-      by_test : (b : Bool) → is_from least e.0 ≡ b → picked passes (entries_of (from least es)) ≡ picked passes (entries_of es)
-          → picked passes (entries_of (cond b (e ∷ from least es) (from least es))) ≡ cond (passes (entry_of e)) (tuple_of (boxed_str_bytes e.0) ∷ picked passes (entries_of es)) (picked passes (entries_of es))
+      by_test : (b : Bool) → is_from least e.0 ≡ b → pick passes (entries_of (from least es)) ≡ pick passes (entries_of es)
+          → pick passes (entries_of (cond b (e ∷ from least es) (from least es))) ≡ cond (passes (entry_of e)) (tuple_of (boxed_str_bytes e.0) ∷ pick passes (entries_of es)) (pick passes (entries_of es))
       by_test true out rest = ap (λ ts. cond (passes (entry_of e)) (tuple_of (boxed_str_bytes e.0) ∷ ts) ts) rest
-      by_test false out rest = rest ∙ ap (λ b. cond b (tuple_of (boxed_str_bytes e.0) ∷ picked passes (entries_of es)) (picked passes (entries_of es))) (sym (other e s.0 (starts out)))
+      by_test false out rest = rest ∙ ap (λ b. cond b (tuple_of (boxed_str_bytes e.0) ∷ pick passes (entries_of es)) (pick passes (entries_of es))) (sym (other e s.0 (starts out)))
 
   -- after a text of another node there is none of the node
-  pub none_left : (e : BoxedStr Global × List Mark) (es : Texts) → AreSpelled (e ∷ es) → IsStrictlySortedBy text_cmp (keys_of (e ∷ es)) → (slice_cmp nat_cmp (boxed_str_bytes e.0) (spelled_node node) ≡ Less → ⊥)
-      → starts_with eqb (boxed_str_bytes e.0) (spelled_node node) ≡ false → picked passes (entries_of (e ∷ es)) ≡ []
+  pub none_left : (e : BoxedStr Global × List Version) (es : Texts) → AreSpelled (e ∷ es) → IsStrictlySortedBy text_cmp (keys_of (e ∷ es)) → (slice_cmp nat_cmp (boxed_str_bytes e.0) (spelled_node node) ≡ Less → ⊥)
+      → starts_with eqb (boxed_str_bytes e.0) (spelled_node node) ≡ false → pick passes (entries_of (e ∷ es)) ≡ []
   unfolding IsStrictlySortedBy
   none_left e es s sorted above past =
-      ap (λ b. cond b (tuple_of (boxed_str_bytes e.0) ∷ picked passes (entries_of es)) (picked passes (entries_of es))) (other e s.0 past) ∙ later es s.1 sorted.0
+      ap (λ b. cond b (tuple_of (boxed_str_bytes e.0) ∷ pick passes (entries_of es)) (pick passes (entries_of es))) (other e s.0 past) ∙ later es s.1 sorted.0
     where
-      later : (us : Texts) → AreSpelled us → AllByRecursion (λ k. text_cmp e.0 k ≡ Less) (keys_of us) → picked passes (entries_of us) ≡ []
+      later : (us : Texts) → AreSpelled us → AllByRecursion (λ k. text_cmp e.0 k ≡ Less) (keys_of us) → pick passes (entries_of us) ≡ []
       later [] x h = refl
       later (u ∷ us) x h =
-          ap (λ b. cond b (tuple_of (boxed_str_bytes u.0) ∷ picked passes (entries_of us)) (picked passes (entries_of us)))
+          ap (λ b. cond b (tuple_of (boxed_str_bytes u.0) ∷ pick passes (entries_of us)) (pick passes (entries_of us)))
           (other u x.0 (none_starts_after (boxed_str_bytes e.0) (boxed_str_bytes u.0) (spelled_node node) above past h.0))
           ∙ later us x.1 h.1

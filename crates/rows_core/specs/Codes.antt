@@ -1,4 +1,4 @@
--- Tuples, events and commits as numbers, by which their values are told apart.
+-- Tuples, events and commits as numbers, which differ where their values do.
 use Rattle.std.specs.Prelude.{◌≡◌, ℕ, List, [], Bool, true, false, Option, Some, None, refl}
 use Rattle.std.specs.Coded.{Coded, code_by, coded×, coded_ℕ, coded_list, coded_option, coded_bool}
 use Rattle.names.specs.declared.tuple.Tuple.{Tuple}
@@ -9,6 +9,7 @@ use Rattle.names.specs.declared.commit.Commit.{Commit}
 use Rattle.names.specs.declared.commit.Commit.TheVariants.{Tuples, Config}
 use Rattle.meaning.specs.Config.{Configured}
 use Rattle.config.specs.Codes.{coded_config}
+use Rattle.rows_core.specs.Versions.{is_put}
 
 abbrev coded_text : Coded (List ℕ)
 coded_text = coded_list coded_ℕ
@@ -17,10 +18,6 @@ abbrev pub coded_tuple : Coded Tuple
 coded_tuple = code_by ((List ℕ × (List ℕ × List ℕ)) × (List ℕ × (List ℕ × Option (List ℕ)))) (coded× (coded× coded_text (coded× coded_text coded_text)) (coded× coded_text (coded× coded_text (coded_option coded_text))))
     (λ t. ((t.node.object.namespace, (t.node.object.id, t.node.relation)), (t.subject.object.namespace, (t.subject.object.id, t.subject.relation))))
     (λ p. record { node = record { object = record { namespace = p.0.0; id = p.0.1.0 }; relation = p.0.1.1 }; subject = record { object = record { namespace = p.1.0; id = p.1.1.0 }; relation = p.1.1.1 } }) (λ _. refl)
-
-abbrev is_put : EventKind → Bool
-is_put Put = true
-is_put Del = false
 
 abbrev kind : Bool → EventKind
 kind true = Put

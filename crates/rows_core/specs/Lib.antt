@@ -1,5 +1,5 @@
 pub mod Codes
 pub mod Contents
 pub mod Spelled
-pub mod Marks
+pub mod Versions
 pub mod Texts

@@ -1,22 +1,21 @@
 -- The map as it stands in memory: tuples as texts.
-use Rattle.std.specs.Prelude.{ℕ, List, [], ◌∷◌, map}
-use Rattle.std.specs.BTreeMap.{BTreeMap}
+use Rattle.std.specs.Prelude.{List, [], ◌∷◌}
 use Rattle.std.specs.Global.{Global}
 use Rattle.std.specs.Box.{boxed_str_bytes}
 use Rattle.std.specs.declared.boxed.BoxedStr.{BoxedStr}
 use Rattle.names.specs.declared.tuple.Tuple.{Tuple}
-use Rattle.rows_core.specs.declared.mark.Mark.{Mark}
+use Rattle.rows_core.specs.declared.version.Version.{Version}
 use Rattle.rows_core.specs.Spelled.{tuple_of, IsSpelling}
-use Rattle.rows_core.specs.Marks.{Entries}
+use Rattle.rows_core.specs.Versions.{Entries, HasSame, ChangesAt}
 
--- texts, each with the marks of the tuple that it spells
+-- texts, each with the versions of the tuple that it spells
 abbrev pub Texts : Type 0
-Texts = List (BoxedStr Global × List Mark)
+Texts = List (BoxedStr Global × List Version)
 
-abbrev pub entry_of : BoxedStr Global × List Mark → Tuple × List Mark
+abbrev pub entry_of : BoxedStr Global × List Version → Tuple × List Version
 entry_of e = (tuple_of (boxed_str_bytes e.0), e.1)
 
--- the tuples that the texts spell, with their marks
+-- the tuples that the texts spell, with their versions
 abbrev pub entries_of : Texts → Entries
 entries_of [] = []
 entries_of (e ∷ es) = entry_of e ∷ entries_of es
@@ -25,3 +24,11 @@ entries_of (e ∷ es) = entry_of e ∷ entries_of es
 abbrev pub AreSpelled : Texts → Type 0
 AreSpelled [] = Unit {0}
 AreSpelled (e ∷ es) = IsSpelling (boxed_str_bytes e.0) × AreSpelled es
+
+-- the same of the texts: the versions of each tuple stay
+abbrev pub TextsStay : Texts → Texts → Type 0
+TextsStay old new = HasSame (entries_of old) (entries_of new)
+
+-- the versions of one tuple change so, and those of the others stay
+abbrev pub TextsChangeAt : Tuple → (List Version → List Version) → Texts → Texts → Type 0
+TextsChangeAt t f old new = ChangesAt t f (entries_of old) (entries_of new)

@@ -3,7 +3,7 @@ ghost use Rattle.std.specs.Prelude.{◌≡◌, IfOk, IfSome, IfNone};
 ghost use Rattle.std.specs.Arc.{arc_str_bytes};
 ghost use Rattle.rows_core.specs.Spelled.{tuple_of, IsSpelling};
 
-use crate::spelling::{Spelling, shared_text};
+use crate::tuple_ref::{TupleRef, shared_text};
 use config::Config;
 use names::{Commit, Event, EventKind, Items};
 use std::alloc::{AllocError, Global};
@@ -55,7 +55,7 @@ impl KeptEvent {
     pub(crate) fn event(&self, alloc: Global) -> Result<Event, AllocError>
         ensures { IfOk result (λ e. e ≡ self.now) }
     {
-        let tuple = self.spelling().tuple(alloc)?;
+        let tuple = self.tuple_ref().tuple(alloc)?;
         Ok(Event {
             tuple,
             kind: self.kind,
@@ -73,10 +73,10 @@ impl KeptEvent {
         &self.text
     }
 
-    pub(crate) fn spelling(&self) -> Spelling<'_>
+    pub(crate) fn tuple_ref(&self) -> TupleRef<'_>
         ensures { result ≡ self.now.tuple }
     {
-        Spelling::of(self.text.as_str())
+        TupleRef::of(self.text.as_str())
     }
 }
 

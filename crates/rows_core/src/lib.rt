@@ -1,20 +1,20 @@
-//! The marks of revisions on each tuple, and the events and commits that make them, with each tuple as one
-//! text.
+//! The versions of each tuple, and the events and commits that make them, with each tuple as one text.
 #![tactic(auto)]
 
 mod change;
 mod kept;
 mod lists;
-mod mark;
-mod marked;
-mod marking;
 mod places;
-mod spelling;
+mod tuple_ref;
+mod version;
+mod version_map;
+mod versioning;
 
 pub use change::Change;
 pub use kept::{KeptCommit, KeptEvent};
-pub use mark::Mark;
-pub use marked::Marked;
+pub use lists::refuses;
+pub use version::Version;
+pub use version_map::VersionMap;
 
 #[cfg(test)]
 mod tests;

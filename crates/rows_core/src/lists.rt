@@ -1,30 +1,29 @@
 //! The tuples of a revision, in order.
-ghost use Rattle.std.specs.Prelude.{◌≡◌, ◌++◌, ◌∷◌, [], filter, not, IfOk, OnOk};
+ghost use Rattle.std.specs.Prelude.{◌≡◌, ◌++◌, ◌∷◌, [], filter, IfOk, OnOk};
 ghost use Rattle.std.specs.Box.{boxed_str_bytes};
 ghost use Rattle.std.specs.List.{find};
 ghost use Rattle.std.specs.List.Sorted.{IsStrictlySortedBy};
-ghost use Rattle.meaning.specs.Admits.{admits};
 ghost use Rattle.names.specs.Order.{tuple_cmp};
 ghost use Rattle.rows_core.specs.Spelled.{tuple_of, IsSpelling};
-ghost use Rattle.rows_core.specs.Marks.{keys, marks_at, is_there, is_of, stands};
+ghost use Rattle.rows_core.specs.Versions.{keys, is_of, tuples_at, newest_tuples, refuses};
 
-use crate::marked::Marked;
-use crate::spelling::{Spelling, node_text};
+use crate::tuple_ref::{TupleRef, node_text};
+use crate::version_map::VersionMap;
 use config::Config;
 use names::{Node, Tuple};
 use std::alloc::{AllocError, Global};
 use std::boxed::BoxedStr;
 
-impl Marked {
+impl VersionMap {
     /// All tuples that stand at a revision.
     pub fn tuples_at(&self, alloc: Global, rev: u64) -> Result<Vec<Tuple>, AllocError>
-        ensures found { IfOk result (λ v. v.items ≡ filter (λ t. stands (marks_at self.now t) rev) (keys self.now)) }
+        ensures found { IfOk result (λ v. v.items ≡ tuples_at self.now rev) }
         ensures ordered { IsStrictlySortedBy tuple_cmp (keys self.now) }
     {
         let texts = self.texts();
         let mut found = Vec::new(alloc);
-        for (text, marks) in texts.iter() {
-            if marks.stands_at(rev) {
+        for (text, versions) in texts.iter() {
+            if versions.stands_at(rev) {
                 push_tuple(alloc, &mut found, text)?;
             }
         }
@@ -34,30 +33,31 @@ impl Marked {
     /// The tuples of the node that stand at a revision. Their texts stand together: they begin with the
     /// node's.
     pub fn tuples_of(&self, alloc: Global, rev: u64, node: &Node) -> Result<Vec<Tuple>, AllocError>
-        ensures { IfOk result (λ v. IsStrictlySortedBy tuple_cmp (keys self.now) × (v.items ≡ filter (is_of node.now) (filter (λ t. stands (marks_at self.now t) rev) (keys self.now)))) }
+        ensures found { IfOk result (λ v. v.items ≡ filter (is_of node.now) (tuples_at self.now rev)) }
+        ensures ordered { IfOk result (λ v. IsStrictlySortedBy tuple_cmp (keys self.now)) }
     {
         let texts = self.texts();
         let least = node_text(alloc, node)?;
         let mut tuples = Vec::new(alloc);
-        for (text, marks) in texts.range(&least..) {
+        for (text, versions) in texts.range(&least..) {
             if !text.as_str().starts_with(least.as_str()) {
                 return Ok(tuples);
             }
-            if marks.stands_at(rev) {
+            if versions.stands_at(rev) {
                 push_tuple(alloc, &mut tuples, text)?;
             }
         }
         Ok(tuples)
     }
 
-    /// The first tuple, of those whose last mark is a put, that the configuration does not admit.
+    /// The first tuple, of those whose last version is a put, that the configuration does not admit.
     pub fn first_refused(&self, alloc: Global, config: &Config) -> Result<Option<Tuple>, AllocError>
-        ensures found { IfOk result (λ o. o ≡ find (λ t. not (admits config.now t)) (filter (λ t. is_there (marks_at self.now t)) (keys self.now))) }
+        ensures found { IfOk result (λ o. o ≡ find (refuses config.now) (newest_tuples self.now)) }
         ensures ordered { IsStrictlySortedBy tuple_cmp (keys self.now) }
     {
         let texts = self.texts();
-        for (text, marks) in texts.iter() {
-            if marks.is_there() {
+        for (text, versions) in texts.iter() {
+            if versions.is_there() {
                 let tuple = read(alloc, text)?;
                 if refuses(config, &tuple) {
                     return Ok(Some(tuple));
@@ -72,7 +72,7 @@ fn read(alloc: Global, text: &BoxedStr) -> Result<Tuple, AllocError>
     requires { IsSpelling (boxed_str_bytes text.now) }
     ensures { IfOk result (λ t. t ≡ tuple_of (boxed_str_bytes text.now)) }
 {
-    Spelling::of(text.as_str()).tuple(alloc)
+    TupleRef::of(text.as_str()).tuple(alloc)
 }
 
 fn push_tuple(alloc: Global, tuples: &mut Vec<Tuple>, text: &BoxedStr) -> Result<(), AllocError>
@@ -83,8 +83,9 @@ fn push_tuple(alloc: Global, tuples: &mut Vec<Tuple>, text: &BoxedStr) -> Result
     Ok(())
 }
 
-fn refuses(config: &Config, tuple: &Tuple) -> bool
-    ensures { result ≡ not (admits config.now tuple.now) }
+/// Whether the configuration does not admit the tuple.
+pub fn refuses(config: &Config, tuple: &Tuple) -> bool
+    ensures { result ≡ refuses config.now tuple.now }
 {
     match config.admits(tuple) {
         Ok(()) => false,

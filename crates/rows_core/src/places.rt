@@ -1,103 +1,101 @@
-//! The marks at one text.
-ghost use Rattle.std.specs.Prelude.{◌≡◌, true, ◌++◌, ◌∷◌, [], List, cond, IfOk, OnOk, OnErr};
+//! The versions at one text.
+ghost use Rattle.std.specs.Prelude.{◌≡◌, true, ◌∷◌, [], IfOk, OnOk, OnErr};
 ghost use Rattle.std.specs.Option.{option_map};
-ghost use Rattle.names.specs.Order.{is_same_tuple};
-ghost use Rattle.names.specs.declared.tuple.Tuple.{Tuple as TupleValue};
-ghost use Rattle.rows_core.specs.Marks.{items_or, marks_at, is_based, drop_last, settled, base_marks};
+ghost use Rattle.rows_core.specs.Versions.{items_or, versions_at, is_based, with_version, drop_last, after_settle, base_versions};
 ghost use Rattle.std.specs.Box.{boxed_str_bytes};
 ghost use Rattle.rows_core.specs.Spelled.{tuple_of, IsSpelling};
-ghost use Rattle.rows_core.specs.Texts.{entries_of, AreSpelled};
+ghost use Rattle.rows_core.specs.Texts.{entries_of, AreSpelled, TextsStay, TextsChangeAt};
 
-use crate::mark::{Mark, TupleMarks};
-use crate::spelling::{Spelling, spelled_text};
+use crate::tuple_ref::{TupleRef, spelled_text};
+use crate::version::{Version, Versions};
 use names::Tuple;
 use std::alloc::{AllocError, Global};
 use std::boxed::BoxedStr;
 use std::collections::BTreeMap;
 use std::sync::ArcStr;
 
-/// The tuples that have marks, as their texts, each with its marks.
-pub(crate) type Texts = BTreeMap<BoxedStr, TupleMarks>;
+/// The tuples that have versions, as their texts, each with its versions.
+pub(crate) type Texts = BTreeMap<BoxedStr, Versions>;
 
-pub(crate) fn marks_of<'a>(map: &'a Texts, key: &Spelling<'_>) -> Option<&'a TupleMarks>
+pub(crate) fn versions_of<'a>(map: &'a Texts, key: &TupleRef<'_>) -> Option<&'a Versions>
     requires { AreSpelled map.now.entries }
-    ensures { items_or (option_map (λ marks. marks.now) result) ≡ marks_at (entries_of map.now.entries) key.now }
+    ensures { items_or (option_map (λ versions. versions.now) result) ≡ versions_at (entries_of map.now.entries) key.now }
 {
     map.get(key.as_str())
 }
 
-fn text_of(alloc: Global, key: &Spelling<'_>) -> Result<BoxedStr, AllocError>
+fn text_of(alloc: Global, key: &TupleRef<'_>) -> Result<BoxedStr, AllocError>
     ensures read { IfOk result (λ text. tuple_of (boxed_str_bytes text) ≡ key.now) }
     ensures spelled { IfOk result (λ text. IsSpelling (boxed_str_bytes text)) }
 {
     BoxedStr::from_str(alloc, key.as_str())
 }
 
-pub(crate) fn push_mark(
+pub(crate) fn push_version(
     alloc: Global,
     map: &mut Texts,
-    key: &Spelling<'_>,
+    key: &TupleRef<'_>,
     shared: &ArcStr,
-    mark: Mark,
+    version: Version,
 ) -> Result<(), AllocError>
     requires { AreSpelled map.old.entries }
     ensures spelled { AreSpelled map.new.entries }
-    ensures ok { OnOk result ((q : TupleValue) → marks_at (entries_of map.new.entries) q ≡ cond (is_same_tuple q key.now) (marks_at (entries_of map.old.entries) q ++ mark ∷ []) (marks_at (entries_of map.old.entries) q)) }
-    ensures err { OnErr result ((q : TupleValue) → marks_at (entries_of map.new.entries) q ≡ marks_at (entries_of map.old.entries) q) }
+    ensures ok { OnOk result (TextsChangeAt key.now (with_version version) map.old.entries map.new.entries) }
+    ensures err { OnErr result (TextsStay map.old.entries map.new.entries) }
 {
-    if let Some(marks) = map.get_mut(key.as_str()) {
-        return match marks.add(mark) {
+    if let Some(versions) = map.get_mut(key.as_str()) {
+        return match versions.add(version) {
             Ok(()) => Ok(()),
             Err(e) => Err(e),
         };
     }
     let text = text_of(alloc, key)?;
-    let marks = first_mark(alloc, shared, mark)?;
-    match map.insert(text, marks) {
+    let versions = first_version(alloc, shared, version)?;
+    match map.insert(text, versions) {
         Ok(_) => Ok(()),
         Err(_) => Err(AllocError),
     }
 }
 
-pub(crate) fn pop_mark(map: &mut Texts, key: &Spelling<'_>)
+pub(crate) fn pop_version(map: &mut Texts, key: &TupleRef<'_>)
     requires { AreSpelled map.old.entries }
     ensures spelled { AreSpelled map.new.entries }
-    ensures marks { (q : TupleValue) → marks_at (entries_of map.new.entries) q ≡ cond (is_same_tuple q key.now) (drop_last (marks_at (entries_of map.old.entries) q)) (marks_at (entries_of map.old.entries) q) }
+    ensures versions { TextsChangeAt key.now drop_last map.old.entries map.new.entries }
 {
-    if let Some(marks) = map.get_mut(key.as_str()) {
-        marks.drop_newest();
+    if let Some(versions) = map.get_mut(key.as_str()) {
+        versions.drop_newest();
     }
 }
 
-pub(crate) fn settle_mark(map: &mut Texts, key: &Spelling<'_>) -> bool
+pub(crate) fn settle_version(map: &mut Texts, key: &TupleRef<'_>) -> bool
     requires { AreSpelled map.old.entries }
     ensures spelled { AreSpelled map.new.entries }
-    ensures marks { (q : TupleValue) → marks_at (entries_of map.new.entries) q ≡ cond (is_same_tuple q key.now) (settled (marks_at (entries_of map.old.entries) q)) (marks_at (entries_of map.old.entries) q) }
-    ensures held { result ≡ is_based (marks_at (entries_of map.old.entries) key.now) }
+    ensures versions { TextsChangeAt key.now after_settle map.old.entries map.new.entries }
+    ensures was_based { result ≡ is_based (versions_at (entries_of map.old.entries) key.now) }
 {
-    if let Some(marks) = map.get_mut(key.as_str()) {
-        return marks.settle();
+    if let Some(versions) = map.get_mut(key.as_str()) {
+        return versions.settle();
     }
     false
 }
 
-fn first_mark(alloc: Global, shared: &ArcStr, mark: Mark) -> Result<TupleMarks, AllocError>
-    ensures { IfOk result (λ marks. marks ≡ mark ∷ []) }
+fn first_version(alloc: Global, shared: &ArcStr, version: Version) -> Result<Versions, AllocError>
+    ensures { IfOk result (λ versions. versions ≡ version ∷ []) }
 {
-    TupleMarks::one(alloc, shared.clone()?, mark)
+    Versions::one(alloc, shared.clone()?, version)
 }
 
 /// Puts the tuple into what the floor holds.
 pub(crate) fn put_base(alloc: Global, map: &mut Texts, tuple: &Tuple) -> Result<(), AllocError>
     requires { AreSpelled map.old.entries }
     ensures spelled { AreSpelled map.new.entries }
-    ensures ok { OnOk result ((q : TupleValue) → marks_at (entries_of map.new.entries) q ≡ cond (is_same_tuple q tuple.now) (base_marks true) (marks_at (entries_of map.old.entries) q)) }
+    ensures ok { OnOk result (TextsChangeAt tuple.now (λ _. base_versions true) map.old.entries map.new.entries) }
 {
     let text = spelled_text(alloc, tuple)?;
     let shared = ArcStr::from_str(alloc, text.as_str())?;
-    let mark = Mark { rev: 0, put: true };
-    let marks = first_mark(alloc, &shared, mark)?;
-    match map.insert(text, marks) {
+    let version = Version { rev: 0, put: true };
+    let versions = first_version(alloc, &shared, version)?;
+    match map.insert(text, versions) {
         Ok(_) => Ok(()),
         Err(_) => Err(AllocError),
     }

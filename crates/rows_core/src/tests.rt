@@ -1,5 +1,5 @@
-use crate::spelling::{Scratch, node_text, spelled_text};
-use crate::{KeptCommit, KeptEvent, Marked};
+use crate::tuple_ref::{Scratch, node_text, spelled_text};
+use crate::{KeptCommit, KeptEvent, VersionMap};
 use config::Config;
 use names::{Commit, Event, EventKind, Name, Node, Object, Refusal, Subject, Tuple};
 use std::alloc::Global;
@@ -41,7 +41,7 @@ fn longest(alloc: Global) -> Result<Tuple, Refusal> {
 fn order_of(alloc: Global, first: &str, second: &str) -> Result<Ordering, Refusal> {
     let first = Scratch::of(&Tuple::parse(alloc, first)?);
     let second = Scratch::of(&Tuple::parse(alloc, second)?);
-    Ok(first.spelling().as_str().cmp(second.spelling().as_str()))
+    Ok(first.tuple_ref().as_str().cmp(second.tuple_ref().as_str()))
 }
 
 fn tuples_in(alloc: Global, words: &str) -> Result<Vec<Tuple>, Refusal> {
@@ -65,20 +65,20 @@ fn commit_on(alloc: Global, words: &str, kind: EventKind) -> Result<KeptCommit, 
     for word in words.split_ascii_whitespace() {
         events.push(event(alloc, word, kind)?)?;
     }
-    Ok(Marked::new(alloc).keep(alloc, &events)?)
+    Ok(VersionMap::new(alloc).keep(alloc, &events)?)
 }
 
 // Puts the tuples at a revision.
-fn put(alloc: Global, marked: &mut Marked, words: &str, rev: u64) -> Result<(), Refusal> {
+fn put(alloc: Global, map: &mut VersionMap, words: &str, rev: u64) -> Result<(), Refusal> {
     let events = events_on(alloc, words, EventKind::Put)?;
-    let _ = marked.put_all(&events, rev)?;
+    let _ = map.put_all(&events, rev)?;
     Ok(())
 }
 
 // Takes the tuples away at a revision.
-fn del(alloc: Global, marked: &mut Marked, words: &str, rev: u64) -> Result<(), Refusal> {
+fn del(alloc: Global, map: &mut VersionMap, words: &str, rev: u64) -> Result<(), Refusal> {
     let events = events_on(alloc, words, EventKind::Del)?;
-    let _ = marked.put_all(&events, rev)?;
+    let _ = map.put_all(&events, rev)?;
     Ok(())
 }
 
@@ -121,7 +121,7 @@ fn texts_stand_in_the_order_of_tuples(rt: HostRuntime) -> Result<(), Fail> {
 fn keeps_the_longest(alloc: Global) -> Result<bool, Refusal> {
     let tuple = longest(alloc)?;
     let scratch = Scratch::of(&tuple);
-    let text = scratch.spelling();
+    let text = scratch.tuple_ref();
     Ok(text.as_str().len() == 261 && text.tuple(alloc)? == tuple)
 }
 
@@ -135,7 +135,7 @@ fn comes_back(alloc: Global) -> Result<bool, Refusal> {
     let mut events = Vec::new(alloc);
     events.push(event(alloc, ANN, EventKind::Del)?)?;
     events.push(event(alloc, BOB, EventKind::Put)?)?;
-    let kept = Marked::new(alloc).keep(alloc, &events)?;
+    let kept = VersionMap::new(alloc).keep(alloc, &events)?;
     match kept.commit(alloc)? {
         Commit::Tuples(again) => Ok(again.as_slice() == events.as_slice()),
         Commit::Config(_) => Ok(false),
@@ -166,12 +166,12 @@ fn a_configuration_is_read_back(rt: HostRuntime) -> Result<(), Fail> {
 // Whether the tuples of the node at the revision are these.
 fn lists(
     alloc: Global,
-    marked: &Marked,
+    map: &VersionMap,
     rev: u64,
     node: &str,
     words: &str,
 ) -> Result<bool, Refusal> {
-    let found = marked.tuples_of(alloc, rev, &Node::parse(alloc, node)?)?;
+    let found = map.tuples_of(alloc, rev, &Node::parse(alloc, node)?)?;
     Ok(found == tuples_in(alloc, words)?)
 }
 
@@ -184,12 +184,12 @@ const IN_ORDER: &str =
 const OF_B: &str = "doc:b#viewer@user:a doc:b#viewer@user:a#x doc:b#viewer@user:b";
 
 fn lists_nodes(alloc: Global) -> Result<bool, Refusal> {
-    let mut marked = Marked::new(alloc);
-    put(alloc, &mut marked, PLACES, 1)?;
-    let all = marked.tuples_at(alloc, 1)? == tuples_in(alloc, IN_ORDER)?;
-    let node = lists(alloc, &marked, 1, "doc:b#viewer", OF_B)?;
-    let early = lists(alloc, &marked, 0, "doc:b#viewer", "")?;
-    let other = lists(alloc, &marked, 1, "doc:b#owner", "")?;
+    let mut map = VersionMap::new(alloc);
+    put(alloc, &mut map, PLACES, 1)?;
+    let all = map.tuples_at(alloc, 1)? == tuples_in(alloc, IN_ORDER)?;
+    let node = lists(alloc, &map, 1, "doc:b#viewer", OF_B)?;
+    let early = lists(alloc, &map, 0, "doc:b#viewer", "")?;
+    let other = lists(alloc, &map, 1, "doc:b#owner", "")?;
     Ok(all && node && early && other)
 }
 
@@ -200,18 +200,18 @@ fn the_tuples_of_a_node_are_listed(rt: HostRuntime) -> Result<(), Fail> {
 }
 
 // Whether the tuple stands at the first revision, and not at the second.
-fn stands_then_not(marked: &Marked, tuple: &Tuple, there: u64, gone: u64) -> bool {
-    marked.stands_at(tuple, there) && !marked.stands_at(tuple, gone)
+fn stands_then_not(map: &VersionMap, tuple: &Tuple, there: u64, gone: u64) -> bool {
+    map.stands_at(tuple, there) && !map.stands_at(tuple, gone)
 }
 
 fn stands_between(alloc: Global) -> Result<bool, Refusal> {
-    let mut marked = Marked::new(alloc);
-    put(alloc, &mut marked, ANN, 2)?;
-    del(alloc, &mut marked, ANN, 5)?;
+    let mut map = VersionMap::new(alloc);
+    put(alloc, &mut map, ANN, 2)?;
+    del(alloc, &mut map, ANN, 5)?;
     let ann = Tuple::parse(alloc, ANN)?;
     let bob = Tuple::parse(alloc, BOB)?;
-    let ends = stands_then_not(&marked, &ann, 2, 1) && stands_then_not(&marked, &ann, 4, 5);
-    Ok(ends && marked.last_rev(&ann) == 5 && marked.last_rev(&bob) == 0)
+    let ends = stands_then_not(&map, &ann, 2, 1) && stands_then_not(&map, &ann, 4, 5);
+    Ok(ends && map.last_rev(&ann) == 5 && map.last_rev(&bob) == 0)
 }
 
 #[test]
@@ -222,12 +222,12 @@ fn a_revision_between_two_events_has_the_first(rt: HostRuntime) -> Result<(), Fa
 
 fn comes_off(alloc: Global) -> Result<bool, Refusal> {
     let ann = Tuple::parse(alloc, ANN)?;
-    let mut marked = Marked::based(alloc, &tuples_in(alloc, ANN)?)?;
+    let mut map = VersionMap::of_base(alloc, &tuples_in(alloc, ANN)?)?;
     let events = events_on(alloc, ANN, EventKind::Del)?;
-    let done = marked.put_all(&events, 1)?;
-    let gone = done.gone == 1 && stands_then_not(&marked, &ann, 0, 1);
-    let undone = marked.undo(&events);
-    Ok(gone && undone.gone == 1 && marked.stands_at(&ann, 1))
+    let done = map.put_all(&events, 1)?;
+    let gone = done.gone == 1 && stands_then_not(&map, &ann, 0, 1);
+    let undone = map.undo(&events);
+    Ok(gone && undone.gone == 1 && map.stands_at(&ann, 1))
 }
 
 #[test]
@@ -238,13 +238,13 @@ fn events_are_taken_off_again(rt: HostRuntime) -> Result<(), Fail> {
 
 fn settles(alloc: Global) -> Result<bool, Refusal> {
     let ann = Tuple::parse(alloc, ANN)?;
-    let mut marked = Marked::based(alloc, &tuples_in(alloc, ANN)?)?;
-    del(alloc, &mut marked, ANN, 1)?;
-    put(alloc, &mut marked, ANN, 3)?;
+    let mut map = VersionMap::of_base(alloc, &tuples_in(alloc, ANN)?)?;
+    del(alloc, &mut map, ANN, 1)?;
+    put(alloc, &mut map, ANN, 3)?;
     let mut commits = Vec::new(alloc);
     commits.push(commit_on(alloc, ANN, EventKind::Del)?)?;
-    let left = marked.settle(&commits, 2);
-    Ok(left == 1 && stands_then_not(&marked, &ann, 3, 2))
+    let left = map.settle(&commits, 2);
+    Ok(left == 1 && stands_then_not(&map, &ann, 3, 2))
 }
 
 #[test]
@@ -255,16 +255,16 @@ fn what_settles_stands_at_the_floor(rt: HostRuntime) -> Result<(), Fail> {
 
 fn finds_the_refused(alloc: Global) -> Result<bool, Refusal> {
     let config = Config::from_json(alloc, CONFIG.as_bytes())?;
-    let mut marked = Marked::based(alloc, &tuples_in(alloc, ANN)?)?;
-    let none = marked.first_refused(alloc, &config)?.is_none();
+    let mut map = VersionMap::of_base(alloc, &tuples_in(alloc, ANN)?)?;
+    let none = map.first_refused(alloc, &config)?.is_none();
     put(
         alloc,
-        &mut marked,
+        &mut map,
         "doc:2#owner@user:ann doc:1#owner@user:ann",
         1,
     )?;
     let owner = Tuple::parse(alloc, "doc:1#owner@user:ann")?;
-    Ok(none && marked.first_refused(alloc, &config)? == Some(owner))
+    Ok(none && map.first_refused(alloc, &config)? == Some(owner))
 }
 
 #[test]

@@ -161,7 +161,7 @@ impl Shown {
         ensures ok { OnOk result (IsAccepted (newest_of self.now.kept) ops.now) }
         ensures err { IfErr result (WriteRefused (newest_of self.now.kept) ops.now) }
     {
-        self.rows.judge(ops)
+        self.rows.verdict(ops)
     }
 
     /// Why a configuration is refused, if it is.
@@ -169,7 +169,7 @@ impl Shown {
         ensures ok { OnOk result (config_cause (newest_of self.now.kept) config.now ≡ None) }
         ensures err { IfErr result (ConfigRefused (newest_of self.now.kept) config.now) }
     {
-        self.rows.judge_config(config)
+        self.rows.config_verdict(config)
     }
 
     fn open(&mut self, loaded: &Loaded) -> Result<(), AllocError>

@@ -7,12 +7,11 @@ use Rattle.names.specs.declared.commit.Commit.TheVariants as kinds
 use Rattle.meaning.specs.Config.{Configured}
 use Rattle.meaning.specs.TupleSet as set
 use Rattle.meaning.specs.Verdict.{max_rev}
-use Rattle.rows.specs.Retained.{Retained, newest, newest_of}
+use Rattle.rows.specs.Retained.{Retained, newest, newest_of, empty_store}
 use Rattle.rows.specs.Follows.{IsNext}
 use Rattle.tables.specs.Storing.{CanStore}
 use Rattle.store_core.specs.Steps.{fresh}
 use Rattle.store.specs.Written.{Written, IsSpan, IsSound, IsRevised, IsHistory}
-use Rattle.store.specs.Keeping.{no_commits}
 use Rattle.store.proofs.Causes.{accepted, accepted_config}
 use Rattle.std.specs.FinMap as map
 use Rattle.names.specs.Order.{tuple_cmp}
@@ -38,7 +37,7 @@ blank_sound number some small = record {
   tuples = let z = len_none in omega (arith, z);
 }
 
-pub new_history : (number : ℕ) → 1 ≤ number → number < 2 ^ 63 → IsHistory (fresh number) (no_commits number)
+pub new_history : (number : ℕ) → 1 ≤ number → number < 2 ^ 63 → IsHistory (fresh number) (empty_store number)
 new_history number some small =
     (blank number, record { spans = IsPermutation-refl []; configs = IsPermutation-refl []; entries = IsPermutation-refl (fresh number).entries }, blank_sound number some small, refl)
 

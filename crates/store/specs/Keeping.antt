@@ -1,5 +1,5 @@
 -- The history that a connection's tables hold, and what a crash leaves of it.
-use Rattle.std.specs.Prelude.{◌≡◌, ◌⊎◌, ℕ, []}
+use Rattle.std.specs.Prelude.{◌≡◌, ◌⊎◌, ℕ}
 use Rattle.sqlite.specs.Store.{Ghosts}
 use Rattle.sqlite.specs.Tree.{Trees}
 use Rattle.sqlite.specs.Effect.{Database}
@@ -7,8 +7,7 @@ use Rattle.sqlite.specs.State.{HasCleanDisk}
 use Rattle.sqlite.specs.Held.{Held, state}
 use Rattle.names.specs.declared.commit.Commit.{Commit}
 use Rattle.meaning.specs.Config.{Configured}
-use Rattle.meaning.specs.Snap.{empty_snap}
-use Rattle.rows.specs.Retained.{Retained, with_commit}
+use Rattle.rows.specs.Retained.{Retained, empty_store, with_commit}
 use Rattle.store_core.specs.Tables.{Contents, Holds}
 use Rattle.store_core.specs.Leaves.{Stands}
 use Rattle.store.specs.Written.{IsHistory}
@@ -25,10 +24,6 @@ LeavesHistory g c P = HasCleanDisk (state g c) → (trees : Trees) → (state g 
 abbrev pub IsEither : Retained → Commit Configured → Retained → Type 0
 IsEither r commit x = (x ≡ r) ⊎ (x ≡ with_commit r commit)
 
--- a store with this number and no commit
-abbrev pub no_commits : ℕ → Retained
-no_commits number = record { number = number; floor = 0; base = empty_snap; commits = [] }
-
 -- what a crash left holds a store with this number and no commit
 abbrev pub HasNewStore : ℕ → Trees → Type 0
-HasNewStore number trees = (db : Database) × (trees ≡ db.trees) × (h : Contents) × Holds db h × IsHistory h (no_commits number)
+HasNewStore number trees = (db : Database) × (trees ≡ db.trees) × (h : Contents) × Holds db h × IsHistory h (empty_store number)

@@ -6,10 +6,10 @@ ghost use Rattle.sqlite.specs.declared.error.Error.TheVariants.{SqliteFailure};
 ghost use Rattle.sqlite.specs.declared.error.ErrorCode.TheVariants.{OutOfMemory};
 ghost use Rattle.store_core.specs.Steps.{IsBlank, Undone};
 ghost use Rattle.names.specs.declared.commit.Commit.TheVariants as kinds;
-ghost use Rattle.rows.specs.Retained.{Retained, with_commit};
+ghost use Rattle.rows.specs.Retained.{Retained, empty_store, with_commit};
 ghost use Rattle.rows.specs.Loads.{IsWithin, retained_of};
 ghost use Rattle.tables.specs.Storing.{IsNextAt};
-ghost use Rattle.store.specs.Keeping.{KeepsHistory, LeavesHistory, IsEither, HasNewStore, no_commits};
+ghost use Rattle.store.specs.Keeping.{KeepsHistory, LeavesHistory, IsEither, HasNewStore};
 
 use crate::reading::read;
 use crate::texts::events_of;
@@ -109,7 +109,7 @@ pub fn make_tables<S: Alter>(conn: &mut Connection<S>, number: u64) -> Result<()
     requires some { 1 ≤ number }
     requires small { number < 2 ^ 63 }
     ensures idle { conn.new.in_transaction ≡ false }
-    ensures done { OnOk result (KeepsHistory S.Store conn.new (no_commits number)) }
+    ensures done { OnOk result (KeepsHistory S.Store conn.new (empty_store number)) }
     ensures taken { ¬ (IsBlank (state S.Store conn.old).now) → result ≡ Err TablesError.Fault }
     ensures undone { HasCleanDisk (state S.Store conn.new) → IsBlank (state S.Store conn.old).now → result ≡ Err TablesError.Memory → Undone (state S.Store conn.old) (state S.Store conn.new) }
     ensures crash { Survives (state S.Store conn.old) (state S.Store conn.new) (HasNewStore number) }

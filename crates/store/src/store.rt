@@ -24,7 +24,7 @@ impl<S: Alter + Drop> Store<S> {
     ghost use Rattle.sqlite.specs.Held.{state};
     ghost use Rattle.store_core.specs.Format.{schema};
     ghost use Rattle.store_core.specs.Steps.{IsBlank};
-    ghost use Rattle.store.specs.Keeping.{no_commits};
+    ghost use Rattle.rows.specs.Retained.{empty_store};
     ghost use Rattle.store.specs.Kept.{HoldsHistory, LeavesOnly, connection, faults};
 
     /// Makes the tables of a store that has this number and no commit. Where there is a table, an index or a
@@ -37,8 +37,8 @@ impl<S: Alter + Drop> Store<S> {
         requires idle { conn.in_transaction ≡ false }
         requires some { 1 ≤ number }
         requires small { number < 2 ^ 63 }
-        ensures held { IfOk result (λ s. HoldsHistory S.Store s (no_commits number)) }
-        ensures left { IfOk result (λ s. LeavesOnly S.Store s (λ r. r ≡ no_commits number)) }
+        ensures held { IfOk result (λ s. HoldsHistory S.Store s (empty_store number)) }
+        ensures left { IfOk result (λ s. LeavesOnly S.Store s (λ r. r ≡ empty_store number)) }
         ensures quiet { IfOk result (λ s. faults s ≡ 0) }
         ensures taken { ¬ (IsBlank (state S.Store conn).now) → result ≡ Err TablesError.Fault }
     {

@@ -7,33 +7,33 @@ use Rattle.names.specs.declared.tuple.Tuple.{Tuple}
 use Rattle.names.specs.declared.commit.Commit.{Commit}
 use Rattle.meaning.specs.Config.{Configured}
 use Rattle.meaning.specs.History.{History}
-use Rattle.rows.specs.Retained.{Retained, HasRoom}
+use Rattle.rows.specs.Retained.{Retained, HasRoom, store_from}
 use Rattle.rows.specs.Loads.{IsWithin}
 use Rattle.rows.specs.Follows.{IsNext}
 use Rattle.tables.specs.Storing.{CanStore}
-use Rattle.tables.specs.Limits.{listed, IsInLimits}
+use Rattle.tables.specs.Limits.{IsInLimits}
 use Rattle.tables.proofs.Room.{stays_within}
 
-pub none_within : (number : ℕ) (h : History) → h ≡ [] → IsInLimits (listed number h)
+pub none_within : (number : ℕ) (h : History) → h ≡ [] → IsInLimits (store_from number h)
 none_within number h none =
     let few = finite.len-empty tuple_cmp (Unit {0}) in
-    subst (λ (xs : History). IsInLimits (listed number xs)) (sym none) (omega arith, omega (arith, few))
+    subst (λ (xs : History). IsInLimits (store_from number xs)) (sym none) (omega arith, omega (arith, few))
 
 -- a copy of the commit was pushed
-pub pushed_within : (number : ℕ) (t : Retained) (xs ys zs : History) (c d : Commit Configured) (rev : ℕ) → listed number xs ≡ t → IsInLimits (listed number xs) → CanStore (λ r. t ≡ r) rev d
-    → ((r : Retained) (e : Commit Configured) → IsNext r e → HasRoom r e) → ys ≡ xs → c ≡ d → zs ≡ ys ++ c ∷ [] → IsInLimits (listed number zs)
-pushed_within number t xs ys zs c d rev is kept can room same copy pushed =
-    let next : IsNext (listed number xs) d = subst (λ (r : Retained). IsNext r d) (sym (is ∙ can.1)) can.2.0 in
+pub pushed_within : (number : ℕ) (t : Retained) (xs ys zs : History) (c d : Commit Configured) (rev : ℕ) → store_from number xs ≡ t → IsInLimits (store_from number xs) → CanStore (λ r. t ≡ r) rev d
+    → ((r : Retained) (e : Commit Configured) → IsNext r e → HasRoom r e) → ys ≡ xs → c ≡ d → zs ≡ ys ++ c ∷ [] → IsInLimits (store_from number zs)
+pushed_within number t xs ys zs c d rev is within can room same copy pushed =
+    let next : IsNext (store_from number xs) d = subst (λ (r : Retained). IsNext r d) (sym (is ∙ can.1)) can.2.0 in
     let all : xs ++ d ∷ [] ≡ zs = cc in
-    subst (λ (h : History). IsInLimits (listed number h)) all (stays_within (listed number xs) d kept (room (listed number xs) d next))
+    subst (λ (h : History). IsInLimits (store_from number h)) all (stays_within (store_from number xs) d within (room (store_from number xs) d next))
 
 pub none_ordered : IsStrictlySortedBy tuple_cmp []
 unfolding IsStrictlySortedBy
 none_ordered = tt
 
-pub loaded_within : (number : ℕ) (config : Configured) (ts : List Tuple) (h xs : History) → ts ≡ [] → h ≡ xs → IsInLimits (listed number xs)
+pub loaded_within : (number : ℕ) (config : Configured) (ts : List Tuple) (h xs : History) → ts ≡ [] → h ≡ xs → IsInLimits (store_from number xs)
     → IsWithin (record { number = number; floor = 0; config = config; tuples = ts; commits = h })
-loaded_within number config ts h xs none same kept =
+loaded_within number config ts h xs none same within =
     subst (λ (us : List Tuple). IsWithin (record { number = number; floor = 0; config = config; tuples = us; commits = h })) (sym none)
     (subst (λ (cs : History). IsWithin (record { number = number; floor = 0; config = config; tuples = []; commits = cs })) (sym same)
-    (record { ordered = none_ordered; revs = kept.0; rows = kept.1 }))
+    (record { ordered = none_ordered; revs = within.0; rows = within.1 }))

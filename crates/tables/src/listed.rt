@@ -1,6 +1,6 @@
 //! Tables in memory.
-ghost use Rattle.std.specs.Prelude.{◌≡◌, []};
-ghost use Rattle.tables.specs.Limits.{listed};
+ghost use Rattle.std.specs.Prelude.{◌≡◌};
+ghost use Rattle.rows.specs.Retained.{empty_store};
 
 use crate::copy::{commit_again, commits_again};
 use crate::tables::{Tables, TablesError};
@@ -19,23 +19,23 @@ pub struct Listed {
 }
 
 impl Model for Listed {
-    ghost use Rattle.rows.specs.Retained.{Retained};
+    ghost use Rattle.rows.specs.Retained.{Retained, store_from};
     ghost use Rattle.rows.specs.Codes.{coded_retained};
-    ghost use Rattle.tables.specs.Limits.{listed, IsInLimits};
+    ghost use Rattle.tables.specs.Limits.{IsInLimits};
 
     ghost Value = { Retained };
 
     ghost coded = { coded_retained };
 
-    ghost view = { λ t. listed t.number t.commits.items };
+    ghost view = { λ t. store_from t.number t.commits.items };
 
-    ghost invariant = { λ t. IsInLimits (listed t.number t.commits.items) };
+    ghost invariant = { λ t. IsInLimits (store_from t.number t.commits.items) };
 }
 
 impl Listed {
     /// The tables of a new store with this number.
     pub fn new(alloc: Global, number: u64) -> Listed
-        ensures { result ≡ listed number [] }
+        ensures { result ≡ empty_store number }
     {
         Listed {
             alloc,

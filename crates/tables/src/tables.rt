@@ -16,10 +16,10 @@ pub enum TablesError {
 
 /// Tables that keep the history of one store.
 pub trait Tables {
-    ghost use Rattle.std.specs.Prelude.{◌≡◌, ◌⊎◌, ℕ, IfOk, OnOk, Err};
-    ghost use Rattle.rows.specs.Retained.{Retained, with_commit};
+    ghost use Rattle.std.specs.Prelude.{◌≡◌, ℕ, IfOk, OnOk, Err};
+    ghost use Rattle.rows.specs.Retained.{Retained};
     ghost use Rattle.rows.specs.Loads.{retained_of, IsWithin};
-    ghost use Rattle.tables.specs.Storing.{IsNextAt, CanStore, grown};
+    ghost use Rattle.tables.specs.Storing.{CanStore, LoadsHeld, AfterCommit, WithoutMemory, LeavesThis, LeavesEither, one_more};
 
     // The history that they hold, as far as the device returns what was written.
     ghost holds: { Self → Retained → Type 0 };
@@ -37,22 +37,22 @@ pub trait Tables {
     fn load(&mut self, alloc: Global) -> Result<Loaded, TablesError>
         ensures held { IfOk result (λ loaded. holds self.new (retained_of loaded)) }
         ensures within { IfOk result IsWithin }
-        ensures same { (r : Retained) → holds self.old r → is_reliable self.new → IfOk result (λ loaded. retained_of loaded ≡ r) }
-        ensures left { IfOk result (λ loaded. leaves_only self.new (λ r. r ≡ retained_of loaded)) }
+        ensures same { LoadsHeld (holds self.old) (is_reliable self.new) result }
+        ensures left { IfOk result (λ loaded. LeavesThis (leaves_only self.new) (retained_of loaded)) }
         ensures quiet { OnOk result (count self.new ≡ count self.old) }
-        ensures told { result ≡ Err TablesError.Fault → count self.new ≡ grown (count self.old) };
+        ensures counted { result ≡ Err TablesError.Fault → count self.new ≡ one_more (count self.old) };
 
     /// Stores one commit, wholly or not at all. Its revision is the next.
     fn write(&mut self, rev: u64, commit: &Commit<Config>) -> Result<(), TablesError>
         requires { CanStore (holds self.old) rev commit.now }
-        ensures done { (r : Retained) → holds self.old r → IsNextAt r rev commit.now → OnOk result (holds self.new (with_commit r commit.now)) }
-        ensures undone { (r : Retained) → holds self.old r → result ≡ Err TablesError.Memory → holds self.new r }
-        ensures stored { (r : Retained) → holds self.old r → IsNextAt r rev commit.now → OnOk result (leaves_only self.new (λ x. x ≡ with_commit r commit.now)) }
-        ensures kept { (r : Retained) → holds self.old r → result ≡ Err TablesError.Memory → leaves_only self.new (λ x. x ≡ r) }
-        ensures crash { (r : Retained) → holds self.old r → IsNextAt r rev commit.now → leaves_only self.new (λ x. (x ≡ r) ⊎ (x ≡ with_commit r commit.now)) }
+        ensures done { AfterCommit (holds self.old) rev commit.now result (holds self.new) }
+        ensures undone { WithoutMemory (holds self.old) result (holds self.new) }
+        ensures stored { AfterCommit (holds self.old) rev commit.now result (LeavesThis (leaves_only self.new)) }
+        ensures unstored { WithoutMemory (holds self.old) result (LeavesThis (leaves_only self.new)) }
+        ensures crash { LeavesEither (holds self.old) rev commit.now (leaves_only self.new) }
         ensures quiet { OnOk result (count self.new ≡ count self.old) }
         ensures memory { result ≡ Err TablesError.Memory → count self.new ≡ count self.old }
-        ensures told { result ≡ Err TablesError.Fault → count self.new ≡ grown (count self.old) };
+        ensures counted { result ≡ Err TablesError.Fault → count self.new ≡ one_more (count self.old) };
 
     /// How often they refused for another cause than memory. At 2^64 - 1 it stays.
     fn faults(&self) -> u64

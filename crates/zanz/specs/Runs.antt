@@ -1,7 +1,6 @@
 -- What a run of the program writes for its input.
 use Rattle.std.specs.Prelude.{ℕ, ◌≡◌, Bool, true, false, List, [], ◌∷◌, Option, Result, Err}
-use Rattle.meaning.specs.Snap.{empty_snap}
-use Rattle.rows.specs.Retained.{Retained}
+use Rattle.rows.specs.Retained.{Retained, empty_store}
 use Rattle.rows.specs.Loads.{retained_of}
 use Rattle.rows.specs.declared.loaded.Loaded.{Loaded}
 use Rattle.shown.specs.declared.step.Step.TheVariants.{Open}
@@ -13,10 +12,6 @@ use Rattle.zanz.specs.declared.fault.Fault.{Fault}
 use Rattle.zanz.specs.declared.fault.Fault.TheVariants.{CommandLine, Refused, CannotRead, CannotWrite}
 use Rattle.zanz.specs.declared.words.Place.{Place}
 use Rattle.zanz.specs.declared.words.Place.TheVariants.{Memory, New, There}
-
--- the store with this number, before its first commit
-abbrev pub empty_store : ℕ → Retained
-empty_store number = record { number = number; floor = 0; base = empty_snap; commits = [] }
 
 -- the desk, but for its tables
 abbrev pub seen : {T : Type 0} → Posts T → Posts (Unit {0})

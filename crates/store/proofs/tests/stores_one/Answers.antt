@@ -9,7 +9,7 @@ use Rattle.meaning.specs.Snap.{empty_snap}
 use Rattle.meaning.specs.TupleSet.{items}
 use Rattle.meaning.specs.Verdict.{in_the_way, or_else}
 use Rattle.meaning.proofs.TupleSets.{items_from_list}
-use Rattle.store.specs.Keeping.{no_commits}
+use Rattle.rows.specs.Retained.{empty_store}
 use Rattle.store.proofs.tests.stores_one.Goals as goal
 
 none_ordered : IsStrictlySortedBy tuple_cmp []
@@ -21,4 +21,4 @@ can_follow : (config : Configured) → or_else (in_the_way (find (λ t. not (adm
 can_follow config = ap (λ (ts : List Tuple). or_else (in_the_way (find (λ t. not (admits config t)) ts)) None) (items_from_list [] none_ordered)
 
 pub write-requires : goal.write-requires
-write-requires c = (no_commits 7, c.in_ok-tables.ensures.held, (can_follow c.empty.result, refl))
+write-requires c = (empty_store 7, c.in_ok-tables.ensures.held, (can_follow c.empty.result, refl))

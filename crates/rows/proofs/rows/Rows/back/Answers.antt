@@ -6,15 +6,15 @@ use Rattle.names.specs.declared.commit.Commit.TheVariants as kinds
 use Rattle.meaning.specs.TupleSet as set
 use Rattle.meaning.specs.Config.{Configured}
 use Rattle.meaning.specs.History.{History, replay, after_commits}
-use Rattle.rows_core.specs.declared.mark.Mark.{Mark}
-use Rattle.rows.specs.declared.dated.Dated.{Dated}
+use Rattle.rows_core.specs.declared.version.Version.{Version}
+use Rattle.rows.specs.declared.config_at.ConfigAt.{ConfigAt}
 use Rattle.rows.specs.declared.loaded.Counts.{Counts}
 use Rattle.rows.specs.Retained.{Retained, newest, with_commit, without_newest}
-use Rattle.rows_core.specs.Marks.{marks_after, base_marks, base_tuples, AreMarks, GoesOn, Changes}
-use Rattle.rows.specs.Kept.{retained, IsKept}
+use Rattle.rows_core.specs.Versions.{versions_after, base_versions, base_tuples, AreVersions, GoesOn, Changes}
+use Rattle.rows.specs.Representation.{as_retained, IsConsistent}
 use Rattle.meaning.specs.Snap.{Snap}
 use Rattle.rows_core.proofs.Settling.{after_push}
-use Rattle.rows.proofs.Committing.{kept_back, kept_back_config, kept_as, retained_is, marks_before, before_these, tuples_within, rows_push, last_off}
+use Rattle.rows.proofs.Committing.{consistent_back, consistent_back_config, consistent_as, as_retained_is, versions_before, before_these, tuples_within, rows_push, last_off}
 use Rattle.rows.proofs.rows.Rows.back.Goals as goal
 
 pub puts_in-requires : goal.puts_in-requires
@@ -24,8 +24,8 @@ puts_in-requires c =
     let r : Retained = record { number = s.number; floor = s.floor; base = record { config = s.config; tuples = base_tuples s.tuples }; commits = h } in
     let es : List Event = c.in-Some-events.events.now in
     let split : s.commits.items ≡ h ++ kinds.Tuples es ∷ [] = c.in-Some.ensures.items ∙ ap (λ (x : Commit Configured). h ++ x ∷ []) c.in-Some-events.ensures.some in
-    let old : IsKept (with_commit r (kinds.Tuples es)) s.tuples s.configs.items s.counts =
-    subst (λ (x : History). IsKept (retained s.number s.floor s.config s.tuples x) s.tuples s.configs.items s.counts) split c.self.invariant in
+    let old : IsConsistent (with_commit r (kinds.Tuples es)) s.tuples s.configs.items s.counts =
+    subst (λ (x : History). IsConsistent (as_retained s.number s.floor s.config s.tuples x) s.tuples s.configs.items s.counts) split c.self.invariant in
     let rows = old.rows in
     let few = old.few in
     let more = rows_push h (kinds.Tuples es) in
@@ -38,8 +38,8 @@ overflow_sub-self c =
     let r : Retained = record { number = s.number; floor = s.floor; base = record { config = s.config; tuples = base_tuples s.tuples }; commits = h } in
     let es : List Event = c.in-Some-events.events.now in
     let split : s.commits.items ≡ h ++ kinds.Tuples es ∷ [] = c.in-Some.ensures.items ∙ ap (λ (x : Commit Configured). h ++ x ∷ []) c.in-Some-events.ensures.some in
-    let old : IsKept (with_commit r (kinds.Tuples es)) s.tuples s.configs.items s.counts =
-    subst (λ (x : History). IsKept (retained s.number s.floor s.config s.tuples x) s.tuples s.configs.items s.counts) split c.self.invariant in
+    let old : IsConsistent (with_commit r (kinds.Tuples es)) s.tuples s.configs.items s.counts =
+    subst (λ (x : History). IsConsistent (as_retained s.number s.floor s.config s.tuples x) s.tuples s.configs.items s.counts) split c.self.invariant in
     let rows = old.rows in
     let few = old.few in
     let more = rows_push h (kinds.Tuples es) in
@@ -53,8 +53,8 @@ overflow_add-self c =
     let r : Retained = record { number = s.number; floor = s.floor; base = record { config = s.config; tuples = base_tuples s.tuples }; commits = h } in
     let es : List Event = c.in-Some-events.events.now in
     let split : s.commits.items ≡ h ++ kinds.Tuples es ∷ [] = c.in-Some.ensures.items ∙ ap (λ (x : Commit Configured). h ++ x ∷ []) c.in-Some-events.ensures.some in
-    let old : IsKept (with_commit r (kinds.Tuples es)) s.tuples s.configs.items s.counts =
-    subst (λ (x : History). IsKept (retained s.number s.floor s.config s.tuples x) s.tuples s.configs.items s.counts) split c.self.invariant in
+    let old : IsConsistent (with_commit r (kinds.Tuples es)) s.tuples s.configs.items s.counts =
+    subst (λ (x : History). IsConsistent (as_retained s.number s.floor s.config s.tuples x) s.tuples s.configs.items s.counts) split c.self.invariant in
     let rows = old.rows in
     let few = old.few in
     let more = rows_push h (kinds.Tuples es) in
@@ -71,11 +71,11 @@ overflow_sub-self-in-Some-events c =
     let r : Retained = record { number = s.number; floor = s.floor; base = record { config = s.config; tuples = base_tuples s.tuples }; commits = h } in
     let es : List Event = c.in-Some-events.events.now in
     let split : s.commits.items ≡ h ++ kinds.Tuples es ∷ [] = c.in-Some.ensures.items ∙ ap (λ (x : Commit Configured). h ++ x ∷ []) c.in-Some-events.ensures.some in
-    let old : IsKept (with_commit r (kinds.Tuples es)) s.tuples s.configs.items s.counts =
-    subst (λ (x : History). IsKept (retained s.number s.floor s.config s.tuples x) s.tuples s.configs.items s.counts) split c.self.invariant in
-    let before : Tuple → List Mark = λ q. base_marks (set.contains r.base.tuples q) ++ marks_after r.floor r.commits q in
-    let goes : GoesOn before s.tuples (newest r + 1) es = marks_before r s.tuples (kinds.Tuples es) old.marks in
-    let marks : AreMarks c.undo-change.new.self r.base.tuples r.floor r.commits = c.undo-change.ensures.marks before (newest r + 1) goes in
+    let old : IsConsistent (with_commit r (kinds.Tuples es)) s.tuples s.configs.items s.counts =
+    subst (λ (x : History). IsConsistent (as_retained s.number s.floor s.config s.tuples x) s.tuples s.configs.items s.counts) split c.self.invariant in
+    let before : Tuple → List Version = λ q. base_versions (set.contains r.base.tuples q) ++ versions_after r.floor r.commits q in
+    let goes : GoesOn before s.tuples (newest r + 1) es = versions_before r s.tuples (kinds.Tuples es) old.versions in
+    let versions : AreVersions c.undo-change.new.self r.base.tuples r.floor r.commits = c.undo-change.ensures.versions before (newest r + 1) goes in
     let changes : Changes before es c.undo-change.result = c.undo-change.ensures.change before (newest r + 1) goes in
     let tuples : s.counts.tuples ≡ set.len (replay (after_commits r.base h).tuples es) = old.tuples ∙ ap (λ (x : Snap). set.len x.tuples) (after_push r.base h (kinds.Tuples es)) in
     let left = changes (after_commits r.base r.commits).tuples (before_these r) in
@@ -88,16 +88,16 @@ invariant_of-self-in-Some-events c =
     let r : Retained = record { number = s.number; floor = s.floor; base = record { config = s.config; tuples = base_tuples s.tuples }; commits = h } in
     let es : List Event = c.in-Some-events.events.now in
     let split : s.commits.items ≡ h ++ kinds.Tuples es ∷ [] = c.in-Some.ensures.items ∙ ap (λ (x : Commit Configured). h ++ x ∷ []) c.in-Some-events.ensures.some in
-    let old : IsKept (with_commit r (kinds.Tuples es)) s.tuples s.configs.items s.counts =
-    subst (λ (x : History). IsKept (retained s.number s.floor s.config s.tuples x) s.tuples s.configs.items s.counts) split c.self.invariant in
-    let before : Tuple → List Mark = λ q. base_marks (set.contains r.base.tuples q) ++ marks_after r.floor r.commits q in
-    let goes : GoesOn before s.tuples (newest r + 1) es = marks_before r s.tuples (kinds.Tuples es) old.marks in
-    let marks : AreMarks c.undo-change.new.self r.base.tuples r.floor r.commits = c.undo-change.ensures.marks before (newest r + 1) goes in
+    let old : IsConsistent (with_commit r (kinds.Tuples es)) s.tuples s.configs.items s.counts =
+    subst (λ (x : History). IsConsistent (as_retained s.number s.floor s.config s.tuples x) s.tuples s.configs.items s.counts) split c.self.invariant in
+    let before : Tuple → List Version = λ q. base_versions (set.contains r.base.tuples q) ++ versions_after r.floor r.commits q in
+    let goes : GoesOn before s.tuples (newest r + 1) es = versions_before r s.tuples (kinds.Tuples es) old.versions in
+    let versions : AreVersions c.undo-change.new.self r.base.tuples r.floor r.commits = c.undo-change.ensures.versions before (newest r + 1) goes in
     let changes : Changes before es c.undo-change.result = c.undo-change.ensures.change before (newest r + 1) goes in
     let counts : Counts = record { rows = s.counts.rows - c.puts_in.result; tuples = s.counts.tuples + c.undo-change.result.gone - c.undo-change.result.come } in
-    let kept : IsKept r c.undo-change.new.self s.configs.items counts =
-    kept_back r s.tuples c.undo-change.new.self s.configs.items s.counts counts es c.undo-change.result old marks changes (ap (λ (n : ℕ). s.counts.rows - n) c.puts_in.ensures.puts) refl in
-    kept_as s.number s.floor s.config c.undo-change.new.self r.base.tuples h s.configs.items counts kept
+    let consistent : IsConsistent r c.undo-change.new.self s.configs.items counts =
+    consistent_back r s.tuples c.undo-change.new.self s.configs.items s.counts counts es c.undo-change.result old versions changes (ap (λ (n : ℕ). s.counts.rows - n) c.puts_in.ensures.puts) refl in
+    consistent_as s.number s.floor s.config c.undo-change.new.self r.base.tuples h s.configs.items counts consistent
 
 pub returns-in-Some-events : goal.returns-in-Some-events
 returns-in-Some-events c =
@@ -106,18 +106,18 @@ returns-in-Some-events c =
     let r : Retained = record { number = s.number; floor = s.floor; base = record { config = s.config; tuples = base_tuples s.tuples }; commits = h } in
     let es : List Event = c.in-Some-events.events.now in
     let split : s.commits.items ≡ h ++ kinds.Tuples es ∷ [] = c.in-Some.ensures.items ∙ ap (λ (x : Commit Configured). h ++ x ∷ []) c.in-Some-events.ensures.some in
-    let old : IsKept (with_commit r (kinds.Tuples es)) s.tuples s.configs.items s.counts =
-    subst (λ (x : History). IsKept (retained s.number s.floor s.config s.tuples x) s.tuples s.configs.items s.counts) split c.self.invariant in
-    let before : Tuple → List Mark = λ q. base_marks (set.contains r.base.tuples q) ++ marks_after r.floor r.commits q in
-    let goes : GoesOn before s.tuples (newest r + 1) es = marks_before r s.tuples (kinds.Tuples es) old.marks in
-    let marks : AreMarks c.undo-change.new.self r.base.tuples r.floor r.commits = c.undo-change.ensures.marks before (newest r + 1) goes in
+    let old : IsConsistent (with_commit r (kinds.Tuples es)) s.tuples s.configs.items s.counts =
+    subst (λ (x : History). IsConsistent (as_retained s.number s.floor s.config s.tuples x) s.tuples s.configs.items s.counts) split c.self.invariant in
+    let before : Tuple → List Version = λ q. base_versions (set.contains r.base.tuples q) ++ versions_after r.floor r.commits q in
+    let goes : GoesOn before s.tuples (newest r + 1) es = versions_before r s.tuples (kinds.Tuples es) old.versions in
+    let versions : AreVersions c.undo-change.new.self r.base.tuples r.floor r.commits = c.undo-change.ensures.versions before (newest r + 1) goes in
     let changes : Changes before es c.undo-change.result = c.undo-change.ensures.change before (newest r + 1) goes in
     let counts : Counts = record { rows = s.counts.rows - c.puts_in.result; tuples = s.counts.tuples + c.undo-change.result.gone - c.undo-change.result.come } in
-    let kept : IsKept r c.undo-change.new.self s.configs.items counts =
-    kept_back r s.tuples c.undo-change.new.self s.configs.items s.counts counts es c.undo-change.result old marks changes (ap (λ (n : ℕ). s.counts.rows - n) c.puts_in.ensures.puts) refl in
-    retained_is s.number s.floor s.config c.undo-change.new.self r.base.tuples h kept.marks
+    let consistent : IsConsistent r c.undo-change.new.self s.configs.items counts =
+    consistent_back r s.tuples c.undo-change.new.self s.configs.items s.counts counts es c.undo-change.result old versions changes (ap (λ (n : ℕ). s.counts.rows - n) c.puts_in.ensures.puts) refl in
+    as_retained_is s.number s.floor s.config c.undo-change.new.self r.base.tuples h consistent.versions
     ∙ ap (λ (x : History). record { number = s.number; floor = s.floor; base = r.base; commits = x }) (sym (last_off h (kinds.Tuples es)))
-    ∙ ap (λ (x : History). without_newest (retained s.number s.floor s.config s.tuples x)) (sym split)
+    ∙ ap (λ (x : History). without_newest (as_retained s.number s.floor s.config s.tuples x)) (sym split)
     ∙ ap without_newest c.self.view_is
 
 pub invariant_of-self-in-None : goal.invariant_of-self-in-None
@@ -127,7 +127,7 @@ invariant_of-self-in-None c =
     let r : Retained = record { number = s.number; floor = s.floor; base = record { config = s.config; tuples = base_tuples s.tuples }; commits = h } in
     let config : Configured = c.in-None.ensures.none.0 in
     let split : s.commits.items ≡ h ++ kinds.Config config ∷ [] = c.in-Some.ensures.items ∙ ap (λ (x : Commit Configured). h ++ x ∷ []) c.in-None.ensures.none.1 in
-    let old : IsKept (with_commit r (kinds.Config config)) s.tuples s.configs.items s.counts =
-    subst (λ (x : History). IsKept (retained s.number s.floor s.config s.tuples x) s.tuples s.configs.items s.counts) split c.self.invariant in
-    subst (λ (ds : List Dated). IsKept r s.tuples ds s.counts) (sym c.drop_config.ensures)
-    (kept_back_config r s.tuples s.configs.items s.counts config old)
+    let old : IsConsistent (with_commit r (kinds.Config config)) s.tuples s.configs.items s.counts =
+    subst (λ (x : History). IsConsistent (as_retained s.number s.floor s.config s.tuples x) s.tuples s.configs.items s.counts) split c.self.invariant in
+    subst (λ (ds : List ConfigAt). IsConsistent r s.tuples ds s.counts) (sym c.drop_config.ensures)
+    (consistent_back_config r s.tuples s.configs.items s.counts config old)

@@ -1,14 +1,14 @@
 use Rattle.std.proofs.Common.{◌≤◌, subst, ap, sym, ◌∙◌}
 use Rattle.meaning.specs.TupleSet as set
 use Rattle.rows.specs.Retained.{Retained, snap_at}
-use Rattle.rows.specs.Kept.{retained}
+use Rattle.rows.specs.Representation.{as_retained}
 use Rattle.rows.proofs.Retaining.{stands_at}
 use Rattle.rows.proofs.rows.Rows.has.Goals as goal
 
 pub returns : goal.returns
 returns c =
     let s = c.self.inside in
-    let r = retained s.number s.floor s.config s.tuples s.commits.items in
+    let r = as_retained s.number s.floor s.config s.tuples s.commits.items in
     c.stands_at.ensures
-    ∙ stands_at r s.tuples c.args.rev c.args.tuple.now c.self.invariant.marks (subst (λ (x : Retained). x.floor ≤ c.args.rev) (sym c.self.view_is) c.requires.not_below)
+    ∙ stands_at r s.tuples c.args.rev c.args.tuple.now c.self.invariant.versions (subst (λ (x : Retained). x.floor ≤ c.args.rev) (sym c.self.view_is) c.requires.not_below)
     ∙ ap (λ (x : Retained). set.contains (snap_at x c.args.rev).tuples c.args.tuple.now) c.self.view_is

@@ -2,8 +2,8 @@ use Rattle.std.proofs.Common.{◌≤◌, ap, sym, subst, ◌∙◌, refl}
 use Rattle.std.proofs.lemmas.Result.{IfOk-weaker}
 use Rattle.meaning.specs.TupleSet as set
 use Rattle.rows.specs.Retained.{Retained, snap_at}
-use Rattle.rows_core.specs.Marks.{stands}
-use Rattle.rows.specs.Kept.{retained}
+use Rattle.rows_core.specs.Versions.{stands}
+use Rattle.rows.specs.Representation.{as_retained}
 use Rattle.rows_core.proofs.Listing.{items_by}
 use Rattle.rows.proofs.Retaining.{stands_at}
 use Rattle.rows.proofs.rows.Rows.tuples_at.Goals as goal
@@ -11,9 +11,9 @@ use Rattle.rows.proofs.rows.Rows.tuples_at.Goals as goal
 pub returns : goal.returns
 returns c =
     let s = c.self.inside in
-    let r : Retained = retained s.number s.floor s.config s.tuples s.commits.items in
+    let r : Retained = as_retained s.number s.floor s.config s.tuples s.commits.items in
     let not_below = subst (λ (x : Retained). x.floor ≤ c.args.rev) (sym c.self.view_is) c.requires.not_below in
-    let items = items_by s.tuples (snap_at r c.args.rev).tuples (λ ms. stands ms c.args.rev) refl c.tuples_at.ensures.ordered (λ q. sym (stands_at r s.tuples c.args.rev q c.self.invariant.marks not_below)) in
+    let items = items_by s.tuples (snap_at r c.args.rev).tuples (λ ms. stands ms c.args.rev) refl c.tuples_at.ensures.ordered (λ q. sym (stands_at r s.tuples c.args.rev q c.self.invariant.versions not_below)) in
     IfOk-weaker c.tuples_at.result _ _
     (λ v is. is ∙ sym items ∙ ap (λ (x : Retained). set.items (snap_at x c.args.rev).tuples) c.self.view_is)
     c.tuples_at.ensures.found

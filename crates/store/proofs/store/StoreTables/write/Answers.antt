@@ -7,8 +7,8 @@ pub returns-in-Ok-clause-stored : goal.returns-in-Ok-clause-stored
 returns-in-Ok-clause-stored g c = λ r keeps next.
     leaves_kept g.S.Store g.met.S.Store.settled c.write_commit.new.conn (with_commit r c.args.commit.now) (λ x. x ≡ with_commit r c.args.commit.now) refl (c.in-Ok.ensures.done r keeps next)
 
-pub returns-in-Err-Memory-clause-kept : goal.returns-in-Err-Memory-clause-kept
-returns-in-Err-Memory-clause-kept g c = λ r keeps was. leaves_kept g.S.Store g.met.S.Store.settled c.write_commit.new.conn r (λ x. x ≡ r) refl (c.in-Err-Memory.ensures.undone r keeps (cc))
+pub returns-in-Err-Memory-clause-unstored : goal.returns-in-Err-Memory-clause-unstored
+returns-in-Err-Memory-clause-unstored g c = λ r keeps was. leaves_kept g.S.Store g.met.S.Store.settled c.write_commit.new.conn r (λ x. x ≡ r) refl (c.in-Err-Memory.ensures.undone r keeps (cc))
 
 pub returns-in-Ok-clause-done : goal.returns-in-Ok-clause-done
 returns-in-Ok-clause-done g c = λ r keeps next. c.in-Ok.ensures.done r keeps next

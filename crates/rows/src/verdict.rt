@@ -1,0 +1,237 @@
+//! Why a write is refused.
+ghost use Rattle.std.specs.Prelude.{◌≡◌, ◌≤◌, count_by, length, map, None, false, IfErr, OnOk};
+ghost use Rattle.std.specs.List.{list_any};
+ghost use Rattle.names.specs.Order.{is_same_tuple};
+ghost use Rattle.meaning.specs.History.{puts_in};
+ghost use Rattle.meaning.specs.Verdict.{is_unknown, is_untyped, is_twice, inserts_again, deletes_nothing, first_from, event_of, write_cause, config_cause, is_full, max_ops};
+ghost use Rattle.rows.specs.Retained.{newest_of};
+ghost use Rattle.rows.specs.Follows.{IsAccepted};
+ghost use Rattle.rows.specs.Judging.{adds_tuple, takes_tuple, puts_tuple, says_unknown, WriteRefused, ConfigRefused};
+
+use crate::rows::Rows;
+use crate::view::View;
+use config::Config;
+use names::{Op, OpKind, Refusal};
+use rows_core::refuses;
+
+/// The most operations of a write.
+const MAX_OPS: usize = 256;
+/// The most current tuples.
+const MAX_TUPLES: u64 = 1_000_000;
+/// The most rows of a history.
+const MAX_ROWS: u64 = 4_000_000;
+/// The most revisions.
+pub(crate) const MAX_REV: u64 = 1_000_000_000_000;
+
+impl Rows {
+    /// Why the operations are refused at the newest revision, if they are: the first cause, each looked
+    /// for over the whole write before the next.
+    pub fn verdict(&self, ops: &[Op]) -> Result<(), Refusal>
+        ensures ok { OnOk result (IsAccepted (newest_of self.now) ops.now) }
+        ensures err { IfErr result (WriteRefused (newest_of self.now) ops.now) }
+    {
+        match self.write_cause(ops) {
+            None => Ok(()),
+            Some(why) => Err(why),
+        }
+    }
+
+    /// Why a configuration is refused at the newest revision, if it is.
+    pub fn config_verdict(&self, config: &Config) -> Result<(), Refusal>
+        ensures ok { OnOk result (config_cause (newest_of self.now) config.now ≡ None) }
+        ensures err { IfErr result (ConfigRefused (newest_of self.now) config.now) }
+    {
+        if let Some(tuple) = self.tuple_in_the_way(config)? {
+            return Err(Refusal::TupleInTheWay(tuple));
+        }
+        if self.newest() + 1 > MAX_REV {
+            return Err(Refusal::Full);
+        }
+        Ok(())
+    }
+
+    /// Why the operations are refused at the newest revision, or nothing.
+    pub(crate) fn write_cause(&self, ops: &[Op]) -> Option<Refusal>
+        ensures { result ≡ write_cause (newest_of self.now) ops.now }
+    {
+        let view = self.at(self.newest());
+        let config = view.config();
+        if ops.is_empty() || ops.len() > MAX_OPS {
+            return Some(Refusal::Malformed);
+        }
+        if some_unknown(config, ops) {
+            return Some(Refusal::UnknownRelation);
+        }
+        if some_untyped(config, ops) {
+            return Some(Refusal::TypeRefused);
+        }
+        if is_twice(ops) {
+            return Some(Refusal::TwiceInOneWrite);
+        }
+        if let Some(place) = first_there(&view, ops) {
+            return Some(Refusal::AlreadyThere(place));
+        }
+        if let Some(place) = first_absent(&view, ops) {
+            return Some(Refusal::NotThere(place));
+        }
+        if self.is_full(&view, ops) {
+            return Some(Refusal::Full);
+        }
+        None
+    }
+
+    /// Whether a limit would be passed.
+    fn is_full(&self, view: &View<'_>, ops: &[Op]) -> bool
+        requires few { length ops.now ≤ max_ops }
+        requires once { is_twice ops.now ≡ false }
+        requires newest { view.now ≡ (newest_of self.now).held }
+        ensures { result ≡ is_full (newest_of self.now) (map event_of ops.now) }
+    {
+        let counts = self.counts();
+        let added = count_added(view, ops) as u64;
+        let room = MAX_TUPLES + count_taken(view, ops) as u64;
+        if counts.tuples > room || added > room - counts.tuples {
+            return true;
+        }
+        counts.rows + count_puts(ops) as u64 > MAX_ROWS || self.newest() + 1 > MAX_REV
+    }
+}
+
+/// Whether the relation of some operation's tuple is not there.
+fn some_unknown(config: &Config, ops: &[Op]) -> bool
+    ensures { result ≡ list_any (is_unknown config.now) ops.now }
+{
+    ops.iter().any(|op| is_unknown(config, op))
+}
+
+/// Whether the configuration does not admit some operation's tuple.
+fn some_untyped(config: &Config, ops: &[Op]) -> bool
+    ensures { result ≡ list_any (is_untyped config.now) ops.now }
+{
+    ops.iter().any(|op| refuses(config, &op.tuple))
+}
+
+/// Whether a tuple stands in two operations. Each is compared with those after it.
+fn is_twice(ops: &[Op]) -> bool
+    ensures { result ≡ is_twice ops.now }
+{
+    for i in 0..ops.len() {
+        if is_again(&ops[i], &ops[i + 1..]) {
+            return true;
+        }
+    }
+    false
+}
+
+/// The first operation that inserts a tuple which is there.
+fn first_there(view: &View<'_>, ops: &[Op]) -> Option<u64>
+    ensures { result ≡ first_from (inserts_again view.now.tuples) 0 ops.now }
+{
+    for i in 0..ops.len() {
+        if inserts_again(view, &ops[i]) {
+            return Some(i as u64);
+        }
+    }
+    None
+}
+
+/// The first operation that deletes a tuple which is not there.
+fn first_absent(view: &View<'_>, ops: &[Op]) -> Option<u64>
+    ensures { result ≡ first_from (deletes_nothing view.now.tuples) 0 ops.now }
+{
+    for i in 0..ops.len() {
+        if deletes_nothing(view, &ops[i]) {
+            return Some(i as u64);
+        }
+    }
+    None
+}
+
+/// How many operations put a tuple that is not there.
+fn count_added(view: &View<'_>, ops: &[Op]) -> usize
+    ensures { result ≡ count_by (adds_tuple view.now.tuples) ops.now }
+{
+    ops.iter().filter(|op| adds_tuple(view, op)).count()
+}
+
+/// How many operations take away a tuple that is there.
+fn count_taken(view: &View<'_>, ops: &[Op]) -> usize
+    ensures { result ≡ count_by (takes_tuple view.now.tuples) ops.now }
+{
+    ops.iter().filter(|op| takes_tuple(view, op)).count()
+}
+
+/// How many operations put a tuple.
+fn count_puts(ops: &[Op]) -> usize
+    ensures { result ≡ count_by puts_tuple ops.now }
+{
+    ops.iter().filter(|op| puts_tuple(op)).count()
+}
+
+fn is_unknown(config: &Config, op: &Op) -> bool
+    ensures { result ≡ is_unknown config.now op.now }
+{
+    match config.admits(&op.tuple) {
+        Ok(()) => false,
+        Err(why) => says_unknown(&why),
+    }
+}
+
+fn says_unknown(why: &Refusal) -> bool
+    ensures { result ≡ says_unknown why.now }
+{
+    match why {
+        Refusal::UnknownRelation => true,
+        _ => false,
+    }
+}
+
+fn is_again(op: &Op, others: &[Op]) -> bool
+    ensures { result ≡ list_any (λ p. is_same_tuple op.now.tuple p.tuple) others.now }
+{
+    others
+        .iter()
+        .any(|other| op.tuple.cmp(&other.tuple).is_eq())
+}
+
+fn inserts_again(view: &View<'_>, op: &Op) -> bool
+    ensures { result ≡ inserts_again view.now.tuples op.now }
+{
+    match op.kind {
+        OpKind::Insert => view.contains(&op.tuple),
+        OpKind::Touch => false,
+        OpKind::Delete => false,
+    }
+}
+
+fn deletes_nothing(view: &View<'_>, op: &Op) -> bool
+    ensures { result ≡ deletes_nothing view.now.tuples op.now }
+{
+    match op.kind {
+        OpKind::Insert => false,
+        OpKind::Touch => false,
+        OpKind::Delete => !view.contains(&op.tuple),
+    }
+}
+
+fn puts_tuple(op: &Op) -> bool
+    ensures { result ≡ puts_tuple op.now }
+{
+    match op.kind {
+        OpKind::Insert => true,
+        OpKind::Touch => true,
+        OpKind::Delete => false,
+    }
+}
+
+fn adds_tuple(view: &View<'_>, op: &Op) -> bool
+    ensures { result ≡ adds_tuple view.now.tuples op.now }
+{
+    puts_tuple(op) && !view.contains(&op.tuple)
+}
+
+fn takes_tuple(view: &View<'_>, op: &Op) -> bool
+    ensures { result ≡ takes_tuple view.now.tuples op.now }
+{
+    !puts_tuple(op) && view.contains(&op.tuple)
+}

@@ -1,0 +1,24 @@
+use Rattle.std.proofs.Common.{◌≡◌, ◌++◌, List, [], ap, sym, ◌∙◌, append-nil}
+use Rattle.std.specs.Prelude.{Bool}
+use Rattle.names.specs.declared.tuple.Tuple.{Tuple}
+use Rattle.rows_core.specs.declared.version.Version.{Version}
+use Rattle.rows_core.specs.Versions.{stands}
+use Rattle.rows_core.specs.Texts.{Texts, entries_of}
+use Rattle.rows_core.proofs.Decoding.{sorted_view}
+use Rattle.rows_core.proofs.Picking.{pick, picked_is}
+use Rattle.rows_core.proofs.version_map.VersionMap.tuples_at.Goals as goal
+
+pub returns-in_err-push_tuple-clause-ordered : goal.returns-in_err-push_tuple-clause-ordered
+returns-in_err-push_tuple-clause-ordered c = sorted_view c.texts-texts.result.now.entries c.args.self.now c.texts-texts.ensures.entries c.texts-texts.ensures.spelled c.iter-text-items.ensures.ordered
+
+pub returns-clause-ordered : goal.returns-clause-ordered
+returns-clause-ordered c = sorted_view c.texts-texts.result.now.entries c.args.self.now c.texts-texts.ensures.entries c.texts-texts.ensures.spelled c.iter-text-items.ensures.ordered
+
+pub returns-clause-found : goal.returns-clause-found
+returns-clause-found c =
+    let f : Tuple × List Version → Bool = λ e. stands e.1 c.args.rev in
+    let none : c.loop-text.text-iterator ≡ [] = c.in-None.ensures.steps.0 in
+    sym (append-nil c.loop-text.found.items)
+    ∙ ap (λ (es : Texts). c.loop-text.found.items ++ pick f (entries_of es)) (sym none)
+    ∙ c.loop-text.invariant.all
+    ∙ picked_is (λ ms. stands ms c.args.rev) c.args.self.now (sorted_view c.texts-texts.result.now.entries c.args.self.now c.texts-texts.ensures.entries c.texts-texts.ensures.spelled c.iter-text-items.ensures.ordered)

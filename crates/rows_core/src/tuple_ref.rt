@@ -1,0 +1,251 @@
+//! Tuples as texts.
+ghost use Rattle.std.specs.Prelude.{◌≡◌, ◌≤◌, ◌+◌, ◌++◌, ◌∷◌, IsTrue, IfOk, option_map};
+ghost use Rattle.std.specs.Box.{boxed_str_bytes};
+ghost use Rattle.std.specs.Arc.{arc_str_bytes};
+ghost use Rattle.arrayvec.specs.ArrayString.{array_string_len};
+ghost use Rattle.names.specs.Names.{is_name, is_id};
+ghost use Rattle.names.specs.Spelling.{IsNode, IsObject, IsSubject};
+ghost use Rattle.rows_core.specs.Spelled.{spelled, spelled_node, spelled_subject, before_space, after_space, last_part, subject_in, tuple_of, IsSpelling};
+
+use arrayvec::ArrayString;
+use names::{Name, Node, Object, ObjectId, Refusal, Subject, Tuple};
+use std::alloc::{AllocError, Global};
+use std::boxed::BoxedStr;
+use std::marker::Model;
+use std::sync::ArcStr;
+
+/// The text of a tuple.
+#[derive(Drop)]
+pub(crate) struct TupleRef<'a> {
+    text: &'a str,
+}
+
+impl<'a> Model for TupleRef<'a> {
+    ghost use Rattle.names.specs.declared.tuple.Tuple.{Tuple as TupleValue};
+    ghost use Rattle.rows_core.specs.Codes.{coded_tuple};
+    ghost use Rattle.rows_core.specs.Spelled.{tuple_of, IsSpelling};
+
+    ghost Value = { TupleValue };
+
+    ghost coded = { coded_tuple };
+
+    ghost view = { λ s. tuple_of s.text.now };
+
+    ghost invariant = { λ s. IsSpelling s.text.now };
+}
+
+impl<'a> TupleRef<'a> {
+    pub(crate) fn of(text: &'a str) -> TupleRef<'a>
+        requires { IsSpelling text.now }
+        ensures { result ≡ tuple_of text.now }
+    {
+        TupleRef { text }
+    }
+
+    pub(crate) fn as_str(&self) -> &'a str
+        ensures text { result.now ≡ spelled self.now }
+        ensures read { tuple_of result.now ≡ self.now }
+        ensures spelling { IsSpelling result.now }
+    {
+        self.text
+    }
+
+    /// The tuple, read from its text.
+    pub(crate) fn tuple(&self, alloc: Global) -> Result<Tuple, AllocError>
+        ensures { IfOk result (λ t. t ≡ self.now) }
+    {
+        let (namespace, from_id) = cut(self.text);
+        let (id, from_relation) = cut(from_id);
+        let (relation, from_subject) = cut(from_relation);
+        let object = object_of(alloc, namespace, id)?;
+        let relation = name_of(alloc, relation)?;
+        let node = Node { object, relation };
+        let subject = subject_of(alloc, from_subject)?;
+        Ok(Tuple { node, subject })
+    }
+}
+
+/// What is before the first space, and what is after it.
+fn cut(text: &str) -> (&str, &str)
+    ensures before { result.0.now ≡ before_space text.now }
+    ensures after { result.1.now ≡ after_space text.now }
+{
+    match text.split_once(' ') {
+        Some((before, after)) => (before, after),
+        None => (text, ""),
+    }
+}
+
+/// The same, where there may be no space.
+fn cut_last(text: &str) -> (&str, Option<&str>)
+    ensures before { result.0.now ≡ before_space text.now }
+    ensures after { option_map (λ x. x.now) result.1 ≡ last_part text.now }
+{
+    match text.split_once(' ') {
+        Some((before, after)) => (before, Some(after)),
+        None => (text, None),
+    }
+}
+
+fn name_of(alloc: Global, text: &str) -> Result<Name, AllocError>
+    requires { IsTrue (is_name text.now) }
+    ensures { IfOk result (λ n. n ≡ text.now) }
+{
+    match Name::parse(alloc, text) {
+        Ok(name) => Ok(name),
+        Err(Refusal::Memory) => Err(AllocError),
+        Err(_) => unreachable!(),
+    }
+}
+
+fn object_of(alloc: Global, namespace: &str, id: &str) -> Result<Object, AllocError>
+    requires namespace { IsTrue (is_name namespace.now) }
+    requires id { IsTrue (is_id id.now) }
+    ensures { IfOk result (λ o. (o.namespace ≡ namespace.now) × (o.id ≡ id.now)) }
+{
+    let namespace = name_of(alloc, namespace)?;
+    match Object::of(alloc, namespace, id) {
+        Ok(object) => Ok(object),
+        Err(Refusal::Memory) => Err(AllocError),
+        Err(_) => unreachable!(),
+    }
+}
+
+fn subject_of(alloc: Global, text: &str) -> Result<Subject, AllocError>
+    requires { IsSubject (subject_in text.now) }
+    ensures { IfOk result (λ s. s ≡ subject_in text.now) }
+{
+    let (namespace, from_id) = cut(text);
+    let (id, relation) = cut_last(from_id);
+    let object = object_of(alloc, namespace, id)?;
+    match relation {
+        Some(relation) => {
+            let relation = name_of(alloc, relation)?;
+            Ok(Subject {
+                object,
+                relation: Some(relation),
+            })
+        }
+        None => Ok(Subject::one(object)),
+    }
+}
+
+/// The text of a tuple, written where it takes no memory: the longest names and ids fill it.
+#[derive(Drop)]
+pub(crate) struct Scratch {
+    text: ArrayString<261>,
+}
+
+impl Model for Scratch {
+    ghost use Rattle.names.specs.declared.tuple.Tuple.{Tuple as TupleValue};
+    ghost use Rattle.rows_core.specs.Codes.{coded_tuple};
+    ghost use Rattle.rows_core.specs.Spelled.{tuple_of, IsSpelling};
+
+    ghost Value = { TupleValue };
+
+    ghost coded = { coded_tuple };
+
+    ghost view = { λ s. tuple_of s.text.bytes };
+
+    ghost invariant = { λ s. IsSpelling s.text.bytes };
+}
+
+impl Scratch {
+    pub(crate) fn of(tuple: &Tuple) -> Scratch
+        ensures { result ≡ tuple.now }
+    {
+        let mut text = ArrayString::new();
+        push_node(&mut text, &tuple.node);
+        push_subject(&mut text, &tuple.subject);
+        Scratch { text }
+    }
+
+    pub(crate) fn tuple_ref(&self) -> TupleRef<'_>
+        ensures { result ≡ self.now }
+    {
+        TupleRef::of(self.text.as_str())
+    }
+}
+
+fn push_name(text: &mut ArrayString<261>, name: &Name)
+    requires { array_string_len text.old + 32 ≤ 261 }
+    ensures text { text.new.bytes ≡ text.old.bytes ++ name.now }
+    ensures len { array_string_len text.new ≤ array_string_len text.old + 32 }
+    ensures is { IsTrue (is_name name.now) }
+{
+    text.push_str(name.as_str());
+}
+
+fn push_id(text: &mut ArrayString<261>, id: &ObjectId)
+    requires { array_string_len text.old + 64 ≤ 261 }
+    ensures text { text.new.bytes ≡ text.old.bytes ++ id.now }
+    ensures len { array_string_len text.new ≤ array_string_len text.old + 64 }
+    ensures is { IsTrue (is_id id.now) }
+{
+    text.push_str(id.as_str());
+}
+
+fn push_object(text: &mut ArrayString<261>, object: &Object)
+    requires { array_string_len text.old + 97 ≤ 261 }
+    ensures text { text.new.bytes ≡ text.old.bytes ++ (object.now.namespace ++ 32 ∷ object.now.id) }
+    ensures len { array_string_len text.new ≤ array_string_len text.old + 97 }
+    ensures is { IsObject object.now }
+{
+    push_name(text, &object.namespace);
+    text.push_str(" ");
+    push_id(text, &object.id);
+}
+
+fn push_node(text: &mut ArrayString<261>, node: &Node)
+    requires { array_string_len text.old + 131 ≤ 261 }
+    ensures text { text.new.bytes ≡ text.old.bytes ++ spelled_node node.now }
+    ensures len { array_string_len text.new ≤ array_string_len text.old + 131 }
+    ensures is { IsNode node.now }
+{
+    push_object(text, &node.object);
+    text.push_str(" ");
+    push_name(text, &node.relation);
+    text.push_str(" ");
+}
+
+fn push_subject(text: &mut ArrayString<261>, subject: &Subject)
+    requires { array_string_len text.old + 130 ≤ 261 }
+    ensures text { text.new.bytes ≡ text.old.bytes ++ spelled_subject subject.now }
+    ensures is { IsSubject subject.now }
+{
+    push_object(text, &subject.object);
+    if let Some(relation) = &subject.relation {
+        text.push_str(" ");
+        push_name(text, relation);
+    }
+}
+
+/// The text of a tuple.
+pub(crate) fn spelled_text(alloc: Global, tuple: &Tuple) -> Result<BoxedStr, AllocError>
+    ensures text { IfOk result (λ b. boxed_str_bytes b ≡ spelled tuple.now) }
+    ensures read { IfOk result (λ b. tuple_of (boxed_str_bytes b) ≡ tuple.now) }
+    ensures spelling { IfOk result (λ b. IsSpelling (boxed_str_bytes b)) }
+    ensures tuple { IfOk result (λ b. tuple_of (boxed_str_bytes b) ≡ tuple.now) }
+{
+    let scratch = Scratch::of(tuple);
+    BoxedStr::from_str(alloc, scratch.tuple_ref().as_str())
+}
+
+/// The same, where it can be shared.
+pub(crate) fn shared_text(alloc: Global, tuple: &Tuple) -> Result<ArcStr, AllocError>
+    ensures spelling { IfOk result (λ b. IsSpelling (arc_str_bytes b)) }
+    ensures tuple { IfOk result (λ b. tuple_of (arc_str_bytes b) ≡ tuple.now) }
+{
+    let scratch = Scratch::of(tuple);
+    ArcStr::from_str(alloc, scratch.tuple_ref().as_str())
+}
+
+/// What the texts of a node's tuples begin with.
+pub(crate) fn node_text(alloc: Global, node: &Node) -> Result<BoxedStr, AllocError>
+    ensures text { IfOk result (λ b. boxed_str_bytes b ≡ spelled_node node.now) }
+    ensures is { IfOk result (λ b. IsNode node.now) }
+{
+    let mut text = ArrayString::new();
+    push_node(&mut text, node);
+    BoxedStr::from_str(alloc, text.as_str())
+}

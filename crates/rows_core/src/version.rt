@@ -1,0 +1,214 @@
+//! Versions.
+ghost use Rattle.std.specs.Prelude.{◌≡◌, ◌++◌, ◌∷◌, [], drop, OnOk, OnErr, IfOk};
+ghost use Rattle.rows_core.specs.Versions.{is_put, version_of, stands, is_there, is_based, last_rev, drop_last, after_settle, after_settle_first};
+
+use crate::kept::KeptEvent;
+use names::EventKind;
+use std::alloc::{AllocError, Global};
+use std::collections::VecDeque;
+use std::marker::Model;
+use std::sync::ArcStr;
+
+/// At this revision a tuple was put, or else taken away. What the floor holds was put at revision 0.
+#[derive(Clone, Copy, Debug, Drop)]
+pub struct Version {
+    pub rev: u64,
+    pub put: bool,
+}
+
+impl Version {
+    /// The version of an event.
+    pub(crate) fn of(rev: u64, event: &KeptEvent) -> Version
+        ensures { result ≡ version_of rev event.now }
+    {
+        Version {
+            rev,
+            put: is_put(event.kind()),
+        }
+    }
+}
+
+/// The versions of one tuple, oldest first, with the tuple's text, which the kept events on it share. Contracts see
+/// the versions.
+#[derive(Drop)]
+pub(crate) struct Versions {
+    text: ArcStr,
+    versions: VecDeque<Version>,
+}
+
+impl Model for Versions {
+    ghost use Rattle.std.specs.Prelude.{List};
+    ghost use Rattle.rows_core.specs.declared.version.Version.{Version as VersionValue};
+
+    ghost Value = { List VersionValue };
+
+    ghost view = { λ m. m.versions.items };
+}
+
+impl Versions {
+    pub(crate) fn one(alloc: Global, text: ArcStr, version: Version) -> Result<Versions, AllocError>
+        ensures { IfOk result (λ m. m ≡ version ∷ []) }
+    {
+        let versions = one_version(alloc, version)?;
+        Ok(Versions { text, versions })
+    }
+
+    /// The text that is shared.
+    pub(crate) fn text(&self) -> &ArcStr {
+        &self.text
+    }
+
+    /// Whether the last version up to a revision is a put.
+    pub(crate) fn stands_at(&self, rev: u64) -> bool
+        ensures { result ≡ stands self.now rev }
+    {
+        stands_at(&self.versions, rev)
+    }
+
+    /// Whether the last version is a put.
+    pub(crate) fn is_there(&self) -> bool
+        ensures { result ≡ is_there self.now }
+    {
+        is_there(&self.versions)
+    }
+
+    /// The revision of the last version.
+    pub(crate) fn last_rev(&self) -> u64
+        ensures { result ≡ last_rev self.now }
+    {
+        last_rev(&self.versions)
+    }
+
+    pub(crate) fn add(&mut self, version: Version) -> Result<(), AllocError>
+        ensures ok { OnOk result (self.new ≡ self.old ++ version ∷ []) }
+        ensures err { OnErr result (self.new ≡ self.old) }
+    {
+        add_version(&mut self.versions, version)
+    }
+
+    /// Takes the newest version off.
+    pub(crate) fn drop_newest(&mut self)
+        ensures { self.new ≡ drop_last self.old }
+    {
+        drop_version(&mut self.versions);
+    }
+
+    /// Takes the oldest version above the floor into what the floor holds. Says whether the floor held the
+    /// tuple before.
+    pub(crate) fn settle(&mut self) -> bool
+        ensures versions { self.new ≡ after_settle self.old }
+        ensures was_based { result ≡ is_based self.old }
+    {
+        settle(&mut self.versions)
+    }
+}
+
+fn is_put(kind: EventKind) -> bool
+    ensures { result ≡ is_put kind }
+{
+    match kind {
+        EventKind::Put => true,
+        EventKind::Del => false,
+    }
+}
+
+/// Whether the last version up to a revision is a put.
+fn stands_at(versions: &VecDeque<Version>, rev: u64) -> bool
+    ensures { result ≡ stands versions.now.items rev }
+{
+    let mut left = versions.len();
+    while left > 0 {
+        left -= 1;
+        let version = versions[left];
+        if version.rev <= rev {
+            return version.put;
+        }
+    }
+    false
+}
+
+/// Whether the last version is a put.
+fn is_there(versions: &VecDeque<Version>) -> bool
+    ensures { result ≡ is_there versions.now.items }
+{
+    let Some(version) = versions.back() else {
+        return false;
+    };
+    version.put
+}
+
+/// The revision of the last version.
+fn last_rev(versions: &VecDeque<Version>) -> u64
+    ensures { result ≡ last_rev versions.now.items }
+{
+    match versions.back() {
+        Some(version) => version.rev,
+        None => 0,
+    }
+}
+
+fn add_version(versions: &mut VecDeque<Version>, version: Version) -> Result<(), AllocError>
+    ensures ok { OnOk result (versions.new.items ≡ versions.old.items ++ version ∷ []) }
+    ensures err { OnErr result (versions.new.items ≡ versions.old.items) }
+{
+    versions.push_back(version)?;
+    Ok(())
+}
+
+/// Most tuples never have a second version, so there is room for one.
+fn one_version(alloc: Global, version: Version) -> Result<VecDeque<Version>, AllocError>
+    ensures { IfOk result (λ versions. versions.items ≡ version ∷ []) }
+{
+    let mut versions = VecDeque::with_capacity(alloc, 1)?;
+    versions.push_back(version)?;
+    Ok(versions)
+}
+
+fn drop_version(versions: &mut VecDeque<Version>)
+    ensures { versions.new.items ≡ drop_last versions.old.items }
+{
+    let _ = versions.pop_back();
+}
+
+/// Whether the first version is of what the floor holds.
+fn is_based(versions: &VecDeque<Version>) -> bool
+    ensures { result ≡ is_based versions.now.items }
+{
+    match versions.front() {
+        Some(version) => version.rev == 0,
+        None => false,
+    }
+}
+
+/// Takes the oldest version above the floor into what the floor holds. Says whether the floor held the
+/// tuple before.
+fn settle(versions: &mut VecDeque<Version>) -> bool
+    ensures versions { versions.new.items ≡ after_settle versions.old.items }
+    ensures was_based { result ≡ is_based versions.old.items }
+{
+    let was_based = is_based(versions);
+    if was_based {
+        drop_first(versions);
+    }
+    settle_first(versions);
+    was_based
+}
+
+fn settle_first(versions: &mut VecDeque<Version>)
+    ensures { versions.new.items ≡ after_settle_first versions.old.items }
+{
+    if versions.is_empty() {
+        return;
+    }
+    if versions[0].put {
+        versions[0] = Version { rev: 0, put: true };
+    } else {
+        drop_first(versions);
+    }
+}
+
+fn drop_first(versions: &mut VecDeque<Version>)
+    ensures { versions.new.items ≡ drop 1 versions.old.items }
+{
+    let _ = versions.pop_front();
+}

@@ -1,0 +1,138 @@
+//! The versions of every tuple.
+ghost use Rattle.std.specs.Prelude.{◌≡◌, true, [], OnOk, OnErr, IfOk};
+ghost use Rattle.rows_core.specs.Versions.{versions_at, is_there, is_based, last_rev, stands, with_version, drop_last, after_settle, base_versions, HasSame, ChangesAt};
+ghost use Rattle.rows_core.specs.Texts.{entries_of, AreSpelled};
+
+use crate::kept::{KeptCommit, KeptEvent};
+use crate::places::{Texts, pop_version, push_version, put_base, settle_version, versions_of};
+use crate::tuple_ref::{Scratch, TupleRef};
+use crate::version::Version;
+use names::{Commit, Event, Tuple};
+use std::alloc::{AllocError, Global};
+use std::collections::BTreeMap;
+use std::marker::Model;
+
+/// The tuples that have versions, in order, each with its versions.
+#[derive(Drop)]
+pub struct VersionMap {
+    alloc: Global,
+    map: Texts,
+}
+
+impl Model for VersionMap {
+    ghost use Rattle.rows_core.specs.Versions.{Entries};
+    ghost use Rattle.rows_core.specs.Texts.{entries_of, AreSpelled};
+
+    ghost Value = { Entries };
+
+    ghost view = { λ m. entries_of m.map.entries };
+
+    ghost invariant = { λ m. AreSpelled m.map.entries };
+}
+
+impl VersionMap {
+    /// No versions. It takes no memory.
+    pub fn new(alloc: Global) -> VersionMap
+        ensures { result ≡ [] }
+    {
+        VersionMap {
+            alloc,
+            map: BTreeMap::new(alloc),
+        }
+    }
+
+    pub(crate) fn texts(&self) -> &Texts
+        ensures entries { entries_of result.now.entries ≡ self.now }
+        ensures spelled { AreSpelled result.now.entries }
+    {
+        &self.map
+    }
+
+    /// Whether the last version of the tuple up to a revision is a put. It takes no memory.
+    pub fn stands_at(&self, tuple: &Tuple, rev: u64) -> bool
+        ensures { result ≡ stands (versions_at self.now tuple.now) rev }
+    {
+        let scratch = Scratch::of(tuple);
+        match versions_of(self.texts(), &scratch.tuple_ref()) {
+            Some(versions) => versions.stands_at(rev),
+            None => false,
+        }
+    }
+
+    /// The revision of the tuple's last version, or 0 where it has none. It takes no memory.
+    pub fn last_rev(&self, tuple: &Tuple) -> u64
+        ensures { result ≡ last_rev (versions_at self.now tuple.now) }
+    {
+        let scratch = Scratch::of(tuple);
+        match versions_of(self.texts(), &scratch.tuple_ref()) {
+            Some(versions) => versions.last_rev(),
+            None => 0,
+        }
+    }
+
+    /// Whether the tuple's last version is a put.
+    pub(crate) fn holds(&self, key: &TupleRef<'_>) -> bool
+        ensures { result ≡ is_there (versions_at self.now key.now) }
+    {
+        match versions_of(self.texts(), key) {
+            Some(versions) => versions.is_there(),
+            None => false,
+        }
+    }
+
+    /// The event as it is kept. Where its tuple has versions already, the text is theirs.
+    fn keep_one(&self, alloc: Global, event: &Event) -> Result<KeptEvent, AllocError>
+        ensures { IfOk result (λ e. e ≡ event.now) }
+    {
+        let scratch = Scratch::of(&event.tuple);
+        let asked = scratch.tuple_ref();
+        if let Some(versions) = versions_of(self.texts(), &asked) {
+            let text = versions.text();
+            if text.as_str() == asked.as_str() {
+                return KeptEvent::sharing(text, event);
+            }
+        }
+        KeptEvent::of(alloc, event)
+    }
+
+    /// A commit of the events, as it is kept. A tuple's text is shared by the events on it.
+    pub fn keep(&self, alloc: Global, events: &[Event]) -> Result<KeptCommit, AllocError>
+        ensures { IfOk result (λ c. c ≡ Commit.Tuples events.now) }
+    {
+        let mut kept = Vec::with_capacity(alloc, events.len())?;
+        for event in events {
+            kept.push(self.keep_one(alloc, event)?)?;
+        }
+        Ok(KeptCommit::of(kept))
+    }
+
+    pub(crate) fn push(&mut self, event: &KeptEvent, version: Version) -> Result<(), AllocError>
+        ensures ok { OnOk result (ChangesAt event.now.tuple (with_version version) self.old self.new) }
+        ensures err { OnErr result (HasSame self.old self.new) }
+    {
+        let key = event.tuple_ref();
+        push_version(self.alloc, &mut self.map, &key, event.text(), version)
+    }
+
+    pub(crate) fn pop(&mut self, key: &TupleRef<'_>)
+        ensures { ChangesAt key.now drop_last self.old self.new }
+    {
+        pop_version(&mut self.map, key);
+    }
+
+    /// Takes the tuple's oldest version above the floor into what the floor holds. Says whether the floor held
+    /// the tuple before.
+    pub(crate) fn settle_one(&mut self, key: &TupleRef<'_>) -> bool
+        ensures versions { ChangesAt key.now after_settle self.old self.new }
+        ensures was_based { result ≡ is_based (versions_at self.old key.now) }
+    {
+        settle_version(&mut self.map, key)
+    }
+
+    /// Puts the tuple into what the floor holds.
+    pub(crate) fn put_base(&mut self, tuple: &Tuple) -> Result<(), AllocError>
+        ensures { OnOk result (ChangesAt tuple.now (λ _. base_versions true) self.old self.new) }
+    {
+        put_base(self.alloc, &mut self.map, tuple)
+    }
+}
