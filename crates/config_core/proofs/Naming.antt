@@ -8,7 +8,7 @@ use Rattle.serde_json.specs.Data.{Data, null, boolean, number, string, array, ob
 use Rattle.serde_json.specs.Find.{as_object}
 use Rattle.serde_json.specs.View.{members_view}
 use Rattle.serde_json.specs.declared.value.Value.{Value}
-use Rattle.config_core.specs.Shape.{has_only, members_only, is_among}
+use Rattle.config_core.specs.Objects.{has_only, members_only, is_among}
 
 abbrev pub texts : List (Bor (List ℕ)) → List (List ℕ)
 texts ns = map (λ n. n.now) ns

@@ -9,7 +9,8 @@ use Rattle.meaning.specs.Form.{Form, This}
 use Rattle.config_core.specs.Forms.{forms_of}
 use Rattle.config_core.specs.Size.{has_parts, all_have_parts}
 use Rattle.config_core.specs.Texts.{RelationTexts, ConfigTexts}
-use Rattle.config_core.specs.Shape.{is_text, has_only, both, types_read, this_read, computed_read, tuple_to_from, tuple_to_read, union_read, intersection_read, exclusion_read, named_read, form_read, member_read, parts_read, forms_read, rewrite_read, indexed_read, relation_from, relation_members, relation_read, relations_read, with_namespace, namespaces_read, config_read}
+use Rattle.config_core.specs.Objects.{is_text, has_only}
+use Rattle.config_core.specs.Shape.{both, types_read, this_read, computed_read, tuple_to_from, tuple_to_read, union_read, intersection_read, exclusion_read, named_read, form_read, member_read, parts_read, forms_read, rewrite_read, indexed_read, relation_from, relation_members, relation_read, relations_read, with_namespace, namespaces_read, config_read}
 
 either : {P : Type 0} (b : Bool) (x y : Option Form) (f : Form) → cond b x y ≡ Some f → (x ≡ Some f → P) → (y ≡ Some f → P) → P
 either true x y f e p q = p e

@@ -1,6 +1,7 @@
 pub mod Canonical
 pub mod Forms
 pub mod Keyed
+pub mod Objects
 pub mod Order
 pub mod Parts
 pub mod Reading

@@ -1,31 +1,11 @@
 -- The form of a configuration's JSON, and what it says.
-use Rattle.std.specs.Prelude.{ℕ, ◌++◌, ◌&&◌, ◌||◌, Bool, true, false, cond, List, [], ◌∷◌, Option, Some, None, option_and_then, codes, nat_eq}
-use Rattle.std.specs.Cmp.Lexicographic.{pointwise}
+use Rattle.std.specs.Prelude.{ℕ, ◌++◌, Bool, true, false, cond, List, [], ◌∷◌, Option, Some, None, option_and_then, codes}
 use Rattle.serde_json.specs.Data.{Data, null, boolean, number, string, array, object, Items, no_items, item, Members, no_members, member}
 use Rattle.serde_json.specs.Find.{get, as_str, as_bool, as_array, as_object}
 use Rattle.meaning.specs.Form.{Form, This, Computed, TupleTo, Union, Intersection, Exclusion}
 use Rattle.config_core.specs.Forms.{forms_of}
+use Rattle.config_core.specs.Objects.{is_text, has_only, text_at}
 use Rattle.config_core.specs.Texts.{RelationTexts, ConfigTexts}
-
-abbrev pub is_text : List ℕ → List ℕ → Bool
-is_text s t = pointwise nat_eq s t
-
-abbrev pub is_among : List ℕ → List (List ℕ) → Bool
-is_among k [] = false
-is_among k (n ∷ ns) = is_text k n || is_among k ns
-
-abbrev pub members_only : List (List ℕ) → Members → Bool
-members_only ns no_members = true
-members_only ns (member k d ms) = is_among k ns && members_only ns ms
-
--- an object with no member but those named
-abbrev pub has_only : List (List ℕ) → Data → Bool
-has_only ns null = false
-has_only ns (boolean b) = false
-has_only ns (number n) = false
-has_only ns (string s) = false
-has_only ns (array ds) = false
-has_only ns (object ms) = members_only ns ms
 
 -- the first and the others, where all can be read
 abbrev pub both : {A : Type 0} → Option A → Option (List A) → Option (List A)
@@ -57,7 +37,7 @@ tuple_to_from (Some tupleset) (Some relation) = Some (TupleTo tupleset relation)
 -- an object of two texts
 abbrev pub tuple_to_read : Data → Option Form
 tuple_to_read d = cond (has_only (codes "tupleset" ∷ codes "relation" ∷ []) d)
-    (tuple_to_from (option_and_then as_str (get (codes "tupleset") d)) (option_and_then as_str (get (codes "relation") d)))
+    (tuple_to_from (text_at (codes "tupleset") d) (text_at (codes "relation") d))
     None
 
 -- one part or more

@@ -16,6 +16,7 @@ mod shape;
 mod tests;
 
 pub use canonical::text_of;
+pub use members::{has_only_members, text_at};
 pub use parts::Parts;
 pub use reading::read_configuration;
 pub use relation::Relation;

@@ -1,11 +1,10 @@
 //! The members of values.
-ghost use Rattle.std.specs.Prelude.{◌≡◌, map, option_map, option_and_then, string_bytes, nat_eq};
+ghost use Rattle.std.specs.Prelude.{◌≡◌, map, option_map, string_bytes, nat_eq};
 ghost use Rattle.std.specs.List.{list_any, list_all};
 ghost use Rattle.std.specs.BTreeMap.{keys};
 ghost use Rattle.std.specs.Cmp.Lexicographic.{pointwise};
-ghost use Rattle.serde_json.specs.Find.{get, as_str};
 ghost use Rattle.serde_json.specs.View.{view};
-ghost use Rattle.config_core.specs.Shape.{has_only};
+ghost use Rattle.config_core.specs.Objects.{has_only, text_at};
 
 use serde_json::{Map, Value};
 
@@ -16,7 +15,8 @@ fn is_named(key: &str, names: &[&str]) -> bool
 }
 
 fn all_are_named(members: &Map<String, Value>, names: &[&str]) -> bool
-    ensures { result ≡ list_all (λ k. list_any (λ n. pointwise nat_eq (string_bytes k) n.now) names.now) (keys members.now) }
+    ensures { result ≡ list_all (λ k. list_any (λ n. pointwise nat_eq (string_bytes k) n.now) names.now)
+        (keys members.now) }
 {
     members.keys().all(|k| is_named(k.as_str(), names))
 }
@@ -33,7 +33,7 @@ pub fn has_only_members(value: &Value, names: &[&str]) -> bool
 
 /// The text of a member.
 pub fn text_at<'a>(value: &'a Value, key: &str) -> Option<&'a str>
-    ensures { option_map (λ t. t.now) result ≡ option_and_then as_str (get key.now (view value.now)) }
+    ensures { option_map (λ t. t.now) result ≡ text_at key.now (view value.now) }
 {
     let member = value.get(key)?;
     member.as_str()

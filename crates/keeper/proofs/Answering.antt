@@ -19,7 +19,7 @@ use Rattle.shown.specs.declared.state.State.{State}
 use Rattle.shown.specs.Standing.{standing, state_of}
 use Rattle.shown.specs.Answers.{IsChecked, CheckRefused}
 use Rattle.keeper_core.specs.Posts.{Posts, newest_posted}
-use Rattle.keeper_core.specs.Changes.{Told, WriteAccepted, ConfigAccepted, CatchUpAccepted, WriteJudged, IsRefused}
+use Rattle.keeper_core.specs.Changes.{ReceiptFacts, WriteAccepted, ConfigAccepted, CatchUpAccepted, WriteJudged, IsRefused}
 use Rattle.keeper.specs.Bodies.{AsksWrite, AsksCheck, CheckCause, AsksCatchUp}
 use Rattle.keeper.specs.Replies.{Says, SaysRefusal, SaysRefusalAt, receipt_data, answer_data, cursor_data, state_data}
 use Rattle.keeper.specs.Rules.{WriteStep, ConfigStep, CheckStep, CatchUpStep, StateStep, DeskStep}
@@ -31,7 +31,7 @@ write_unasked old body Malformed told cause says = write_malformed cause says re
 write_unasked old body Memory told cause says = write_unread says refl
 write_unasked old body _ told cause says = absurd cause
 
-pub write_done : {T : Type 0} (old : Posts T) (body : List ℕ) (ops : List Op) (conditions : List (Condition Zookie)) (receipt : Told) (shown : Bool) (zookie : Zookie) (told : Option (ℕ × List ℕ)) (new : Posts T)
+pub write_done : {T : Type 0} (old : Posts T) (body : List ℕ) (ops : List Op) (conditions : List (Condition Zookie)) (receipt : ReceiptFacts) (shown : Bool) (zookie : Zookie) (told : Option (ℕ × List ℕ)) (new : Posts T)
     → AsksWrite body ops → conditions ≡ [] → WriteAccepted old (record { conditions = conditions; ops = ops }) receipt new
     → shown ≡ receipt.shown → zookie ≡ record { store = receipt.number; rev = receipt.rev }
     → Says told 200 (receipt_data shown (zookie_text zookie.store zookie.rev)) → WriteStep old body told new
@@ -49,7 +49,7 @@ config_unaccepted old body (ConfigRefused cause) told is says = config_invalid c
 config_unaccepted old body Memory told is says = config_unread says refl
 config_unaccepted old body _ told is says = absurd is
 
-pub config_done : {T : Type 0} (old : Posts T) (body : List ℕ) (config : Configured) (receipt : Told) (shown : Bool) (zookie : Zookie) (told : Option (ℕ × List ℕ)) (new : Posts T)
+pub config_done : {T : Type 0} (old : Posts T) (body : List ℕ) (config : Configured) (receipt : ReceiptFacts) (shown : Bool) (zookie : Zookie) (told : Option (ℕ × List ℕ)) (new : Posts T)
     → Accepts body config → ConfigAccepted old config receipt new
     → shown ≡ receipt.shown → zookie ≡ record { store = receipt.number; rev = receipt.rev }
     → Says told 200 (receipt_data shown (zookie_text zookie.store zookie.rev)) → ConfigStep old body told new
@@ -79,7 +79,7 @@ catch_up_unasked old body Malformed told cause says = catch_up_malformed cause s
 catch_up_unasked old body Memory told cause says = catch_up_unread says refl
 catch_up_unasked old body _ told cause says = absurd cause
 
-pub catch_up_done : {T : Type 0} (old : Posts T) (body : List ℕ) (part : Part) (commits cursor : ℕ) (receipt : Told) (shown : Bool) (zookie : Zookie) (told : Option (ℕ × List ℕ)) (new : Posts T)
+pub catch_up_done : {T : Type 0} (old : Posts T) (body : List ℕ) (part : Part) (commits cursor : ℕ) (receipt : ReceiptFacts) (shown : Bool) (zookie : Zookie) (told : Option (ℕ × List ℕ)) (new : Posts T)
     → AsksCatchUp body part commits → CatchUpAccepted old part commits cursor receipt new
     → shown ≡ receipt.shown → zookie ≡ record { store = receipt.number; rev = receipt.rev }
     → Says told 200 (cursor_data (zookie_text zookie.store cursor) shown) → CatchUpStep old body told new

@@ -9,8 +9,9 @@ use Rattle.names.specs.declared.node.Node.{Node}
 use Rattle.names.specs.declared.object.Object.{Object}
 use Rattle.zookie.specs.declared.Zookie.{Zookie}
 use Rattle.serde_json.specs.Data.{Data}
-use Rattle.keeper.specs.Bodies.{Reads, HasZookieText, IsZookieOf, AtCause, CheckOf, CheckCause}
-use Rattle.keeper.proofs.Naming.{same_read}
+use Rattle.config_core.specs.Reading.{Reads}
+use Rattle.keeper.specs.Bodies.{HasZookieText, IsZookieOf, AtCause, CheckOf, CheckCause}
+use Rattle.keeper.proofs.Reads.{same_read}
 
 -- at the exit of a `?`
 pub exit : {T : Type 0} (cause : Refusal → Type 0) (r : Result T Refusal) (e : Refusal) → IsErrAnd r (λ x. x ≡ e) → cause e → IfErr r cause

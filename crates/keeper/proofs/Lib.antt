@@ -1,4 +1,4 @@
-pub mod Naming
+pub mod Reads
 pub mod Asking
 pub mod Checking
 pub mod Literals

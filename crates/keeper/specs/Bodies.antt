@@ -1,9 +1,9 @@
 -- What the body of a call asks, by what `serde_json` reads from it.
-use Rattle.std.specs.Prelude.{ℕ, ◌≡◌, ◌⊎◌, ◌<◌, ◌≤◌, ◌^◌, ◌&&◌, ◌||◌, if◌then◌else◌, Bool, true, false, List, [], ◌∷◌, Option, Some, None, option_and_then, codes, nat_eq, IsUtf8}
-use Rattle.std.specs.Cmp.Lexicographic.{pointwise}
-use Rattle.serde_json.specs.Data.{Data, object, Items, no_items, item, Members, no_members, member}
-use Rattle.serde_json.specs.Read.{read}
+use Rattle.std.specs.Prelude.{ℕ, ◌≡◌, ◌⊎◌, ◌<◌, ◌≤◌, ◌^◌, if◌then◌else◌, Bool, true, false, List, [], ◌∷◌, Option, Some, None, option_and_then, codes}
+use Rattle.serde_json.specs.Data.{Data, Items, no_items, item}
 use Rattle.serde_json.specs.Find.{get, as_str, as_array, as_number, as_u64}
+use Rattle.config_core.specs.Objects.{is_text, has_only, text_at}
+use Rattle.config_core.specs.Reading.{Reads}
 use Rattle.names.specs.Spelling.{SpellsTuple, SpellsNode, SpellsObject}
 use Rattle.names.specs.declared.node.Node.{Node}
 use Rattle.names.specs.declared.object.Object.{Object}
@@ -22,34 +22,9 @@ use Rattle.names.specs.declared.write.OpKind.{OpKind}
 use Rattle.names.specs.declared.write.OpKind.TheVariants.{Insert, Touch, Delete}
 use Rattle.meaning.specs.Verdict.{is_in_range}
 
-abbrev pub is_text : List ℕ → List ℕ → Bool
-is_text s t = pointwise nat_eq s t
-
-abbrev pub is_among : List ℕ → List (List ℕ) → Bool
-is_among k [] = false
-is_among k (n ∷ ns) = is_text k n || is_among k ns
-
-abbrev pub members_only : List (List ℕ) → Members → Bool
-members_only names no_members = true
-members_only names (member k d ms) = is_among k names && members_only names ms
-
--- an object with no member but those named
-abbrev pub has_only : List (List ℕ) → Data → Bool
-has_only names (object ms) = members_only names ms
-has_only names _ = false
-
--- the text of the member
-abbrev pub text_at : List ℕ → Data → Option (List ℕ)
-text_at name d = option_and_then as_str (get name d)
-
 -- the items of the array that the member is
 abbrev pub items_at : List ℕ → Data → Option Items
 items_at name d = option_and_then as_array (get name d)
-
--- the body is text, and reads as the data
-pub record Reads (body : List ℕ) (d : Data) : Type 0 where
-  pub text : IsUtf8 body
-  pub reads : read body ≡ Some d
 
 -- the word of an operation; a touch is not asked yet
 abbrev pub IsKind : List ℕ → OpKind → Type 0
@@ -87,9 +62,13 @@ pub record AsksWrite (body : List ℕ) (ops : List Op) : Type 0 where
   pub reads : Reads body data_read
   pub write : WriteOf data_read ops
 
+-- it asks for no write
+abbrev pub AsksNoWrite : List ℕ → Type 0
+AsksNoWrite body = (ops : List Op) → ¬ (AsksWrite body ops)
+
 -- the write of the operations, which has no condition
-abbrev pub unconditional : List Op → Write Zookie
-unconditional ops = record { conditions = []; ops = ops }
+abbrev pub unconditional_write : List Op → Write Zookie
+unconditional_write ops = record { conditions = []; ops = ops }
 
 -- absent or `"latest"`
 abbrev pub is_latest_text : Option (List ℕ) → Bool
@@ -139,7 +118,8 @@ AsksAt at (Exactly zookie) = IsZookieText (exact_text at) zookie
 -- why `at` is refused
 abbrev pub AtCause : Option Data → Refusal → Type 0
 AtCause at Malformed = ¬ (IsAtForm at)
-AtCause at BadZookie = (text : List ℕ) × HasZookieText at text × ((zookie : Zookie) → ¬ (IsZookieOf text zookie))
+AtCause at BadZookie =
+    (text : List ℕ) × HasZookieText at text × ((zookie : Zookie) → ¬ (IsZookieOf text zookie))
 AtCause at _ = ⊥
 
 -- `{"at": .., "node": node, "user": object}`, whatever `at` is
@@ -152,8 +132,13 @@ pub record CheckOf (d : Data) (node : Node) (user : Object) : Type 0 where
   pub user_at : text_at (codes "user") d ≡ Some user_text
   pub spells_user : SpellsObject user_text user
 
+-- it is about no node and user
+abbrev pub IsOfNoCheck : Data → Type 0
+IsOfNoCheck d = (node : Node) (user : Object) → ¬ (CheckOf d node user)
+
 -- the body of a `check` asks about the node and the user, at such a revision
-pub record AsksCheck (body : List ℕ) (consistency : Consistency) (node : Node) (user : Object) : Type 0 where
+pub record AsksCheck
+    (body : List ℕ) (consistency : Consistency) (node : Node) (user : Object) : Type 0 where
   pub data_read : Data
   pub reads : Reads body data_read
   pub check : CheckOf data_read node user
@@ -204,8 +189,16 @@ pub record CatchUpOf (d : Data) (part : Part) (commits : ℕ) : Type 0 where
   pub commits_at : number_at (codes "commits") d ≡ Some commits
   pub in_range : commits ≤ max_commits
 
+-- it is about no part
+abbrev pub IsOfNoCatchUp : Data → Type 0
+IsOfNoCatchUp d = (part : Part) (commits : ℕ) → ¬ (CatchUpOf d part commits)
+
 -- the body of a `catchup` asks that the part take the commits
 pub record AsksCatchUp (body : List ℕ) (part : Part) (commits : ℕ) : Type 0 where
   pub data_read : Data
   pub reads : Reads body data_read
   pub catch_up : CatchUpOf data_read part commits
+
+-- it asks no part to take commits
+abbrev pub AsksNoCatchUp : List ℕ → Type 0
+AsksNoCatchUp body = (part : Part) (commits : ℕ) → ¬ (AsksCatchUp body part commits)

@@ -25,7 +25,7 @@ fn answer_write<T: Tables + Drop>(alloc: Global, desk: &mut Desk<T>, body: &[u8]
     };
     let conditions = Items::of(Vec::new(alloc));
     match desk.write(Write { conditions, ops }) {
-        Ok(told) => receipt(alloc, told.shown(), &told.zookie()),
+        Ok(accepted) => receipt(alloc, accepted.is_shown(), &accepted.zookie()),
         Err(why) => refusal(alloc, &why),
     }
 }
@@ -38,14 +38,15 @@ fn answer_config<T: Tables + Drop>(alloc: Global, desk: &mut Desk<T>, body: &[u8
         Err(why) => return refusal(alloc, &why),
     };
     match desk.configure(config) {
-        Ok(taken) => receipt(alloc, taken.shown(), &taken.zookie()),
+        Ok(taken) => receipt(alloc, taken.is_shown(), &taken.zookie()),
         Err(why) => refusal(alloc, &why),
     }
 }
 
 /// What a question is answered that is refused, with the revision that was chosen, if one was.
 fn refused_question(alloc: Global, store: u64, refused: &Refused) -> Reply
-    ensures { SaysRefusalAt (told result) refused.now.why (option_map (zookie_text store) refused.now.at) }
+    ensures { SaysRefusalAt (told result) refused.now.why
+        (option_map (zookie_text store) refused.now.at) }
 {
     match refused.at {
         Some(rev) => refusal_at(alloc, &refused.why, &Zookie { store, rev }),
@@ -81,7 +82,7 @@ fn answer_catch_up<T: Tables + Drop>(alloc: Global, desk: &mut Desk<T>, body: &[
         Ok(posted) => {
             let rev = posted.value;
             let store = posted.receipt.zookie().store;
-            cursor(alloc, &Zookie { store, rev }, posted.receipt.shown())
+            cursor(alloc, &Zookie { store, rev }, posted.receipt.is_shown())
         }
         Err(why) => refusal(alloc, &why),
     }

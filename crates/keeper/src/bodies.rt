@@ -1,18 +1,17 @@
 //! The bodies of calls.
-ghost use Rattle.std.specs.Prelude.{ℕ, ◌≡◌, List, Some, MatchOption, IfOk, IfErr, map, option_map, nat_eq, string_bytes, codes};
-ghost use Rattle.std.specs.List.{list_any, list_all};
-ghost use Rattle.std.specs.BTreeMap.{keys};
-ghost use Rattle.std.specs.Cmp.Lexicographic.{pointwise};
+ghost use Rattle.std.specs.Prelude.{◌≡◌, List, Some, MatchOption, IfOk, IfErr, option_map, codes};
 ghost use Rattle.serde_json.specs.Data.{Data};
 ghost use Rattle.serde_json.specs.Find.{get};
 ghost use Rattle.serde_json.specs.View.{view, items_view};
 ghost use Rattle.names.specs.Refusals.{ReadCause};
 ghost use Rattle.names.specs.declared.refusal.Refusal.TheVariants.{BadZookie};
-ghost use Rattle.keeper.specs.Bodies.{Reads, has_only, text_at, items_at, number_at, only_text, WriteOf, AsksWrite, IsZookieOf, AsksAt, AtCause, CheckOf, AsksCheck, CheckCause, IsPart, CatchUpOf, AsksCatchUp};
+ghost use Rattle.config_core.specs.Reading.{Reads};
+ghost use Rattle.keeper.specs.Bodies.{items_at, number_at, only_text, WriteOf, AsksWrite, AsksNoWrite, IsZookieOf, AsksAt, AtCause, CheckOf, IsOfNoCheck, AsksCheck, CheckCause, IsPart, CatchUpOf, IsOfNoCatchUp, AsksCatchUp, AsksNoCatchUp};
 
 use crate::ops::read_ops;
+use config_core::{has_only_members, text_at};
 use names::{Items, Node, Object, Op, Refusal};
-use serde_json::{Map, Value};
+use serde_json::Value;
 use shown::Part;
 use std::alloc::Global;
 use std::str;
@@ -27,7 +26,7 @@ const MAX_COMMITS: u64 = 65_536;
 /// What a body reads as.
 fn read_value(alloc: Global, body: &[u8]) -> Result<Value, Refusal>
     ensures ok { IfOk result (λ v. Reads body.now (view v)) }
-    ensures err { IfErr result (λ e. ReadCause ((d : Data) → ¬ (Reads body.now d)) e) }
+    ensures err { IfErr result (ReadCause ((d : Data) → ¬ (Reads body.now d))) }
 {
     let Ok(text) = str::from_utf8(body) else {
         return Err(Refusal::Malformed);
@@ -44,35 +43,6 @@ fn read_value(alloc: Global, body: &[u8]) -> Result<Value, Refusal>
     }
 }
 
-fn is_named(key: &str, names: &[&str]) -> bool
-    ensures { result ≡ list_any (λ n. pointwise nat_eq key.now n.now) names.now }
-{
-    names.iter().any(|n| key == *n)
-}
-
-fn all_are_named(members: &Map<String, Value>, names: &[&str]) -> bool
-    ensures { result ≡ list_all (λ k. list_any (λ n. pointwise nat_eq (string_bytes k) n.now) names.now) (keys members.now) }
-{
-    members.keys().all(|k| is_named(k.as_str(), names))
-}
-
-/// Whether it is an object with no members but those named.
-pub(crate) fn has_only_members(value: &Value, names: &[&str]) -> bool
-    ensures { result ≡ has_only (map (λ n. n.now) names.now) (view value.now) }
-{
-    let Some(members) = value.as_object() else {
-        return false;
-    };
-    all_are_named(members, names)
-}
-
-/// The text that a member is.
-pub(crate) fn text_of<'a>(value: &'a Value, name: &str) -> Option<&'a str>
-    ensures { option_map (λ t. t.now) result ≡ text_at name.now (view value.now) }
-{
-    value.get(name).and_then(Value::as_str)
-}
-
 /// The array that a member is.
 fn items_of<'a>(value: &'a Value, name: &str) -> Option<&'a Vec<Value>>
     ensures { option_map (λ v. items_view v.now.items) result ≡ items_at name.now (view value.now) }
@@ -85,7 +55,7 @@ fn only_text<'a>(value: &'a Value, name: &str) -> Option<&'a str>
     ensures { option_map (λ t. t.now) result ≡ only_text name.now (view value.now) }
 {
     if has_only_members(value, [name].as_slice()) {
-        text_of(value, name)
+        text_at(value, name)
     } else {
         None
     }
@@ -137,7 +107,7 @@ fn consistency_of(value: &Value) -> Result<Consistency, Refusal>
 /// The operations that a value asks for.
 fn write_of(alloc: Global, value: &Value) -> Result<Items<Op>, Refusal>
     ensures ok { IfOk result (λ ops. WriteOf (view value.now) ops) }
-    ensures err { IfErr result (λ e. ReadCause ((ops : List Op) → ¬ (WriteOf (view value.now) ops)) e) }
+    ensures err { IfErr result (ReadCause ((ops : List Op) → ¬ (WriteOf (view value.now) ops))) }
 {
     if !has_only_members(value, ["ops"].as_slice()) {
         return Err(Refusal::Malformed);
@@ -155,15 +125,15 @@ fn write_of(alloc: Global, value: &Value) -> Result<Items<Op>, Refusal>
 /// The node and the user that a value asks about.
 fn check_of(alloc: Global, value: &Value) -> Result<(Node, Object), Refusal>
     ensures ok { IfOk result (λ asked. CheckOf (view value.now) asked.0 asked.1) }
-    ensures err { IfErr result (λ e. ReadCause ((node : Node) (user : Object) → ¬ (CheckOf (view value.now) node user)) e) }
+    ensures err { IfErr result (ReadCause (IsOfNoCheck (view value.now))) }
 {
     if !has_only_members(value, ["at", "node", "user"].as_slice()) {
         return Err(Refusal::Malformed);
     }
-    let Some(node) = text_of(value, "node") else {
+    let Some(node) = text_at(value, "node") else {
         return Err(Refusal::Malformed);
     };
-    let Some(user) = text_of(value, "user") else {
+    let Some(user) = text_at(value, "user") else {
         return Err(Refusal::Malformed);
     };
     let node = Node::parse(alloc, node)?;
@@ -174,7 +144,7 @@ fn check_of(alloc: Global, value: &Value) -> Result<(Node, Object), Refusal>
 /// What a body of `write` asks: 1 to 256 operations.
 pub fn write_body(alloc: Global, body: &[u8]) -> Result<Items<Op>, Refusal>
     ensures ok { IfOk result (λ ops. AsksWrite body.now ops) }
-    ensures err { IfErr result (λ e. ReadCause ((ops : List Op) → ¬ (AsksWrite body.now ops)) e) }
+    ensures err { IfErr result (ReadCause (AsksNoWrite body.now)) }
 {
     let value = read_value(alloc, body)?;
     let ops = write_of(alloc, &value)?;
@@ -216,12 +186,12 @@ fn number_of(value: &Value, name: &str) -> Option<u64>
 /// The part, and how many commits a value asks it to take.
 fn catch_up_of(value: &Value) -> Result<(Part, u64), Refusal>
     ensures ok { IfOk result (λ asked. CatchUpOf (view value.now) asked.0 asked.1) }
-    ensures err { IfErr result (λ e. ReadCause ((part : Part) (commits : ℕ) → ¬ (CatchUpOf (view value.now) part commits)) e) }
+    ensures err { IfErr result (ReadCause (IsOfNoCatchUp (view value.now))) }
 {
     if !has_only_members(value, ["part", "commits"].as_slice()) {
         return Err(Refusal::Malformed);
     }
-    let Some(word) = text_of(value, "part") else {
+    let Some(word) = text_at(value, "part") else {
         return Err(Refusal::Malformed);
     };
     let Some(part) = part_of(word) else {
@@ -236,7 +206,7 @@ fn catch_up_of(value: &Value) -> Result<(Part, u64), Refusal>
 /// What a body of `catchup` asks: that a part take so many commits more, from 0 to 65,536.
 pub fn catch_up_body(alloc: Global, body: &[u8]) -> Result<(Part, u64), Refusal>
     ensures ok { IfOk result (λ asked. AsksCatchUp body.now asked.0 asked.1) }
-    ensures err { IfErr result (λ e. ReadCause ((part : Part) (commits : ℕ) → ¬ (AsksCatchUp body.now part commits)) e) }
+    ensures err { IfErr result (ReadCause (AsksNoCatchUp body.now)) }
 {
     let value = read_value(alloc, body)?;
     let asked = catch_up_of(&value)?;

@@ -4,7 +4,7 @@ ghost use Rattle.serde_json.specs.View.{view, items_view};
 ghost use Rattle.names.specs.Refusals.{ReadCause};
 ghost use Rattle.keeper.specs.Bodies.{IsKind, AsksOp, AskOps};
 
-use crate::bodies::{has_only_members, text_of};
+use config_core::{has_only_members, text_at};
 use names::{Op, OpKind, Refusal, Tuple};
 use serde_json::Value;
 use std::alloc::Global;
@@ -25,18 +25,18 @@ fn kind_of(word: &str) -> Option<OpKind>
 /// The operation that a value asks for.
 fn read_op(alloc: Global, value: &Value) -> Result<Op, Refusal>
     ensures ok { IfOk result (λ o. AsksOp (view value.now) o) }
-    ensures err { IfErr result (λ e. ReadCause ((o : Op) → ¬ (AsksOp (view value.now) o)) e) }
+    ensures err { IfErr result (ReadCause ((o : Op) → ¬ (AsksOp (view value.now) o))) }
 {
     if !has_only_members(value, ["op", "tuple"].as_slice()) {
         return Err(Refusal::Malformed);
     }
-    let Some(word) = text_of(value, "op") else {
+    let Some(word) = text_at(value, "op") else {
         return Err(Refusal::Malformed);
     };
     let Some(kind) = kind_of(word) else {
         return Err(Refusal::Malformed);
     };
-    let Some(text) = text_of(value, "tuple") else {
+    let Some(text) = text_at(value, "tuple") else {
         return Err(Refusal::Malformed);
     };
     let tuple = Tuple::parse(alloc, text)?;
@@ -46,7 +46,8 @@ fn read_op(alloc: Global, value: &Value) -> Result<Op, Refusal>
 /// The operations that values ask for, in their order.
 pub(crate) fn read_ops(alloc: Global, items: &Vec<Value>) -> Result<Vec<Op>, Refusal>
     ensures ok { IfOk result (λ ops. AskOps (items_view items.now.items) ops.items) }
-    ensures err { IfErr result (λ e. ReadCause ((ops : List Op) → ¬ (AskOps (items_view items.now.items) ops)) e) }
+    ensures err { IfErr result
+        (ReadCause ((ops : List Op) → ¬ (AskOps (items_view items.now.items) ops))) }
 {
     let mut ops = Vec::new(alloc);
     for item in items {

@@ -1,5 +1,5 @@
 //! Replies to calls that are refused.
-ghost use Rattle.std.specs.Prelude.{◌≡◌, ◌∷◌, IfOk, cond, string_bytes};
+ghost use Rattle.std.specs.Prelude.{◌≡◌, Some, IfOk, string_bytes};
 ghost use Rattle.names.specs.Calls.{told};
 ghost use Rattle.names.specs.Refusals.{status_of};
 ghost use Rattle.names.specs.Spelling.{relation_text};
@@ -7,7 +7,7 @@ ghost use Rattle.names.specs.declared.refusal.Refusal.TheVariants.{ConfigRefused
 ghost use Rattle.names.specs.declared.cause.Cause.TheVariants.{Cycle};
 ghost use Rattle.serde_json.specs.View.{view, items_view};
 ghost use Rattle.zookie.specs.Text.{zookie_text};
-ghost use Rattle.keeper.specs.Replies.{Says, SaysRefusal, SaysRefusalAt, error_data, refusal_members, indexed, tuple_members, refusal_members_at, cycle_items, signed_text, start_text};
+ghost use Rattle.keeper.specs.Replies.{Says, SaysRefusal, SaysRefusalAt, error_data, refusal_data, index_members, tuple_members, cycle_items, signed_text, start_text};
 
 use crate::replies::{say, say_text};
 use names::{Cause, CycleStep, Refusal, Reply, Tuple};
@@ -17,7 +17,7 @@ use zookie::Zookie;
 
 /// A refusal with the place of an operation or a condition.
 fn indexed_refusal(alloc: Global, why: &Refusal, index: u64) -> Reply
-    ensures { Says (told result) (status_of why.now) (error_data (indexed why.now index)) }
+    ensures { Says (told result) (status_of why.now) (error_data (index_members why.now index)) }
 {
     let code = u64::from(why.number());
     let value = json!(in alloc; {"error": {"code": code, "index": index, "name": why.name()}});
@@ -37,7 +37,7 @@ fn tuple_refusal(alloc: Global, tuple: &Tuple) -> Reply
 }
 
 /// A relation of a cycle, after the sign of the step to it.
-pub fn signed(alloc: Global, step: &CycleStep) -> Result<String, AllocError>
+pub fn signed_text(alloc: Global, step: &CycleStep) -> Result<String, AllocError>
     ensures { IfOk result (λ s. string_bytes s ≡ signed_text step.now) }
 {
     let to = &step.to;
@@ -65,14 +65,14 @@ fn cycle_list(alloc: Global, steps: &[CycleStep]) -> Result<Vec<Value>, AllocErr
     let mut list = Vec::new(alloc);
     list.push(Value::String(start_of(alloc, steps)?))?;
     for step in steps {
-        list.push(Value::String(signed(alloc, step)?))?;
+        list.push(Value::String(signed_text(alloc, step)?))?;
     }
     Ok(list)
 }
 
 /// The refusal of a configuration with a cycle, as a value.
 fn cycle_value(alloc: Global, steps: &[CycleStep]) -> Result<Value, AllocError>
-    ensures { IfOk result (λ v. view v ≡ error_data (refusal_members (ConfigRefused (Cycle steps.now)))) }
+    ensures { IfOk result (λ v. view v ≡ refusal_data (ConfigRefused (Cycle steps.now))) }
 {
     let list = Value::Array(cycle_list(alloc, steps)?);
     json!(in alloc; {"error": {"cause": "cycle", "code": 9u64, "cycle": list, "name": "ConfigRefused"}})
@@ -142,7 +142,8 @@ pub fn refusal(alloc: Global, why: &Refusal) -> Reply
 
 /// What a question is answered that is refused at a chosen revision.
 pub fn refusal_at(alloc: Global, why: &Refusal, zookie: &Zookie) -> Reply
-    ensures { Says (told result) (status_of why.now) (error_data (refusal_members_at why.now (zookie_text zookie.now.store zookie.now.rev))) }
+    ensures { SaysRefusalAt (told result) why.now
+        (Some (zookie_text zookie.now.store zookie.now.rev)) }
 {
     let Ok(text) = zookie.to_text(alloc) else {
         return Reply::NoMemory;

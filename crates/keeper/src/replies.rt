@@ -29,7 +29,8 @@ pub(crate) fn say_text(alloc: Global, status: u16, text: &str) -> Reply
 /// A reply with a value's text, or the one for want of memory.
 pub(crate) fn say(alloc: Global, status: u16, value: Result<Value, AllocError>) -> Reply
     requires { IfOk value (λ v. has_float (view v) ≡ false) }
-    ensures { MatchResult value (λ v. Says (told result) status (view v)) (λ _. told result ≡ None) }
+    ensures { MatchResult value
+        (λ v. Says (told result) status (view v)) (λ _. told result ≡ None) }
 {
     let Ok(value) = value else {
         return Reply::NoMemory;
@@ -45,7 +46,8 @@ pub(crate) fn say(alloc: Global, status: u16, value: Result<Value, AllocError>) 
 
 /// What an accepted change is answered: whether it is shown, and its zookie.
 pub fn receipt(alloc: Global, shown: bool, zookie: &Zookie) -> Reply
-    ensures { Says (told result) 200 (receipt_data shown (zookie_text zookie.now.store zookie.now.rev)) }
+    ensures { Says (told result) 200
+        (receipt_data shown (zookie_text zookie.now.store zookie.now.rev)) }
 {
     let Ok(text) = zookie.to_text(alloc) else {
         return Reply::NoMemory;
@@ -56,7 +58,8 @@ pub fn receipt(alloc: Global, shown: bool, zookie: &Zookie) -> Reply
 
 /// What a check is answered, and the zookie of the revision that it was asked at.
 pub fn answer(alloc: Global, allowed: bool, zookie: &Zookie) -> Reply
-    ensures { Says (told result) 200 (answer_data allowed (zookie_text zookie.now.store zookie.now.rev)) }
+    ensures { Says (told result) 200
+        (answer_data allowed (zookie_text zookie.now.store zookie.now.rev)) }
 {
     let Ok(text) = zookie.to_text(alloc) else {
         return Reply::NoMemory;
@@ -67,7 +70,8 @@ pub fn answer(alloc: Global, allowed: bool, zookie: &Zookie) -> Reply
 
 /// What an accepted `catchup` is answered: the cursor after it, and whether it is shown.
 pub fn cursor(alloc: Global, cursor: &Zookie, shown: bool) -> Reply
-    ensures { Says (told result) 200 (cursor_data (zookie_text cursor.now.store cursor.now.rev) shown) }
+    ensures { Says (told result) 200
+        (cursor_data (zookie_text cursor.now.store cursor.now.rev) shown) }
 {
     let Ok(text) = cursor.to_text(alloc) else {
         return Reply::NoMemory;
@@ -93,7 +97,10 @@ fn state_value(alloc: Global, store: u64, state: &State) -> Result<Value, AllocE
     let hot = rev_value(alloc, store, state.hot)?;
     let index = rev_value(alloc, store, state.index)?;
     let newest = rev_value(alloc, store, state.newest)?;
-    json!(in alloc; {"base": base, "floor": floor, "hot": hot, "index": index, "marked": 0u64, "newest": newest, "rows": state.rows, "tuples": state.tuples})
+    json!(in alloc; {
+        "base": base, "floor": floor, "hot": hot, "index": index, "marked": 0u64, "newest": newest,
+        "rows": state.rows, "tuples": state.tuples
+    })
 }
 
 /// What a `state` is answered: revisions as zookies of the store, and how many rows and tuples there are.

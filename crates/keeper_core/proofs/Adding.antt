@@ -6,18 +6,18 @@ use mathlib.Core.List.{IsPrefix}
 use prog.Atomic.{either}
 use Rattle.logbook.specs.Pages.{Cell, cell, keeps, no_nib, step, Moves, Goes}
 use Rattle.shown.specs.declared.step.Step.{Step}
-use Rattle.keeper_core.specs.Book.{IsKept, Adds}
-use Rattle.keeper_core.proofs.Fronts.{prefix_whole}
+use Rattle.keeper_core.specs.Book.{CountsLog, Adds}
+use Rattle.keeper_core.proofs.Prefixes.{prefix_whole}
 
-abbrev pub shown : List Step → List Step
-shown log = []
+abbrev pub shows_none : List Step → List Step
+shows_none log = []
 
-abbrev pub moved : List Step → List Step → ℕ → Type 0
-moved xs ys n = Unit {0}
+abbrev pub moves_freely : List Step → List Step → ℕ → Type 0
+moves_freely xs ys n = Unit {0}
 
 pub adds_goes : (log v : List Step) (e : Step) (old : ℕ) → length v ≡ old → old < 2 ^ 62 → length log ≤ 2 ^ 62 → IsPrefix v log
     → (b : Bool) → (length log == old) ≡ b
-    → Goes IsKept shown moved 0 (v, (no_nib, None)) (λ n. either (n == old) (old + 1) n) (Adds (step 0 old (old + 1) e) (v, (no_nib, None))) ((length log, true) ∷ (0, true) ∷ []) log
+    → Goes CountsLog shows_none moves_freely 0 (v, (no_nib, None)) (λ n. either (n == old) (old + 1) n) (Adds (step 0 old (old + 1) e) (v, (no_nib, None))) ((length log, true) ∷ (0, true) ∷ []) log
 adds_goes log v e old len room bound pre true is =
     let here : length log ≡ old = grind (arith, nat_tests) in
     let same : v ≡ log = prefix_whole v log pre (omega arith) in
@@ -46,7 +46,7 @@ adds_goes log v e old len room bound pre false is =
 
 -- whatever the book is, the exchange adds the step to all that was seen, or finds that the list is longer
 pub adds_moves : (v : List Step) (e : Step) (old : ℕ) → length v ≡ old → old < 2 ^ 62
-    → Moves IsKept shown moved 0 (v, (no_nib, None)) (λ n. either (n == old) (old + 1) n) (Adds (step 0 old (old + 1) e) (v, (no_nib, None)))
+    → Moves CountsLog shows_none moves_freely 0 (v, (no_nib, None)) (λ n. either (n == old) (old + 1) n) (Adds (step 0 old (old + 1) e) (v, (no_nib, None)))
 adds_moves v e old len room cs log kept pre away =
-    let P : List Cell → Type 0 = λ c. (0 < length c) × ((cell c 0).1 ≡ true) × Goes IsKept shown moved 0 (v, (no_nib, None)) (λ n. either (n == old) (old + 1) n) (Adds (step 0 old (old + 1) e) (v, (no_nib, None))) c log in
+    let P : List Cell → Type 0 = λ c. (0 < length c) × ((cell c 0).1 ≡ true) × Goes CountsLog shows_none moves_freely 0 (v, (no_nib, None)) (λ n. either (n == old) (old + 1) n) (Adds (step 0 old (old + 1) e) (v, (no_nib, None))) c log in
     subst P (sym kept.words) (omega arith, refl, adds_goes log v e old len room kept.bound pre (length log == old) refl)

@@ -3,7 +3,7 @@ use Rattle.std.proofs.Common.{◌≡◌, ℕ, ◌<◌, Bool, true, false, List, 
 use Rattle.std.proofs.lemmas.Bool.Decides.{nat_tests}
 use lib.Dec.{leb}
 use mathlib.Core.List.{IsPrefix}
-use Rattle.keeper_core.proofs.Fronts.{prefix_shorter}
+use Rattle.keeper_core.proofs.Prefixes.{prefix_shorter}
 
 module _ {A B : Type 0} (b c : B) (xs ys zs : List A) (m n : ℕ) (of_one : c ≡ b) (here : m ≡ length xs) (there : n ≡ length ys) (p : IsPrefix xs zs) (q : IsPrefix ys zs) where
   begins_at : (t : Bool) → leb m n ≡ t → MatchBool t ((b ≡ c) × IsPrefix xs ys) (((c ≡ b) × IsPrefix ys xs) × (length ys < length xs))

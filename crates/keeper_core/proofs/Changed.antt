@@ -1,6 +1,6 @@
 -- A change, from the readiness for it on.
 use Rattle.std.proofs.Common.{◌≡◌, Bool, false, List, [], ◌∷◌, ◌++◌, ◌<◌, ℕ, refl, ap, sym, ◌∙◌, subst}
-use Rattle.std.specs.Prelude.{Result, Ok, Err, IfOk, IfErr, Option}
+use Rattle.std.specs.Prelude.{Result, Ok, Err, IfOk, IfErr, OnOk, Option}
 use Rattle.logbook.specs.Pages.{Book}
 use Rattle.names.specs.declared.write.Op.{Op}
 use Rattle.names.specs.declared.write.Condition.{Condition}
@@ -19,9 +19,9 @@ use Rattle.shown.specs.declared.step.Step.TheVariants.{Commit}
 use Rattle.shown.specs.Standing.{Standing, standing}
 use Rattle.tables.specs.Storing.{one_more}
 use Rattle.keeper_core.specs.Posts.{Posts, ShowsMore, PostsStep, newest_shown}
-use Rattle.keeper_core.specs.Changes.{Told, Tells, WriteAccepted, ConfigAccepted, JudgedWith, CatchUpJudged, IsRefused, max_commits}
+use Rattle.keeper_core.specs.Changes.{ReceiptFacts, Tells, WriteAccepted, ConfigAccepted, JudgedWith, CatchUpJudged, IsRefused, max_commits}
 use Rattle.keeper_core.specs.Posting.{NotPosted}
-use Rattle.keeper_core.proofs.Fronts.{prefix_self, prefix_trans}
+use Rattle.keeper_core.proofs.Prefixes.{prefix_self, prefix_trans}
 
 module _ {T : Type 0} (old mid new : Posts T) (more : ShowsMore old mid) (same : mid.faults ≡ old.faults) (works : old.failed ≡ false) where
   pub posts_on : (step : Step) → PostsStep mid step new → PostsStep old step new
@@ -47,48 +47,50 @@ module _ {T : Type 0} (old mid new : Posts T) (more : ShowsMore old mid) (same :
   pub all_shown : mid.shown ≡ mid.posted → mid.shown ≡ old.posted
   all_shown all = all ∙ more.posted
 
-  pub write_accepted : (write : Write Zookie) (events : List Event) (r : Result Told Refusal) → mid.shown ≡ mid.posted → write.conditions ≡ []
+  pub write_accepted : (write : Write Zookie) (events : List Event) (r : Result ReceiptFacts Refusal) → mid.shown ≡ mid.posted → write.conditions ≡ []
       → IsAccepted (newest_shown mid) write.ops → AreEventsOf write.ops events
-      → IfOk r (λ told. PostsStep mid (Commit (Tuples events)) new × Tells told new × (new.failed ≡ false)) → IfOk r (λ told. WriteAccepted old write told new)
-  write_accepted write events (Ok told) all plain accepted are posts =
+      → OnOk r (PostsStep mid (Commit (Tuples events)) new) → IfOk r (λ receipt. Tells receipt new) → OnOk r (new.failed ≡ false)
+      → IfOk r (λ receipt. WriteAccepted old write receipt new)
+  write_accepted write events (Ok receipt) all plain accepted are posts tells stored =
       record {
         works = works;
         plain = plain;
         accepted = subst (λ (steps : List Step). IsAccepted (newest_of (standing steps).kept) write.ops) (all_shown all) accepted;
         events = events;
         events_of = are;
-        posts = posts_on (Commit (Tuples events)) posts.0;
-        stored = posts.2;
-        tells = posts.1;
+        posts = posts_on (Commit (Tuples events)) posts;
+        stored = stored;
+        tells = tells;
       }
-  write_accepted write events (Err why) all plain accepted are posts = tt
+  write_accepted write events (Err why) all plain accepted are posts tells stored = tt
 
-  pub config_accepted : (config : Configured) (r : Result Told Refusal) → mid.shown ≡ mid.posted → config_cause (newest_shown mid) config ≡ Option.None
-      → IfOk r (λ told. PostsStep mid (Commit (Config config)) new × Tells told new × (new.failed ≡ false)) → IfOk r (λ told. ConfigAccepted old config told new)
-  config_accepted config (Ok told) all accepted posts =
+  pub config_accepted : (config : Configured) (r : Result ReceiptFacts Refusal) → mid.shown ≡ mid.posted → config_cause (newest_shown mid) config ≡ Option.None
+      → OnOk r (PostsStep mid (Commit (Config config)) new) → IfOk r (λ receipt. Tells receipt new) → OnOk r (new.failed ≡ false)
+      → IfOk r (λ receipt. ConfigAccepted old config receipt new)
+  config_accepted config (Ok receipt) all accepted posts tells stored =
       record {
         works = works;
         accepted = subst (λ (steps : List Step). config_cause (newest_of (standing steps).kept) config ≡ Option.None) (all_shown all) accepted;
-        posts = posts_on (Commit (Config config)) posts.0;
-        stored = posts.2;
-        tells = posts.1;
+        posts = posts_on (Commit (Config config)) posts;
+        stored = stored;
+        tells = tells;
       }
-  config_accepted config (Err why) all accepted posts = tt
+  config_accepted config (Err why) all accepted posts tells stored = tt
 
   not_posted : (judged : Refusal → Type 0) (why : Refusal) → judged Memory → NotPosted why mid new → IsRefused old judged why new
   not_posted judged Memory memory not = record { shows = shows_on not.0; cause = (works, memory, not.1, not.2 ∙ same) }
   not_posted judged StoreFault memory not = record { shows = shows_on not.0; cause = (works, not.1, not.2 ∙ ap one_more same) }
   not_posted judged _ memory not = absurd not
 
-  pub refused : (judged : Refusal → Type 0) (r : Result Told Refusal) → judged Memory → IfErr r (λ why. NotPosted why mid new) → IfErr r (λ why. IsRefused old judged why new)
-  refused judged (Ok told) memory not = tt
-  refused judged (Err why) memory not = not_posted judged why memory not
+  pub refuses_on : (judged : Refusal → Type 0) (r : Result ReceiptFacts Refusal) → judged Memory → IfErr r (λ why. NotPosted why mid new) → IfErr r (λ why. IsRefused old judged why new)
+  refuses_on judged (Ok receipt) memory not = tt
+  refuses_on judged (Err why) memory not = not_posted judged why memory not
 
 -- a desk at which nothing happens
-pub shows_itself : {T : Type 0} (tables : T) (b : Book) (front : List Step) (waiting : List Step) (failed : Bool) (faults : ℕ)
-    → ShowsMore (record { tables = tables; book = b; posted = front ++ waiting; shown = front; failed = failed; faults = faults })
-    (record { tables = tables; book = b; posted = front ++ waiting; shown = front; failed = failed; faults = faults })
-shows_itself tables b front waiting failed faults = record { posted = refl; book = refl; later = prefix_self front; beginning = (waiting, refl) }
+pub shows_itself : {T : Type 0} (tables : T) (b : Book) (prefix : List Step) (waiting : List Step) (failed : Bool) (faults : ℕ)
+    → ShowsMore (record { tables = tables; book = b; posted = prefix ++ waiting; shown = prefix; failed = failed; faults = faults })
+    (record { tables = tables; book = b; posted = prefix ++ waiting; shown = prefix; failed = failed; faults = faults })
+shows_itself tables b prefix waiting failed faults = record { posted = refl; book = refl; later = prefix_self prefix; beginning = (waiting, refl) }
 
 -- want of memory is never the write's fault
 pub memory_judged : (newest : Newest) (ops : List Op) (conditions : List (Condition Zookie)) → JudgedWith newest ops conditions Memory
@@ -102,7 +104,7 @@ config_judged shown steps config d is judged here =
     subst (λ (xs : List Step). config_cause (newest_of (standing xs).kept) config ≡ Option.None) (sym here) (subst (λ (s : Standing). config_cause (newest_of s.kept) config ≡ Option.None) is judged)
 
 -- too many commits at once
-pub too_many : {T : Type 0} (tables : T) (b : Book) (front : List Step) (waiting : List Step) (failed : Bool) (faults : ℕ) (commits : ℕ) → failed ≡ false → max_commits < commits
-    → IsRefused (record { tables = tables; book = b; posted = front ++ waiting; shown = front; failed = failed; faults = faults }) (CatchUpJudged commits) Malformed
-    (record { tables = tables; book = b; posted = front ++ waiting; shown = front; failed = failed; faults = faults })
-too_many tables b front waiting failed faults commits sound many = record { shows = shows_itself tables b front waiting failed faults; cause = (sound, many, sound, refl) }
+pub too_many : {T : Type 0} (tables : T) (b : Book) (prefix : List Step) (waiting : List Step) (failed : Bool) (faults : ℕ) (commits : ℕ) → failed ≡ false → max_commits < commits
+    → IsRefused (record { tables = tables; book = b; posted = prefix ++ waiting; shown = prefix; failed = failed; faults = faults }) (CatchUpJudged commits) Malformed
+    (record { tables = tables; book = b; posted = prefix ++ waiting; shown = prefix; failed = failed; faults = faults })
+too_many tables b prefix waiting failed faults commits sound many = record { shows = shows_itself tables b prefix waiting failed faults; cause = (sound, many, sound, refl) }

@@ -21,22 +21,33 @@ use Rattle.shown.specs.Standing.{standing, cursor_of}
 use Rattle.keeper_core.specs.Known.{Known}
 use Rattle.keeper_core.specs.Posts.{Posts, ShowsMore, PostsStep, shown_by, newest_posted}
 
--- What a receipt says: the store's number, a revision, whether all posted steps are shown, and the list of shown steps.
-pub record Told : Type 0 where
+-- What a receipt says: the store's number, a revision, whether all posted steps are shown, and the list of
+-- shown steps.
+pub record ReceiptFacts : Type 0 where
   pub number : ℕ
   pub rev : ℕ
   pub shown : Bool
   pub published : Known
 
 -- the receipt tells of the desk as it is, and names the newest posted revision
-pub record Tells {T : Type 0} (told : Told) (desk : Posts T) : Type 0 where
-  pub number : told.number ≡ (standing desk.posted).kept.number
-  pub rev : told.rev ≡ newest (standing desk.posted).kept
-  pub shown : IsTrue told.shown ↔ (desk.shown ≡ desk.posted)
-  pub published : told.published ≡ shown_by desk
+pub record Tells {T : Type 0} (receipt : ReceiptFacts) (desk : Posts T) : Type 0 where
+  pub number : receipt.number ≡ (standing desk.posted).kept.number
+  pub rev : receipt.rev ≡ newest (standing desk.posted).kept
+  pub shown : IsTrue receipt.shown ↔ (desk.shown ≡ desk.posted)
+  pub published : receipt.published ≡ shown_by desk
 
--- the operations were accepted, and their commit is posted, stored, and told of
-pub record WriteAccepted {T : Type 0} (old : Posts T) (write : Write Zookie) (told : Told) (new : Posts T) : Type 0 where
+-- the receipt at a revision of the desk's store
+abbrev pub receipt_at : {T : Type 0} → Posts T → ℕ → Bool → ReceiptFacts
+receipt_at desk rev shown = record {
+  number = (standing desk.posted).kept.number;
+  rev = rev;
+  shown = shown;
+  published = shown_by desk;
+}
+
+-- the operations were accepted, and their commit is posted and stored, and the receipt tells of it
+pub record WriteAccepted {T : Type 0}
+    (old : Posts T) (write : Write Zookie) (receipt : ReceiptFacts) (new : Posts T) : Type 0 where
   pub works : old.failed ≡ false
   pub plain : write.conditions ≡ []
   pub accepted : IsAccepted (newest_posted old) write.ops
@@ -44,32 +55,37 @@ pub record WriteAccepted {T : Type 0} (old : Posts T) (write : Write Zookie) (to
   pub events_of : AreEventsOf write.ops events
   pub posts : PostsStep old (CommitStep (Tuples events)) new
   pub stored : new.failed ≡ false
-  pub tells : Tells told new
+  pub tells : Tells receipt new
 
--- the configuration was accepted, and is posted, stored, and told of
-pub record ConfigAccepted {T : Type 0} (old : Posts T) (config : Configured) (told : Told) (new : Posts T) : Type 0 where
+-- the configuration was accepted, and is posted and stored, and the receipt tells of it
+pub record ConfigAccepted {T : Type 0}
+    (old : Posts T) (config : Configured) (receipt : ReceiptFacts) (new : Posts T) : Type 0 where
   pub works : old.failed ≡ false
   pub accepted : config_cause (newest_posted old) config ≡ Option.None
   pub posts : PostsStep old (CommitStep (Config config)) new
   pub stored : new.failed ≡ false
-  pub tells : Tells told new
+  pub tells : Tells receipt new
 
 -- the most commits that a part takes at once
 abbrev pub max_commits : ℕ
 max_commits = 65536
 
--- The part has taken the commits, which is posted and changes nothing of the tables. The revision that is told is shown.
-pub record CatchUpAccepted {T : Type 0} (old : Posts T) (part : Part) (commits : ℕ) (cursor : ℕ) (told : Told) (new : Posts T) : Type 0 where
+-- The part has taken the commits, which is posted and changes nothing of the tables. The revision of the
+-- receipt is shown.
+pub record CatchUpAccepted {T : Type 0}
+    (old : Posts T) (part : Part) (commits : ℕ) (cursor : ℕ) (receipt : ReceiptFacts)
+    (new : Posts T) : Type 0 where
   pub works : old.failed ≡ false
   pub few : commits ≤ max_commits
   pub posts : PostsStep old (Take part commits) new
   pub tables : new.tables ≡ old.tables
   pub stored : new.failed ≡ false
   pub moved : cursor ≡ cursor_of part (standing new.posted)
-  pub tells : Tells told new
-  pub seen : told.rev ≡ newest (standing new.shown).kept
+  pub tells : Tells receipt new
+  pub seen : receipt.rev ≡ newest (standing new.shown).kept
 
--- Why a write is refused on a revision. Conditions are not answered yet: a write with one is malformed.
+-- Why a write is refused on a revision. Conditions are not answered yet: a write with one is
+-- malformed.
 abbrev pub JudgedWith : Newest → List Op → List (Condition Zookie) → Refusal → Type 0
 JudgedWith newest ops [] why = WriteRefused newest ops why
 JudgedWith newest ops (condition ∷ conditions) why = ReadCause (Unit {0}) why
@@ -83,14 +99,19 @@ CatchUpJudged commits Malformed = max_commits < commits
 CatchUpJudged commits Memory = Unit {0}
 CatchUpJudged commits _ = ⊥
 
--- Why a change was refused, where `judged` says why it would be on the posted steps. After a fault every change asks to open the tables again.
+-- Why a change was refused, where `judged` says why it would be on the posted steps. After a fault every
+-- change asks to open the tables again.
 abbrev pub Refuses : {T : Type 0} → Posts T → (Refusal → Type 0) → Refusal → Posts T → Type 0
-Refuses old judged Reopen new = (old.failed ≡ true) × (new.failed ≡ true) × (new.faults ≡ old.faults)
-Refuses old judged StoreFault new = (old.failed ≡ false) × (new.failed ≡ true) × (new.faults ≡ one_more old.faults)
-Refuses old judged why new = (old.failed ≡ false) × judged why × (new.failed ≡ false) × (new.faults ≡ old.faults)
+Refuses old judged Reopen new =
+    (old.failed ≡ true) × (new.failed ≡ true) × (new.faults ≡ old.faults)
+Refuses old judged StoreFault new =
+    (old.failed ≡ false) × (new.failed ≡ true) × (new.faults ≡ one_more old.faults)
+Refuses old judged why new =
+    (old.failed ≡ false) × judged why × (new.failed ≡ false) × (new.faults ≡ old.faults)
 
 -- nothing is posted, and this is why
-pub record IsRefused {T : Type 0} (old : Posts T) (judged : Refusal → Type 0) (why : Refusal) (new : Posts T) : Type 0 where
+pub record IsRefused {T : Type 0}
+    (old : Posts T) (judged : Refusal → Type 0) (why : Refusal) (new : Posts T) : Type 0 where
   pub shows : ShowsMore old new
   pub cause : Refuses old judged why new
 

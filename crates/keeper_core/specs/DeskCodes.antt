@@ -6,10 +6,24 @@ use Rattle.shown.specs.declared.step.Step.{Step}
 use Rattle.keeper_core.specs.Known.{Known}
 use Rattle.keeper_core.specs.Codes.{coded_book, coded_steps, coded_known}
 use Rattle.keeper_core.specs.Posts.{Posts}
-use Rattle.keeper_core.specs.Changes.{Told}
+use Rattle.keeper_core.specs.Changes.{ReceiptFacts}
 
-abbrev pub coded_told : Coded Told
-coded_told = code_by (ℕ × (ℕ × (Bool × Known))) (coded× coded_ℕ (coded× coded_ℕ (coded× coded_bool coded_known))) (λ t. (t.number, (t.rev, (t.shown, t.published)))) (λ p. record { number = p.0; rev = p.1.0; shown = p.1.1.0; published = p.1.1.1 }) (λ _. refl)
+abbrev pub coded_receipt : Coded ReceiptFacts
+coded_receipt =
+    code_by (ℕ × (ℕ × (Bool × Known))) (coded× coded_ℕ (coded× coded_ℕ (coded× coded_bool coded_known)))
+    (λ r. (r.number, (r.rev, (r.shown, r.published))))
+    (λ p. record { number = p.0; rev = p.1.0; shown = p.1.1.0; published = p.1.1.1 }) (λ _. refl)
 
 abbrev pub coded_posts : {T : Type 0} → Coded T → Coded (Posts T)
-coded_posts {T} code = code_by (T × (Book × (List Step × (List Step × (Bool × ℕ))))) (coded× code (coded× coded_book (coded× coded_steps (coded× coded_steps (coded× coded_bool coded_ℕ))))) (λ d. (d.tables, (d.book, (d.posted, (d.shown, (d.failed, d.faults)))))) (λ p. record { tables = p.0; book = p.1.0; posted = p.1.1.0; shown = p.1.1.1.0; failed = p.1.1.1.1.0; faults = p.1.1.1.1.1 }) (λ _. refl)
+coded_posts {T} code =
+    code_by (T × (Book × (List Step × (List Step × (Bool × ℕ)))))
+    (coded× code (coded× coded_book (coded× coded_steps (coded× coded_steps (coded× coded_bool coded_ℕ)))))
+    (λ d. (d.tables, (d.book, (d.posted, (d.shown, (d.failed, d.faults))))))
+    (λ p. record {
+      tables = p.0;
+      book = p.1.0;
+      posted = p.1.1.0;
+      shown = p.1.1.1.0;
+      failed = p.1.1.1.1.0;
+      faults = p.1.1.1.1.1;
+    }) (λ _. refl)

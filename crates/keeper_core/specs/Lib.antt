@@ -2,8 +2,8 @@ pub mod Book
 pub mod Known
 pub mod Codes
 pub mod Posts
-pub mod Watching
+pub mod Latching
 pub mod Changes
-pub mod Keeps
+pub mod Invariant
 pub mod DeskCodes
 pub mod Posting

@@ -14,5 +14,6 @@ NotReady failed _ = ⊥
 -- the tables have failed now, or there was no memory to store the commit; nothing is posted
 abbrev pub NotPosted : {T : Type 0} → Refusal → Posts T → Posts T → Type 0
 NotPosted Memory old new = ShowsMore old new × (new.failed ≡ false) × (new.faults ≡ old.faults)
-NotPosted StoreFault old new = ShowsMore old new × (new.failed ≡ true) × (new.faults ≡ one_more old.faults)
+NotPosted StoreFault old new =
+    ShowsMore old new × (new.failed ≡ true) × (new.faults ≡ one_more old.faults)
 NotPosted _ old new = ⊥

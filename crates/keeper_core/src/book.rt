@@ -1,6 +1,7 @@
-//! The list of the steps that were handed out for publication. It exists in proofs alone: what is stored is its length.
+//! The list of the steps that were handed out for publication. It exists in proofs alone: what is stored
+//! is its length.
 ghost use Rattle.std.specs.Prelude.{◌≡◌, ◌+◌, ◌<◌, ◌≤◌, ◌^◌, ◌++◌, ◌∷◌, ◌⊎◌, [], length, IfSome, MatchBool};
-ghost use Rattle.keeper_core.specs.Known.{start_of, next_of, Begins};
+ghost use Rattle.keeper_core.specs.Known.{start_of, next_of, Begins, BeginsLonger};
 
 use logbook::{Gain, Offer, Plain, Play, Rule, Seen, Start, Word};
 use shown::Step;
@@ -15,9 +16,9 @@ pub struct Grows;
 impl Rule<Step, u64> for Grows {
     ghost use Rattle.std.specs.Prelude.{[]};
     ghost use base.Fml.{ftrue};
-    ghost use Rattle.keeper_core.specs.Book.{IsKept};
+    ghost use Rattle.keeper_core.specs.Book.{CountsLog};
 
-    ghost holds = { λ cells log. IsKept cells log };
+    ghost holds = { λ cells log. CountsLog cells log };
 
     ghost first = { [] };
 
@@ -88,40 +89,41 @@ impl Model for Book {
     ghost invariant = { λ b. b.head ≡ head_of b.head.book };
 }
 
-/// A book with an empty list, and the front that has seen nothing.
+/// A book with an empty list, and the prefix that has seen nothing.
 #[derive(Drop)]
 pub struct Opened {
     pub book: Book,
-    pub front: Front,
-    pub ghost empty: { front ≡ start_of book },
+    pub prefix: StepPrefix,
+    pub ghost empty: { prefix ≡ start_of book },
 }
 
 impl Opened {
-    /// A new book, and the front that has seen nothing of it.
+    /// A new book, and the prefix that has seen nothing of it.
     pub fn new() -> Opened
-        ensures { result.front ≡ start_of result.book }
+        ensures { result.prefix ≡ start_of result.book }
     {
-        let (book, front) = open();
-        Opened { book, front }
+        let (book, prefix) = open();
+        Opened { book, prefix }
     }
 }
 
-fn open() -> (Book, Front)
+fn open() -> (Book, StepPrefix)
     ensures { result.1 ≡ start_of result.0 }
 {
     let (seen, mut first, _second) = Seen::open(Start::alone(), 0, 0);
     let head = Word::tracked(0, &mut first);
-    (Book { head }, Front { count: 0, seen })
+    (Book { head }, StepPrefix { count: 0, seen })
 }
 
-/// A beginning of a book's list. Contracts see it as the book's name and the steps. It can be copied, sent and shared, and takes eight bytes.
+/// A beginning of a book's list. Contracts see it as the book's name and the steps. It can be copied, sent
+/// and shared, and takes eight bytes.
 #[derive(Drop)]
-pub struct Front {
+pub struct StepPrefix {
     count: u64,
     seen: Seen<Step, u64, Grows>,
 }
 
-impl Model for Front {
+impl Model for StepPrefix {
     ghost use Rattle.std.specs.Prelude.{◌≡◌, ◌≤◌, ◌^◌, List, length};
     ghost use Rattle.keeper_core.specs.Known.{Known};
     ghost use Rattle.keeper_core.specs.Codes.{coded_known};
@@ -135,7 +137,7 @@ impl Model for Front {
     ghost invariant = { λ f. (f.count ≡ length f.seen.log) × (length f.seen.log ≤ 2 ^ 62) };
 }
 
-impl Front {
+impl StepPrefix {
     /// How many steps it has.
     pub fn len(&self) -> u64
         ensures length { result ≡ length self.now.steps }
@@ -145,19 +147,19 @@ impl Front {
     }
 
     /// A copy.
-    pub fn again(&self) -> Front
+    pub fn again(&self) -> StepPrefix
         ensures { result ≡ self.now }
     {
-        Front {
+        StepPrefix {
             count: self.count,
             seen: self.seen.again(),
         }
     }
 
     /// Whether the other has as many steps or more. Then it begins with these.
-    pub fn begins(&self, other: &Front) -> bool
+    pub fn begins(&self, other: &StepPrefix) -> bool
         requires { other.now.book ≡ self.now.book }
-        ensures { MatchBool result (Begins self.now other.now) (Begins other.now self.now × (length other.now.steps < length self.now.steps)) }
+        ensures { MatchBool result (Begins self.now other.now) (BeginsLonger other.now self.now) }
     {
         let mut both = self.seen.again();
         both.learn(&other.seen);
@@ -165,7 +167,7 @@ impl Front {
     }
 
     /// The longer of the two, which both begin.
-    pub fn longer(&self, other: &Front) -> Front
+    pub fn longer(&self, other: &StepPrefix) -> StepPrefix
         requires { other.now.book ≡ self.now.book }
         ensures this { Begins self.now result }
         ensures that { Begins other.now result }
@@ -179,9 +181,9 @@ impl Front {
     }
 
     /// The list with one step more, where nobody else has added to it and there is room.
-    pub fn grown(&self, book: &Book, step: &Step) -> Option<Front>
+    pub fn add_step(&self, book: &Book, step: &Step) -> Option<StepPrefix>
         requires { self.now.book ≡ book.now }
-        ensures { IfSome result (λ f. f ≡ next_of self.now step.now) }
+        ensures { IfSome result (λ p. p ≡ next_of self.now step.now) }
     {
         if self.count >= MOST {
             return None;
@@ -199,7 +201,7 @@ impl Front {
         if found != self.count {
             return None;
         }
-        Some(Front {
+        Some(StepPrefix {
             count: self.count + 1,
             seen,
         })

@@ -1,23 +1,21 @@
 //! The desk: what lies under a store's lock.
-ghost use Rattle.std.specs.Prelude.{◌≡◌, ◌↔◌, ◌++◌, [], ◌∷◌, true, false, IsTrue, IfOk, IfErr, OnOk};
+ghost use Rattle.std.specs.Prelude.{◌≡◌, ◌↔◌, [], true, false, IsTrue, IfOk, IfErr, OnOk};
 ghost use Rattle.names.specs.declared.commit.Commit.TheVariants.{Tuples};
 ghost use Rattle.meaning.specs.Verdict.{config_cause};
-ghost use Rattle.rows.specs.Retained.{Retained, newest};
-ghost use Rattle.rows.specs.Loads.{retained_of};
+ghost use Rattle.rows.specs.Retained.{newest};
 ghost use Rattle.rows.specs.Follows.{IsAccepted, IsNext};
 ghost use Rattle.rows.specs.Judging.{ConfigRefused};
-ghost use Rattle.rows.specs.declared.loaded.Loaded.{Loaded};
-ghost use Rattle.shown.specs.declared.step.Step.TheVariants.{Open, Commit as CommitStep, Take};
+ghost use Rattle.shown.specs.declared.step.Step.TheVariants.{Commit as CommitStep, Take};
 ghost use Rattle.shown.specs.Standing.{standing, state_of, cursor_of, after_take};
-ghost use Rattle.shown.specs.Answers.{IsChecked, CheckRefused};
-ghost use Rattle.keeper_core.specs.Posts.{Agrees, ShowsMore, PostsStep, shown_by, newest_posted, newest_shown};
-ghost use Rattle.keeper_core.specs.Changes.{Tells, WriteAccepted, ConfigAccepted, CatchUpAccepted, IsRefused, JudgedWith, WriteJudged, CatchUpJudged, CannotOpen};
+ghost use Rattle.shown.specs.Answers.{IsAnswer, IsRefusal};
+ghost use Rattle.keeper_core.specs.Posts.{TablesAgree, OpensWith, SameTables, ShowsMore, PostsStep, newest_posted, newest_shown};
+ghost use Rattle.keeper_core.specs.Changes.{Tells, WriteAccepted, ConfigAccepted, CatchUpAccepted, IsRefused, JudgedWith, WriteJudged, CatchUpJudged, CannotOpen, receipt_at};
 ghost use Rattle.keeper_core.specs.Posting.{NotReady, NotPosted};
 
-use crate::book::{Book, Front, Opened};
+use crate::book::{Book, Opened, StepPrefix};
+use crate::latched_tables::{LatchedTables, load};
 use crate::receipt::{Posted, Receipt};
 use crate::showing::{Waiting, show_waiting};
-use crate::watched::{Watched, load};
 use config::Config;
 use names::{Commit, Condition, Items, Node, Object, Op, Refusal, Write};
 use rows::{events_of, refuses_what_no_write_gives};
@@ -34,9 +32,9 @@ const MAX_COMMITS: u64 = 65_536;
 /// be shown.
 #[derive(Drop)]
 pub struct Desk<T: Tables + Drop> {
-    tables: Watched<T>,
+    tables: LatchedTables<T>,
     book: Book,
-    front: Front,
+    prefix: StepPrefix,
     shown: Shown,
     waiting: Option<Waiting>,
 }
@@ -49,37 +47,45 @@ impl<T: Tables + Drop> Model for Desk<T> {
 
     ghost coded = { coded_posts T.code };
 
-    ghost use Rattle.keeper_core.specs.Keeps.{Keeps, posted_of};
+    ghost use Rattle.keeper_core.specs.Invariant.{IsSound, posted_of};
 
-    ghost view = { λ d. record { tables = d.tables.tables; book = d.book; posted = posted_of d.front d.waiting; shown = d.front.steps; failed = d.tables.failed; faults = T.count d.tables.tables } };
+    ghost view = { λ d. record {
+      tables = d.tables.tables;
+      book = d.book;
+      posted = posted_of d.prefix d.waiting;
+      shown = d.prefix.steps;
+      failed = d.tables.failed;
+      faults = T.count d.tables.tables;
+    } };
 
-    ghost invariant = { λ d. Keeps (T.holds d.tables.tables) (T.leaves_only d.tables.tables) d.tables.failed d.book d.front d.shown d.waiting };
+    ghost invariant = { λ d.
+        IsSound (T.holds d.tables.tables) (T.leaves_only d.tables.tables) d.tables.failed
+        d.book d.prefix d.shown d.waiting };
 }
 
 impl<T: Tables + Drop> Desk<T> {
     /// A desk over tables, which shows what they hold.
     pub fn open(alloc: Global, opened: Opened, tables: T) -> Result<Desk<T>, Refusal>
-        ensures posted { IfOk result (λ desk. (loaded : Loaded) × (desk.posted ≡ Open loaded ∷ []) × T.holds desk.tables (retained_of loaded) × ((r : Retained) → T.holds tables r → T.is_reliable desk.tables → retained_of loaded ≡ r)) }
+        ensures posted { IfOk result (OpensWith (T.holds tables) T.holds T.is_reliable) }
         ensures shown { IfOk result (λ desk. desk.shown ≡ desk.posted) }
         ensures book { IfOk result (λ desk. desk.book ≡ opened.book) }
         ensures failed { IfOk result (λ desk. desk.failed ≡ false) }
         ensures faults { IfOk result (λ desk. desk.faults ≡ T.count tables) }
-        ensures agrees { IfOk result (λ desk. Agrees desk.failed (T.holds desk.tables) (T.leaves_only desk.tables) (standing desk.posted).kept) }
         ensures err { IfErr result CannotOpen }
     {
         let mut tables = tables;
         let loaded = load(&mut tables, alloc)?;
         let step = Step::Open(loaded);
-        let Opened { book, front } = opened;
-        let Some(front) = front.grown(&book, &step) else {
+        let Opened { book, prefix } = opened;
+        let Some(prefix) = prefix.add_step(&book, &step) else {
             return Err(Refusal::Memory);
         };
         let mut shown = Shown::new(alloc);
         shown.apply(&step)?;
         Ok(Desk {
-            tables: Watched::new(tables),
+            tables: LatchedTables::new(tables),
             book,
-            front,
+            prefix,
             shown,
             waiting: None,
         })
@@ -89,10 +95,10 @@ impl<T: Tables + Drop> Desk<T> {
     /// malformed yet.
     pub fn write(&mut self, write: Write<Zookie>) -> Result<Receipt, Refusal>
         ensures ok { IfOk result (λ receipt. WriteAccepted self.old write receipt self.new) }
-        ensures err { IfErr result (λ why. IsRefused self.old (WriteJudged (newest_posted self.old) write) why self.new) }
-        ensures agrees { Agrees self.new.failed (T.holds self.new.tables) (T.leaves_only self.new.tables) (standing self.new.posted).kept }
+        ensures err { IfErr result (λ why.
+            IsRefused self.old (WriteJudged (newest_posted self.old) write) why self.new) }
     {
-        self.ready()?;
+        self.make_ready()?;
         let Write { conditions, ops } = write;
         self.judge(&conditions, &ops)?;
         let events = events_of(ops)?;
@@ -103,10 +109,10 @@ impl<T: Tables + Drop> Desk<T> {
     /// Puts a configuration in the place of the one before.
     pub fn configure(&mut self, config: Config) -> Result<Receipt, Refusal>
         ensures ok { IfOk result (λ receipt. ConfigAccepted self.old config receipt self.new) }
-        ensures err { IfErr result (λ why. IsRefused self.old (ConfigRefused (newest_posted self.old) config) why self.new) }
-        ensures agrees { Agrees self.new.failed (T.holds self.new.tables) (T.leaves_only self.new.tables) (standing self.new.posted).kept }
+        ensures err { IfErr result (λ why.
+            IsRefused self.old (ConfigRefused (newest_posted self.old) config) why self.new) }
     {
-        self.ready()?;
+        self.make_ready()?;
         self.shown.judge_config(&config)?;
         self.post(Commit::Config(config))
     }
@@ -114,14 +120,15 @@ impl<T: Tables + Drop> Desk<T> {
     /// Has a part take so many commits more, or as many as there are. Over 65,536 are malformed. The tables
     /// are not changed.
     pub fn catch_up(&mut self, part: Part, commits: u64) -> Result<Posted, Refusal>
-        ensures ok { IfOk result (λ posted. CatchUpAccepted self.old part commits posted.value posted.receipt self.new) }
-        ensures err { IfErr result (λ why. IsRefused self.old (CatchUpJudged commits) why self.new) }
-        ensures agrees { Agrees self.new.failed (T.holds self.new.tables) (T.leaves_only self.new.tables) (standing self.new.posted).kept }
+        ensures ok { IfOk result (λ posted.
+            CatchUpAccepted self.old part commits posted.value posted.receipt self.new) }
+        ensures err { IfErr result (λ why.
+            IsRefused self.old (CatchUpJudged commits) why self.new) }
     {
         if commits > MAX_COMMITS && !self.tables.has_failed() {
             return Err(Refusal::Malformed);
         }
-        self.ready()?;
+        self.make_ready()?;
         Ok(self.take(part, commits as u32))
     }
 
@@ -132,8 +139,9 @@ impl<T: Tables + Drop> Desk<T> {
         node: &Node,
         user: &Object,
     ) -> Result<Answer<bool>, Refused>
-        ensures ok { IfOk result (λ answer. IsChecked (standing self.now.shown) consistency.now node.now user.now answer.rev answer.value) }
-        ensures err { IfErr result (λ refused. CheckRefused (standing self.now.shown) consistency.now node.now refused.why refused.at) }
+        ensures ok { IfOk result
+            (IsAnswer (standing self.now.shown) consistency.now node.now user.now) }
+        ensures err { IfErr result (IsRefusal (standing self.now.shown) consistency.now node.now) }
     {
         self.shown.check(consistency, node, user)
     }
@@ -149,12 +157,11 @@ impl<T: Tables + Drop> Desk<T> {
     pub fn publish(&mut self) -> bool
         ensures more { ShowsMore self.old self.new }
         ensures all { IsTrue result ↔ (self.new.shown ≡ self.new.posted) }
-        ensures same { (self.new.tables ≡ self.old.tables) × (self.new.failed ≡ self.old.failed) × (self.new.faults ≡ self.old.faults) }
-        ensures agrees { Agrees self.new.failed (T.holds self.new.tables) (T.leaves_only self.new.tables) (standing self.new.posted).kept }
+        ensures same { SameTables self.old self.new }
     {
         show_waiting(
             &self.book,
-            &mut self.front,
+            &mut self.prefix,
             &mut self.shown,
             &mut self.waiting,
         )
@@ -175,13 +182,21 @@ impl<T: Tables + Drop> Desk<T> {
         self.shown.newest()
     }
 
+    /// Whether the tables failed. As long as they have not, they hold the history of the posted steps, and a
+    /// crash leaves no other; after that a crash leaves it, or it with one commit more.
+    pub fn has_failed(&self) -> bool
+        ensures failed { result ≡ self.now.failed }
+        ensures agrees { TablesAgree T.holds T.leaves_only self.now }
+    {
+        self.tables.has_failed()
+    }
+
     // Whether a change can be judged: the tables have not failed, and all that is posted is shown.
-    fn ready(&mut self) -> Result<(), Refusal>
+    fn make_ready(&mut self) -> Result<(), Refusal>
         ensures more { ShowsMore self.old self.new }
-        ensures same { (self.new.tables ≡ self.old.tables) × (self.new.failed ≡ self.old.failed) × (self.new.faults ≡ self.old.faults) }
+        ensures same { SameTables self.old self.new }
         ensures ok { OnOk result ((self.old.failed ≡ false) × (self.new.shown ≡ self.new.posted)) }
         ensures err { IfErr result (NotReady self.old.failed) }
-        ensures agrees { Agrees self.new.failed (T.holds self.new.tables) (T.leaves_only self.new.tables) (standing self.new.posted).kept }
     {
         if self.tables.has_failed() {
             return Err(Refusal::Reopen);
@@ -195,7 +210,8 @@ impl<T: Tables + Drop> Desk<T> {
 
     // Why a write is refused, if it is.
     fn judge(&self, conditions: &Items<Condition<Zookie>>, ops: &Items<Op>) -> Result<(), Refusal>
-        ensures ok { OnOk result ((conditions.now ≡ []) × IsAccepted (newest_shown self.now) ops.now) }
+        ensures plain { OnOk result (conditions.now ≡ []) }
+        ensures ok { OnOk result (IsAccepted (newest_shown self.now) ops.now) }
         ensures err { IfErr result (JudgedWith (newest_shown self.now) ops.now conditions.now) }
     {
         if !conditions.as_slice().is_empty() {
@@ -209,9 +225,10 @@ impl<T: Tables + Drop> Desk<T> {
         requires open { self.old.failed ≡ false }
         requires whole { self.old.shown ≡ self.old.posted }
         requires next { IsNext (standing self.old.posted).kept commit }
-        ensures ok { IfOk result (λ receipt. PostsStep self.old (CommitStep commit) self.new × Tells receipt self.new × (self.new.failed ≡ false)) }
+        ensures posts { OnOk result (PostsStep self.old (CommitStep commit) self.new) }
+        ensures tells { IfOk result (λ receipt. Tells receipt self.new) }
+        ensures stored { OnOk result (self.new.failed ≡ false) }
         ensures err { IfErr result (λ why. NotPosted why self.old self.new) }
-        ensures agrees { Agrees self.new.failed (T.holds self.new.tables) (T.leaves_only self.new.tables) (standing self.new.posted).kept }
     {
         let rev = self.shown.newest() + 1;
         self.tables.write(rev, &commit)?;
@@ -232,7 +249,6 @@ impl<T: Tables + Drop> Desk<T> {
         ensures moved { result.value ≡ cursor_of part (standing self.new.posted) }
         ensures tells { Tells result.receipt self.new }
         ensures seen { result.receipt.rev ≡ newest (standing self.new.shown).kept }
-        ensures agrees { Agrees self.new.failed (T.holds self.new.tables) (T.leaves_only self.new.tables) (standing self.new.posted).kept }
     {
         let rev = self.shown.newest();
         let value = self.cursor_after(part, commits);
@@ -259,12 +275,12 @@ impl<T: Tables + Drop> Desk<T> {
 
     // The receipt of a change at this revision.
     fn receipt(&self, rev: u64, shown: bool) -> Receipt
-        ensures { result ≡ record { number = (standing self.now.posted).kept.number; rev = rev; shown = shown; published = shown_by self.now } }
+        ensures { result ≡ receipt_at self.now rev shown }
     {
         let zookie = Zookie {
             store: self.number(),
             rev,
         };
-        Receipt::new(zookie, shown, self.front.again())
+        Receipt::new(zookie, shown, self.prefix.again())
     }
 }

@@ -4,12 +4,12 @@
 
 mod book;
 mod desk;
+mod latched_tables;
 mod receipt;
 mod showing;
 #[cfg(test)]
 mod tests;
-mod watched;
 
-pub use book::{Book, Front, Naming, Opened};
+pub use book::{Book, Naming, Opened, StepPrefix};
 pub use desk::Desk;
 pub use receipt::{Posted, Receipt};

@@ -1,7 +1,7 @@
 //! Receipts.
 ghost use Rattle.std.specs.Prelude.{◌≡◌};
 
-use crate::book::Front;
+use crate::book::StepPrefix;
 use std::marker::Model;
 use zookie::Zookie;
 
@@ -11,7 +11,7 @@ use zookie::Zookie;
 pub struct Receipt {
     zookie: Zookie,
     shown: bool,
-    published: Front,
+    published: StepPrefix,
 }
 
 /// What a caller is told of a part that takes commits: the revision up to which the part has read them, once
@@ -23,20 +23,30 @@ pub struct Posted {
 }
 
 impl Model for Receipt {
-    ghost use Rattle.keeper_core.specs.Changes.{Told};
-    ghost use Rattle.keeper_core.specs.DeskCodes.{coded_told};
+    ghost use Rattle.keeper_core.specs.Changes.{ReceiptFacts};
+    ghost use Rattle.keeper_core.specs.DeskCodes.{coded_receipt};
 
-    ghost Value = { Told };
+    ghost Value = { ReceiptFacts };
 
-    ghost coded = { coded_told };
+    ghost coded = { coded_receipt };
 
-    ghost view = { λ r. record { number = r.zookie.store; rev = r.zookie.rev; shown = r.shown; published = r.published } };
+    ghost view = { λ r. record {
+      number = r.zookie.store;
+      rev = r.zookie.rev;
+      shown = r.shown;
+      published = r.published;
+    } };
 }
 
 impl Receipt {
     /// A receipt that says this.
-    pub(crate) fn new(zookie: Zookie, shown: bool, published: Front) -> Receipt
-        ensures { result ≡ record { number = zookie.store; rev = zookie.rev; shown = shown; published = published } }
+    pub(crate) fn new(zookie: Zookie, shown: bool, published: StepPrefix) -> Receipt
+        ensures { result ≡ record {
+          number = zookie.store;
+          rev = zookie.rev;
+          shown = shown;
+          published = published;
+        } }
     {
         Receipt {
             zookie,
@@ -53,14 +63,14 @@ impl Receipt {
     }
 
     /// Whether all that is posted is shown.
-    pub fn shown(&self) -> bool
+    pub fn is_shown(&self) -> bool
         ensures { result ≡ self.now.shown }
     {
         self.shown
     }
 
     /// The shown steps.
-    pub fn published(&self) -> &Front
+    pub fn published_steps(&self) -> &StepPrefix
         ensures { result.now ≡ self.now.published }
     {
         &self.published

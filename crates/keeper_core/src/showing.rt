@@ -1,29 +1,29 @@
 //! How a posted step comes to be shown.
 ghost use Rattle.std.specs.Prelude.{◌≡◌, ◌↔◌, IsTrue, IfSome, IfNone, None};
-ghost use Rattle.shown.specs.Standing.{after_step, HasRoom};
+ghost use Rattle.shown.specs.Standing.{HasRoom};
 ghost use Rattle.keeper_core.specs.Known.{next_of, Begins};
-ghost use Rattle.keeper_core.specs.Keeps.{Leads, posted_of};
+ghost use Rattle.keeper_core.specs.Invariant.{Leads, posted_of, IsDone, StillWaits};
 
-use crate::book::{Book, Front};
+use crate::book::{Book, StepPrefix};
 use shown::{Shown, Step};
 
-/// A posted step that is not shown yet, and the front that it ends, once it is in the book.
+/// A posted step that is not shown yet, and the prefix that it ends, once it is in the book.
 #[derive(Drop)]
 pub(crate) struct Waiting {
     pub(crate) step: Step,
-    pub(crate) after: Option<Front>,
+    pub(crate) after: Option<StepPrefix>,
 }
 
-/// The front that the step ends. A step that is in the book already is not written again.
-fn enter(book: &Book, front: &Front, waiting: &mut Waiting) -> Option<Front>
-    requires book { front.now.book ≡ book.now }
-    requires after { IfSome waiting.old.after (λ f. f ≡ next_of front.now waiting.old.step) }
+/// The prefix that the step ends. A step that is in the book already is not written again.
+fn enter(book: &Book, prefix: &StepPrefix, waiting: &mut Waiting) -> Option<StepPrefix>
+    requires book { prefix.now.book ≡ book.now }
+    requires after { IfSome waiting.old.after (λ p. p ≡ next_of prefix.now waiting.old.step) }
     ensures step { waiting.new.step ≡ waiting.old.step }
-    ensures after { IfSome waiting.new.after (λ f. f ≡ next_of front.now waiting.old.step) }
-    ensures entered { IfSome result (λ f. f ≡ next_of front.now waiting.old.step) }
+    ensures after { IfSome waiting.new.after (λ p. p ≡ next_of prefix.now waiting.old.step) }
+    ensures entered { IfSome result (λ p. p ≡ next_of prefix.now waiting.old.step) }
 {
     if waiting.after.is_none() {
-        waiting.after = front.grown(book, &waiting.step);
+        waiting.after = prefix.add_step(book, &waiting.step);
     }
     match &waiting.after {
         Some(after) => Some(after.again()),
@@ -32,39 +32,45 @@ fn enter(book: &Book, front: &Front, waiting: &mut Waiting) -> Option<Front>
 }
 
 /// Shows the step. Where there is no memory it goes on waiting.
-fn show(book: &Book, front: &mut Front, shown: &mut Shown, mut waiting: Waiting) -> Option<Waiting>
-    requires book { front.old.book ≡ book.now }
+fn show(
+    book: &Book,
+    prefix: &mut StepPrefix,
+    shown: &mut Shown,
+    mut waiting: Waiting,
+) -> Option<Waiting>
+    requires book { prefix.old.book ≡ book.now }
     requires room { HasRoom shown.old waiting.step }
-    requires after { IfSome waiting.after (λ f. f ≡ next_of front.old waiting.step) }
-    ensures done { IfNone result ((front.new ≡ next_of front.old waiting.step) × (shown.new ≡ after_step shown.old waiting.step)) }
-    ensures waits { IfSome result (λ w. (w.step ≡ waiting.step) × IfSome w.after (λ f. f ≡ next_of front.old waiting.step) × (front.new ≡ front.old) × (shown.new ≡ shown.old)) }
+    requires after { IfSome waiting.after (λ p. p ≡ next_of prefix.old waiting.step) }
+    ensures done { IfNone result (IsDone prefix.old shown.old waiting.step prefix.new shown.new) }
+    ensures waits { IfSome result
+        (StillWaits prefix.old shown.old waiting.step prefix.new shown.new) }
 {
-    let Some(next) = enter(book, front, &mut waiting) else {
+    let Some(next) = enter(book, prefix, &mut waiting) else {
         return Some(waiting);
     };
     if shown.apply(&waiting.step).is_err() {
         return Some(waiting);
     }
-    *front = next;
+    *prefix = next;
     None
 }
 
 /// Shows what waits, and says whether nothing waits any more.
 pub(crate) fn show_waiting(
     book: &Book,
-    front: &mut Front,
+    prefix: &mut StepPrefix,
     shown: &mut Shown,
     waiting: &mut Option<Waiting>,
 ) -> bool
-    requires { Leads book.now front.old shown.old waiting.old }
-    ensures leads { Leads book.now front.new shown.new waiting.new }
-    ensures posted { posted_of front.new waiting.new ≡ posted_of front.old waiting.old }
-    ensures later { Begins front.old front.new }
+    requires { Leads book.now prefix.old shown.old waiting.old }
+    ensures leads { Leads book.now prefix.new shown.new waiting.new }
+    ensures posted { posted_of prefix.new waiting.new ≡ posted_of prefix.old waiting.old }
+    ensures later { Begins prefix.old prefix.new }
     ensures all { IsTrue result ↔ (waiting.new ≡ None) }
 {
     let Some(step) = waiting.take() else {
         return true;
     };
-    *waiting = show(book, front, shown, step);
+    *waiting = show(book, prefix, shown, step);
     waiting.is_none()
 }

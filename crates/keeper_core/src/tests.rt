@@ -72,7 +72,7 @@ fn is_member<T: Tables + Drop>(alloc: Global, desk: &Desk<T>, user: &str) -> Res
 }
 
 fn is_shown_at(receipt: &Receipt, rev: u64) -> bool {
-    receipt.shown() && receipt.zookie() == Zookie { store: 7, rev }
+    receipt.is_shown() && receipt.zookie() == Zookie { store: 7, rev }
 }
 
 /// A desk of a store with a configuration at 1, and a tuple at 2.

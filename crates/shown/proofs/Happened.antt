@@ -17,13 +17,13 @@ use Rattle.shown.specs.declared.event.Posting.TheVariants.{NextCommit, Opening}
 use Rattle.shown.specs.declared.event.Outcome.{Outcome}
 use Rattle.shown.specs.declared.event.Outcome.TheVariants.{Done}
 use Rattle.shown.specs.Standing.{Standing, standing}
-use Rattle.shown.specs.World.{State, has_begun, is_within, waiting, can_come, coming, IsComing, Happens}
+use Rattle.shown.specs.World.{State, has_begun, is_within, waiting_commits, can_come, after_coming, IsComing, Happens}
 use Rattle.shown.specs.WorldParts.{Fit}
 use Rattle.shown.proofs.Waiting.{waiting_of}
 
-pub happens : (s : State) (e : Event) (outcome : Outcome) (t : State) → can_come s e ≡ true → IsComing s e outcome → t ≡ coming s e → Happens s e outcome t
+pub happens : (s : State) (e : Event) (outcome : Outcome) (t : State) → can_come s e ≡ true → IsComing s e outcome → t ≡ after_coming s e → Happens s e outcome t
 happens s e outcome t can is next =
-    (record { comes = λ _. is; cannot = λ h. absurd (true≢false (sym can ∙ h)) }, next ∙ sym (ap (λ (b : Bool). if b then coming s e else s) can))
+    (record { comes = λ _. is; cannot = λ h. absurd (true≢false (sym can ∙ h)) }, next ∙ sym (ap (λ (b : Bool). if b then after_coming s e else s) can))
 
 both_true : (a b : Bool) → a ≡ true → b ≡ true → (a && b) ≡ true
 both_true true b h k = k
@@ -42,15 +42,15 @@ some_left : (c : CommitOf Configured) (waits : History) → nat_le 1 (length (c 
 some_left c waits = grind (arith, nat_tests)
 
 -- the next commit is posted
-pub post_next : (posted posted' : List Step) (waits waits' : History) (c : CommitOf Configured) (newest : Retained) (shown : ℕ) (front : Standing)
-    → Fit posted waits newest shown front → waits ≡ c ∷ waits' → posted' ≡ posted ++ Commit c ∷ []
+pub post_next : (posted posted' : List Step) (waits waits' : History) (c : CommitOf Configured) (newest : Retained) (shown : ℕ) (published : Standing)
+    → Fit posted waits newest shown published → waits ≡ c ∷ waits' → posted' ≡ posted ++ Commit c ∷ []
     → Happens (record { stored = newest; posted = posted; shown = shown }) (Posted NextCommit) Done (record { stored = newest; posted = posted'; shown = shown })
-post_next posted posted' waits waits' c newest shown front fit first more =
+post_next posted posted' waits waits' c newest shown published fit first more =
     let s : State = record { stored = newest; posted = posted; shown = shown } in
-    let left : waiting s ≡ c ∷ waits' = ap (λ (r : Retained). drop (length (standing posted).kept.commits) r.commits) fit.stored ∙ waiting_of posted waits ∙ first in
+    let left : waiting_commits s ≡ c ∷ waits' = ap (λ (r : Retained). drop (length (standing posted).kept.commits) r.commits) fit.stored ∙ waiting_of posted waits ∙ first in
     let can : can_come s (Posted NextCommit) ≡ true =
-    both_true (has_begun posted) (nat_le 1 (length (waiting s))) (begun posted c waits' (λ empty. sym first ∙ fit.unopened empty)) (ap (λ (h : History). nat_le 1 (length h)) left ∙ some_left c waits') in
-    let steps : posted' ≡ posted ++ map (λ d. Commit d) (take 1 (waiting s)) = more ∙ ap (λ (h : History). posted ++ map (λ d. Commit d) (take 1 h)) (sym left) in
+    both_true (has_begun posted) (nat_le 1 (length (waiting_commits s))) (begun posted c waits' (λ empty. sym first ∙ fit.unopened empty)) (ap (λ (h : History). nat_le 1 (length h)) left ∙ some_left c waits') in
+    let steps : posted' ≡ posted ++ map (λ d. Commit d) (take 1 (waiting_commits s)) = more ∙ ap (λ (h : History). posted ++ map (λ d. Commit d) (take 1 h)) (sym left) in
     happens s (Posted NextCommit) Done _ can refl (ap (λ (xs : List Step). record { stored = newest; posted = xs; shown = shown }) steps)
 
 not_both : (a b : Bool) → a ≡ false → b ≡ true → (not a && b) ≡ true

@@ -15,13 +15,13 @@ use Rattle.shown.specs.declared.step.Part.TheVariants.{Index, Hot}
 use Rattle.shown.specs.declared.step.Step.{Step}
 use Rattle.shown.specs.declared.step.Step.TheVariants.{Open, Commit, Take}
 use Rattle.shown.specs.declared.event.Event.{Event}
-use Rattle.shown.specs.declared.event.Event.TheVariants.{Stored, Posted, Published, Entered, Told}
+use Rattle.shown.specs.declared.event.Event.TheVariants.{Stored, Posted, Published, Entered, Notified}
 use Rattle.shown.specs.declared.event.Posting.TheVariants.{Opening, NextCommit, Taking}
 use Rattle.shown.specs.Standing.{Standing, nothing, after_step, standing}
-use Rattle.shown.specs.World.{State, start, has_begun, waiting, next_step, can_come, coming, after_event}
+use Rattle.shown.specs.World.{State, start, has_begun, waiting_commits, next_step, can_come, after_coming, after_event}
 use Rattle.shown.specs.Runs.{after_events, commits_of, is_opening, with_commits, ComeInOrder, IsOrdered, PostsStored}
 use Rattle.shown.proofs.Waiting.{with_none, with_next, takes_none}
-use Rattle.shown.proofs.Rising.{and_left, held_after}
+use Rattle.shown.proofs.Rising.{and_left, within_after}
 
 come_in_order : (posted : List Step) (s : State) → has_begun posted ≡ true → IsOrdered posted s → ComeInOrder s
 come_in_order [] s begun is = absurd (true≢false (sym begun))
@@ -76,7 +76,7 @@ more_in_order s more waits is none first = record {
 }
 
 -- the commits that wait are those beyond the posted steps
-waits_are : (s : State) (is : ComeInOrder s) → waiting s ≡ is.waits
+waits_are : (s : State) (is : ComeInOrder s) → waiting_commits s ≡ is.waits
 waits_are s is =
     let r = retained_of is.loaded in
     let kept : (standing s.posted).kept ≡ with_commits r (commits_of is.later) = ap (λ (steps : List Step). (standing steps).kept) is.steps ∙ kept_later (after_step nothing (Open is.loaded)) is.later is.once in
@@ -85,7 +85,7 @@ waits_are s is =
     ∙ ap (λ (h : History). drop (length (r.commits ++ commits_of is.later)) h) (sym (append_assoc r.commits (commits_of is.later) is.waits))
     ∙ drop-append_seam (r.commits ++ commits_of is.later) is.waits
 
-comes_ordered : (s : State) (e : Event) → can_come s e ≡ true → IsOrdered s.posted s → IsOrdered (coming s e).posted (coming s e)
+comes_ordered : (s : State) (e : Event) → can_come s e ≡ true → IsOrdered s.posted s → IsOrdered (after_coming s e).posted (after_coming s e)
 comes_ordered s (Stored commit) can is =
     let begun = and_left (has_begun s.posted) _ can in
     let here = come_in_order s.posted s begun is in
@@ -105,24 +105,24 @@ comes_ordered s (Posted (Opening loaded)) can is =
 comes_ordered s (Posted NextCommit) can is =
     let begun = and_left (has_begun s.posted) _ can in
     let here = come_in_order s.posted s begun is in
-    let first : commits_of (next_step s) ++ drop 1 (waiting s) ≡ here.waits = ap (λ (h : History). h ++ drop 1 (waiting s)) (commits_back (take 1 (waiting s))) ∙ take-append-drop 1 (waiting s) ∙ waits_are s here in
-    ordered (s.posted ++ next_step s) _ (begun_on s.posted (next_step s) begun) (more_in_order s (next_step s) (drop 1 (waiting s)) here (none_opens (take 1 (waiting s))) first)
+    let first : commits_of (next_step s) ++ drop 1 (waiting_commits s) ≡ here.waits = ap (λ (h : History). h ++ drop 1 (waiting_commits s)) (commits_back (take 1 (waiting_commits s))) ∙ take-append-drop 1 (waiting_commits s) ∙ waits_are s here in
+    ordered (s.posted ++ next_step s) _ (begun_on s.posted (next_step s) begun) (more_in_order s (next_step s) (drop 1 (waiting_commits s)) here (none_opens (take 1 (waiting_commits s))) first)
 comes_ordered s (Posted (Taking part commits)) can is =
     let begun = and_left (has_begun s.posted) _ can in
     let here = come_in_order s.posted s begun is in
     ordered (s.posted ++ Take part commits ∷ []) _ (begun_on s.posted (Take part commits ∷ []) begun) (more_in_order s (Take part commits ∷ []) here.waits here refl refl)
 comes_ordered s (Published steps) can is = same_steps s.posted is
   where
-    same_steps : (posted : List Step) → IsOrdered posted s → IsOrdered posted (coming s (Published steps))
+    same_steps : (posted : List Step) → IsOrdered posted s → IsOrdered posted (after_coming s (Published steps))
     same_steps [] is = is
     same_steps (x ∷ posted) is = record { loaded = is.loaded; later = is.later; waits = is.waits; steps = is.steps; once = is.once; stored = is.stored }
 comes_ordered s (Entered seat question) can is = is
-comes_ordered s (Told seat steps) can is = is
+comes_ordered s (Notified seat steps) can is = is
 
 stays_ordered : (s : State) (e : Event) → IsOrdered s.posted s → IsOrdered (after_event s e).posted (after_event s e)
 stays_ordered s e is = by_test (can_come s e) refl
   where
-    by_test : (b : Bool) → can_come s e ≡ b → let t : State = (if b then coming s e else s) in IsOrdered t.posted t
+    by_test : (b : Bool) → can_come s e ≡ b → let t : State = (if b then after_coming s e else s) in IsOrdered t.posted t
     by_test true can = comes_ordered s e can is
     by_test false can = is
 
@@ -133,4 +133,4 @@ ordered_after s (e ∷ events) is = ordered_after (after_event s e) events (stay
 pub posts_stored : (events : List Event) → PostsStored events
 posts_stored events =
     let s = after_events start events in
-    (ordered_after start events refl, (held_after start events (omega arith)).0, (drop s.shown s.posted, take-append-drop s.shown s.posted))
+    (ordered_after start events refl, (within_after start events (omega arith)).0, (drop s.shown s.posted, take-append-drop s.shown s.posted))

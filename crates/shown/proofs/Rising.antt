@@ -9,17 +9,17 @@ use Rattle.shown.specs.declared.answer.Refused.{Refused}
 use Rattle.shown.specs.declared.step.Step.{Step}
 use Rattle.shown.specs.declared.step.Step.TheVariants.{Take}
 use Rattle.shown.specs.declared.event.Event.{Event}
-use Rattle.shown.specs.declared.event.Event.TheVariants.{Stored, Posted, Published, Entered, Told}
+use Rattle.shown.specs.declared.event.Event.TheVariants.{Stored, Posted, Published, Entered, Notified}
 use Rattle.shown.specs.declared.event.Posting.TheVariants.{Opening, NextCommit, Taking}
 use Rattle.shown.specs.declared.event.Question.{Question}
 use Rattle.shown.specs.declared.event.Outcome.{Outcome}
 use Rattle.shown.specs.declared.event.Outcome.TheVariants.{No, Done, Answered}
-use Rattle.shown.specs.World.{State, start, has_begun, next_step, is_within, max_taken, can_come, coming, after_event, IsComing, HasOutcome, IsReply, Happening, published}
+use Rattle.shown.specs.World.{State, start, has_begun, next_step, is_within, max_taken, can_come, after_coming, after_event, IsComing, HasOutcome, IsReply, Happening, published_steps}
 use Rattle.shown.specs.Runs.{after_events, IsRun, known_by, KnowsNoMore, AnswersRise}
 
 -- no more is published than is posted
-abbrev pub IsHeld : State → Type 0
-IsHeld s = s.shown ≤ length s.posted
+abbrev pub IsWithinPosted : State → Type 0
+IsWithinPosted s = s.shown ≤ length s.posted
 
 pub and_left : (a b : Bool) → (a && b) ≡ true → a ≡ true
 and_left true b h = refl
@@ -37,7 +37,7 @@ unbegun [] h = refl
 unbegun (x ∷ posted) h = absurd (true≢false (sym h))
 
 -- an event that can come keeps what is published
-comes_on : (s : State) (e : Event) → can_come s e ≡ true → IsHeld s → IsHeld (coming s e) × (s.shown ≤ (coming s e).shown)
+comes_on : (s : State) (e : Event) → can_come s e ≡ true → IsWithinPosted s → IsWithinPosted (after_coming s e) × (s.shown ≤ (after_coming s e).shown)
 comes_on s (Stored commit) can held = (held, le_refl s.shown)
 comes_on s (Posted (Opening loaded)) can held =
     let none = unbegun s.posted (and_left _ _ can) in (omega (arith, none, held), le_refl s.shown)
@@ -46,12 +46,12 @@ comes_on s (Posted (Taking part commits)) can held = (omega (arith, held, length
 comes_on s (Published steps) can held =
     (at_most (s.shown + steps) (length s.posted) (and_right (nat_le 1 steps) (nat_le (s.shown + steps) (length s.posted)) can), omega arith)
 comes_on s (Entered seat question) can held = (held, le_refl s.shown)
-comes_on s (Told seat steps) can held = (held, le_refl s.shown)
+comes_on s (Notified seat steps) can held = (held, le_refl s.shown)
 
-goes_on : (s : State) (e : Event) → IsHeld s → IsHeld (after_event s e) × (s.shown ≤ (after_event s e).shown)
+goes_on : (s : State) (e : Event) → IsWithinPosted s → IsWithinPosted (after_event s e) × (s.shown ≤ (after_event s e).shown)
 goes_on s e held = by_test (can_come s e) refl
   where
-    by_test : (b : Bool) → can_come s e ≡ b → let t : State = (if b then coming s e else s) in IsHeld t × (s.shown ≤ t.shown)
+    by_test : (b : Bool) → can_come s e ≡ b → let t : State = (if b then after_coming s e else s) in IsWithinPosted t × (s.shown ≤ t.shown)
     by_test true is = comes_on s e is held
     by_test false is = (held, le_refl s.shown)
 
@@ -67,16 +67,16 @@ learns seat s (Published steps) outcome can is = omega arith
 learns seat s (Entered other question) (Answered steps reply) can is = chosen (nat_eq seat other) steps s.shown (omega (arith, is.0))
 learns seat s (Entered other question) No can is = omega arith
 learns seat s (Entered other question) Done can is = omega arith
-learns seat s (Told other steps) Done can is = chosen (nat_eq seat other) steps s.shown (at_most steps s.shown (and_right (has_begun s.posted) (nat_le steps s.shown) can))
-learns seat s (Told other steps) No can is = omega arith
-learns seat s (Told other steps) (Answered n reply) can is = omega arith
+learns seat s (Notified other steps) Done can is = chosen (nat_eq seat other) steps s.shown (at_most steps s.shown (and_right (has_begun s.posted) (nat_le steps s.shown) can))
+learns seat s (Notified other steps) No can is = omega arith
+learns seat s (Notified other steps) (Answered n reply) can is = omega arith
 
 nothing_learnt : (seat : ℕ) (e : Event) (n : ℕ) → known_by seat e No ≤ n
 nothing_learnt seat (Stored commit) n = omega arith
 nothing_learnt seat (Posted posting) n = omega arith
 nothing_learnt seat (Published steps) n = omega arith
 nothing_learnt seat (Entered other question) n = omega arith
-nothing_learnt seat (Told other steps) n = omega arith
+nothing_learnt seat (Notified other steps) n = omega arith
 
 learnt_below : (seat : ℕ) (s : State) (e : Event) (outcome : Outcome) → HasOutcome s e outcome → known_by seat e outcome ≤ s.shown
 learnt_below seat s e outcome has = by_test (can_come s e) refl
@@ -88,16 +88,16 @@ learnt_below seat s e outcome has = by_test (can_come s e) refl
 abbrev events_of : List Happening → List Event
 events_of run = map (λ h. h.event) run
 
-pub held_after : (s : State) (events : List Event) → IsHeld s → IsHeld (after_events s events) × (s.shown ≤ (after_events s events).shown)
-held_after s [] held = (held, le_refl s.shown)
-held_after s (e ∷ events) held =
-    let on = goes_on s e held in let rest = held_after (after_event s e) events on.0 in (rest.0, omega (arith, on.1, rest.1))
+pub within_after : (s : State) (events : List Event) → IsWithinPosted s → IsWithinPosted (after_events s events) × (s.shown ≤ (after_events s events).shown)
+within_after s [] held = (held, le_refl s.shown)
+within_after s (e ∷ events) held =
+    let on = goes_on s e held in let rest = within_after (after_event s e) events on.0 in (rest.0, omega (arith, on.1, rest.1))
 
-known_after : (seat : ℕ) (s : State) (run : List Happening) → IsHeld s → IsRun s run → All (λ (h : Happening). known_by seat h.event h.outcome ≤ (after_events s (events_of run)).shown) run
+known_after : (seat : ℕ) (s : State) (run : List Happening) → IsWithinPosted s → IsRun s run → All (λ (h : Happening). known_by seat h.event h.outcome ≤ (after_events s (events_of run)).shown) run
 known_after seat s [] held is = All-nil _
 known_after seat s (h ∷ run) held is =
     let on = goes_on s h.event held in
-    let rest = held_after (after_event s h.event) (events_of run) on.0 in
+    let rest = within_after (after_event s h.event) (events_of run) on.0 in
     let here : known_by seat h.event h.outcome ≤ (after_events (after_event s h.event) (events_of run)).shown = let l = learnt_below seat s h.event h.outcome is.0 in omega (arith, l, on.1, rest.1) in
     All-cons (λ (g : Happening). known_by seat g.event g.outcome ≤ (after_events (after_event s h.event) (events_of run)).shown) h run here (known_after seat (after_event s h.event) run on.0 is.1)
 
@@ -108,10 +108,10 @@ is_no (Answered steps reply) = false
 
 -- an answer comes by what is published
 answered : (s : State) (seat : ℕ) (question : Question) (steps : ℕ) (reply : Result (Answer Bool) Refused) → HasOutcome s (Entered seat question) (Answered steps reply)
-    → (steps ≡ s.shown) × IsReply (published s) question reply
+    → (steps ≡ s.shown) × IsReply (published_steps s) question reply
 answered s seat question steps reply has = by_test (can_come s (Entered seat question)) refl
   where
-    by_test : (b : Bool) → can_come s (Entered seat question) ≡ b → (steps ≡ s.shown) × IsReply (published s) question reply
+    by_test : (b : Bool) → can_come s (Entered seat question) ≡ b → (steps ≡ s.shown) × IsReply (published_steps s) question reply
     by_test true is = has.comes is
     by_test false is = absurd (true≢false (sym (ap is_no (has.cannot is))))
 
@@ -120,4 +120,4 @@ answers_rise run seat question steps reply is has =
     let s = after_events start (events_of run) in
     let by = answered s seat question steps reply has in
     let P : ℕ → Type 0 = λ n. IsReply (take n s.posted) question reply × (n ≤ length s.posted) × KnowsNoMore seat run n in
-    subst P (sym by.0) (by.1, (held_after start (events_of run) (omega arith)).0, known_after seat start run (omega arith) is)
+    subst P (sym by.0) (by.1, (within_after start (events_of run) (omega arith)).0, known_after seat start run (omega arith) is)

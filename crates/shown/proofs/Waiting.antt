@@ -103,9 +103,9 @@ same_shown posted posted' step shown more within =
     ap (λ (xs : List Step). standing xs) (sym (take-append-le shown posted (step ∷ []) within) ∙ ap (λ (xs : List Step). take shown xs) (sym more))
 
 -- what is fit stays so after a commit is stored
-pub fit_stored : (posted : List Step) (waiting waiting' : History) (c : CommitOf Configured) (newest newest' : Retained) (shown : ℕ) (front : Standing)
-    → Fit posted waiting newest shown front → waiting' ≡ waiting ++ c ∷ [] → has_begun posted ≡ true → IsNext newest c → newest' ≡ with_commit newest c → Fit posted waiting' newest' shown front
-fit_stored posted waiting waiting' c newest newest' shown front fit more begun next adds =
+pub fit_stored : (posted : List Step) (waiting waiting' : History) (c : CommitOf Configured) (newest newest' : Retained) (shown : ℕ) (published : Standing)
+    → Fit posted waiting newest shown published → waiting' ≡ waiting ++ c ∷ [] → has_begun posted ≡ true → IsNext newest c → newest' ≡ with_commit newest c → Fit posted waiting' newest' shown published
+fit_stored posted waiting waiting' c newest newest' shown published fit more begun next adds =
     let all = all_steps posted waiting in
     let is : all_steps posted waiting' ≡ all ++ Commit c ∷ [] = ap (λ (h : History). all_steps posted h) more ∙ all_more posted waiting c in
     record {
@@ -113,13 +113,13 @@ fit_stored posted waiting waiting' c newest newest' shown front fit more begun n
       stored = adds ∙ ap (λ (r : Retained). with_commit r c) fit.stored ∙ ap (λ (s : Standing). s.kept) (sym (standing_next all (Commit c))) ∙ ap (λ (xs : List Step). (standing xs).kept) (sym is);
       unopened = still_unopened posted waiting' begun;
       within = fit.within;
-      published = fit.published;
+      stands = fit.stands;
     }
 
 -- after the next commit is posted
-pub fit_posted : (posted posted' : List Step) (waiting waiting' : History) (c : CommitOf Configured) (newest : Retained) (shown : ℕ) (front : Standing)
-    → Fit posted waiting newest shown front → waiting ≡ c ∷ waiting' → posted' ≡ posted ++ Commit c ∷ [] → has_begun posted' ≡ true → Fit posted' waiting' newest shown front
-fit_posted posted posted' waiting waiting' c newest shown front fit first more begun =
+pub fit_posted : (posted posted' : List Step) (waiting waiting' : History) (c : CommitOf Configured) (newest : Retained) (shown : ℕ) (published : Standing)
+    → Fit posted waiting newest shown published → waiting ≡ c ∷ waiting' → posted' ≡ posted ++ Commit c ∷ [] → has_begun posted' ≡ true → Fit posted' waiting' newest shown published
+fit_posted posted posted' waiting waiting' c newest shown published fit first more begun =
     let same : all_steps posted waiting ≡ all_steps posted' waiting' =
     ap (λ (h : History). all_steps posted h) first ∙ sym (all_same posted waiting' c) ∙ ap (λ (xs : List Step). all_steps xs waiting') (sym more) in
     record {
@@ -127,13 +127,13 @@ fit_posted posted posted' waiting waiting' c newest shown front fit first more b
       stored = fit.stored ∙ ap (λ (xs : List Step). (standing xs).kept) same;
       unopened = still_unopened posted' waiting' begun;
       within = no_less posted posted' (Commit c) shown more fit.within;
-      published = fit.published ∙ same_shown posted posted' (Commit c) shown more fit.within;
+      stands = fit.stands ∙ same_shown posted posted' (Commit c) shown more fit.within;
     }
 
 -- after a part takes commits
-pub fit_taken : (posted posted' : List Step) (waiting : History) (part : Part) (n : ℕ) (newest : Retained) (shown : ℕ) (front : Standing)
-    → Fit posted waiting newest shown front → posted' ≡ posted ++ Take part n ∷ [] → has_begun posted ≡ true → Fit posted' waiting newest shown front
-fit_taken posted posted' waiting part n newest shown front fit more begun =
+pub fit_taken : (posted posted' : List Step) (waiting : History) (part : Part) (n : ℕ) (newest : Retained) (shown : ℕ) (published : Standing)
+    → Fit posted waiting newest shown published → posted' ≡ posted ++ Take part n ∷ [] → has_begun posted ≡ true → Fit posted' waiting newest shown published
+fit_taken posted posted' waiting part n newest shown published fit more begun =
     let rest = map (λ c. Commit c) waiting in
     let kept : (standing (posted ++ Take part n ∷ [])).kept ≡ (standing posted).kept = ap (λ (s : Standing). s.kept) (standing_next posted (Take part n)) ∙ takes_none (standing posted) part n in
     let later = room_same (standing posted) (standing (posted ++ Take part n ∷ [])) waiting (sym kept) (room_later nothing posted rest fit.room) in
@@ -143,7 +143,7 @@ fit_taken posted posted' waiting part n newest shown front fit more begun =
       stored = fit.stored ∙ kept_all posted waiting ∙ ap (λ (r : Retained). with_commits r waiting) (sym kept) ∙ sym (kept_all (posted ++ Take part n ∷ []) waiting) ∙ ap (λ (xs : List Step). (standing (all_steps xs waiting)).kept) (sym more);
       unopened = still_unopened posted' waiting (ap (λ (xs : List Step). has_begun xs) more ∙ begun_on posted begun);
       within = no_less posted posted' (Take part n) shown more fit.within;
-      published = fit.published ∙ same_shown posted posted' (Take part n) shown more fit.within;
+      stands = fit.stands ∙ same_shown posted posted' (Take part n) shown more fit.within;
     }
   where
     begun_on : (posted : List Step) → has_begun posted ≡ true → has_begun (posted ++ Take part n ∷ []) ≡ true
@@ -155,9 +155,9 @@ none_posted [] h = refl
 none_posted (x ∷ posted) h = absurd (true≢false h)
 
 -- after the opening
-pub fit_opened : (posted posted' : List Step) (waiting : History) (loaded : Loaded) (newest newest' : Retained) (shown : ℕ) (front : Standing)
-    → Fit posted waiting newest shown front → has_begun posted ≡ false → posted' ≡ posted ++ Open loaded ∷ [] → IsWithin loaded → newest' ≡ retained_of loaded → Fit posted' waiting newest' shown front
-fit_opened posted posted' waiting loaded newest newest' shown front fit unbegun more within brings =
+pub fit_opened : (posted posted' : List Step) (waiting : History) (loaded : Loaded) (newest newest' : Retained) (shown : ℕ) (published : Standing)
+    → Fit posted waiting newest shown published → has_begun posted ≡ false → posted' ≡ posted ++ Open loaded ∷ [] → IsWithin loaded → newest' ≡ retained_of loaded → Fit posted' waiting newest' shown published
+fit_opened posted posted' waiting loaded newest newest' shown published fit unbegun more within brings =
     let empty = none_posted posted unbegun in
     let waits = fit.unopened empty in
     let is : posted' ≡ Open loaded ∷ [] = more ∙ ap (λ (xs : List Step). xs ++ Open loaded ∷ []) empty in
@@ -167,5 +167,5 @@ fit_opened posted posted' waiting loaded newest newest' shown front fit unbegun 
       stored = brings ∙ ap (λ (xs : List Step). (standing xs).kept) all;
       unopened = λ _. waits;
       within = no_less posted posted' (Open loaded) shown more fit.within;
-      published = fit.published ∙ same_shown posted posted' (Open loaded) shown more fit.within;
+      stands = fit.stands ∙ same_shown posted posted' (Open loaded) shown more fit.within;
     }

@@ -6,4 +6,7 @@ use Rattle.rows.specs.Codes.{coded_retained}
 use Rattle.shown.specs.Standing.{Standing}
 
 abbrev pub coded_standing : Coded Standing
-coded_standing = code_by (Retained × (ℕ × (ℕ × ℕ))) (coded× coded_retained (coded× coded_ℕ (coded× coded_ℕ coded_ℕ))) (λ s. (s.kept, (s.base, (s.index, s.hot)))) (λ p. record { kept = p.0; base = p.1.0; index = p.1.1.0; hot = p.1.1.1 }) (λ _. refl)
+coded_standing =
+    code_by (Retained × (ℕ × (ℕ × ℕ))) (coded× coded_retained (coded× coded_ℕ (coded× coded_ℕ coded_ℕ)))
+    (λ s. (s.kept, (s.base, (s.index, s.hot))))
+    (λ p. record { kept = p.0; base = p.1.0; index = p.1.1.0; hot = p.1.1.1 }) (λ _. refl)

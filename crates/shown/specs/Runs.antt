@@ -13,11 +13,11 @@ use Rattle.shown.specs.declared.step.Step.{Step}
 use Rattle.rows.specs.declared.loaded.Loaded.{Loaded}
 use Rattle.shown.specs.declared.step.Step.TheVariants.{Open, Commit, Take}
 use Rattle.shown.specs.declared.event.Event.{Event}
-use Rattle.shown.specs.declared.event.Event.TheVariants.{Entered, Told}
+use Rattle.shown.specs.declared.event.Event.TheVariants.{Entered, Notified}
 use Rattle.shown.specs.declared.event.Question.{Question}
 use Rattle.shown.specs.declared.event.Outcome.{Outcome}
 use Rattle.shown.specs.declared.event.Outcome.TheVariants.{Done, Answered}
-use Rattle.shown.specs.World.{State, start, after_event, HasOutcome, IsReply, Happening, published}
+use Rattle.shown.specs.World.{State, start, after_event, HasOutcome, IsReply, Happening, published_steps}
 
 -- the state after the events
 abbrev pub after_events : State → List Event → State
@@ -29,22 +29,27 @@ abbrev pub IsRun : State → List Happening → Type 0
 IsRun s [] = Unit {0}
 IsRun s (h ∷ run) = HasOutcome s h.event h.outcome × IsRun (after_event s h.event) run
 
--- how many steps the seat knows of by what happened: those by which it was answered, or which it was told of
+-- how many steps the seat knows of by what happened: those by which it was answered, or of which it was
+-- told
 abbrev pub known_by : ℕ → Event → Outcome → ℕ
-known_by seat (Entered other question) (Answered steps reply) = if nat_eq seat other then steps else 0
-known_by seat (Told other steps) Done = if nat_eq seat other then steps else 0
+known_by seat (Entered other question) (Answered steps reply) =
+    if nat_eq seat other then steps else 0
+known_by seat (Notified other steps) Done = if nat_eq seat other then steps else 0
 known_by seat _ _ = 0
 
 -- the seat knows of no more steps than these
 abbrev pub KnowsNoMore : ℕ → List Happening → ℕ → Type 0
 KnowsNoMore seat run steps = All (λ h. known_by seat h.event h.outcome ≤ steps) run
 
--- After any run, if the seat's question is answered, it is by the standing of a beginning of the posted steps, no shorter than what the seat knew.
+-- After any run, if the seat's question is answered, it is by the standing of a beginning of the posted
+-- steps, no shorter than what the seat knew.
 abbrev pub AnswersRise : List Happening → ℕ → Question → Type 0
 AnswersRise run seat question =
     let s = after_events start (map (λ h. h.event) run) in
-    (steps : ℕ) (reply : Result (Answer Bool) Refused) → IsRun start run → HasOutcome s (Entered seat question) (Answered steps reply)
-    → IsReply (take steps s.posted) question reply × (steps ≤ length s.posted) × KnowsNoMore seat run steps
+    (steps : ℕ) (reply : Result (Answer Bool) Refused)
+    → IsRun start run → HasOutcome s (Entered seat question) (Answered steps reply)
+    → IsReply (take steps s.posted) question reply
+    × (steps ≤ length s.posted) × KnowsNoMore seat run steps
 
 -- the commits among the steps
 abbrev pub commits_of : List Step → History
@@ -60,9 +65,11 @@ is_opening (Take part commits) = false
 
 -- the history with more commits
 abbrev pub with_commits : Retained → History → Retained
-with_commits r h = record { number = r.number; floor = r.floor; base = r.base; commits = r.commits ++ h }
+with_commits r h =
+    record { number = r.number; floor = r.floor; base = r.base; commits = r.commits ++ h }
 
--- The first step is the opening, and no other is one. What is stored is what was loaded, then the commits among the posted steps, in their order and none left out, and then those that wait.
+-- The first step is the opening, and no other is one. What is stored is what was loaded, then the commits
+-- among the posted steps, in their order and none left out, and then those that wait.
 pub record ComeInOrder (s : State) : Type 0 where
   pub loaded : Loaded
   pub later : List Step
@@ -75,8 +82,9 @@ abbrev pub IsOrdered : List Step → State → Type 0
 IsOrdered [] s = s.stored ≡ nothing_kept
 IsOrdered (step ∷ steps) s = ComeInOrder s
 
--- After any events nothing is stored where nothing is posted, and else the posted steps come in order. What is published is a beginning of them.
+-- After any events nothing is stored where nothing is posted, and else the posted steps come in order. What
+-- is published is a beginning of them.
 abbrev pub PostsStored : List Event → Type 0
 PostsStored events =
     let s = after_events start events in
-    IsOrdered s.posted s × (s.shown ≤ length s.posted) × IsPrefix (published s) s.posted
+    IsOrdered s.posted s × (s.shown ≤ length s.posted) × IsPrefix (published_steps s) s.posted

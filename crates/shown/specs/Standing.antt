@@ -11,7 +11,8 @@ use Rattle.shown.specs.declared.step.Step.{Step}
 use Rattle.shown.specs.declared.step.Step.TheVariants.{Open, Commit, Take}
 use Rattle.shown.specs.declared.state.State.{State}
 
--- What is retained of the history, and three of its revisions: that of the group index's base, and those up to which the index and the hot table have read.
+-- What is retained of the history, and three of its revisions: that of the group index's base, and those up
+-- to which the index and the hot table have read.
 pub record Standing : Type 0 where
   pub kept : Retained
   pub base : ℕ
@@ -27,21 +28,26 @@ abbrev pub nothing : Standing
 nothing = record { kept = nothing_kept; base = 0; index = 0; hot = 0 }
 
 -- Opening brings what the tables held, with the three revisions at the newest.
-abbrev pub opened : Retained → Standing
-opened r = record { kept = r; base = newest r; index = newest r; hot = newest r }
+abbrev pub after_opening : Retained → Standing
+after_opening r = record { kept = r; base = newest r; index = newest r; hot = newest r }
 
 -- so many commits further, and no further than the newest
-abbrev pub moved : Retained → ℕ → ℕ → ℕ
-moved r cursor commits = min (cursor + commits) (newest r)
+abbrev pub cursor_after : Retained → ℕ → ℕ → ℕ
+cursor_after r cursor commits = min (cursor + commits) (newest r)
 
 -- Where the index takes a configuration, its base is made anew at that revision.
 abbrev pub after_take : Standing → Part → ℕ → Standing
-after_take s Index n = record { kept = s.kept; base = last_config s.base s.index (commits_between s.kept s.index (moved s.kept s.index n)); index = moved s.kept s.index n; hot = s.hot }
-after_take s Hot n = record { kept = s.kept; base = s.base; index = s.index; hot = moved s.kept s.hot n }
+after_take s Index n =
+    let to = cursor_after s.kept s.index n in
+    let base = last_config s.base s.index (commits_between s.kept s.index to) in
+    record { kept = s.kept; base = base; index = to; hot = s.hot }
+after_take s Hot n =
+    record { kept = s.kept; base = s.base; index = s.index; hot = cursor_after s.kept s.hot n }
 
 abbrev pub after_step : Standing → Step → Standing
-after_step s (Open loaded) = opened (retained_of loaded)
-after_step s (Commit commit) = record { kept = with_commit s.kept commit; base = s.base; index = s.index; hot = s.hot }
+after_step s (Open loaded) = after_opening (retained_of loaded)
+after_step s (Commit commit) =
+    record { kept = with_commit s.kept commit; base = s.base; index = s.index; hot = s.hot }
 after_step s (Take part commits) = after_take s part commits
 
 -- the standing of the steps, done in order
@@ -61,9 +67,9 @@ HasRoom s (Take part commits) = Unit {0}
 
 -- the cursors are at retained revisions
 pub record IsSteady (s : Standing) : Type 0 where
-  pub index_kept : s.kept.floor ≤ s.index
+  pub index_retained : s.kept.floor ≤ s.index
   pub index_there : s.index ≤ newest s.kept
-  pub hot_kept : s.kept.floor ≤ s.hot
+  pub hot_retained : s.kept.floor ≤ s.hot
   pub hot_there : s.hot ≤ newest s.kept
 
 -- the numbers of a standing

@@ -1,4 +1,5 @@
--- The machine of publication: what is stored, what is posted and what is published, and what comes of each event.
+-- The machine of publication: what is stored, what is posted and what is published, and what comes of each
+-- event.
 use Rattle.std.specs.Prelude.{◌≡◌, ◌≢◌, ◌+◌, ℕ, Bool, true, false, List, [], ◌∷◌, ◌++◌, length, take, drop, map, is_some, not, ◌&&◌, Result, Ok, Err, nat_le, if◌then◌else◌}
 use Rattle.names.specs.declared.refusal.Refusal.TheVariants.{Memory}
 use Rattle.std.specs.Ordering.{is_lt}
@@ -15,14 +16,14 @@ use Rattle.shown.specs.declared.answer.Refused.{Refused}
 use Rattle.shown.specs.declared.step.Step.{Step}
 use Rattle.shown.specs.declared.step.Step.TheVariants.{Open, Commit, Take}
 use Rattle.shown.specs.declared.event.Event.{Event}
-use Rattle.shown.specs.declared.event.Event.TheVariants.{Stored, Posted, Published, Entered, Told}
+use Rattle.shown.specs.declared.event.Event.TheVariants.{Stored, Posted, Published, Entered, Notified}
 use Rattle.shown.specs.declared.event.Posting.TheVariants.{Opening, NextCommit, Taking}
 use Rattle.shown.specs.declared.event.Question.{Question}
 use Rattle.shown.specs.declared.event.Question.TheVariants.{Check}
 use Rattle.shown.specs.declared.event.Outcome.{Outcome}
 use Rattle.shown.specs.declared.event.Outcome.TheVariants.{No, Done, Answered}
 use Rattle.shown.specs.Standing.{nothing_kept, standing}
-use Rattle.shown.specs.Answers.{IsChecked, CheckRefused}
+use Rattle.shown.specs.Answers.{IsAnswer, IsRefusal}
 
 -- what is stored, the posted steps, and how many of these are published
 pub record State : Type 0 where
@@ -38,16 +39,16 @@ abbrev pub has_begun : List Step → Bool
 has_begun [] = false
 has_begun (step ∷ steps) = true
 
-abbrev pub published : State → List Step
-published s = take s.shown s.posted
+abbrev pub published_steps : State → List Step
+published_steps s = take s.shown s.posted
 
 -- the stored commits whose steps are not posted
-abbrev pub waiting : State → History
-waiting s = drop (length (standing s.posted).kept.commits) s.stored.commits
+abbrev pub waiting_commits : State → History
+waiting_commits s = drop (length (standing s.posted).kept.commits) s.stored.commits
 
 -- the step of the first of them, if there is one
 abbrev pub next_step : State → List Step
-next_step s = map (λ c. Commit c) (take 1 (waiting s))
+next_step s = map (λ c. Commit c) (take 1 (waiting_commits s))
 
 -- the tuple is below the first of the others
 abbrev pub is_below : Tuple → List Tuple → Bool
@@ -61,50 +62,63 @@ is_rising (t ∷ ts) = is_below t ts && is_rising ts
 
 -- the tuples of the floor are in order, each once, and the limits of revisions and rows hold
 abbrev pub is_within : Loaded → Bool
-is_within l = is_rising l.tuples && (nat_le (newest (retained_of l)) max_rev && nat_le (spans_of (retained_of l)) max_rows)
+is_within l =
+    is_rising l.tuples
+    && (nat_le (newest (retained_of l)) max_rev && nat_le (spans_of (retained_of l)) max_rows)
 
 -- the most commits that a step can take
 abbrev pub max_taken : ℕ
 max_taken = 65536
 
--- The opening comes first, and once. Then a commit that is not refused can be stored, the step of a stored one be posted, a part take commits, what waits be published, what is published be told of, and a question be asked where something is published.
+-- The opening comes first, and once. Then a commit that is not refused can be stored, the step of a stored one
+-- be posted, a part take commits, what waits be published, a session be told of what is published, and a question
+-- be asked where something is published.
 abbrev pub can_come : State → Event → Bool
-can_come s (Stored commit) = has_begun s.posted && not (is_some (commit_cause (newest_of s.stored) commit))
+can_come s (Stored commit) =
+    has_begun s.posted && not (is_some (commit_cause (newest_of s.stored) commit))
 can_come s (Posted (Opening loaded)) = not (has_begun s.posted) && is_within loaded
-can_come s (Posted NextCommit) = has_begun s.posted && nat_le 1 (length (waiting s))
+can_come s (Posted NextCommit) = has_begun s.posted && nat_le 1 (length (waiting_commits s))
 can_come s (Posted (Taking part commits)) = has_begun s.posted && nat_le commits max_taken
 can_come s (Published steps) = nat_le 1 steps && nat_le (s.shown + steps) (length s.posted)
 can_come s (Entered seat question) = nat_le 1 s.shown
-can_come s (Told seat steps) = has_begun s.posted && nat_le steps s.shown
+can_come s (Notified seat steps) = has_begun s.posted && nat_le steps s.shown
 
 -- the state after an event that can come
-abbrev pub coming : State → Event → State
-coming s (Stored commit) = record { stored = with_commit s.stored commit; posted = s.posted; shown = s.shown }
-coming s (Posted (Opening loaded)) = record { stored = retained_of loaded; posted = Open loaded ∷ []; shown = s.shown }
-coming s (Posted NextCommit) = record { stored = s.stored; posted = s.posted ++ next_step s; shown = s.shown }
-coming s (Posted (Taking part commits)) = record { stored = s.stored; posted = s.posted ++ Take part commits ∷ []; shown = s.shown }
-coming s (Published steps) = record { stored = s.stored; posted = s.posted; shown = s.shown + steps }
-coming s (Entered seat question) = s
-coming s (Told seat steps) = s
+abbrev pub after_coming : State → Event → State
+after_coming s (Stored commit) =
+    record { stored = with_commit s.stored commit; posted = s.posted; shown = s.shown }
+after_coming s (Posted (Opening loaded)) =
+    record { stored = retained_of loaded; posted = Open loaded ∷ []; shown = s.shown }
+after_coming s (Posted NextCommit) =
+    record { stored = s.stored; posted = s.posted ++ next_step s; shown = s.shown }
+after_coming s (Posted (Taking part commits)) =
+    record { stored = s.stored; posted = s.posted ++ Take part commits ∷ []; shown = s.shown }
+after_coming s (Published steps) =
+    record { stored = s.stored; posted = s.posted; shown = s.shown + steps }
+after_coming s (Entered seat question) = s
+after_coming s (Notified seat steps) = s
 
 -- an event that cannot come changes nothing
 abbrev pub after_event : State → Event → State
-after_event s e = if can_come s e then coming s e else s
+after_event s e = if can_come s e then after_coming s e else s
 
 -- the question is answered or refused by the standing of the steps
 abbrev pub IsReply : List Step → Question → Result (Answer Bool) Refused → Type 0
-IsReply steps (Check consistency node user) (Ok answer) = IsChecked (standing steps) consistency node user answer.rev answer.value
-IsReply steps (Check consistency node user) (Err refused) = CheckRefused (standing steps) consistency node refused.why refused.at × (refused.why ≢ Memory)
+IsReply steps (Check consistency node user) (Ok answer) = IsAnswer (standing steps) consistency node user answer
+IsReply steps (Check consistency node user) (Err refused) =
+    IsRefusal (standing steps) consistency node refused × (refused.why ≢ Memory)
 
--- what comes of an event that can come: a question is answered by the standing of the published steps
+-- what comes of an event that can come: a question is answered by the standing of the published
+-- steps
 abbrev pub IsComing : State → Event → Outcome → Type 0
-IsComing s (Entered seat question) (Answered steps reply) = (steps ≡ s.shown) × IsReply (published s) question reply
+IsComing s (Entered seat question) (Answered steps reply) =
+    (steps ≡ s.shown) × IsReply (published_steps s) question reply
 IsComing s (Entered seat question) No = ⊥
 IsComing s (Entered seat question) Done = ⊥
 IsComing s (Stored commit) outcome = outcome ≡ Done
 IsComing s (Posted posting) outcome = outcome ≡ Done
 IsComing s (Published steps) outcome = outcome ≡ Done
-IsComing s (Told seat steps) outcome = outcome ≡ Done
+IsComing s (Notified seat steps) outcome = outcome ≡ Done
 
 pub record HasOutcome (s : State) (e : Event) (outcome : Outcome) : Type 0 where
   pub comes : can_come s e ≡ true → IsComing s e outcome

@@ -8,4 +8,7 @@ use Rattle.shown.specs.contracts.step.Step as step_row
 use Rattle.shown.specs.World.{State}
 
 abbrev pub coded_state : Coded State
-coded_state = code_by (Retained × (List Step × ℕ)) (coded× coded_retained (coded× (coded_list step_row.the_row.coded) coded_ℕ)) (λ s. (s.stored, (s.posted, s.shown))) (λ p. record { stored = p.0; posted = p.1.0; shown = p.1.1 }) (λ _. refl)
+coded_state =
+    code_by (Retained × (List Step × ℕ)) (coded× coded_retained (coded× (coded_list step_row.the_row.coded) coded_ℕ))
+    (λ s. (s.stored, (s.posted, s.shown)))
+    (λ p. record { stored = p.0; posted = p.1.0; shown = p.1.1 }) (λ _. refl)

@@ -15,9 +15,11 @@ HaveRoom s (step ∷ steps) = HasRoom s step × HaveRoom (after_step s step) ste
 abbrev pub all_steps : List Step → History → List Step
 all_steps posted waiting = posted ++ map (λ c. Commit c) waiting
 
-pub record Fit (posted : List Step) (waiting : History) (newest : Retained) (shown : ℕ) (front : Standing) : Type 0 where
+pub record Fit
+    (posted : List Step) (waiting : History) (newest : Retained) (shown : ℕ)
+    (published : Standing) : Type 0 where
   pub room : HaveRoom nothing (all_steps posted waiting)
   pub stored : newest ≡ (standing (all_steps posted waiting)).kept
   pub unopened : posted ≡ [] → waiting ≡ []
   pub within : shown ≤ length posted
-  pub published : front ≡ standing (take shown posted)
+  pub stands : published ≡ standing (take shown posted)

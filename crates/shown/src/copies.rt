@@ -13,7 +13,7 @@ pub(crate) fn snapshot_of(
     config: Config,
     tuples: &[Tuple],
 ) -> Result<Snapshot, AllocError>
-    ensures { IfOk result (λ snapshot. snapshot ≡ record { config = config; tuples = set.from_list tuples.now }) }
+    ensures { IfOk result (λ s. s ≡ record { config = config; tuples = set.from_list tuples.now }) }
 {
     let mut snapshot = Snapshot::empty(alloc);
     snapshot.set_config(config);

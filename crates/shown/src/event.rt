@@ -19,7 +19,7 @@ pub enum Event {
     /// The seat's session asks a question of what is published.
     Entered(u64, Question),
     /// The seat's session is told that so many steps are published.
-    Told(u64, u64),
+    Notified(u64, u64),
 }
 
 /// Which step is posted. A commit's step has no commit of its own here: it is that of the oldest stored

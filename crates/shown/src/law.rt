@@ -8,7 +8,7 @@ ghost use Rattle.shown.specs.Runs.{AnswersRise, PostsStored};
 /// A question is answered by the standing of a beginning of the posted steps. It is no shorter than any
 /// by which the seat was answered before, and than what it was told of.
 pub fn answers_rise()
-    ensures { (run : List Happening) (seat : ℕ) (question : Question) → AnswersRise run seat question }
+    ensures { (run : List Happening) (seat : ℕ) (q : Question) → AnswersRise run seat q }
 {}
 
 /// The posted steps begin with the opening, and the commits among the others are stored ones in their

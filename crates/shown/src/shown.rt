@@ -8,8 +8,8 @@ ghost use Rattle.plain.specs.Causes.{CheckCause};
 ghost use Rattle.rows.specs.Follows.{IsAccepted};
 ghost use Rattle.rows.specs.Judging.{WriteRefused, ConfigRefused};
 ghost use Rattle.rows.specs.Retained.{IsRetained, newest, newest_of, snap_at};
-ghost use Rattle.shown.specs.Standing.{nothing, after_step, after_take, moved, state_of, HasRoom};
-ghost use Rattle.shown.specs.Answers.{IsAskedAt, IsChecked, CheckRefused};
+ghost use Rattle.shown.specs.Standing.{nothing, after_step, after_take, cursor_after, state_of, HasRoom};
+ghost use Rattle.shown.specs.Answers.{IsAskedAt, IsAnswer, IsRefusal};
 ghost use Rattle.shown.specs.declared.step.Part.TheVariants.{Index, Hot};
 
 use crate::answer::{Answer, Refused};
@@ -44,7 +44,8 @@ impl Model for Shown {
 
     ghost view = { λ s. record { kept = s.rows; base = s.base; index = s.index; hot = s.hot } };
 
-    ghost invariant = { λ s. IsSteady (record { kept = s.rows; base = s.base; index = s.index; hot = s.hot }) };
+    ghost invariant = { λ s.
+        IsSteady (record { kept = s.rows; base = s.base; index = s.index; hot = s.hot }) };
 }
 
 impl Shown {
@@ -115,8 +116,8 @@ impl Shown {
         node: &Node,
         user: &Object,
     ) -> Result<Answer<bool>, Refused>
-        ensures ok { IfOk result (λ a. IsChecked self.now consistency.now node.now user.now a.rev a.value) }
-        ensures err { IfErr result (λ e. CheckRefused self.now consistency.now node.now e.why e.at) }
+        ensures ok { IfOk result (IsAnswer self.now consistency.now node.now user.now) }
+        ensures err { IfErr result (IsRefusal self.now consistency.now node.now) }
     {
         let newest = self.rows.newest();
         if let Err(why) = consistency.judge(self.rows.number(), self.rows.floor(), newest) {
@@ -138,8 +139,10 @@ impl Shown {
     /// Whether the user is a member of the node at a retained revision.
     fn check_at(&self, rev: u64, node: &Node, user: &Object) -> Result<bool, Refusal>
         requires { IsRetained self.now.kept rev }
-        ensures ok { IfOk result (λ answer. IsTrue answer ↔ IsMember (snap_at self.now.kept rev) user.now node.now) }
-        ensures known { OnOk result (has_relation (snap_at self.now.kept rev).config (rel_of node.now) ≡ true) }
+        ensures ok { IfOk result (λ answer.
+            IsTrue answer ↔ IsMember (snap_at self.now.kept rev) user.now node.now) }
+        ensures known { OnOk result
+            (has_relation (snap_at self.now.kept rev).config (rel_of node.now) ≡ true) }
         ensures err { IfErr result (CheckCause (snap_at self.now.kept rev) node.now) }
     {
         let snapshot = self.snapshot_at(rev)?;
@@ -200,22 +203,22 @@ impl Shown {
     {
         match part {
             Part::Index => self.take_index(commits),
-            Part::Hot => self.hot = self.moved(self.hot, commits),
+            Part::Hot => self.hot = self.cursor_after(self.hot, commits),
         }
     }
 
     fn take_index(&mut self, commits: u32)
         ensures { self.new ≡ after_take self.old Index commits }
     {
-        let to = self.moved(self.index, commits);
+        let to = self.cursor_after(self.index, commits);
         self.base = self.rows.last_config(self.base, self.index, to);
         self.index = to;
     }
 
     /// So many commits further, and no further than the newest.
-    fn moved(&self, cursor: u64, commits: u32) -> u64
+    fn cursor_after(&self, cursor: u64, commits: u32) -> u64
         requires { cursor ≤ newest self.now.kept }
-        ensures moved { result ≡ moved self.now.kept cursor commits }
+        ensures cursor_after { result ≡ cursor_after self.now.kept cursor commits }
         ensures within { result ≤ max_rev }
     {
         let newest = self.rows.newest();

@@ -1,7 +1,7 @@
 //! Publication as a pure machine: what is stored, what is posted, what is published, and what any number
 //! of sessions are answered. It is the plain one, and makes the published state anew at each publication.
 ghost use Rattle.std.specs.Prelude.{◌≡◌, ◌≤◌, IfOk, OnErr};
-ghost use Rattle.shown.specs.declared.event.Event.TheVariants.{Stored, Posted, Published, Entered, Told};
+ghost use Rattle.shown.specs.declared.event.Event.TheVariants.{Stored, Posted, Published, Entered, Notified};
 ghost use Rattle.shown.specs.declared.event.Posting.TheVariants.{Opening, NextCommit, Taking};
 ghost use Rattle.shown.specs.Standing.{standing, nothing};
 ghost use Rattle.shown.specs.WorldParts.{HaveRoom};
@@ -28,7 +28,7 @@ pub struct World {
     waiting: VecDeque<Commit<Config>>,
     newest: Rows,
     shown: usize,
-    front: Shown,
+    published: Shown,
 }
 
 impl Model for World {
@@ -42,7 +42,7 @@ impl Model for World {
 
     ghost view = { λ w. record { stored = w.newest; posted = w.posted.items; shown = w.shown } };
 
-    ghost invariant = { λ w. Fit w.posted.items w.waiting.items w.newest w.shown w.front };
+    ghost invariant = { λ w. Fit w.posted.items w.waiting.items w.newest w.shown w.published };
 }
 
 impl World {
@@ -58,7 +58,7 @@ impl World {
             waiting: VecDeque::new(alloc),
             newest: Rows::empty(alloc),
             shown: 0,
-            front: Shown::new(alloc),
+            published: Shown::new(alloc),
         }
     }
 
@@ -75,7 +75,7 @@ impl World {
             Event::Posted(Posting::Taking(part, commits)) => self.take(part, commits),
             Event::Published(steps) => self.publish(steps),
             Event::Entered(seat, question) => self.answer(seat, &question),
-            Event::Told(seat, steps) => Ok(self.tell(seat, steps)),
+            Event::Notified(seat, steps) => Ok(self.notify(seat, steps)),
         }
     }
 
@@ -86,7 +86,7 @@ impl World {
     }
 
     fn store(&mut self, commit: Commit<Config>) -> Result<Outcome, AllocError>
-        ensures ok { IfOk result (λ outcome. Happens self.old (Stored commit) outcome self.new) }
+        ensures ok { IfOk result (λ o. Happens self.old (Stored commit) o self.new) }
         ensures err { OnErr result (self.new ≡ self.old) }
     {
         if !self.has_begun() || self.newest.refuses(&commit)? {
@@ -100,7 +100,7 @@ impl World {
     }
 
     fn open(&mut self, loaded: Loaded) -> Result<Outcome, AllocError>
-        ensures ok { IfOk result (λ outcome. Happens self.old (Posted (Opening loaded)) outcome self.new) }
+        ensures ok { IfOk result (λ o. Happens self.old (Posted (Opening loaded)) o self.new) }
         ensures err { OnErr result (self.new ≡ self.old) }
     {
         if self.has_begun() || !is_within(&loaded) {
@@ -113,7 +113,7 @@ impl World {
     }
 
     fn post(&mut self) -> Result<Outcome, AllocError>
-        ensures ok { IfOk result (λ outcome. Happens self.old (Posted NextCommit) outcome self.new) }
+        ensures ok { IfOk result (λ o. Happens self.old (Posted NextCommit) o self.new) }
         ensures err { OnErr result (self.new ≡ self.old) }
     {
         self.posted.reserve(1)?;
@@ -125,7 +125,7 @@ impl World {
     }
 
     fn take(&mut self, part: Part, commits: u32) -> Result<Outcome, AllocError>
-        ensures ok { IfOk result (λ outcome. Happens self.old (Posted (Taking part commits)) outcome self.new) }
+        ensures ok { IfOk result (λ o. Happens self.old (Posted (Taking part commits)) o self.new) }
         ensures err { OnErr result (self.new ≡ self.old) }
     {
         if !self.has_begun() || commits > MAX_TAKEN {
@@ -136,7 +136,7 @@ impl World {
     }
 
     fn publish(&mut self, steps: u32) -> Result<Outcome, AllocError>
-        ensures ok { IfOk result (λ outcome. Happens self.old (Published steps) outcome self.new) }
+        ensures ok { IfOk result (λ o. Happens self.old (Published steps) o self.new) }
         ensures err { OnErr result (self.new ≡ self.old) }
     {
         let steps = steps as usize;
@@ -144,7 +144,7 @@ impl World {
             return Ok(Outcome::No);
         }
         let shown = self.shown + steps;
-        self.front = standing_of(self.alloc, &self.posted[..shown])?;
+        self.published = standing_of(self.alloc, &self.posted[..shown])?;
         self.shown = shown;
         Ok(Outcome::Done)
     }
@@ -157,7 +157,7 @@ impl World {
         }
         let reply = match question {
             Question::Check(consistency, node, user) => {
-                self.front.check(consistency, node, user)
+                self.published.check(consistency, node, user)
             }
         };
         match reply {
@@ -169,8 +169,8 @@ impl World {
         }
     }
 
-    fn tell(&self, seat: u64, steps: u64) -> Outcome
-        ensures { HasOutcome self.now (Told seat steps) result }
+    fn notify(&self, seat: u64, steps: u64) -> Outcome
+        ensures { HasOutcome self.now (Notified seat steps) result }
     {
         if !self.has_begun() || steps > self.shown as u64 {
             return Outcome::No;

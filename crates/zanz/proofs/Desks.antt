@@ -7,7 +7,7 @@ use Rattle.names.specs.declared.refusal.Refusal.{Refusal}
 use Rattle.names.specs.declared.refusal.Refusal.TheVariants.{Malformed, UnknownRelation, TypeRefused, TwiceInOneWrite, ConditionFailed, AlreadyThere, NotThere, Full, ConfigRefused, TupleInTheWay, BadZookie, ForeignZookie, Future, Expired, TooLarge, NotIndexed, InUse, StaleBuild, WrongBuild, NoSeat, Memory, StoreFault, Reopen}
 use Rattle.shown.specs.declared.step.Step.{Step}
 use Rattle.keeper_core.specs.Posts.{Posts, ShowsMore, PostsStep}
-use Rattle.keeper_core.specs.Changes.{Told, Tells, Refuses, IsRefused}
+use Rattle.keeper_core.specs.Changes.{ReceiptFacts, Tells, Refuses, IsRefused}
 use Rattle.keeper.specs.Rules.{DeskStep, WriteStep, write_malformed, write_accepted, write_refused, write_unread, ConfigStep, config_invalid, config_accepted, config_refused, config_unread, CheckStep, check_malformed, check_bad_zookie, check_answered, check_refused, check_unread, CatchUpStep, catch_up_malformed, catch_up_accepted, catch_up_refused, catch_up_unread}
 use Rattle.zanz.specs.Runs.{seen}
 
@@ -17,8 +17,8 @@ seen_shows old new h = record { posted = h.posted; book = h.book; later = h.late
 seen_posts : {T : Type 0} (old : Posts T) (step : Step) (new : Posts T) → PostsStep old step new → PostsStep (seen old) step (seen new)
 seen_posts old step new h = record { posted = h.posted; book = h.book; later = h.later; beginning = h.beginning; faults = h.faults }
 
-seen_tells : {T : Type 0} (told : Told) (desk : Posts T) → Tells told desk → Tells told (seen desk)
-seen_tells told desk h = record { number = h.number; rev = h.rev; shown = h.shown; published = h.published }
+seen_tells : {T : Type 0} (receipt : ReceiptFacts) (desk : Posts T) → Tells receipt desk → Tells receipt (seen desk)
+seen_tells receipt desk h = record { number = h.number; rev = h.rev; shown = h.shown; published = h.published }
 
 seen_cause : {T : Type 0} (old : Posts T) (judged : Refusal → Type 0) (why : Refusal) (new : Posts T) → Refuses old judged why new → Refuses (seen old) judged why (seen new)
 seen_cause old judged Malformed new h = h

@@ -7,8 +7,8 @@ returns-in-Err g c = catch_up_unasked c.args.desk.now _ c.in-Err.why _ c.in-Err.
 
 pub returns-in-Ok-catch_up : goal.returns-in-Ok-catch_up
 returns-in-Ok-catch_up g c =
-    catch_up_done c.args.desk.now _ c.in-Ok.asked.0 c.in-Ok.asked.1 c.in-Ok-catch_up.posted.value c.in-Ok-catch_up.posted.receipt c.shown.result c.zookie-store.result _ _
-    c.in-Ok.ensures.ok c.in-Ok-catch_up.ensures.ok c.shown.ensures c.zookie-store.ensures c.cursor.ensures
+    catch_up_done c.args.desk.now _ c.in-Ok.asked.0 c.in-Ok.asked.1 c.in-Ok-catch_up.posted.value c.in-Ok-catch_up.posted.receipt c.is_shown.result c.zookie-store.result _ _
+    c.in-Ok.ensures.ok c.in-Ok-catch_up.ensures.ok c.is_shown.ensures c.zookie-store.ensures c.cursor.ensures
 
 pub returns-in-Err-catch_up : goal.returns-in-Err-catch_up
 returns-in-Err-catch_up g c =

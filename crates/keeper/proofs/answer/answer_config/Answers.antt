@@ -7,8 +7,8 @@ returns-in-Err g c = config_unaccepted c.args.desk.now _ c.in-Err.why _ c.in-Err
 
 pub returns-in-Ok-configure : goal.returns-in-Ok-configure
 returns-in-Ok-configure g c =
-    config_done c.args.desk.now _ c.in-Ok.config c.in-Ok-configure.taken c.shown.result c.zookie.result _ _
-    c.in-Ok.ensures.ok c.in-Ok-configure.ensures.ok c.shown.ensures c.zookie.ensures c.receipt.ensures
+    config_done c.args.desk.now _ c.in-Ok.config c.in-Ok-configure.taken c.is_shown.result c.zookie.result _ _
+    c.in-Ok.ensures.ok c.in-Ok-configure.ensures.ok c.is_shown.ensures c.zookie.ensures c.receipt.ensures
 
 pub returns-in-Err-configure : goal.returns-in-Err-configure
 returns-in-Err-configure g c =

@@ -7,8 +7,8 @@ returns-in-Err g c = write_unasked c.args.desk.now _ c.in-Err.why _ c.in-Err.ens
 
 pub returns-in-Ok-write : goal.returns-in-Ok-write
 returns-in-Ok-write g c =
-    write_done c.args.desk.now _ c.in-Ok.ops c.of-conditions.result c.in-Ok-write.told c.shown.result c.zookie.result _ _
-    c.in-Ok.ensures.ok (c.of-conditions.ensures ∙ c.new.ensures.items) c.in-Ok-write.ensures.ok c.shown.ensures c.zookie.ensures c.receipt.ensures
+    write_done c.args.desk.now _ c.in-Ok.ops c.of-conditions.result c.in-Ok-write.accepted c.is_shown.result c.zookie.result _ _
+    c.in-Ok.ensures.ok (c.of-conditions.ensures ∙ c.new.ensures.items) c.in-Ok-write.ensures.ok c.is_shown.ensures c.zookie.ensures c.receipt.ensures
 
 pub returns-in-Err-write : goal.returns-in-Err-write
 returns-in-Err-write g c =

@@ -8,7 +8,7 @@ returns-clause-ok c =
       word = c.in-Some.word.now;
       op = sym c.in-Some.ensures;
       kind = c.in-Some-kind_of.ensures;
-      text = c.in-Some-text_of.text.now;
-      tuple = sym c.in-Some-text_of.ensures;
+      text = c.in-Some-text_at.text.now;
+      tuple = sym c.in-Some-text_at.ensures;
       spells = c.in_ok-tuple.ensures.ok;
     }

@@ -17,7 +17,7 @@ pub invariant_of-self-2 : goal.invariant_of-self-2
 invariant_of-self-2 c =
     let s = c.self.inside in
     let unbegun : has_begun s.posted.items ≡ false = ap (λ (t : State). has_begun t.posted) c.self.view_is ∙ sym c.has_begun.ensures ∙ c.if-has_begun.false in
-    fit_opened s.posted.items _ s.waiting.items c.args.loaded s.newest _ s.shown s.front c.self.invariant unbegun
+    fit_opened s.posted.items _ s.waiting.items c.args.loaded s.newest _ s.shown s.published c.self.invariant unbegun
     (c.push_reserved.ensures.items ∙ ap (λ (xs : List Step). xs ++ Open c.args.loaded ∷ []) c.reserve.ensures.items) (within_is c.args.loaded (sym c.is_within.ensures ∙ c.if-not-is_within.false)) c.in_ok-self-inside.ensures
 
 pub returns-clause-ok : goal.returns-clause-ok

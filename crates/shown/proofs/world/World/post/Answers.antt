@@ -16,6 +16,6 @@ pub returns-clause-ok : goal.returns-clause-ok
 returns-clause-ok c =
     let s = c.self.inside in
     subst (λ (t : State). Happens t (Posted NextCommit) Done (record { stored = s.newest; posted = c.push_reserved.new.self.items; shown = s.shown })) c.self.view_is
-    (post_next s.posted.items c.push_reserved.new.self.items s.waiting.items c.pop_front.new.self.items c.in-Some.commit s.newest s.shown s.front c.self.invariant
+    (post_next s.posted.items c.push_reserved.new.self.items s.waiting.items c.pop_front.new.self.items c.in-Some.commit s.newest s.shown s.published c.self.invariant
     (c.pop_front.ensures.items ∙ ap (λ (p : Option (CommitOf Configured)). option_to_list p ++ c.pop_front.new.self.items) c.in-Some.is)
     (c.push_reserved.ensures.items ∙ ap (λ (xs : List Step). xs ++ Commit c.in-Some.commit ∷ []) c.reserve.ensures.items))

@@ -10,5 +10,5 @@ invariant_of-self-2 c =
     let s = c.self.inside in
     let begun : has_begun s.posted.items ≡ true = ap (λ (t : State). has_begun t.posted) c.self.view_is ∙ sym c.has_begun.ensures ∙ c.if-not-has_begun.false in
     let next : IsNext s.newest c.args.commit = is_none _ (sym c.in_ok-refuses.ensures ∙ c.if-branch.false) in
-    fit_stored s.posted.items s.waiting.items _ c.args.commit s.newest _ s.shown s.front c.self.invariant
+    fit_stored s.posted.items s.waiting.items _ c.args.commit s.newest _ s.shown s.published c.self.invariant
     (c.push_back_reserved.ensures.items ∙ ap (λ h. h ++ c.args.commit ∷ []) c.reserve.ensures.items) begun next c.in_ok-commit.ensures.ok

@@ -1,6 +1,6 @@
 use Rattle.std.proofs.Common.{◌≡◌, sym, ◌∙◌, ap, ◌<◌, ◌^◌, length, arith}
 use Rattle.keeper_core.proofs.Adding.{adds_moves}
-use Rattle.keeper_core.proofs.book.Front.grown.Goals as goal
+use Rattle.keeper_core.proofs.book.StepPrefix.add_step.Goals as goal
 
 pub compare_exchange-found-requires : goal.compare_exchange-found-requires
 compare_exchange-found-requires c =

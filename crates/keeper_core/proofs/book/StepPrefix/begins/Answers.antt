@@ -2,7 +2,7 @@ use Rattle.std.proofs.Common.{ap, subst, List}
 use mathlib.Core.List.{IsPrefix}
 use Rattle.shown.specs.declared.step.Step.{Step}
 use Rattle.keeper_core.proofs.Beginnings.{begins_by}
-use Rattle.keeper_core.proofs.book.Front.begins.Goals as goal
+use Rattle.keeper_core.proofs.book.StepPrefix.begins.Goals as goal
 
 pub returns : goal.returns
 returns c =
