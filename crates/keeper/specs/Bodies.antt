@@ -2,6 +2,7 @@
 use Rattle.std.specs.Prelude.{ℕ, ◌≡◌, ◌⊎◌, ◌<◌, ◌≤◌, ◌^◌, if◌then◌else◌, Bool, true, false, List, [], ◌∷◌, Option, Some, None, option_and_then, codes}
 use Rattle.serde_json.specs.Data.{Data, Items, no_items, item}
 use Rattle.serde_json.specs.Find.{get, as_str, as_array, as_number, as_u64}
+use Rattle.names.specs.declared.limits.TheConstants.{MAX_CATCH_UP}
 use Rattle.config_core.specs.Objects.{is_text, has_only, text_at}
 use Rattle.config_core.specs.Reading.{Reads}
 use Rattle.names.specs.Spelling.{SpellsTuple, SpellsNode, SpellsObject}
@@ -17,7 +18,6 @@ use Rattle.zookie.specs.declared.consistency.Consistency.{Consistency}
 use Rattle.zookie.specs.declared.consistency.Consistency.TheVariants.{Latest, AtLeast, Exactly}
 use Rattle.shown.specs.declared.step.Part.{Part}
 use Rattle.shown.specs.declared.step.Part.TheVariants.{Index, Hot}
-use Rattle.keeper_core.specs.Changes.{max_commits}
 use Rattle.names.specs.declared.write.OpKind.{OpKind}
 use Rattle.names.specs.declared.write.OpKind.TheVariants.{Insert, Touch, Delete}
 use Rattle.meaning.specs.Verdict.{is_in_range}
@@ -187,7 +187,7 @@ pub record CatchUpOf (d : Data) (part : Part) (commits : ℕ) : Type 0 where
   pub part_at : text_at (codes "part") d ≡ Some word
   pub named : IsPart word part
   pub commits_at : number_at (codes "commits") d ≡ Some commits
-  pub in_range : commits ≤ max_commits
+  pub in_range : commits ≤ MAX_CATCH_UP
 
 -- it is about no part
 abbrev pub IsOfNoCatchUp : Data → Type 0

@@ -10,6 +10,7 @@ ghost use Rattle.keeper.specs.Bodies.{items_at, number_at, only_text, WriteOf, A
 
 use crate::ops::read_ops;
 use config_core::{has_only_members, text_at};
+use names::limits::{MAX_CATCH_UP, MAX_OPS};
 use names::{Items, Node, Object, Op, Refusal};
 use serde_json::Value;
 use shown::Part;
@@ -17,11 +18,7 @@ use std::alloc::Global;
 use std::str;
 use zookie::{Consistency, Zookie};
 
-/// The most operations of one write.
-const MAX_OPS: usize = 256;
 
-/// The most commits of one `catchup`.
-const MAX_COMMITS: u64 = 65_536;
 
 /// What a body reads as.
 fn read_value(alloc: Global, body: &[u8]) -> Result<Value, Refusal>
@@ -198,7 +195,7 @@ fn catch_up_of(value: &Value) -> Result<(Part, u64), Refusal>
         return Err(Refusal::Malformed);
     };
     match number_of(value, "commits") {
-        Some(commits) if commits <= MAX_COMMITS => Ok((part, commits)),
+        Some(commits) if commits <= MAX_CATCH_UP => Ok((part, commits)),
         _ => Err(Refusal::Malformed),
     }
 }

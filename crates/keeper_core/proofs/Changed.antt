@@ -1,6 +1,7 @@
 -- A change, from the readiness for it on.
 use Rattle.std.proofs.Common.{◌≡◌, Bool, false, List, [], ◌∷◌, ◌++◌, ◌<◌, ℕ, refl, ap, sym, ◌∙◌, subst}
 use Rattle.std.specs.Prelude.{Result, Ok, Err, IfOk, IfErr, OnOk, Option}
+use Rattle.names.specs.declared.limits.TheConstants.{MAX_CATCH_UP}
 use Rattle.logbook.specs.Pages.{Book}
 use Rattle.names.specs.declared.write.Op.{Op}
 use Rattle.names.specs.declared.write.Condition.{Condition}
@@ -19,7 +20,7 @@ use Rattle.shown.specs.declared.step.Step.TheVariants.{Commit}
 use Rattle.shown.specs.Standing.{Standing, standing}
 use Rattle.tables.specs.Storing.{one_more}
 use Rattle.keeper_core.specs.Posts.{Posts, ShowsMore, PostsStep, newest_shown}
-use Rattle.keeper_core.specs.Changes.{ReceiptFacts, Tells, WriteAccepted, ConfigAccepted, JudgedWith, CatchUpJudged, IsRefused, max_commits}
+use Rattle.keeper_core.specs.Changes.{ReceiptFacts, Tells, WriteAccepted, ConfigAccepted, JudgedWith, CatchUpJudged, IsRefused}
 use Rattle.keeper_core.specs.Posting.{NotPosted}
 use Rattle.keeper_core.proofs.Prefixes.{prefix_self, prefix_trans}
 
@@ -104,7 +105,7 @@ config_judged shown steps config d is judged here =
     subst (λ (xs : List Step). config_cause (newest_of (standing xs).kept) config ≡ Option.None) (sym here) (subst (λ (s : Standing). config_cause (newest_of s.kept) config ≡ Option.None) is judged)
 
 -- too many commits at once
-pub too_many : {T : Type 0} (tables : T) (b : Book) (prefix : List Step) (waiting : List Step) (failed : Bool) (faults : ℕ) (commits : ℕ) → failed ≡ false → max_commits < commits
+pub too_many : {T : Type 0} (tables : T) (b : Book) (prefix : List Step) (waiting : List Step) (failed : Bool) (faults : ℕ) (commits : ℕ) → failed ≡ false → MAX_CATCH_UP < commits
     → IsRefused (record { tables = tables; book = b; posted = prefix ++ waiting; shown = prefix; failed = failed; faults = faults }) (CatchUpJudged commits) Malformed
     (record { tables = tables; book = b; posted = prefix ++ waiting; shown = prefix; failed = failed; faults = faults })
 too_many tables b prefix waiting failed faults commits sound many = record { shows = shows_itself tables b prefix waiting failed faults; cause = (sound, many, sound, refl) }

@@ -1,5 +1,6 @@
 -- What an accepted change leaves and tells, and why one is refused.
 use Rattle.std.specs.Prelude.{◌≡◌, ◌<◌, ◌≤◌, ◌↔◌, ℕ, List, [], ◌∷◌, Bool, true, false, IsTrue, Option}
+use Rattle.names.specs.declared.limits.TheConstants.{MAX_CATCH_UP}
 use Rattle.names.specs.Refusals.{ReadCause}
 use Rattle.names.specs.declared.write.Op.{Op}
 use Rattle.names.specs.declared.write.Condition.{Condition}
@@ -66,17 +67,13 @@ pub record ConfigAccepted {T : Type 0}
   pub stored : new.failed ≡ false
   pub tells : Tells receipt new
 
--- the most commits that a part takes at once
-abbrev pub max_commits : ℕ
-max_commits = 65536
-
 -- The part has taken the commits, which is posted and changes nothing of the tables. The revision of the
 -- receipt is shown.
 pub record CatchUpAccepted {T : Type 0}
     (old : Posts T) (part : Part) (commits : ℕ) (cursor : ℕ) (receipt : ReceiptFacts)
     (new : Posts T) : Type 0 where
   pub works : old.failed ≡ false
-  pub few : commits ≤ max_commits
+  pub few : commits ≤ MAX_CATCH_UP
   pub posts : PostsStep old (Take part commits) new
   pub tables : new.tables ≡ old.tables
   pub stored : new.failed ≡ false
@@ -95,7 +92,7 @@ WriteJudged newest write why = JudgedWith newest write.ops write.conditions why
 
 -- too many commits at once, or no memory
 abbrev pub CatchUpJudged : ℕ → Refusal → Type 0
-CatchUpJudged commits Malformed = max_commits < commits
+CatchUpJudged commits Malformed = MAX_CATCH_UP < commits
 CatchUpJudged commits Memory = Unit {0}
 CatchUpJudged commits _ = ⊥
 

@@ -17,6 +17,7 @@ use crate::latched_tables::{LatchedTables, load};
 use crate::receipt::{Posted, Receipt};
 use crate::showing::{Waiting, show_waiting};
 use config::Config;
+use names::limits::MAX_CATCH_UP;
 use names::{Commit, Condition, Items, Node, Object, Op, Refusal, Write};
 use rows::{events_of, refuses_what_no_write_gives};
 use shown::{Answer, Part, Refused, Shown, State, Step};
@@ -25,8 +26,6 @@ use std::marker::Model;
 use tables::Tables;
 use zookie::{Consistency, Zookie};
 
-/// The most commits that a part takes at once.
-const MAX_COMMITS: u64 = 65_536;
 
 /// The tables, the steps that were posted, and what is shown of them. One posted step at most waits to
 /// be shown.
@@ -125,7 +124,7 @@ impl<T: Tables + Drop> Desk<T> {
         ensures err { IfErr result (λ why.
             IsRefused self.old (CatchUpJudged commits) why self.new) }
     {
-        if commits > MAX_COMMITS && !self.tables.has_failed() {
+        if commits > MAX_CATCH_UP && !self.tables.has_failed() {
             return Err(Refusal::Malformed);
         }
         self.make_ready()?;

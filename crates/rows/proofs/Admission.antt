@@ -15,9 +15,10 @@ use Rattle.meaning.specs.Config.{Configured}
 use Rattle.meaning.specs.TupleSet as set
 use Rattle.meaning.specs.Admits.{admits}
 use Rattle.meaning.specs.History.{replay, puts_in}
-use Rattle.meaning.specs.Verdict.{Newest, or_else, refused_if, event_of, is_full, is_in_range, is_unknown, is_untyped, is_twice, at_place, first_from, inserts_again, deletes_nothing, in_the_way, write_cause, max_tuples, max_rev, max_rows}
+use Rattle.meaning.specs.Verdict.{Newest, or_else, refused_if, event_of, is_full, is_in_range, is_unknown, is_untyped, is_twice, at_place, first_from, inserts_again, deletes_nothing, in_the_way, write_cause}
 use Rattle.rows.specs.Retained.{Retained, newest, newest_of, spans_of, HasRoom}
 use Rattle.std.specs.Prelude.{is_some}
+use Rattle.names.specs.declared.limits.TheConstants.{MAX_REV, MAX_ROWS, MAX_TUPLES}
 use Rattle.rows.specs.Follows.{commit_cause, touch_of, touch_kind, is_in_order, IsNext}
 
 pub later_none : {A : Type 0} (a b : Option A) → or_else a b ≡ None → b ≡ None
@@ -63,10 +64,10 @@ pub touches_give : (events : List Event) → map event_of (map touch_of events) 
 touches_give [] = refl
 touches_give (e ∷ es) = λ i. touched e.kind e.tuple i ∷ touches_give es i
 
-room : (spans puts : ℕ) → spans + puts ≤ max_rows → puts ≤ max_rows - spans
+room : (spans puts : ℕ) → spans + puts ≤ MAX_ROWS → puts ≤ MAX_ROWS - spans
 room spans puts fits = omega (arith, fits)
 
-room_for_none : (spans : ℕ) → 0 ≤ max_rows - spans
+room_for_none : (spans : ℕ) → 0 ≤ MAX_ROWS - spans
 room_for_none spans = omega arith
 
 pub has_room : (r : Retained) (c : Commit Configured) → IsNext r c → HasRoom r c
@@ -74,15 +75,15 @@ has_room r (Tuples events) h =
     let n = newest_of r in
     let full = never_full n (map touch_of events) (later_none (refused_if Malformed (not (is_in_order events))) _ h) in
     let short : is_full n events ≡ false = subst (λ (es : List Event). is_full n es ≡ false) (touches_give events) full in
-    let many = nat_lt max_tuples (set.len (replay n.held.tuples events)) in
-    let long = nat_lt max_rows (n.rows + puts_in events) in
-    let late = nat_lt max_rev (n.rev + 1) in
-    let fits : spans_of r + puts_in events ≤ max_rows = at_most max_rows (spans_of r + puts_in events) (right_false many long (left_false (many || long) late short)) in
-    record { revs = at_most max_rev (newest r + 1) (right_false (many || long) late short); rows = room (spans_of r) (puts_in events) fits }
+    let many = nat_lt MAX_TUPLES (set.len (replay n.held.tuples events)) in
+    let long = nat_lt MAX_ROWS (n.rows + puts_in events) in
+    let late = nat_lt MAX_REV (n.rev + 1) in
+    let fits : spans_of r + puts_in events ≤ MAX_ROWS = at_most MAX_ROWS (spans_of r + puts_in events) (right_false many long (left_false (many || long) late short)) in
+    record { revs = at_most MAX_REV (newest r + 1) (right_false (many || long) late short); rows = room (spans_of r) (puts_in events) fits }
 has_room r (Config config) h =
     let n = newest_of r in
-    let full = not_refused Full (nat_lt max_rev (n.rev + 1)) (later_none (in_the_way (find (λ t. not (admits config t)) (set.items n.held.tuples))) _ h) in
-    record { revs = at_most max_rev (newest r + 1) full; rows = room_for_none (spans_of r) }
+    let full = not_refused Full (nat_lt MAX_REV (n.rev + 1)) (later_none (in_the_way (find (λ t. not (admits config t)) (set.items n.held.tuples))) _ h) in
+    record { revs = at_most MAX_REV (newest r + 1) full; rows = room_for_none (spans_of r) }
 
 -- the same of what the code tells
 pub room_unless_refused : (r : Retained) (c : Commit Configured) (refuses : Bool) → refuses ≡ is_some (commit_cause (newest_of r) c) → refuses ≡ false → HasRoom r c

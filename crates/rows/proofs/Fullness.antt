@@ -11,11 +11,12 @@ use Rattle.names.specs.declared.write.Op.{Op}
 use Rattle.names.specs.declared.write.OpKind.{OpKind}
 use Rattle.names.specs.declared.write.OpKind.TheVariants.{Insert, Touch, Delete}
 use Rattle.std.specs.Ordering.{eq_by_cmp}
+use Rattle.names.specs.declared.limits.TheConstants.{MAX_REV, MAX_ROWS, MAX_TUPLES}
 use Rattle.meaning.specs.Snap.{Snap}
 use Rattle.meaning.specs.TupleSet as set
 use Rattle.meaning.specs.TupleSet.{Tuples}
 use Rattle.meaning.specs.History.{after_kind, after_event, replay, puts_in, puts_of_kind}
-use Rattle.meaning.specs.Verdict.{event_of, kind_of, is_delete, is_twice, is_full, max_tuples, max_rows, max_rev}
+use Rattle.meaning.specs.Verdict.{event_of, kind_of, is_delete, is_twice, is_full}
 use Rattle.meaning.proofs.TupleSets.{contains_items, len_items, len_insert, len_remove}
 use Rattle.rows.specs.Judging.{puts_tuple, adds_tuple, takes_tuple}
 use Rattle.rows_core.specs.Versions.{is_put}
@@ -141,30 +142,30 @@ third_full false false c h k = refl
 module _ (rev rows : ℕ) (s : Snap) (os : List Op) (once : is_twice os ≡ false) (held added taken : ℕ)
     (held_is : held ≡ set.len s.tuples) (added_is : added ≡ count_by (adds_tuple s.tuples) os) (taken_is : taken ≡ count_by (takes_tuple s.tuples) os) where
   -- too many tuples
-  pub too_many : max_tuples + taken < held + added → true ≡ is_full (record { rev = rev; rows = rows; held = s }) (map event_of os)
+  pub too_many : MAX_TUPLES + taken < held + added → true ≡ is_full (record { rev = rev; rows = rows; held = s }) (map event_of os)
   too_many more =
       let left = tuples_left s.tuples os once in
-      first_full (nat_lt max_tuples (set.len (replay s.tuples (map event_of os)))) (nat_lt max_rows (rows + puts_in (map event_of os))) (nat_lt max_rev (rev + 1))
-      (lt_true max_tuples (set.len (replay s.tuples (map event_of os))) (omega (arith, left, held_is, added_is, taken_is, more)))
+      first_full (nat_lt MAX_TUPLES (set.len (replay s.tuples (map event_of os)))) (nat_lt MAX_ROWS (rows + puts_in (map event_of os))) (nat_lt MAX_REV (rev + 1))
+      (lt_true MAX_TUPLES (set.len (replay s.tuples (map event_of os))) (omega (arith, left, held_is, added_is, taken_is, more)))
 
-  few : held + added ≤ max_tuples + taken → nat_lt max_tuples (set.len (replay s.tuples (map event_of os))) ≡ false
+  few : held + added ≤ MAX_TUPLES + taken → nat_lt MAX_TUPLES (set.len (replay s.tuples (map event_of os))) ≡ false
   few fits =
       let left = tuples_left s.tuples os once in
-      lt_false max_tuples (set.len (replay s.tuples (map event_of os))) (omega (arith, left, held_is, added_is, taken_is, fits))
+      lt_false MAX_TUPLES (set.len (replay s.tuples (map event_of os))) (omega (arith, left, held_is, added_is, taken_is, fits))
 
   -- too many rows
-  pub too_long : (puts : ℕ) → puts ≡ count_by puts_tuple os → held + added ≤ max_tuples + taken → max_rows < rows + puts
-      → nat_lt max_rows (rows + puts) ≡ is_full (record { rev = rev; rows = rows; held = s }) (map event_of os)
+  pub too_long : (puts : ℕ) → puts ≡ count_by puts_tuple os → held + added ≤ MAX_TUPLES + taken → MAX_ROWS < rows + puts
+      → nat_lt MAX_ROWS (rows + puts) ≡ is_full (record { rev = rev; rows = rows; held = s }) (map event_of os)
   too_long puts puts_is fits more =
       let made = rows_made os in
-      lt_true max_rows (rows + puts) more
-      ∙ second_full (nat_lt max_tuples (set.len (replay s.tuples (map event_of os)))) (nat_lt max_rows (rows + puts_in (map event_of os))) (nat_lt max_rev (rev + 1))
-      (few fits) (lt_true max_rows (rows + puts_in (map event_of os)) (omega (arith, made, puts_is, more)))
+      lt_true MAX_ROWS (rows + puts) more
+      ∙ second_full (nat_lt MAX_TUPLES (set.len (replay s.tuples (map event_of os)))) (nat_lt MAX_ROWS (rows + puts_in (map event_of os))) (nat_lt MAX_REV (rev + 1))
+      (few fits) (lt_true MAX_ROWS (rows + puts_in (map event_of os)) (omega (arith, made, puts_is, more)))
 
   -- the revisions decide
-  pub by_revisions : (puts : ℕ) → puts ≡ count_by puts_tuple os → held + added ≤ max_tuples + taken → rows + puts ≤ max_rows
-      → nat_lt max_rev (rev + 1) ≡ is_full (record { rev = rev; rows = rows; held = s }) (map event_of os)
+  pub by_revisions : (puts : ℕ) → puts ≡ count_by puts_tuple os → held + added ≤ MAX_TUPLES + taken → rows + puts ≤ MAX_ROWS
+      → nat_lt MAX_REV (rev + 1) ≡ is_full (record { rev = rev; rows = rows; held = s }) (map event_of os)
   by_revisions puts puts_is fits short =
       let made = rows_made os in
-      third_full (nat_lt max_tuples (set.len (replay s.tuples (map event_of os)))) (nat_lt max_rows (rows + puts_in (map event_of os))) (nat_lt max_rev (rev + 1))
-      (few fits) (lt_false max_rows (rows + puts_in (map event_of os)) (omega (arith, made, puts_is, short)))
+      third_full (nat_lt MAX_TUPLES (set.len (replay s.tuples (map event_of os)))) (nat_lt MAX_ROWS (rows + puts_in (map event_of os))) (nat_lt MAX_REV (rev + 1))
+      (few fits) (lt_false MAX_ROWS (rows + puts_in (map event_of os)) (omega (arith, made, puts_is, short)))

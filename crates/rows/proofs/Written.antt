@@ -11,6 +11,7 @@ use Rattle.std.proofs.lemmas.List.Sums.{sum_by-cons}
 use Rattle.std.proofs.lemmas.List.{length-map}
 use Rattle.std.proofs.lemmas.List.Sorted.{IsPermutation-refl, IsPermutation-map, list_any-IsPermutation, sum_by-IsPermutation, length_permutation}
 use Rattle.std.proofs.lemmas.Map.Keys.{IsDistinct-IsPermutation}
+use Rattle.names.specs.declared.limits.TheConstants.{MAX_OPS, MAX_REV, MAX_ROWS, MAX_TUPLES}
 use Rattle.names.specs.Order.{is_same_tuple, tuple_cmp}
 use Rattle.names.specs.declared.tuple.Tuple.{Tuple}
 use Rattle.names.specs.declared.write.Op.{Op}
@@ -27,7 +28,7 @@ use Rattle.meaning.specs.Admits.{has_relation, admits}
 use Rattle.meaning.specs.TupleSet as set
 use Rattle.meaning.specs.TupleSet.{Tuples as Held}
 use Rattle.meaning.specs.History.{replay, puts_in}
-use Rattle.meaning.specs.Verdict.{Newest, or_else, refused_if, event_of, kind_of, is_delete, is_insert, is_full, is_in_range, is_unknown, is_untyped, is_twice, at_place, first_from, inserts_again, deletes_nothing, write_cause, max_ops, max_rev, max_rows, max_tuples}
+use Rattle.meaning.specs.Verdict.{Newest, or_else, refused_if, event_of, kind_of, is_delete, is_insert, is_full, is_in_range, is_unknown, is_untyped, is_twice, at_place, first_from, inserts_again, deletes_nothing, write_cause}
 use Rattle.meaning.proofs.TupleSets.{tuples_total}
 use Rattle.rows.specs.Judging.{puts_tuple, adds_tuple, takes_tuple}
 use Rattle.rows.specs.Follows.{AreEventsOf, by_tuple, commit_cause, touch_of, touch_kind, is_in_order, IsWritten}
@@ -239,14 +240,14 @@ module _ (n : Newest) (ops : List Op) (events : List Event) (are : AreEventsOf o
   passes_touched : Passed n (map touch_of events)
   passes_touched =
       record {
-        range = ap (λ (m : ℕ). not (nat_le 1 m && nat_le m max_ops)) (length-map events touch_of ∙ length_permutation (map event_of ops) events are.same ∙ length-map ops event_of) ∙ p.range;
+        range = ap (λ (m : ℕ). not (nat_le 1 m && nat_le m MAX_OPS)) (length-map events touch_of ∙ length_permutation (map event_of ops) events are.same ∙ length-map ops event_of) ∙ p.range;
         known = any_alike (is_unknown n.held.config) (λ e. not (has_relation n.held.config (rel_of e.tuple.node))) (λ e. refl) (λ o. refl) ∙ p.known;
         typed = any_alike (is_untyped n.held.config) (λ e. not (admits n.held.config e.tuple)) (λ e. refl) (λ o. refl) ∙ p.typed;
         once = once_touched events once_events;
         new = none_inserted n.held.tuples events;
         there = any_alike (deletes_nothing n.held.tuples) (λ e. deletes_nothing n.held.tuples (touch_of e)) (λ e. refl)
             (λ o. ap (λ (b : Bool). b && not (set.contains n.held.tuples o.tuple)) (deletes_alike o.kind)) ∙ p.there;
-        room = (λ i. nat_lt max_tuples (held_alike i) || nat_lt max_rows (n.rows + puts_alike i) || nat_lt max_rev (n.rev + 1)) ∙ p.room;
+        room = (λ i. nat_lt MAX_TUPLES (held_alike i) || nat_lt MAX_ROWS (n.rows + puts_alike i) || nat_lt MAX_REV (n.rev + 1)) ∙ p.room;
       }
 
   not_refused_if_written : commit_cause n (Tuples events) ≡ None

@@ -1,9 +1,9 @@
 -- What tables held.
 use Rattle.std.specs.Prelude.{ℕ, ◌≤◌, take}
 use Rattle.std.specs.List.Sorted.{IsStrictlySortedBy}
+use Rattle.names.specs.declared.limits.TheConstants.{MAX_REV, MAX_ROWS}
 use Rattle.names.specs.Order.{tuple_cmp}
 use Rattle.meaning.specs.TupleSet as set
-use Rattle.meaning.specs.Verdict.{max_rev, max_rows}
 use Rattle.rows.specs.Retained.{Retained, newest, spans_of}
 use Rattle.rows.specs.declared.loaded.Loaded.{Loaded}
 
@@ -18,5 +18,5 @@ loaded_to l k = record { number = l.number; floor = l.floor; base = record { con
 -- the tuples are in order, each once, and the limits of revisions and rows hold
 pub record IsWithin (l : Loaded) : Type 0 where
   pub ordered : IsStrictlySortedBy tuple_cmp l.tuples
-  pub revs : newest (retained_of l) ≤ max_rev
-  pub rows : spans_of (retained_of l) ≤ max_rows
+  pub revs : newest (retained_of l) ≤ MAX_REV
+  pub rows : spans_of (retained_of l) ≤ MAX_ROWS

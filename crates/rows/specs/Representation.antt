@@ -1,10 +1,10 @@
 -- How the history stands in memory: the versions of each tuple, the configurations with their revisions, and the commits.
 use Rattle.std.specs.Prelude.{◌≡◌, ℕ, ◌+◌, ◌≤◌, List, [], ◌∷◌, cond, nat_le, take}
+use Rattle.names.specs.declared.limits.TheConstants.{MAX_REV, MAX_ROWS}
 use Rattle.names.specs.declared.commit.Commit.TheVariants as kinds
 use Rattle.meaning.specs.TupleSet as set
 use Rattle.meaning.specs.Config.{Configured}
 use Rattle.meaning.specs.History.{History, after_commits}
-use Rattle.meaning.specs.Verdict.{max_rev, max_rows}
 use Rattle.rows_core.specs.Versions.{Entries, AreVersions, base_tuples}
 use Rattle.rows.specs.declared.config_at.ConfigAt.{ConfigAt}
 use Rattle.rows.specs.declared.loaded.Counts.{Counts}
@@ -50,5 +50,5 @@ pub record IsConsistent (r : Retained) (m : Entries) (configs : List ConfigAt) (
   pub configs_right : configs ≡ configs_after r.floor r.commits
   pub rows : counts.rows ≡ spans_of r
   pub tuples : counts.tuples ≡ set.len (after_commits r.base r.commits).tuples
-  pub revs : newest r ≤ max_rev
-  pub few : spans_of r ≤ max_rows
+  pub revs : newest r ≤ MAX_REV
+  pub few : spans_of r ≤ MAX_ROWS

@@ -1,6 +1,7 @@
 -- What is retained of a history: what its floor holds, and the commits above it (Zanzibar, section 2.2).
 use Rattle.std.specs.Prelude.{ℕ, ◌+◌, ◌-◌, ◌≤◌, [], ◌∷◌, ◌++◌, length, take, drop, Bool, false}
 use Rattle.std.specs.List.{list_any}
+use Rattle.names.specs.declared.limits.TheConstants.{MAX_REV, MAX_ROWS}
 use Rattle.names.specs.Order.{is_same_tuple}
 use Rattle.names.specs.declared.tuple.Tuple.{Tuple}
 use Rattle.names.specs.declared.commit.Commit.{Commit}
@@ -9,7 +10,7 @@ use Rattle.meaning.specs.TupleSet as set
 use Rattle.meaning.specs.Config.{Configured}
 use Rattle.meaning.specs.Snap.{Snap, empty_snap}
 use Rattle.meaning.specs.History.{History, after_commits, rows_of, commit_rows}
-use Rattle.meaning.specs.Verdict.{Newest, max_rev, max_rows}
+use Rattle.meaning.specs.Verdict.{Newest}
 
 -- the store's number, the floor, what the floor holds, and the commits above it
 pub record Retained : Type 0 where
@@ -61,8 +62,8 @@ after_trim r floor = record { number = r.number; floor = floor; base = snap_at r
 
 -- with the commit, the limits of revisions and rows still hold
 pub record HasRoom (r : Retained) (c : Commit Configured) : Type 0 where
-  pub revs : newest r + 1 ≤ max_rev
-  pub rows : commit_rows c ≤ max_rows - spans_of r
+  pub revs : newest r + 1 ≤ MAX_REV
+  pub rows : commit_rows c ≤ MAX_ROWS - spans_of r
 
 -- the commit has an event on the tuple
 abbrev pub touches : Tuple → Commit Configured → Bool

@@ -1,7 +1,7 @@
 //! Commits as they are kept.
 ghost use Rattle.std.specs.Prelude.{◌≡◌, ◌<◌, ◌≤◌, ◌+◌, ◌-◌, ◌^◌, ◌++◌, ◌∷◌, [], List, length, take, drop, OnOk, OnErr, IfOk};
+ghost use Rattle.names.specs.declared.limits.TheConstants.{MAX_REV, MAX_ROWS};
 ghost use Rattle.meaning.specs.History.{History, puts_in};
-ghost use Rattle.meaning.specs.Verdict.{max_rev, max_rows};
 ghost use Rattle.names.specs.declared.commit.Event.{Event};
 ghost use Rattle.rows.specs.Retained.{last_config};
 
@@ -63,7 +63,7 @@ pub(crate) fn copies(
 
 /// The revision of the last configuration among the commits above `rev`, or else `base`.
 pub(crate) fn last_config(base: u64, rev: u64, commits: &[KeptCommit]) -> u64
-    requires { rev + length commits.now ≤ max_rev }
+    requires { rev + length commits.now ≤ MAX_REV }
     ensures { result ≡ last_config base rev commits.now }
 {
     let mut last = base;
@@ -79,7 +79,7 @@ pub(crate) fn last_config(base: u64, rev: u64, commits: &[KeptCommit]) -> u64
 
 /// How many rows the events make.
 pub(crate) fn puts_in(events: &[KeptEvent]) -> u64
-    requires { puts_in events.now ≤ max_rows }
+    requires { puts_in events.now ≤ MAX_ROWS }
     ensures puts { result ≡ puts_in events.now }
     ensures in_memory { length events.now < 2 ^ 63 }
 {

@@ -6,8 +6,8 @@ ghost use Rattle.rows.specs.Retained.{newest_of};
 ghost use Rattle.rows.specs.Follows.{is_in_order, is_below, touch_of, touch_kind, commit_cause};
 
 use crate::rows::Rows;
-use crate::verdict::MAX_REV;
 use config::Config;
+use names::limits::MAX_REV;
 use names::{Commit, Event, EventKind, Op, OpKind};
 use std::alloc::{AllocError, Global};
 

@@ -1,9 +1,9 @@
 //! Histories.
 ghost use Rattle.std.specs.Prelude.{◌≡◌, ℕ, ◌+◌, ◌-◌, ◌<◌, ◌≤◌, List, [], ◌∷◌, ◌++◌, length, take, drop, filter, IfOk, OnOk, OnErr, not};
 ghost use Rattle.std.specs.List.{find};
+ghost use Rattle.names.specs.declared.limits.TheConstants.{MAX_REV, MAX_ROWS};
 ghost use Rattle.names.specs.declared.tuple.Tuple.{Tuple};
 ghost use Rattle.meaning.specs.TupleSet as set;
-ghost use Rattle.meaning.specs.Verdict.{max_rev, max_rows};
 ghost use Rattle.rows.specs.Retained.{newest, empty_store, IsRetained, snap_at, spans_of, newest_of, with_commit, without_newest, after_trim, HasRoom, commits_between, is_touched_after, last_config};
 ghost use Rattle.rows_core.specs.Versions.{is_of, refuses};
 ghost use Rattle.rows.specs.Loads.{retained_of, loaded_to, IsWithin};
@@ -121,7 +121,7 @@ impl Rows {
     /// The newest revision.
     pub fn newest(&self) -> u64
         ensures newest { result ≡ newest self.now }
-        ensures within { result ≤ max_rev }
+        ensures within { result ≤ MAX_REV }
     {
         self.floor + self.commits.len() as u64
     }
@@ -130,7 +130,7 @@ impl Rows {
     pub fn counts(&self) -> Counts
         ensures rows { result.rows ≡ spans_of self.now }
         ensures tuples { result.tuples ≡ set.len (newest_of self.now).held.tuples }
-        ensures within { result.rows ≤ max_rows }
+        ensures within { result.rows ≤ MAX_ROWS }
     {
         self.counts
     }

@@ -3,7 +3,7 @@ ghost use Rattle.std.specs.Prelude.{◌≡◌, ◌≤◌, count_by, length, map,
 ghost use Rattle.std.specs.List.{list_any};
 ghost use Rattle.names.specs.Order.{is_same_tuple};
 ghost use Rattle.meaning.specs.History.{puts_in};
-ghost use Rattle.meaning.specs.Verdict.{is_unknown, is_untyped, is_twice, inserts_again, deletes_nothing, first_from, event_of, write_cause, config_cause, is_full, max_ops};
+ghost use Rattle.meaning.specs.Verdict.{is_unknown, is_untyped, is_twice, inserts_again, deletes_nothing, first_from, event_of, write_cause, config_cause, is_full};
 ghost use Rattle.rows.specs.Retained.{newest_of};
 ghost use Rattle.rows.specs.Follows.{IsAccepted};
 ghost use Rattle.rows.specs.Judging.{adds_tuple, takes_tuple, puts_tuple, says_unknown, WriteRefused, ConfigRefused};
@@ -11,17 +11,10 @@ ghost use Rattle.rows.specs.Judging.{adds_tuple, takes_tuple, puts_tuple, says_u
 use crate::rows::Rows;
 use crate::view::View;
 use config::Config;
+use names::limits::{MAX_OPS, MAX_REV, MAX_ROWS, MAX_TUPLES};
 use names::{Op, OpKind, Refusal};
 use rows_core::refuses;
 
-/// The most operations of a write.
-const MAX_OPS: usize = 256;
-/// The most current tuples.
-const MAX_TUPLES: u64 = 1_000_000;
-/// The most rows of a history.
-const MAX_ROWS: u64 = 4_000_000;
-/// The most revisions.
-pub(crate) const MAX_REV: u64 = 1_000_000_000_000;
 
 impl Rows {
     /// Why the operations are refused at the newest revision, if they are: the first cause, each looked
@@ -82,7 +75,7 @@ impl Rows {
 
     /// Whether a limit would be passed.
     fn is_full(&self, view: &View<'_>, ops: &[Op]) -> bool
-        requires few { length ops.now ≤ max_ops }
+        requires few { length ops.now ≤ MAX_OPS }
         requires once { is_twice ops.now ≡ false }
         requires newest { view.now ≡ (newest_of self.now).held }
         ensures { result ≡ is_full (newest_of self.now) (map event_of ops.now) }

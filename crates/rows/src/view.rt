@@ -19,7 +19,7 @@ pub struct View<'a> {
 
 impl<'a> Model for View<'a> {
     ghost use Rattle.meaning.specs.Snap.{Snap};
-    ghost use Rattle.rows.specs.Codes.{coded_snap};
+    ghost use Rattle.meaning.specs.inside.Codes.{coded_snap};
     ghost use Rattle.rows.specs.Retained.{IsRetained, snap_at};
 
     ghost Value = { Snap };

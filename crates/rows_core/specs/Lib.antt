@@ -1,4 +1,3 @@
-pub mod Codes
 pub mod Contents
 pub mod Spelled
 pub mod Versions

@@ -20,7 +20,7 @@ pub struct KeptEvent {
 impl Model for KeptEvent {
     ghost use Rattle.std.specs.Arc.{arc_str_bytes};
     ghost use Rattle.names.specs.declared.commit.Event.{Event as EventValue};
-    ghost use Rattle.rows_core.specs.Codes.{coded_event};
+    ghost use Rattle.meaning.specs.inside.Codes.{coded_event};
     ghost use Rattle.rows_core.specs.Spelled.{tuple_of, IsSpelling};
 
     ghost Value = { EventValue };
@@ -96,7 +96,7 @@ enum Content {
 impl Model for KeptCommit {
     ghost use Rattle.names.specs.declared.commit.Commit.{Commit as CommitValue};
     ghost use Rattle.meaning.specs.Config.{Configured};
-    ghost use Rattle.rows_core.specs.Codes.{coded_commit};
+    ghost use Rattle.meaning.specs.inside.Codes.{coded_commit};
     ghost use Rattle.rows_core.specs.Contents.{commit_in};
 
     ghost Value = { CommitValue Configured };

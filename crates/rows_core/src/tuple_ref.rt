@@ -22,7 +22,7 @@ pub(crate) struct TupleRef<'a> {
 
 impl<'a> Model for TupleRef<'a> {
     ghost use Rattle.names.specs.declared.tuple.Tuple.{Tuple as TupleValue};
-    ghost use Rattle.rows_core.specs.Codes.{coded_tuple};
+    ghost use Rattle.meaning.specs.inside.Codes.{coded_tuple};
     ghost use Rattle.rows_core.specs.Spelled.{tuple_of, IsSpelling};
 
     ghost Value = { TupleValue };
@@ -138,7 +138,7 @@ pub(crate) struct Scratch {
 
 impl Model for Scratch {
     ghost use Rattle.names.specs.declared.tuple.Tuple.{Tuple as TupleValue};
-    ghost use Rattle.rows_core.specs.Codes.{coded_tuple};
+    ghost use Rattle.meaning.specs.inside.Codes.{coded_tuple};
     ghost use Rattle.rows_core.specs.Spelled.{tuple_of, IsSpelling};
 
     ghost Value = { TupleValue };

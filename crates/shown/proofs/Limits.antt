@@ -8,11 +8,11 @@ use Rattle.std.specs.Ordering.{is_lt}
 use Rattle.std.specs.declared.cmp.Ordering.{Ordering}
 use Rattle.std.specs.declared.cmp.Ordering.TheVariants.{Less, Equal, Greater}
 use Rattle.std.proofs.lemmas.Bool.Decides.{nat_tests}
+use Rattle.names.specs.declared.limits.TheConstants.{MAX_REV, MAX_ROWS}
 use Rattle.names.specs.Order.{tuple_cmp}
 use Rattle.names.specs.declared.tuple.Tuple.{Tuple}
 use Rattle.meaning.specs.TupleSet as set
 use Rattle.meaning.specs.History.{History, rows_of}
-use Rattle.meaning.specs.Verdict.{max_rev, max_rows}
 use Rattle.meaning.proofs.TupleSets.{tuples_total, items_from_list, len_items}
 use Rattle.rows.specs.Retained.{newest, spans_of}
 use Rattle.rows.specs.Loads.{IsWithin, retained_of}
@@ -42,26 +42,26 @@ rising_sorted (t ∷ ts) h = (below t ts (and_left (is_below t ts) (is_rising ts
 
 pub within_is : (l : Loaded) → is_within l ≡ true → IsWithin l
 within_is l h =
-    let rest = and_right (is_rising l.tuples) (nat_le (newest (retained_of l)) max_rev && nat_le (spans_of (retained_of l)) max_rows) h in
+    let rest = and_right (is_rising l.tuples) (nat_le (newest (retained_of l)) MAX_REV && nat_le (spans_of (retained_of l)) MAX_ROWS) h in
     record {
       ordered = rising_sorted l.tuples (and_left (is_rising l.tuples) _ h);
-      revs = at_most (newest (retained_of l)) max_rev (and_left (nat_le (newest (retained_of l)) max_rev) _ rest);
-      rows = at_most (spans_of (retained_of l)) max_rows (and_right (nat_le (newest (retained_of l)) max_rev) _ rest);
+      revs = at_most (newest (retained_of l)) MAX_REV (and_left (nat_le (newest (retained_of l)) MAX_REV) _ rest);
+      rows = at_most (spans_of (retained_of l)) MAX_ROWS (and_right (nat_le (newest (retained_of l)) MAX_REV) _ rest);
     }
 
 pub rising_len : (ts : List Tuple) → is_rising ts ≡ true → set.len (set.from_list ts) ≡ length ts
 rising_len ts h = len_items (set.from_list ts) ∙ ap length (items_from_list ts (rising_sorted ts h))
 
 -- where the order and the revisions are right, the rows decide
-pub rows_decide : (l : Loaded) (ts : List Tuple) (h : History) (b : Bool) → ts ≡ l.tuples → h ≡ l.commits → is_rising ts ≡ true → nat_le (l.floor + length h) max_rev ≡ true → b ≡ nat_le (length ts + rows_of h) max_rows → b ≡ is_within l
+pub rows_decide : (l : Loaded) (ts : List Tuple) (h : History) (b : Bool) → ts ≡ l.tuples → h ≡ l.commits → is_rising ts ≡ true → nat_le (l.floor + length h) MAX_REV ≡ true → b ≡ nat_le (length ts + rows_of h) MAX_ROWS → b ≡ is_within l
 rows_decide l ts h b tuples commits rising revs rows =
     let in_order : is_rising l.tuples ≡ true = ap is_rising (sym tuples) ∙ rising in
-    let few : nat_le (newest (retained_of l)) max_rev ≡ true = ap (λ (g : History). nat_le (l.floor + length g) max_rev) (sym commits) ∙ revs in
+    let few : nat_le (newest (retained_of l)) MAX_REV ≡ true = ap (λ (g : History). nat_le (l.floor + length g) MAX_REV) (sym commits) ∙ revs in
     let long : length ts ≡ set.len (set.from_list l.tuples) = ap (λ (us : List Tuple). length us) tuples ∙ sym (rising_len l.tuples in_order) in
     rows
-    ∙ ap (λ (n : ℕ). nat_le (n + rows_of h) max_rows) long
-    ∙ ap (λ (g : History). nat_le (set.len (set.from_list l.tuples) + rows_of g) max_rows) commits
-    ∙ last_of (is_rising l.tuples) (nat_le (newest (retained_of l)) max_rev) (nat_le (spans_of (retained_of l)) max_rows) in_order few
+    ∙ ap (λ (n : ℕ). nat_le (n + rows_of h) MAX_ROWS) long
+    ∙ ap (λ (g : History). nat_le (set.len (set.from_list l.tuples) + rows_of g) MAX_ROWS) commits
+    ∙ last_of (is_rising l.tuples) (nat_le (newest (retained_of l)) MAX_REV) (nat_le (spans_of (retained_of l)) MAX_ROWS) in_order few
   where
     last_of : (a b c : Bool) → a ≡ true → b ≡ true → c ≡ (a && (b && c))
     last_of true true c p q = refl

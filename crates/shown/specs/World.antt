@@ -3,10 +3,10 @@
 use Rattle.std.specs.Prelude.{◌≡◌, ◌≢◌, ◌+◌, ℕ, Bool, true, false, List, [], ◌∷◌, ◌++◌, length, take, drop, map, is_some, not, ◌&&◌, Result, Ok, Err, nat_le, if◌then◌else◌}
 use Rattle.names.specs.declared.refusal.Refusal.TheVariants.{Memory}
 use Rattle.std.specs.Ordering.{is_lt}
+use Rattle.names.specs.declared.limits.TheConstants.{MAX_CATCH_UP, MAX_REV, MAX_ROWS}
 use Rattle.names.specs.Order.{tuple_cmp}
 use Rattle.names.specs.declared.tuple.Tuple.{Tuple}
 use Rattle.meaning.specs.History.{History}
-use Rattle.meaning.specs.Verdict.{max_rev, max_rows}
 use Rattle.rows.specs.Retained.{Retained, newest, newest_of, spans_of, with_commit}
 use Rattle.rows.specs.Loads.{retained_of}
 use Rattle.rows.specs.Follows.{commit_cause}
@@ -64,11 +64,7 @@ is_rising (t ∷ ts) = is_below t ts && is_rising ts
 abbrev pub is_within : Loaded → Bool
 is_within l =
     is_rising l.tuples
-    && (nat_le (newest (retained_of l)) max_rev && nat_le (spans_of (retained_of l)) max_rows)
-
--- the most commits that a step can take
-abbrev pub max_taken : ℕ
-max_taken = 65536
+    && (nat_le (newest (retained_of l)) MAX_REV && nat_le (spans_of (retained_of l)) MAX_ROWS)
 
 -- The opening comes first, and once. Then a commit that is not refused can be stored, the step of a stored one
 -- be posted, a part take commits, what waits be published, a session be told of what is published, and a question
@@ -78,7 +74,7 @@ can_come s (Stored commit) =
     has_begun s.posted && not (is_some (commit_cause (newest_of s.stored) commit))
 can_come s (Posted (Opening loaded)) = not (has_begun s.posted) && is_within loaded
 can_come s (Posted NextCommit) = has_begun s.posted && nat_le 1 (length (waiting_commits s))
-can_come s (Posted (Taking part commits)) = has_begun s.posted && nat_le commits max_taken
+can_come s (Posted (Taking part commits)) = has_begun s.posted && nat_le commits MAX_CATCH_UP
 can_come s (Published steps) = nat_le 1 steps && nat_le (s.shown + steps) (length s.posted)
 can_come s (Entered seat question) = nat_le 1 s.shown
 can_come s (Notified seat steps) = has_begun s.posted && nat_le steps s.shown

@@ -1,9 +1,10 @@
 //! The published state.
 ghost use Rattle.std.specs.Prelude.{◌≡◌, ◌≤◌, ◌↔◌, min, None, true, false, IsTrue, IfOk, IfErr, OnOk, OnErr};
+ghost use Rattle.names.specs.declared.limits.TheConstants.{MAX_REV};
 ghost use Rattle.meaning.specs.Admits.{has_relation};
 ghost use Rattle.meaning.specs.Config.{rel_of};
 ghost use Rattle.meaning.specs.Membership.{IsMember};
-ghost use Rattle.meaning.specs.Verdict.{config_cause, max_rev};
+ghost use Rattle.meaning.specs.Verdict.{config_cause};
 ghost use Rattle.plain.specs.Causes.{CheckCause};
 ghost use Rattle.rows.specs.Follows.{IsAccepted};
 ghost use Rattle.rows.specs.Judging.{WriteRefused, ConfigRefused};
@@ -88,7 +89,7 @@ impl Shown {
     /// The newest revision.
     pub fn newest(&self) -> u64
         ensures newest { result ≡ newest self.now.kept }
-        ensures within { result ≤ max_rev }
+        ensures within { result ≤ MAX_REV }
     {
         self.rows.newest()
     }
@@ -219,7 +220,7 @@ impl Shown {
     fn cursor_after(&self, cursor: u64, commits: u32) -> u64
         requires { cursor ≤ newest self.now.kept }
         ensures cursor_after { result ≡ cursor_after self.now.kept cursor commits }
-        ensures within { result ≤ max_rev }
+        ensures within { result ≤ MAX_REV }
     {
         let newest = self.rows.newest();
         (cursor + commits as u64).min(newest)

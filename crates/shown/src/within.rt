@@ -1,17 +1,13 @@
 //! Whether what was loaded is within the limits.
 ghost use Rattle.std.specs.Prelude.{◌≡◌, ◌+◌, ◌<◌, IfSome, IfNone, length, nat_le};
 ghost use Rattle.meaning.specs.History.{puts_in, commit_rows, rows_of};
-ghost use Rattle.meaning.specs.Verdict.{max_rev, max_rows};
 ghost use Rattle.shown.specs.World.{is_below, is_rising, is_within};
 
 use config::Config;
+use names::limits::{MAX_REV, MAX_ROWS};
 use names::{Commit, Event, EventKind, Tuple};
 use rows::Loaded;
 
-/// The most rows of a history.
-const MAX_ROWS: u64 = 4_000_000;
-/// The most revisions.
-const MAX_REV: u64 = 1_000_000_000_000;
 
 /// Whether the tuples are in order, each once, and there are no more revisions and rows than a store may
 /// have.
@@ -47,7 +43,7 @@ fn is_below(tuple: &Tuple, others: &[Tuple]) -> bool
 }
 
 fn has_few_revisions(floor: u64, commits: &[Commit<Config>]) -> bool
-    ensures { result ≡ nat_le (floor + length commits.now) max_rev }
+    ensures { result ≡ nat_le (floor + length commits.now) MAX_REV }
 {
     let count = commits.len() as u64;
     floor <= MAX_REV && count <= MAX_REV - floor
@@ -55,7 +51,7 @@ fn has_few_revisions(floor: u64, commits: &[Commit<Config>]) -> bool
 
 /// Whether so many rows and those of the commits are no more than a store may have.
 fn has_few_rows(rows: u64, commits: &[Commit<Config>]) -> bool
-    ensures { result ≡ nat_le (rows + rows_of commits.now) max_rows }
+    ensures { result ≡ nat_le (rows + rows_of commits.now) MAX_ROWS }
 {
     if rows > MAX_ROWS {
         return false;

@@ -11,14 +11,13 @@ use crate::shown::Shown;
 use crate::step::{Part, Step};
 use crate::within::is_within;
 use config::Config;
+use names::limits::MAX_CATCH_UP;
 use names::{Commit, Refusal};
 use rows::{Loaded, Rows, what_follows_has_room};
 use std::alloc::{AllocError, Global};
 use std::collections::VecDeque;
 use std::marker::Model;
 
-/// The most commits that a step can take.
-const MAX_TAKEN: u32 = 65_536;
 
 /// Contracts see it as what is stored, the posted steps, and how many of these are published.
 #[derive(Drop)]
@@ -128,7 +127,7 @@ impl World {
         ensures ok { IfOk result (λ o. Happens self.old (Posted (Taking part commits)) o self.new) }
         ensures err { OnErr result (self.new ≡ self.old) }
     {
-        if !self.has_begun() || commits > MAX_TAKEN {
+        if !self.has_begun() || u64::from(commits) > MAX_CATCH_UP {
             return Ok(Outcome::No);
         }
         self.posted.push(Step::Take(part, commits))?;

@@ -1,7 +1,8 @@
 use Rattle.std.proofs.Common.{◌≡◌, ℕ, ◌+◌, ◌≤◌, ap, ◌∙◌, map, arith}
 use Rattle.std.specs.Prelude.{count_by}
+use Rattle.names.specs.declared.limits.TheConstants.{MAX_TUPLES}
 use Rattle.meaning.specs.Snap.{Snap}
-use Rattle.meaning.specs.Verdict.{Newest, is_full, event_of, max_tuples}
+use Rattle.meaning.specs.Verdict.{Newest, is_full, event_of}
 use Rattle.rows.specs.Retained.{newest_of}
 use Rattle.rows.specs.Judging.{adds_tuple, takes_tuple}
 use Rattle.rows.proofs.Fullness.{too_many, too_long, by_revisions}
@@ -23,7 +24,7 @@ returns-then-counts-count_puts-gt-MAX_ROWS c =
     let ops = c.args.ops.now in
     let added : c.count_added-added.result ≡ count_by (adds_tuple newest.held.tuples) ops = c.count_added-added.ensures ∙ ap (λ (x : Snap). count_by (adds_tuple x.tuples) ops) c.requires.newest in
     let taken : c.count_taken.result ≡ count_by (takes_tuple newest.held.tuples) ops = c.count_taken.ensures ∙ ap (λ (x : Snap). count_by (takes_tuple x.tuples) ops) c.requires.newest in
-    let fits : c.counts-counts.result.tuples + c.count_added-added.result ≤ max_tuples + c.count_taken.result = omega (arith, c.if-counts-room.false, c.if-added-room.false) in
+    let fits : c.counts-counts.result.tuples + c.count_added-added.result ≤ MAX_TUPLES + c.count_taken.result = omega (arith, c.if-counts-room.false, c.if-added-room.false) in
     too_long newest.rev c.counts-counts.result.rows newest.held ops c.requires.once c.counts-counts.result.tuples c.count_added-added.result c.count_taken.result c.counts-counts.ensures.tuples added taken
     c.count_puts.result c.count_puts.ensures fits c.if-counts-count_puts-gt-MAX_ROWS.true
     ∙ ap (λ (n : ℕ). is_full (record { rev = newest.rev; rows = n; held = newest.held }) (map event_of ops)) c.counts-counts.ensures.rows
@@ -34,7 +35,7 @@ returns-else-counts-count_puts-gt-MAX_ROWS c =
     let ops = c.args.ops.now in
     let added : c.count_added-added.result ≡ count_by (adds_tuple newest.held.tuples) ops = c.count_added-added.ensures ∙ ap (λ (x : Snap). count_by (adds_tuple x.tuples) ops) c.requires.newest in
     let taken : c.count_taken.result ≡ count_by (takes_tuple newest.held.tuples) ops = c.count_taken.ensures ∙ ap (λ (x : Snap). count_by (takes_tuple x.tuples) ops) c.requires.newest in
-    let fits : c.counts-counts.result.tuples + c.count_added-added.result ≤ max_tuples + c.count_taken.result = omega (arith, c.if-counts-room.false, c.if-added-room.false) in
+    let fits : c.counts-counts.result.tuples + c.count_added-added.result ≤ MAX_TUPLES + c.count_taken.result = omega (arith, c.if-counts-room.false, c.if-added-room.false) in
     by_revisions c.newest.result c.counts-counts.result.rows newest.held ops c.requires.once c.counts-counts.result.tuples c.count_added-added.result c.count_taken.result c.counts-counts.ensures.tuples added taken
     c.count_puts.result c.count_puts.ensures fits c.if-counts-count_puts-gt-MAX_ROWS.false
     ∙ ap (λ (n : ℕ). is_full (record { rev = n; rows = c.counts-counts.result.rows; held = newest.held }) (map event_of ops)) c.newest.ensures.newest
