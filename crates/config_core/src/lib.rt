@@ -12,9 +12,6 @@ mod relation;
 mod rewrite;
 mod rewrites;
 mod shape;
-#[cfg(test)]
-mod tests;
-
 pub use canonical::text_of;
 pub use members::{has_only_members, text_at};
 pub use parts::Parts;

@@ -7,9 +7,6 @@ mod desk;
 mod latched_tables;
 mod receipt;
 mod showing;
-#[cfg(test)]
-mod tests;
-
 pub use book::{Book, Naming, Opened, StepPrefix};
 pub use desk::Desk;
 pub use receipt::{Posted, Receipt};

@@ -15,6 +15,3 @@ pub use kept::{KeptCommit, KeptEvent};
 pub use lists::refuses;
 pub use version::Version;
 pub use version_map::VersionMap;
-
-#[cfg(test)]
-mod tests;

@@ -5,8 +5,5 @@
 mod copy;
 mod listed;
 mod tables;
-#[cfg(test)]
-mod tests;
-
 pub use listed::Listed;
 pub use tables::{Tables, TablesError};

@@ -10,8 +10,6 @@ mod feed;
 mod pending;
 mod put;
 mod served;
-#[cfg(test)]
-mod tests;
 mod tracked_reader;
 mod tracked_writer;
 

@@ -1,0 +1,1 @@
+SELECT rev, text FROM config ORDER BY rev;

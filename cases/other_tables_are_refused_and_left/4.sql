@@ -1,0 +1,2 @@
+SELECT name, sql FROM sqlite_schema;
+SELECT namespace FROM row;

@@ -1,0 +1,105 @@
+//! A desk over tables that fail, and calls of a desk that the program does not make yet.
+ghost use Rattle.std.specs.Prelude.{◌≡◌};
+
+use config::Config;
+use keeper_core::{Desk, Front, Opened, Receipt};
+use names::{Commit, Items, Op, OpKind, Refusal, Tuple, Write};
+use rows::Loaded;
+use shown::Part;
+use std::alloc::Global;
+use tables::{Listed, Tables, TablesError};
+use zookie::Zookie;
+
+const GROUPS: &str = r#"{"namespaces":{"group":{"member":{"types":["user"]}},"user":{}}}"#;
+
+/// Tables that store nothing: each write is a fault.
+#[derive(Drop)]
+struct Broken {
+    inner: Listed,
+    faults: u64,
+}
+
+impl Tables for Broken {
+    ghost holds = { λ t r. t.inner ≡ r };
+
+    ghost leaves_only = { λ t P. P t.inner };
+
+    ghost is_reliable = { λ t. Unit {0} };
+
+    ghost count = { λ t. t.faults };
+
+    fn load(&mut self, alloc: Global) -> Result<Loaded, TablesError> {
+        match self.inner.load(alloc) {
+            Ok(loaded) => Ok(loaded),
+            Err(_) => Err(TablesError::Memory),
+        }
+    }
+
+    fn write(&mut self, _rev: u64, _commit: &Commit<Config>) -> Result<(), TablesError> {
+        self.faults = self.faults.saturating_add(1);
+        Err(TablesError::Fault)
+    }
+
+    fn faults(&self) -> u64 {
+        self.faults
+    }
+}
+
+fn configure<T: Tables + Drop>(alloc: Global, desk: &mut Desk<T>) -> Result<Receipt, Refusal> {
+    let config = Config::from_json(alloc, GROUPS.as_bytes())?;
+    desk.configure(config)
+}
+
+// The number of the refusal, or 0.
+fn number_of<A: Drop>(answer: &Result<A, Refusal>) -> u8 {
+    match answer {
+        Ok(_) => 0,
+        Err(why) => why.number(),
+    }
+}
+
+fn faults_close(alloc: Global) -> Result<bool, Refusal> {
+    let inner = Listed::new(alloc, 7);
+    let mut desk = Desk::open(alloc, Opened::new(), Broken { inner, faults: 0 })?;
+    let many = number_of(&desk.catch_up(Part::Hot, 65_537));
+    let fault = number_of(&configure(alloc, &mut desk));
+    let next = number_of(&configure(alloc, &mut desk));
+    let closed = number_of(&desk.catch_up(Part::Hot, 65_537));
+    Ok(many == 1 && fault == 22 && next == 23 && closed == 23)
+}
+
+#[test]
+fn after_a_fault_changes_are_refused(rt: HostRuntime) {
+    assert!(rt; faults_close(rt.alloc()).unwrap_or(false));
+}
+
+fn insert_of(alloc: Global, text: &str) -> Result<Write<Zookie>, Refusal> {
+    let tuple = Tuple::parse(alloc, text)?;
+    let mut ops = Vec::new(alloc);
+    ops.push(Op {
+        kind: OpKind::Insert,
+        tuple,
+    })?;
+    Ok(Write {
+        conditions: Items::of(Vec::new(alloc)),
+        ops: Items::of(ops),
+    })
+}
+
+fn has_steps(front: &Front, steps: u64) -> bool {
+    front.len() == steps && front.begins(front) && front.longer(front).len() == steps
+}
+
+// The opening, a configuration and a write are three steps.
+fn publishes(alloc: Global) -> Result<bool, Refusal> {
+    let mut desk = Desk::open(alloc, Opened::new(), Listed::new(alloc, 7))?;
+    let first = configure(alloc, &mut desk)?;
+    let second = desk.write(insert_of(alloc, "group:a#member@user:ann")?)?;
+    let told = has_steps(first.published(), 2) && has_steps(second.published(), 3);
+    Ok(told && second.zookie() == Zookie { store: 7, rev: 2 } && desk.publish())
+}
+
+#[test]
+fn receipts_have_the_list_of_shown_steps(rt: HostRuntime) {
+    assert!(rt; publishes(rt.alloc()).unwrap_or(false));
+}

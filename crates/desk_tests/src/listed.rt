@@ -1,0 +1,20 @@
+//! Tables in memory that are loaded after a write: the program loads them while they are empty.
+
+use config::Config;
+use names::Commit;
+use std::alloc::Global;
+use tables::{Listed, Tables, TablesError};
+
+fn stores_one(alloc: Global) -> Result<bool, TablesError> {
+    let mut tables = Listed::new(alloc, 7);
+    let commit = Commit::Config(Config::empty(alloc));
+    tables.write(1, &commit)?;
+    let loaded = tables.load(alloc)?;
+    let commits = loaded.commits.as_slice().len();
+    Ok(loaded.number == 7 && loaded.floor == 0 && commits == 1 && tables.faults() == 0)
+}
+
+#[test]
+fn what_is_written_is_loaded(rt: HostRuntime) {
+    assert!(rt; stores_one(rt.alloc()).unwrap_or(false));
+}

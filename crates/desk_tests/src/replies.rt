@@ -1,0 +1,45 @@
+//! Replies that no run of the program gives, or only for want of memory.
+
+use keeper::refusals::refusal;
+use keeper::replies::{cursor, receipt};
+use names::{Refusal, Reply};
+use std::alloc::Global;
+use zookie::Zookie;
+
+fn says(reply: &Reply, wanted: u16, text: &str) -> bool {
+    match reply {
+        Reply::Said { status, body } => *status == wanted && body.as_slice() == text.as_bytes(),
+        Reply::NoMemory => false,
+    }
+}
+
+fn is_no_memory(reply: &Reply) -> bool {
+    match reply {
+        Reply::Said { .. } => false,
+        Reply::NoMemory => true,
+    }
+}
+
+fn waits(alloc: Global) -> bool {
+    let zookie = Zookie { store: 1, rev: 9 };
+    let told = r#"{"shown":false,"zookie":"AQAAAAAAAAABAAAAAAAAAAk"}"#;
+    let moved = r#"{"cursor":"AQAAAAAAAAABAAAAAAAAAAk","shown":false}"#;
+    says(&receipt(alloc, false, &zookie), 200, told)
+        && says(&cursor(alloc, &zookie, false), 200, moved)
+}
+
+#[test]
+fn what_waits_is_not_shown(rt: HostRuntime) {
+    assert!(rt; waits(rt.alloc()));
+}
+
+fn names_its_operation(alloc: Global) -> bool {
+    let failed = r#"{"error":{"code":5,"index":255,"name":"ConditionFailed"}}"#;
+    says(&refusal(alloc, &Refusal::ConditionFailed(255)), 409, failed)
+        && is_no_memory(&refusal(alloc, &Refusal::Memory))
+}
+
+#[test]
+fn a_condition_that_failed_is_named(rt: HostRuntime) {
+    assert!(rt; names_its_operation(rt.alloc()));
+}

@@ -1,0 +1,5 @@
+//! Tests of the policies, `config` and `plain`, by their public calls: what no run of the program shows.
+#![tactic(auto)]
+
+#[cfg(test)]
+mod memberships;
