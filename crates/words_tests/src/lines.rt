@@ -5,7 +5,7 @@ use names::{Call, Reply};
 use std::alloc::Global;
 use std::io;
 use std::io::{ErrorKind, Read, Write};
-use zanz_core::{Watched, WatchedWriter, lines};
+use zanz_core::{TrackedReader, TrackedWriter, lines};
 
 /// Answers each call with its body.
 #[derive(Drop)]
@@ -110,8 +110,8 @@ impl Write for Narrow {
 
 /// Whether lines between these two end so, with this written, and whether the one that failed knows it.
 fn ends_so(alloc: Global, slow: Slow<'_>, narrow: Narrow, wanted: End, text: &[u8]) -> bool {
-    let mut reader = Watched::new(slow);
-    let mut writer = WatchedWriter::new(narrow);
+    let mut reader = TrackedReader::new(slow);
+    let mut writer = TrackedWriter::new(narrow);
     let end = lines(alloc, &mut reader, &mut writer, &mut Echo(alloc));
     let known = reader.has_failed() == (wanted == End::ReadFault)
         && writer.has_failed() == (wanted == End::WriteFault);
@@ -199,8 +199,8 @@ fn a_writer_fails(rt: HostRuntime) {
 // A writer that takes no more at its ninth byte.
 fn full_writer_fails(alloc: Global) -> bool {
     let mut room = [0u8; 9];
-    let mut reader = Watched::new(b"state a\nstate b\n".as_slice());
-    let mut writer = WatchedWriter::new(room.as_mut_slice());
+    let mut reader = TrackedReader::new(b"state a\nstate b\n".as_slice());
+    let mut writer = TrackedWriter::new(room.as_mut_slice());
     let end = lines(alloc, &mut reader, &mut writer, &mut Echo(alloc));
     end == End::WriteFault && writer.has_failed()
 }
