@@ -407,12 +407,18 @@ class Said(typing.NamedTuple):
 
 def said_in(output):
     """Returns what the check said of each function, by the check's name for it."""
-    errors = {}
-    for folder, text in re.findall(r"(?m)^(?:\./)?proofs/(\S+)/\w+\.antt:\d+:\d+: error: (.*)", output):
-        if not CITES.search(text):
-            errors.setdefault(folder, text)
+    errors = re.findall(r"(?m)^(?:\./)?proofs/(\S+)/\w+\.antt:\d+:\d+: error: (.*)", output)
+    errors = [it for it in errors if not CITES.search(it[1])]
     rows = re.findall(r"(?m)^fn (\S+): (.*)", output)
-    return {name: Said(words, errors.get("/".join(name.split("::")[1:]), "")) for name, words in rows}
+    return {name: Said(words, own_error(name, errors)) for name, words in rows}
+
+
+def own_error(name, errors):
+    """Returns the first error in the function's own proof, given each with its folder, or "". A cycle's proof names the function."""
+    *above, last = name.split("::")[1:]
+    folder, cycles = "/".join([*above, last]), "/".join([*above, "+"])
+    is_own = lambda at, text: at == folder or at.startswith(cycles) and f"`{last}-" in text
+    return next((text for at, text in errors if is_own(at, text)), "")
 
 
 def unreadable(output, status, texts):
