@@ -21,7 +21,8 @@ breaks a function that no edit changes. What changes no body at all is judged by
 
 What they are tried over. Each crate's libraries must be proved and be those of the files that stand here. With
 --since, the time at which rt ci began, the libraries and the crates that this very rt ci proved are taken as they
-are. Any other library is built where it is not up to date, and a crate is first checked with no edit.
+are. Any other library is built where it is not up to date, and a crate is first checked with no edit, both over what
+earlier checks here have kept, as under rt check.
 
 What is known. .ci/refused.txt has a line for each crate whose edits were all refused: a checksum over all that their
 verdicts depend on. Where it still holds they are not tried again, unless --all is given. A crate whose edits are all
@@ -406,12 +407,18 @@ class Said(typing.NamedTuple):
 
 def said_in(output):
     """Returns what the check said of each function, by the check's name for it."""
-    errors = {}
-    for folder, text in re.findall(r"(?m)^(?:\./)?proofs/(\S+)/\w+\.antt:\d+:\d+: error: (.*)", output):
-        if not CITES.search(text):
-            errors.setdefault(folder, text)
+    errors = re.findall(r"(?m)^(?:\./)?proofs/(\S+)/\w+\.antt:\d+:\d+: error: (.*)", output)
+    errors = [it for it in errors if not CITES.search(it[1])]
     rows = re.findall(r"(?m)^fn (\S+): (.*)", output)
-    return {name: Said(words, errors.get("/".join(name.split("::")[1:]), "")) for name, words in rows}
+    return {name: Said(words, own_error(name, errors)) for name, words in rows}
+
+
+def own_error(name, errors):
+    """Returns the first error in the function's own proof, given each with its folder, or "". A cycle's proof names the function."""
+    *above, last = name.split("::")[1:]
+    folder, cycles = "/".join([*above, last]), "/".join([*above, "+"])
+    is_own = lambda at, text: at == folder or at.startswith(cycles) and f"`{last}-" in text
+    return next((text for at, text in errors if is_own(at, text)), "")
 
 
 def unreadable(output, status, texts):
@@ -609,6 +616,10 @@ def try_crate(crate, files, is_proved, given, jobs):
     """Tries a crate's edits and returns them, each with a verdict."""
     lacking = [it.name for it in crate.below() if not given.get((it.name, "library"), True)]
     with tempfile.TemporaryDirectory(prefix="wrong-bodies-") as kept:
+        own = f"{crate.folder}/{rtlib.KEPT[1]}"
+        if not is_proved and os.path.isdir(own):
+            # the crate's proof with no edit may rest on what a developer's checks kept, as rt check does
+            shutil.copytree(own, kept, dirs_exist_ok=True)
         trial = Trial(crate, files, jobs, kept)
         if not lacking:
             trial.run(is_proved)
