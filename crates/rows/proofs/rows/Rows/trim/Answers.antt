@@ -1,4 +1,4 @@
-use Rattle.std.proofs.Common.{◌≡◌, ℕ, List, ◌++◌, ◌+◌, ◌-◌, ◌≤◌, take, drop, ap, sym, subst, ◌∙◌, arith, refl}
+use Rattle.std.proofs.Common.{◌≡◌, List, ◌++◌, ◌+◌, ◌-◌, ◌≤◌, take, drop, ap, sym, subst, ◌∙◌, arith, refl}
 use Rattle.names.specs.declared.tuple.Tuple.{Tuple}
 use Rattle.meaning.specs.TupleSet as set
 use Rattle.meaning.specs.Config.{Configured}
