@@ -1,17 +1,13 @@
 -- Which cause a configuration gives for a tuple, and what a refusal of a write says.
-use Rattle.std.proofs.Common.{◌≡◌, List, [], ◌∷◌, Bool, true, false, refl, sym, ap, ◌∙◌}
-use Rattle.std.specs.Prelude.{not, ◌&&◌, ◌||◌}
-use mathlib.Core.Bool.{true≢false}
-use Rattle.std.specs.List.{list_any}
+use Rattle.std.proofs.Common.{◌≡◌, sym, ap}
+use Rattle.std.specs.Prelude.{not}
 use Rattle.names.specs.declared.tuple.Tuple.{Tuple}
-use Rattle.names.specs.declared.relation.RelationName.{RelationName}
-use Rattle.names.specs.declared.subject.Subject.{Subject}
 use Rattle.names.specs.declared.refusal.Refusal.{Refusal}
 use Rattle.names.specs.declared.refusal.Refusal.TheVariants.{UnknownRelation, TypeRefused}
 use Rattle.config.specs.Refused.{AdmitCause}
 use Rattle.rows.specs.Judging.{says_unknown}
-use Rattle.meaning.specs.Config.{Configured, Defined, rel_of}
-use Rattle.meaning.specs.Admits.{is_relation, declares, has_relation, admits}
+use Rattle.meaning.specs.Config.{Configured, rel_of}
+use Rattle.meaning.specs.Admits.{has_relation}
 
 -- what a refusal of a tuple says
 pub unknown_by : (config : Configured) (t : Tuple) (why : Refusal) → AdmitCause config t why → says_unknown why ≡ not (has_relation config (rel_of t.node))

@@ -144,14 +144,18 @@ fn first_absent(view: &View<'_>, ops: &[Op]) -> Option<u64>
 fn count_added(view: &View<'_>, ops: &[Op]) -> usize
     ensures { result ≡ count_by (adds_tuple view.now.tuples) ops.now }
 {
-    ops.iter().filter(|op| adds_tuple(view, op)).count()
+    ops.iter()
+        .filter(|op| puts_tuple(op) && !view.contains(&op.tuple))
+        .count()
 }
 
 /// How many operations take away a tuple that is there.
 fn count_taken(view: &View<'_>, ops: &[Op]) -> usize
     ensures { result ≡ count_by (takes_tuple view.now.tuples) ops.now }
 {
-    ops.iter().filter(|op| takes_tuple(view, op)).count()
+    ops.iter()
+        .filter(|op| !puts_tuple(op) && view.contains(&op.tuple))
+        .count()
 }
 
 /// How many operations put a tuple.
@@ -215,16 +219,4 @@ fn puts_tuple(op: &Op) -> bool
         OpKind::Touch => true,
         OpKind::Delete => false,
     }
-}
-
-fn adds_tuple(view: &View<'_>, op: &Op) -> bool
-    ensures { result ≡ adds_tuple view.now.tuples op.now }
-{
-    puts_tuple(op) && !view.contains(&op.tuple)
-}
-
-fn takes_tuple(view: &View<'_>, op: &Op) -> bool
-    ensures { result ≡ takes_tuple view.now.tuples op.now }
-{
-    !puts_tuple(op) && view.contains(&op.tuple)
 }

@@ -19,7 +19,7 @@ pub(crate) type Texts = BTreeMap<BoxedStr, Versions>;
 
 pub(crate) fn versions_of<'a>(map: &'a Texts, key: &TupleRef<'_>) -> Option<&'a Versions>
     requires { AreSpelled map.now.entries }
-    ensures { items_or (option_map (λ versions. versions.now) result) ≡ versions_at (entries_of map.now.entries) key.now }
+    ensures { items_or (option_map (λ vs. vs.now) result) ≡ versions_at (entries_of map.now.entries) key.now }
 {
     map.get(key.as_str())
 }

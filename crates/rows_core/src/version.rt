@@ -28,8 +28,8 @@ impl Version {
     }
 }
 
-/// The versions of one tuple, oldest first, with the tuple's text, which the kept events on it share. Contracts see
-/// the versions.
+/// The versions of one tuple, oldest first, with the tuple's text, which the kept events on it share. Contracts
+/// see the versions.
 #[derive(Drop)]
 pub(crate) struct Versions {
     text: ArcStr,

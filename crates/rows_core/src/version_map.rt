@@ -120,8 +120,8 @@ impl VersionMap {
         pop_version(&mut self.map, key);
     }
 
-    /// Takes the tuple's oldest version above the floor into what the floor holds. Says whether the floor held
-    /// the tuple before.
+    /// Takes the tuple's oldest version above the floor into what the floor holds. Says whether the floor
+    /// held the tuple before.
     pub(crate) fn settle_one(&mut self, key: &TupleRef<'_>) -> bool
         ensures versions { ChangesAt key.now after_settle self.old self.new }
         ensures was_based { result ≡ is_based (versions_at self.old key.now) }

@@ -1,4 +1,4 @@
-//! Where a store's history is kept: what tables hold, what a write may leave of it, also after a crash, and
+//! Where a store's history is stored: what tables hold, what a write may leave of it, also after a crash, and
 //! how often they failed; and tables in memory.
 #![tactic(auto)]
 

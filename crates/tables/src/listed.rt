@@ -10,7 +10,7 @@ use rows::{Loaded, what_follows_has_room};
 use std::alloc::Global;
 use std::marker::Model;
 
-/// Tables that keep a list of commits in memory. They are lost with the program, and never fault.
+/// Tables that hold a list of commits in memory. They are lost with the program, and never fault.
 #[derive(Drop)]
 pub struct Listed {
     alloc: Global,

@@ -1,4 +1,4 @@
-//! Where a store's history is kept.
+//! Where a store's history is stored.
 
 use config::Config;
 use names::Commit;
@@ -14,7 +14,7 @@ pub enum TablesError {
     Fault,
 }
 
-/// Tables that keep the history of one store.
+/// Tables that hold the history of one store.
 pub trait Tables {
     ghost use Rattle.std.specs.Prelude.{◌≡◌, ℕ, IfOk, OnOk, Err};
     ghost use Rattle.rows.specs.Retained.{Retained};

@@ -5,129 +5,112 @@ use Rattle.names.specs.declared.commit.Commit.{Commit}
 use Rattle.names.specs.declared.commit.Commit.TheVariants as kinds
 use Rattle.meaning.specs.TupleSet as set
 use Rattle.meaning.specs.Config.{Configured}
-use Rattle.meaning.specs.History.{History, replay, after_commits}
+use Rattle.meaning.specs.Snap.{Snap}
+use Rattle.meaning.specs.History.{History, replay, after_commits, puts_in}
 use Rattle.rows_core.specs.declared.version.Version.{Version}
+use Rattle.rows_core.specs.Versions.{versions_after, base_versions, AreVersions, GoesOn, Changes}
+use Rattle.rows_core.proofs.Settling.{after_push}
 use Rattle.rows.specs.declared.config_at.ConfigAt.{ConfigAt}
 use Rattle.rows.specs.declared.loaded.Counts.{Counts}
 use Rattle.rows.specs.Retained.{Retained, newest, with_commit, without_newest}
-use Rattle.rows_core.specs.Versions.{versions_after, base_versions, base_tuples, AreVersions, GoesOn, Changes}
 use Rattle.rows.specs.Representation.{as_retained, IsConsistent}
-use Rattle.meaning.specs.Snap.{Snap}
-use Rattle.rows_core.proofs.Settling.{after_push}
 use Rattle.rows.proofs.Committing.{consistent_back, consistent_back_config, consistent_as, as_retained_is, versions_before, before_these, tuples_within, rows_push, last_off}
 use Rattle.rows.proofs.rows.Rows.back.Goals as goal
+use Rattle.rows.proofs.rows.Rows.back.Goals.{After-undo-change}
+
+-- what is left, the events that are taken off, and the versions without them
+abbrev left : After-undo-change → Retained
+left c = as_retained c.self.inside.number c.self.inside.floor c.self.inside.config c.self.inside.tuples c.pop.new.self.items
+
+abbrev events : After-undo-change → List Event
+events c = c.in-Some-events.events.now
+
+abbrev before : After-undo-change → Tuple → List Version
+before c q = base_versions (set.contains (left c).base.tuples q) ++ versions_after (left c).floor (left c).commits q
+
+split : (c : After-undo-change) → c.self.inside.commits.items ≡ c.pop.new.self.items ++ kinds.Tuples (events c) ∷ []
+split c = c.in-Some.ensures.items ∙ ap (λ (x : Commit Configured). c.pop.new.self.items ++ x ∷ []) c.in-Some-events.ensures.some
+
+old : (c : After-undo-change) → IsConsistent (with_commit (left c) (kinds.Tuples (events c))) c.self.inside.tuples c.self.inside.configs.items c.self.inside.counts
+old c =
+    let s = c.self.inside in
+    subst (λ (h : History). IsConsistent (as_retained s.number s.floor s.config s.tuples h) s.tuples s.configs.items s.counts) (split c) c.self.invariant
+
+goes : (c : After-undo-change) → GoesOn (before c) c.self.inside.tuples (newest (left c) + 1) (events c)
+goes c = versions_before (left c) c.self.inside.tuples (kinds.Tuples (events c)) (old c).versions
+
+versions : (c : After-undo-change) → AreVersions c.undo-change.new.self (left c).base.tuples (left c).floor (left c).commits
+versions c = c.undo-change.ensures.versions (before c) (newest (left c) + 1) (goes c)
+
+changes : (c : After-undo-change) → Changes (before c) (events c) c.undo-change.result
+changes c = c.undo-change.ensures.change (before c) (newest (left c) + 1) (goes c)
+
+-- with the counts that are left
+abbrev counts : After-undo-change → ℕ → Counts
+counts c puts = record { rows = c.self.inside.counts.rows - puts; tuples = c.self.inside.counts.tuples + c.undo-change.result.gone - c.undo-change.result.come }
+
+consistent : (c : After-undo-change) (puts : ℕ) → puts ≡ puts_in (events c) → IsConsistent (left c) c.undo-change.new.self c.self.inside.configs.items (counts c puts)
+consistent c puts is =
+    let s = c.self.inside in
+    consistent_back (left c) s.tuples c.undo-change.new.self s.configs.items s.counts (counts c puts) (events c) c.undo-change.result
+    (old c) (versions c) (changes c) (ap (λ (n : ℕ). s.counts.rows - n) is) refl
 
 pub puts_in-requires : goal.puts_in-requires
-puts_in-requires c =
-    let s = c.self.inside in
-    let h : History = c.pop.new.self.items in
-    let r : Retained = record { number = s.number; floor = s.floor; base = record { config = s.config; tuples = base_tuples s.tuples }; commits = h } in
-    let es : List Event = c.in-Some-events.events.now in
-    let split : s.commits.items ≡ h ++ kinds.Tuples es ∷ [] = c.in-Some.ensures.items ∙ ap (λ (x : Commit Configured). h ++ x ∷ []) c.in-Some-events.ensures.some in
-    let old : IsConsistent (with_commit r (kinds.Tuples es)) s.tuples s.configs.items s.counts =
-    subst (λ (x : History). IsConsistent (as_retained s.number s.floor s.config s.tuples x) s.tuples s.configs.items s.counts) split c.self.invariant in
-    let rows = old.rows in
-    let few = old.few in
-    let more = rows_push h (kinds.Tuples es) in
+puts_in-requires x =
+    let c = (goal.at.puts_in-requires x).After-undo-change in
+    let few = (old c).few in
+    let more = rows_push c.pop.new.self.items (kinds.Tuples (events c)) in
     omega (arith, few, more)
 
 pub overflow_sub-self : goal.overflow_sub-self
-overflow_sub-self c =
-    let s = c.self.inside in
-    let h : History = c.pop.new.self.items in
-    let r : Retained = record { number = s.number; floor = s.floor; base = record { config = s.config; tuples = base_tuples s.tuples }; commits = h } in
-    let es : List Event = c.in-Some-events.events.now in
-    let split : s.commits.items ≡ h ++ kinds.Tuples es ∷ [] = c.in-Some.ensures.items ∙ ap (λ (x : Commit Configured). h ++ x ∷ []) c.in-Some-events.ensures.some in
-    let old : IsConsistent (with_commit r (kinds.Tuples es)) s.tuples s.configs.items s.counts =
-    subst (λ (x : History). IsConsistent (as_retained s.number s.floor s.config s.tuples x) s.tuples s.configs.items s.counts) split c.self.invariant in
-    let rows = old.rows in
-    let few = old.few in
-    let more = rows_push h (kinds.Tuples es) in
-    let puts = c.puts_in.ensures.puts in
+overflow_sub-self x =
+    let c = (goal.at.overflow_sub-self x).After-undo-change in
+    let rows = (old c).rows in
+    let more = rows_push c.pop.new.self.items (kinds.Tuples (events c)) in
+    let puts = x.puts_in.ensures.puts in
     omega (arith, rows, more, puts)
 
 pub overflow_add-self : goal.overflow_add-self
-overflow_add-self c =
-    let s = c.self.inside in
-    let h : History = c.pop.new.self.items in
-    let r : Retained = record { number = s.number; floor = s.floor; base = record { config = s.config; tuples = base_tuples s.tuples }; commits = h } in
-    let es : List Event = c.in-Some-events.events.now in
-    let split : s.commits.items ≡ h ++ kinds.Tuples es ∷ [] = c.in-Some.ensures.items ∙ ap (λ (x : Commit Configured). h ++ x ∷ []) c.in-Some-events.ensures.some in
-    let old : IsConsistent (with_commit r (kinds.Tuples es)) s.tuples s.configs.items s.counts =
-    subst (λ (x : History). IsConsistent (as_retained s.number s.floor s.config s.tuples x) s.tuples s.configs.items s.counts) split c.self.invariant in
-    let rows = old.rows in
-    let few = old.few in
-    let more = rows_push h (kinds.Tuples es) in
-    let within = tuples_within r.base (h ++ kinds.Tuples es ∷ []) in
-    let tuples = old.tuples in
-    let gone = c.undo-change.ensures.gone in
-    let in_memory = c.puts_in.ensures.in_memory in
+overflow_add-self x =
+    let c = (goal.at.overflow_add-self x).After-undo-change in
+    let few = (old c).few in
+    let tuples = (old c).tuples in
+    let within = tuples_within (left c).base (c.pop.new.self.items ++ kinds.Tuples (events c) ∷ []) in
+    let gone = x.undo-change.ensures.gone in
+    let in_memory = x.puts_in.ensures.in_memory in
     omega (arith, within, tuples, few, gone, in_memory)
 
 pub overflow_sub-self-in-Some-events : goal.overflow_sub-self-in-Some-events
-overflow_sub-self-in-Some-events c =
-    let s = c.self.inside in
+overflow_sub-self-in-Some-events x =
+    let c = (goal.at.overflow_sub-self-in-Some-events x).After-undo-change in
     let h : History = c.pop.new.self.items in
-    let r : Retained = record { number = s.number; floor = s.floor; base = record { config = s.config; tuples = base_tuples s.tuples }; commits = h } in
-    let es : List Event = c.in-Some-events.events.now in
-    let split : s.commits.items ≡ h ++ kinds.Tuples es ∷ [] = c.in-Some.ensures.items ∙ ap (λ (x : Commit Configured). h ++ x ∷ []) c.in-Some-events.ensures.some in
-    let old : IsConsistent (with_commit r (kinds.Tuples es)) s.tuples s.configs.items s.counts =
-    subst (λ (x : History). IsConsistent (as_retained s.number s.floor s.config s.tuples x) s.tuples s.configs.items s.counts) split c.self.invariant in
-    let before : Tuple → List Version = λ q. base_versions (set.contains r.base.tuples q) ++ versions_after r.floor r.commits q in
-    let goes : GoesOn before s.tuples (newest r + 1) es = versions_before r s.tuples (kinds.Tuples es) old.versions in
-    let versions : AreVersions c.undo-change.new.self r.base.tuples r.floor r.commits = c.undo-change.ensures.versions before (newest r + 1) goes in
-    let changes : Changes before es c.undo-change.result = c.undo-change.ensures.change before (newest r + 1) goes in
-    let tuples : s.counts.tuples ≡ set.len (replay (after_commits r.base h).tuples es) = old.tuples ∙ ap (λ (x : Snap). set.len x.tuples) (after_push r.base h (kinds.Tuples es)) in
-    let left = changes (after_commits r.base r.commits).tuples (before_these r) in
-    omega (arith, left, tuples)
+    let tuples : c.self.inside.counts.tuples ≡ set.len (replay (after_commits (left c).base h).tuples (events c)) = (old c).tuples ∙ ap (λ (s : Snap). set.len s.tuples) (after_push (left c).base h (kinds.Tuples (events c))) in
+    let fewer = changes c (after_commits (left c).base h).tuples (before_these (left c)) in
+    omega (arith, fewer, tuples)
 
 pub invariant_of-self-in-Some-events : goal.invariant_of-self-in-Some-events
-invariant_of-self-in-Some-events c =
+invariant_of-self-in-Some-events x =
+    let c = (goal.at.invariant_of-self-in-Some-events x).After-undo-change in
     let s = c.self.inside in
-    let h : History = c.pop.new.self.items in
-    let r : Retained = record { number = s.number; floor = s.floor; base = record { config = s.config; tuples = base_tuples s.tuples }; commits = h } in
-    let es : List Event = c.in-Some-events.events.now in
-    let split : s.commits.items ≡ h ++ kinds.Tuples es ∷ [] = c.in-Some.ensures.items ∙ ap (λ (x : Commit Configured). h ++ x ∷ []) c.in-Some-events.ensures.some in
-    let old : IsConsistent (with_commit r (kinds.Tuples es)) s.tuples s.configs.items s.counts =
-    subst (λ (x : History). IsConsistent (as_retained s.number s.floor s.config s.tuples x) s.tuples s.configs.items s.counts) split c.self.invariant in
-    let before : Tuple → List Version = λ q. base_versions (set.contains r.base.tuples q) ++ versions_after r.floor r.commits q in
-    let goes : GoesOn before s.tuples (newest r + 1) es = versions_before r s.tuples (kinds.Tuples es) old.versions in
-    let versions : AreVersions c.undo-change.new.self r.base.tuples r.floor r.commits = c.undo-change.ensures.versions before (newest r + 1) goes in
-    let changes : Changes before es c.undo-change.result = c.undo-change.ensures.change before (newest r + 1) goes in
-    let counts : Counts = record { rows = s.counts.rows - c.puts_in.result; tuples = s.counts.tuples + c.undo-change.result.gone - c.undo-change.result.come } in
-    let consistent : IsConsistent r c.undo-change.new.self s.configs.items counts =
-    consistent_back r s.tuples c.undo-change.new.self s.configs.items s.counts counts es c.undo-change.result old versions changes (ap (λ (n : ℕ). s.counts.rows - n) c.puts_in.ensures.puts) refl in
-    consistent_as s.number s.floor s.config c.undo-change.new.self r.base.tuples h s.configs.items counts consistent
+    let puts = x.puts_in.result in
+    consistent_as s.number s.floor s.config c.undo-change.new.self (left c).base.tuples (left c).commits s.configs.items (counts c puts) (consistent c puts x.puts_in.ensures.puts)
 
 pub returns-in-Some-events : goal.returns-in-Some-events
-returns-in-Some-events c =
+returns-in-Some-events x =
+    let c = (goal.at.returns-in-Some-events x).After-undo-change in
     let s = c.self.inside in
-    let h : History = c.pop.new.self.items in
-    let r : Retained = record { number = s.number; floor = s.floor; base = record { config = s.config; tuples = base_tuples s.tuples }; commits = h } in
-    let es : List Event = c.in-Some-events.events.now in
-    let split : s.commits.items ≡ h ++ kinds.Tuples es ∷ [] = c.in-Some.ensures.items ∙ ap (λ (x : Commit Configured). h ++ x ∷ []) c.in-Some-events.ensures.some in
-    let old : IsConsistent (with_commit r (kinds.Tuples es)) s.tuples s.configs.items s.counts =
-    subst (λ (x : History). IsConsistent (as_retained s.number s.floor s.config s.tuples x) s.tuples s.configs.items s.counts) split c.self.invariant in
-    let before : Tuple → List Version = λ q. base_versions (set.contains r.base.tuples q) ++ versions_after r.floor r.commits q in
-    let goes : GoesOn before s.tuples (newest r + 1) es = versions_before r s.tuples (kinds.Tuples es) old.versions in
-    let versions : AreVersions c.undo-change.new.self r.base.tuples r.floor r.commits = c.undo-change.ensures.versions before (newest r + 1) goes in
-    let changes : Changes before es c.undo-change.result = c.undo-change.ensures.change before (newest r + 1) goes in
-    let counts : Counts = record { rows = s.counts.rows - c.puts_in.result; tuples = s.counts.tuples + c.undo-change.result.gone - c.undo-change.result.come } in
-    let consistent : IsConsistent r c.undo-change.new.self s.configs.items counts =
-    consistent_back r s.tuples c.undo-change.new.self s.configs.items s.counts counts es c.undo-change.result old versions changes (ap (λ (n : ℕ). s.counts.rows - n) c.puts_in.ensures.puts) refl in
-    as_retained_is s.number s.floor s.config c.undo-change.new.self r.base.tuples h consistent.versions
-    ∙ ap (λ (x : History). record { number = s.number; floor = s.floor; base = r.base; commits = x }) (sym (last_off h (kinds.Tuples es)))
-    ∙ ap (λ (x : History). without_newest (as_retained s.number s.floor s.config s.tuples x)) (sym split)
+    as_retained_is s.number s.floor s.config c.undo-change.new.self (left c).base.tuples (left c).commits (versions c)
+    ∙ ap (λ (h : History). record { number = s.number; floor = s.floor; base = (left c).base; commits = h }) (sym (last_off (left c).commits (kinds.Tuples (events c))))
+    ∙ ap (λ (h : History). without_newest (as_retained s.number s.floor s.config s.tuples h)) (sym (split c))
     ∙ ap without_newest c.self.view_is
 
 pub invariant_of-self-in-None : goal.invariant_of-self-in-None
 invariant_of-self-in-None c =
     let s = c.self.inside in
     let h : History = c.pop.new.self.items in
-    let r : Retained = record { number = s.number; floor = s.floor; base = record { config = s.config; tuples = base_tuples s.tuples }; commits = h } in
+    let r : Retained = as_retained s.number s.floor s.config s.tuples h in
     let config : Configured = c.in-None.ensures.none.0 in
-    let split : s.commits.items ≡ h ++ kinds.Config config ∷ [] = c.in-Some.ensures.items ∙ ap (λ (x : Commit Configured). h ++ x ∷ []) c.in-None.ensures.none.1 in
-    let old : IsConsistent (with_commit r (kinds.Config config)) s.tuples s.configs.items s.counts =
-    subst (λ (x : History). IsConsistent (as_retained s.number s.floor s.config s.tuples x) s.tuples s.configs.items s.counts) split c.self.invariant in
+    let whole : s.commits.items ≡ h ++ kinds.Config config ∷ [] = c.in-Some.ensures.items ∙ ap (λ (x : Commit Configured). h ++ x ∷ []) c.in-None.ensures.none.1 in
     subst (λ (ds : List ConfigAt). IsConsistent r s.tuples ds s.counts) (sym c.drop_config.ensures)
-    (consistent_back_config r s.tuples s.configs.items s.counts config old)
+    (consistent_back_config r s.tuples s.configs.items s.counts config
+    (subst (λ (x : History). IsConsistent (as_retained s.number s.floor s.config s.tuples x) s.tuples s.configs.items s.counts) whole c.self.invariant))
