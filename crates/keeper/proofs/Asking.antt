@@ -11,7 +11,7 @@ use Rattle.shown.specs.declared.step.Part.{Part}
 use Rattle.config_core.specs.Objects.{has_only}
 use Rattle.config_core.specs.Reading.{Reads}
 use Rattle.keeper.specs.Bodies.{AsksOp, AskOps, items_at, WriteOf, AsksWrite, CatchUpOf, AsksCatchUp}
-use Rattle.keeper.proofs.Reads.{same_read}
+use Rattle.keeper.proofs.Bytes.{same_read}
 
 ask_last : (vs : List Value) (v : Value) (os : List Op) (o : Op) → AskOps (items_view vs) os → AsksOp (view v) o → AskOps (items_view (vs ++ v ∷ [])) (os ++ o ∷ [])
 ask_last [] v [] o asks last = (last, tt)

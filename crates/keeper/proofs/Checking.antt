@@ -11,7 +11,7 @@ use Rattle.zookie.specs.declared.Zookie.{Zookie}
 use Rattle.serde_json.specs.Data.{Data}
 use Rattle.config_core.specs.Reading.{Reads}
 use Rattle.keeper.specs.Bodies.{HasZookieText, IsZookieOf, AtCause, CheckOf, CheckCause}
-use Rattle.keeper.proofs.Reads.{same_read}
+use Rattle.keeper.proofs.Bytes.{same_read}
 
 -- at the exit of a `?`
 pub exit : {T : Type 0} (cause : Refusal → Type 0) (r : Result T Refusal) (e : Refusal) → IsErrAnd r (λ x. x ≡ e) → cause e → IfErr r cause

@@ -1,4 +1,4 @@
-pub mod Reads
+pub mod Bytes
 pub mod Asking
 pub mod Checking
 pub mod Literals

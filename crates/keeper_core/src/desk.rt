@@ -15,7 +15,7 @@ ghost use Rattle.keeper_core.specs.Posting.{NotReady, NotPosted};
 use crate::book::{Book, Opened, StepPrefix};
 use crate::latched_tables::{LatchedTables, load};
 use crate::receipt::{Posted, Receipt};
-use crate::showing::{Waiting, show_waiting};
+use crate::showing::{Waiting, show_first, show_waiting};
 use config::Config;
 use names::limits::MAX_CATCH_UP;
 use names::{Commit, Condition, Items, Node, Object, Op, Refusal, Write};
@@ -74,16 +74,10 @@ impl<T: Tables + Drop> Desk<T> {
     {
         let mut tables = tables;
         let loaded = load(&mut tables, alloc)?;
-        let step = Step::Open(loaded);
-        let Opened { book, prefix } = opened;
-        let Some(prefix) = prefix.add_step(&book, &step) else {
-            return Err(Refusal::Memory);
-        };
-        let mut shown = Shown::new(alloc);
-        shown.apply(&step)?;
+        let (prefix, shown) = show_first(alloc, &opened, &Step::Open(loaded))?;
         Ok(Desk {
             tables: LatchedTables::new(tables),
-            book,
+            book: opened.book,
             prefix,
             shown,
             waiting: None,

@@ -1,11 +1,12 @@
 //! How a posted step comes to be shown.
-ghost use Rattle.std.specs.Prelude.{◌≡◌, ◌↔◌, IsTrue, IfSome, IfNone, None};
-ghost use Rattle.shown.specs.Standing.{HasRoom};
-ghost use Rattle.keeper_core.specs.Known.{next_of, Begins};
+ghost use Rattle.std.specs.Prelude.{◌≡◌, ◌↔◌, IsTrue, IfOk, IfSome, IfNone, None};
+ghost use Rattle.shown.specs.Standing.{nothing, after_step, HasRoom};
+ghost use Rattle.keeper_core.specs.Known.{start_of, next_of, Begins};
 ghost use Rattle.keeper_core.specs.Invariant.{Leads, posted_of, IsDone, StillWaits};
 
-use crate::book::{Book, StepPrefix};
+use crate::book::{Book, Opened, StepPrefix};
 use shown::{Shown, Step};
+use std::alloc::{AllocError, Global};
 
 /// A posted step that is not shown yet, and the prefix that it ends, once it is in the book.
 #[derive(Drop)]
@@ -53,6 +54,24 @@ fn show(
     }
     *prefix = next;
     None
+}
+
+/// What is shown after the first step, and the prefix that it ends.
+pub(crate) fn show_first(
+    alloc: Global,
+    opened: &Opened,
+    step: &Step,
+) -> Result<(StepPrefix, Shown), AllocError>
+    requires { HasRoom nothing step.now }
+    ensures prefix { IfOk result (λ first. first.0 ≡ next_of (start_of opened.now.book) step.now) }
+    ensures shown { IfOk result (λ first. first.1 ≡ after_step nothing step.now) }
+{
+    let Some(prefix) = opened.prefix.add_step(&opened.book, step) else {
+        return Err(AllocError);
+    };
+    let mut shown = Shown::new(alloc);
+    shown.apply(step)?;
+    Ok((prefix, shown))
 }
 
 /// Shows what waits, and says whether nothing waits any more.
