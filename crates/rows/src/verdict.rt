@@ -13,7 +13,6 @@ use crate::view::View;
 use config::Config;
 use names::limits::{MAX_OPS, MAX_REV, MAX_ROWS, MAX_TUPLES};
 use names::{Op, OpKind, Refusal};
-use rows_core::refuses;
 
 
 impl Rows {
@@ -101,7 +100,7 @@ fn some_unknown(config: &Config, ops: &[Op]) -> bool
 fn some_untyped(config: &Config, ops: &[Op]) -> bool
     ensures { result ≡ list_any (is_untyped config.now) ops.now }
 {
-    ops.iter().any(|op| refuses(config, &op.tuple))
+    ops.iter().any(|op| !config.allows(&op.tuple))
 }
 
 /// Whether a tuple stands in two operations. Each is compared with those after it.

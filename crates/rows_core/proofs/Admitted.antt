@@ -1,14 +1,10 @@
--- Which cause a configuration gives for a tuple, and what a refusal of a write says.
-use Rattle.std.proofs.Common.{◌≡◌, List, [], ◌∷◌, Bool, true, false, refl, sym, ap, ◌∙◌}
-use Rattle.std.specs.Prelude.{not, ◌&&◌, ◌||◌}
-use mathlib.Core.Bool.{true≢false}
+-- What is admitted has a relation.
+use Rattle.std.proofs.Common.{◌≡◌, List, [], ◌∷◌, Bool, true, false, refl}
+use Rattle.std.specs.Prelude.{◌&&◌, ◌||◌}
 use Rattle.std.specs.List.{list_any}
 use Rattle.names.specs.declared.tuple.Tuple.{Tuple}
 use Rattle.names.specs.declared.relation.RelationName.{RelationName}
 use Rattle.names.specs.declared.subject.Subject.{Subject}
-use Rattle.names.specs.declared.refusal.Refusal.{Refusal}
-use Rattle.names.specs.declared.refusal.Refusal.TheVariants.{UnknownRelation, TypeRefused}
-use Rattle.config.specs.Refused.{AdmitCause}
 use Rattle.meaning.specs.Config.{Configured, Defined, rel_of}
 use Rattle.meaning.specs.Admits.{is_relation, declares, has_relation, admits}
 
@@ -23,16 +19,3 @@ known_in r s (d ∷ ds) h = known_step (is_relation r d) (declares s d) (list_an
 -- what is admitted has a relation
 pub admits_known : (config : Configured) (t : Tuple) → admits config t ≡ true → has_relation config (rel_of t.node) ≡ true
 admits_known config t h = known_in (rel_of t.node) t.subject config.relations h
-
--- what has no relation is not admitted
-pub unknown_refused : (config : Configured) (t : Tuple) → has_relation config (rel_of t.node) ≡ false → admits config t ≡ false
-unknown_refused config t h = by_admitted (admits config t) refl
-  where
-    by_admitted : (b : Bool) → admits config t ≡ b → b ≡ false
-    by_admitted true is = absurd (true≢false (sym (admits_known config t is) ∙ h))
-    by_admitted false is = refl
-
-pub untyped_by : (config : Configured) (t : Tuple) (why : Refusal) → AdmitCause config t why → true ≡ not (admits config t)
-untyped_by config t UnknownRelation h = ap not (sym (unknown_refused config t h))
-untyped_by config t TypeRefused h = ap not (sym h.1)
-untyped_by config t _ h = absurd h

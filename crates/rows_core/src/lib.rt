@@ -12,6 +12,5 @@ mod versioning;
 
 pub use change::Change;
 pub use kept::{KeptCommit, KeptEvent};
-pub use lists::refuses;
 pub use version::Version;
 pub use version_map::VersionMap;

@@ -59,7 +59,7 @@ impl VersionMap {
         for (text, versions) in texts.iter() {
             if versions.is_there() {
                 let tuple = read(alloc, text)?;
-                if refuses(config, &tuple) {
+                if !config.allows(&tuple) {
                     return Ok(Some(tuple));
                 }
             }
@@ -81,14 +81,4 @@ fn push_tuple(alloc: Global, tuples: &mut Vec<Tuple>, text: &BoxedStr) -> Result
 {
     tuples.push(read(alloc, text)?)?;
     Ok(())
-}
-
-/// Whether the configuration does not admit the tuple.
-pub fn refuses(config: &Config, tuple: &Tuple) -> bool
-    ensures { result ≡ refuses config.now tuple.now }
-{
-    match config.admits(tuple) {
-        Ok(()) => false,
-        Err(_) => true,
-    }
 }

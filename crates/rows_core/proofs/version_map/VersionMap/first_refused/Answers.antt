@@ -17,21 +17,21 @@ use Rattle.rows_core.proofs.version_map.VersionMap.first_refused.Goals as goal
 pub returns-in_err-tuple-clause-ordered : goal.returns-in_err-tuple-clause-ordered
 returns-in_err-tuple-clause-ordered c = sorted_view c.texts-texts.result.now.entries c.args.self.now c.texts-texts.ensures.entries c.texts-texts.ensures.spelled c.iter-text-items.ensures.ordered
 
-pub returns-then-refuses-clause-ordered : goal.returns-then-refuses-clause-ordered
-returns-then-refuses-clause-ordered c = sorted_view c.texts-texts.result.now.entries c.args.self.now c.texts-texts.ensures.entries c.texts-texts.ensures.spelled c.iter-text-items.ensures.ordered
+pub returns-then-not-allows-clause-ordered : goal.returns-then-not-allows-clause-ordered
+returns-then-not-allows-clause-ordered c = sorted_view c.texts-texts.result.now.entries c.args.self.now c.texts-texts.ensures.entries c.texts-texts.ensures.spelled c.iter-text-items.ensures.ordered
 
 pub returns-clause-ordered : goal.returns-clause-ordered
 returns-clause-ordered c = sorted_view c.texts-texts.result.now.entries c.args.self.now c.texts-texts.ensures.entries c.texts-texts.ensures.spelled c.iter-text-items.ensures.ordered
 
-pub returns-then-refuses-clause-found : goal.returns-then-refuses-clause-found
-returns-then-refuses-clause-found c =
+pub returns-then-not-allows-clause-found : goal.returns-then-not-allows-clause-found
+returns-then-not-allows-clause-found c =
     let it : Texts = c.loop-text.text-iterator in
     let rest : Texts = c.next.new.self in
     let e : BoxedStr Global × List Version = (c.in-Some.text.now, c.in-Some.versions.now) in
     let steps : entries_of it ≡ entry_of e ∷ entries_of rest = ap entries_of c.in-Some.ensures.steps in
     let f : Tuple × List Version → Bool = λ x. is_there x.1 in
     let g : Tuple → Bool = λ t. not (admits c.args.config.now t) in
-    let refused : g (tuple_of (boxed_str_bytes e.0)) ≡ true = ap g (sym c.in_ok-tuple.ensures) ∙ sym c.refuses.ensures ∙ c.if-refuses.true in
+    let refused : g (tuple_of (boxed_str_bytes e.0)) ≡ true = ap g (sym c.in_ok-tuple.ensures) ∙ ap not (sym c.allows.ensures ∙ c.if-not-allows.true) in
     ap (λ (t : Tuple). Some t) c.in_ok-tuple.ensures
     ∙ find_here f (entries_of it) (entries_of rest) (entry_of e) steps g (sym c.is_there.ensures ∙ c.if-is_there.true) refused
     ∙ c.loop-text.invariant.decides
