@@ -14,7 +14,6 @@ use config::Config;
 use names::limits::{MAX_OPS, MAX_REV, MAX_ROWS, MAX_TUPLES};
 use names::{Op, OpKind, Refusal};
 
-
 impl Rows {
     /// Why the operations are refused at the newest revision, if they are: the first cause, each looked
     /// for over the whole write before the next.
