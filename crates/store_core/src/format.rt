@@ -5,6 +5,7 @@ ghost use Rattle.sqlite.specs.State.{IsLive};
 ghost use Rattle.sqlite.specs.Held.{state};
 ghost use Rattle.sqlite_value.specs.Keys.{plain};
 ghost use Rattle.store_core.specs.Format.{required, schema, row_table, config_table, state_table, row_nodes, row_index, state_index};
+ghost use Rattle.store_core.specs.Reading.{HasFormat};
 
 use sqlite::{Alter, Connection};
 use sqlite_schema::code::{Op, Terms};
@@ -275,7 +276,7 @@ fn is_schema(found: &Schema) -> bool
 
 /// Whether the connection's tables and indexes are those of the format, in the order in which `create` makes them.
 pub fn is_format<S: Alter>(conn: &Connection<S>) -> bool
-    ensures yes { IsTrue result → (state S.Store conn.now).now.schema ≡ schema }
+    ensures yes { IsTrue result → HasFormat S.Store conn.now }
     ensures live { IsLive (state S.Store conn.now) }
 {
     is_schema(conn.schema())

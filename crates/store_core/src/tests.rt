@@ -6,8 +6,8 @@ use sqlite::{Connection, Error, ErrorCode, MemStore};
 use std::alloc::{AllocError, Global};
 use std::test::Fail;
 
-fn event(alloc: Global, put: bool, subject: &str) -> Result<Event, AllocError> {
-    Ok(Event {
+fn event(alloc: Global, put: bool, subject: &str) -> Result<StoredEvent, AllocError> {
+    Ok(StoredEvent {
         put,
         tuple: TupleText {
             namespace: String::from_str(alloc, "group")?,
