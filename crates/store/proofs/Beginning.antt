@@ -10,9 +10,9 @@ use Rattle.meaning.specs.Verdict.{max_rev}
 use Rattle.rows.specs.Retained.{Retained, newest, newest_of}
 use Rattle.rows.specs.Follows.{IsNext}
 use Rattle.tables.specs.Storing.{CanStore}
-use Rattle.store_core.specs.Steps.{fresh}
-use Rattle.store.specs.Written.{Written, IsSpan, IsSound, IsRevised, IsHistory}
-use Rattle.store.specs.Keeping.{no_commits}
+use Rattle.store_core.specs.Steps.{new_store}
+use Rattle.store.specs.Written.{Written, IsSpan, IsSound, IsConfigAt, IsHistory}
+use Rattle.store.specs.History.{no_commits}
 use Rattle.store.proofs.Causes.{accepted, accepted_config}
 use Rattle.std.specs.FinMap as map
 use Rattle.names.specs.Order.{tuple_cmp}
@@ -30,7 +30,7 @@ blank_sound number some small = record {
   revs = omega arith;
   spans_are = All-nil (IsSpan 0 0);
   apart = tt;
-  configs_are = All-nil (IsRevised 0);
+  configs_are = All-nil (IsConfigAt 0);
   distinct = tt;
   whole = λ rev low high. absurd (omega (arith, low, high));
   admitted = λ rev low high. All-nil _;
@@ -38,9 +38,9 @@ blank_sound number some small = record {
   tuples = let z = len_none in omega (arith, z);
 }
 
-pub new_history : (number : ℕ) → 1 ≤ number → number < 2 ^ 63 → IsHistory (fresh number) (no_commits number)
+pub new_history : (number : ℕ) → 1 ≤ number → number < 2 ^ 63 → IsHistory (new_store number) (no_commits number)
 new_history number some small =
-    (blank number, record { spans = IsPermutation-refl []; configs = IsPermutation-refl []; entries = IsPermutation-refl (fresh number).entries }, blank_sound number some small, refl)
+    (blank number, record { spans = IsPermutation-refl []; configs = IsPermutation-refl []; entries = IsPermutation-refl (new_store number).entries }, blank_sound number some small, refl)
 
 rev_most : (r : Retained) (commit : Commit Configured) → IsNext r commit → newest r + 1 ≤ max_rev
 rev_most r (kinds.Tuples es) next = (accepted (newest_of r) es next).revs

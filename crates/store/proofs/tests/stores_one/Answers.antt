@@ -9,7 +9,7 @@ use Rattle.meaning.specs.Snap.{empty_snap}
 use Rattle.meaning.specs.TupleSet.{items}
 use Rattle.meaning.specs.Verdict.{in_the_way, or_else}
 use Rattle.meaning.proofs.TupleSets.{items_from_list}
-use Rattle.store.specs.Keeping.{no_commits}
+use Rattle.store.specs.History.{no_commits}
 use Rattle.store.proofs.tests.stores_one.Goals as goal
 
 none_ordered : IsStrictlySortedBy tuple_cmp []
