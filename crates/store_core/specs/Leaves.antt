@@ -32,6 +32,9 @@ IsBlank g c = HasNone (state g c).now
 abbrev pub MayCreate : State → ℕ → Trees → Type 0
 MayCreate old number trees = (db : Database) × (trees ≡ db.trees) × Founds HasNone (HasNew number) old.now db
 
+abbrev pub MayLeaveNew : {S : Type 0} → Ghosts S → Held S → Held S → ℕ → Type 0
+MayLeaveNew g old new number = Survives (state g old) (state g new) (MayCreate (state g old) number)
+
 -- a crash leaves what it left before, or over a blank database the whole new store
 abbrev pub LeavesAtMostNew : {S : Type 0} → Ghosts S → Held S → Held S → ℕ → Type 0
 LeavesAtMostNew g old new number = Survives (state g old) (state g new) (λ trees. IsBlank g old × MayCreate (state g old) number trees)

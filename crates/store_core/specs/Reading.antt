@@ -6,6 +6,8 @@ use Rattle.sqlite.specs.State.{HasCleanDisk, IsLive, IsUnchanged, Survives}
 use Rattle.sqlite.specs.Held.{Held, state}
 use Rattle.sqlite.specs.declared.error.Error.{Error}
 use Rattle.store_core.specs.Format.{schema}
+use Rattle.store_core.specs.Stored.{Loads}
+use Rattle.store_core.specs.declared.stored.Stored.{Stored}
 use Rattle.store_core.specs.Tables.{Contents, Holds, HasRowids, AreKeyed, AsksRowids}
 
 -- the device has returned what was written
@@ -19,6 +21,10 @@ HasFormat g c = (state g c).now.schema ≡ schema
 -- they hold the contents, whether these are committed or not
 abbrev pub HoldsNow : {S : Type 0} → Ghosts S → Held S → Contents → Type 0
 HoldsNow g c h = Holds (state g c).now h
+
+-- what was read is what they hold
+abbrev pub IsHeld : {S : Type 0} → Ghosts S → Held S → Stored → Type 0
+IsHeld g c s = (h : Contents) × HoldsNow g c h × Loads h s
 
 -- all is as it was
 abbrev pub IsSame : {S : Type 0} → Ghosts S → Held S → Held S → Type 0

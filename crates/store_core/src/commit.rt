@@ -3,10 +3,8 @@ ghost use Rattle.std.specs.Prelude.{◌≡◌, ◌^◌, ◌<◌, ◌≢◌, fals
 ghost use Rattle.sqlite.specs.declared.error.Error.TheVariants.{SqliteFailure};
 ghost use Rattle.sqlite.specs.declared.error.ErrorCode.TheVariants.{NameTaken};
 ghost use Rattle.store_core.specs.Format.{no_schema};
-ghost use Rattle.sqlite.specs.State.{Survives};
-ghost use Rattle.sqlite.specs.Held.{state};
 ghost use Rattle.store_core.specs.Steps.{Changes, Makes, IsQuiet, Stores, Undoes, LeavesAtMost, HasNone, HasNew, after_event, after_events, after_write, after_configure, after_drop, after_trim, new_store};
-ghost use Rattle.store_core.specs.Leaves.{TablesHold, IsBlank, MayCreate, LeavesAtMostNew};
+ghost use Rattle.store_core.specs.Leaves.{TablesHold, IsBlank, MayLeaveNew, LeavesAtMostNew};
 
 use crate::statement::{
     close_span, delete_configs, delete_spans, init_state, insert_config, insert_span, make_config,
@@ -137,7 +135,7 @@ fn make_store<S: Alter>(conn: &mut Connection<S>, number: u64) -> Result<(), Err
     ensures idle { conn.new.in_transaction ≡ false }
     ensures done { OnOk result (IsBlank S.Store conn.old → TablesHold S.Store conn.new (new_store number)) }
     ensures undone { OnErr result (Undoes S.Store conn.old conn.new) }
-    ensures crash { Survives (state S.Store conn.old) (state S.Store conn.new) (MayCreate (state S.Store conn.old) number) }
+    ensures crash { MayLeaveNew S.Store conn.old conn.new number }
 {
     let mut tx = conn.transaction();
     make_all(&mut tx, number)?;

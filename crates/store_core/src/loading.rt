@@ -3,7 +3,7 @@ ghost use Rattle.std.specs.Prelude.{◌≡◌, ℕ, false, map, IsTrue, IfOk, On
 ghost use Rattle.std.specs.List.Sorted.{IsStrictlyIncreasing};
 ghost use Rattle.store_core.specs.Tables.{Contents, HoldsCell, AsksRowids, span_cells, config_cells, entry_cells, id_cells, one, two, six};
 ghost use Rattle.store_core.specs.Stored.{span_in, config_row_in, entry_in, AreSpans, AreConfigs, AreEntries, Loads, IsInOrder};
-ghost use Rattle.store_core.specs.Reading.{IsClean, HasFormat, HoldsNow, IsSame, LeavesNothing, LeavesAsRead, OverFormat, Finds, KeyedAsAsked, AllKeyed};
+ghost use Rattle.store_core.specs.Reading.{IsClean, HasFormat, HoldsNow, IsHeld, IsSame, LeavesNothing, LeavesAsRead, OverFormat, Finds, KeyedAsAsked, AllKeyed};
 
 use crate::format::is_format;
 use crate::stored::{Stored, StoredConfig, StoredEntry, StoredSpan, TupleText};
@@ -140,7 +140,7 @@ fn check_tables<S: Alter>(alloc: Global, conn: &mut Connection<S>) -> Result<(),
 // The spans in the order of their keys.
 fn load_spans<S: Alter>(alloc: Global, conn: &mut Connection<S>) -> Result<Vec<StoredSpan>, Error>
     ensures mode { conn.old.in_transaction ≡ false → conn.new.in_transaction ≡ false }
-    ensures found { Finds S.Store conn.old conn.new result (λ trees found. AreSpans trees (map span_in found.items)) }
+    ensures found { Finds S.Store conn.old conn.new result (λ trees v. AreSpans trees (map span_in v.items)) }
     ensures same { OverFormat S.Store conn.old conn.new (OnOk result (IsSame S.Store conn.old conn.new)) }
     ensures crash { LeavesAsRead S.Store conn.old conn.new }
 {
@@ -157,7 +157,7 @@ fn load_configs<S: Alter>(
     conn: &mut Connection<S>,
 ) -> Result<Vec<StoredConfig>, Error>
     ensures mode { conn.old.in_transaction ≡ false → conn.new.in_transaction ≡ false }
-    ensures found { Finds S.Store conn.old conn.new result (λ trees found. AreConfigs trees (map config_row_in found.items)) }
+    ensures found { Finds S.Store conn.old conn.new result (λ trees v. AreConfigs trees (map config_row_in v.items)) }
     ensures same { OverFormat S.Store conn.old conn.new (OnOk result (IsSame S.Store conn.old conn.new)) }
     ensures crash { LeavesAsRead S.Store conn.old conn.new }
 {
@@ -171,7 +171,7 @@ fn load_entries<S: Alter>(
     conn: &mut Connection<S>,
 ) -> Result<Vec<StoredEntry>, Error>
     ensures mode { conn.old.in_transaction ≡ false → conn.new.in_transaction ≡ false }
-    ensures found { Finds S.Store conn.old conn.new result (λ trees found. AreEntries trees (map entry_in found.items)) }
+    ensures found { Finds S.Store conn.old conn.new result (λ trees v. AreEntries trees (map entry_in v.items)) }
     ensures same { OverFormat S.Store conn.old conn.new (OnOk result (IsSame S.Store conn.old conn.new)) }
     ensures crash { LeavesAsRead S.Store conn.old conn.new }
 {
@@ -185,7 +185,7 @@ pub fn load<S: Alter>(alloc: Global, conn: &mut Connection<S>) -> Result<Stored,
     requires idle { conn.old.in_transaction ≡ false }
     ensures idle { conn.new.in_transaction ≡ false }
     ensures held { IsClean S.Store conn.new → (h : Contents) → HoldsNow S.Store conn.old h → IfOk result (Loads h) }
-    ensures found { IsClean S.Store conn.new → IfOk result (λ s. (h : Contents) × HoldsNow S.Store conn.old h × Loads h s) }
+    ensures found { IsClean S.Store conn.new → IfOk result (IsHeld S.Store conn.old) }
     ensures ordered { OverFormat S.Store conn.old conn.new (IfOk result IsInOrder) }
     ensures same { OverFormat S.Store conn.old conn.new (OnOk result (IsSame S.Store conn.old conn.new)) }
     ensures crash { HasFormat S.Store conn.old → LeavesNothing S.Store conn.old conn.new }
