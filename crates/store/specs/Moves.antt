@@ -12,9 +12,6 @@ use Rattle.meaning.specs.Config.{Configured}
 use Rattle.std.specs.List.{list_any}
 use Rattle.store.specs.Written.{TupleSpan, is_moved, is_one, commit_of, events_at}
 
-abbrev pub event_of : Tuple → EventKind → Event
-event_of tuple kind = record { tuple = tuple; kind = kind }
-
 abbrev pub put_of : TupleSpan → Event
 put_of l = record { tuple = l.tuple; kind = Put }
 
@@ -45,8 +42,8 @@ abbrev pub Adds : List (Vec Event) → List (Vec Event) → (ℕ → List Event)
 Adds old new more = (k : ℕ) → k < length old → slot new k ≡ slot old k ++ more k
 
 -- the event stands at its revision's place above the floor
-abbrev pub event_at_place : ℕ → ℕ → Event → ℕ → List Event
-event_at_place floor rev e k = event_if (rev == floor + (k + 1)) e
+abbrev pub event_at_place : ℕ → ℕ → Tuple → EventKind → ℕ → List Event
+event_at_place floor rev t kind k = event_if (rev == floor + (k + 1)) (record { tuple = t; kind = kind })
 
 -- the span's beginning comes after those that were there, and then its end, where the tuple does not go on
 abbrev pub AddsSpan : List (Vec Event) → List (Vec Event) → ℕ → TupleSpan → Bool → Type 0

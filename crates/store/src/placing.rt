@@ -1,6 +1,6 @@
 //! The events of each revision above the floor.
 ghost use Rattle.std.specs.Prelude.{◌≡◌, ◌≤◌, ◌<◌, ◌≢◌, ◌-◌, ◌==◌, ◌++◌, ◌∷◌, [], ℕ, map, length, IfOk, IfErr, OnOk};
-ghost use Rattle.store.specs.Moves.{slot, event_if, event_of, event_at_place, goes_on, Adds, AddsSpan, HasMoves};
+ghost use Rattle.store.specs.Moves.{slot, event_if, event_at_place, goes_on, Adds, AddsSpan, HasMoves};
 ghost use Rattle.store.specs.Reading.{as_span};
 ghost use Rattle.store.specs.declared.unread.Unread.TheVariants.{Memory};
 
@@ -57,7 +57,7 @@ fn place(
     kind: EventKind,
 ) -> Result<(), Unread>
     ensures len { OnOk result (length slots.new.items ≡ length slots.old.items) }
-    ensures placed { OnOk result (Adds slots.old.items slots.new.items (event_at_place floor rev (event_of tuple.now kind))) }
+    ensures placed { OnOk result (Adds slots.old.items slots.new.items (event_at_place floor rev tuple.now kind)) }
     ensures fault { IfErr result (λ e. e ≡ Memory) }
 {
     if rev <= floor {
