@@ -26,7 +26,6 @@ use std::marker::Model;
 use tables::Tables;
 use zookie::{Consistency, Zookie};
 
-
 /// The tables, the steps that were posted, and what is shown of them. One posted step at most waits to
 /// be shown.
 #[derive(Drop)]

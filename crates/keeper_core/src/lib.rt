@@ -7,6 +7,7 @@ mod desk;
 mod latched_tables;
 mod receipt;
 mod showing;
+
 pub use book::{Book, Naming, Opened, StepPrefix};
 pub use desk::Desk;
 pub use receipt::{Posted, Receipt};

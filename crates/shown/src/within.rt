@@ -8,7 +8,6 @@ use names::limits::{MAX_REV, MAX_ROWS};
 use names::{Commit, Event, EventKind, Tuple};
 use rows::Loaded;
 
-
 /// Whether the tuples are in order, each once, and there are no more revisions and rows than a store may
 /// have.
 pub(crate) fn is_within(loaded: &Loaded) -> bool

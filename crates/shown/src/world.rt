@@ -18,7 +18,6 @@ use std::alloc::{AllocError, Global};
 use std::collections::VecDeque;
 use std::marker::Model;
 
-
 /// Contracts see it as what is stored, the posted steps, and how many of these are published.
 #[derive(Drop)]
 pub struct World {

@@ -11,12 +11,12 @@ use Rattle.std.specs.declared.cmp.Ordering.TheVariants.{Less, Equal, Greater}
 use Rattle.std.proofs.lemmas.Map.Keys.{ge_from_not_lt}
 use Rattle.names.specs.Order.{tuple_cmp, is_same_tuple}
 use Rattle.meaning.proofs.TupleSets.{tuples_total, exact_tuples}
-use Rattle.store.specs.Written.{Lived, Revised, IsSpan, Pairwise, are_apart, are_distinct}
+use Rattle.store.specs.Written.{TupleSpan, ConfigAt, IsSpan, Pairwise, are_apart, are_distinct}
 use Rattle.store.specs.Following.{Precedes}
-use Rattle.store.specs.Reading.{lived_of, revised_of}
+use Rattle.store.specs.Reading.{as_span, as_config}
 use Rattle.store.specs.Refused.{IsListed}
-use Rattle.store.specs.declared.lived.LivedSpan.{LivedSpan}
-use Rattle.store.specs.declared.lived.RevisedConfig.{RevisedConfig}
+use Rattle.store.specs.declared.parts.ReadSpan.{ReadSpan}
+use Rattle.store.specs.declared.parts.ReadConfig.{ReadConfig}
 use Rattle.store.proofs.Living.{apart_says}
 use Rattle.store.proofs.Moving.{same_self}
 
@@ -61,10 +61,10 @@ first_rises a b rest h = ge_from_not_lt b a (by_order (nat_cmp b a) h)
     by_order Greater e = refl
 
 -- what a sort says of each span and the next
-pub listed_from : (a b : LivedSpan) → is_lt (ordering_then (tuple_cmp b.tuple a.tuple) (ordering_then (nat_cmp b.added a.added) (nat_cmp b.removed a.removed))) ≡ false → IsListed (lived_of a) (lived_of b)
+pub listed_from : (a b : ReadSpan) → is_lt (ordering_then (tuple_cmp b.tuple a.tuple) (ordering_then (nat_cmp b.added a.added) (nat_cmp b.removed a.removed))) ≡ false → IsListed (as_span a) (as_span b)
 listed_from a b h = by_tuple (tuple_cmp a.tuple b.tuple) refl
   where
-    by_tuple : (o : Ordering) → tuple_cmp a.tuple b.tuple ≡ o → IsListed (lived_of a) (lived_of b)
+    by_tuple : (o : Ordering) → tuple_cmp a.tuple b.tuple ≡ o → IsListed (as_span a) (as_span b)
     by_tuple Less e = inl e
     by_tuple Equal e = inr (
       exact_tuples a.tuple b.tuple e,
@@ -74,14 +74,14 @@ listed_from a b h = by_tuple (tuple_cmp a.tuple b.tuple) refl
     by_tuple Greater e = absurd (true≢false (
         ap (λ o. is_lt (ordering_then o (ordering_then (nat_cmp b.added a.added) (nat_cmp b.removed a.removed)))) (sym (tuples_total.antisymm b.tuple a.tuple ∙ ap ordering_reverse e)) ∙ h))
 
-pub greater_refused : (a b : Lived) → Greater ≡ tuple_cmp a.tuple b.tuple → Precedes a b → ⊥
+pub greater_refused : (a b : TupleSpan) → Greater ≡ tuple_cmp a.tuple b.tuple → Precedes a b → ⊥
 greater_refused a b e (inl less) = never (e ∙ less)
   where
     never : Greater ≡ Less → ⊥
     never e = cc
 greater_refused a b e (inr same) = true≢false (sym (same_self a.tuple) ∙ ap (is_same_tuple a.tuple) same.0 ∙ ap is_eq (sym e))
 
-listed_apart : (floor newest : ℕ) (a b : Lived) → IsListed a b → IsSpan floor newest b → are_apart a b ≡ true → Precedes a b
+listed_apart : (floor newest : ℕ) (a b : TupleSpan) → IsListed a b → IsSpan floor newest b → are_apart a b ≡ true → Precedes a b
 listed_apart floor newest a b (inl l) span apart = inl l
 listed_apart floor newest a b (inr l) span apart = by_order (apart_says a b (ap (is_same_tuple a.tuple) (sym l.0) ∙ same_self a.tuple) apart)
   where
@@ -93,19 +93,19 @@ listed_apart floor newest a b (inr l) span apart = by_order (apart_says a b (ap 
     by_order (inl o) = inr (l.0, o.0, o.1)
     by_order (inr o) = absurd (never o.0 o.1 span.ends)
 
-pub overlap_refused : (spans : List LivedSpan) (i : ℕ) (x y : LivedSpan) → 0 < i → i < length spans → x ≡ get_or spans (i - 1) x → y ≡ get_or spans i y → (Precedes (lived_of x) (lived_of y) → ⊥)
-    → AllAdjacentBelow (λ a b. IsListed (lived_of a) (lived_of b)) spans (length spans) → (floor newest : ℕ) → All (IsSpan floor newest) (map lived_of spans) → Pairwise are_apart (map lived_of spans) → ⊥
+pub overlap_refused : (spans : List ReadSpan) (i : ℕ) (x y : ReadSpan) → 0 < i → i < length spans → x ≡ get_or spans (i - 1) x → y ≡ get_or spans i y → (Precedes (as_span x) (as_span y) → ⊥)
+    → AllAdjacentBelow (λ a b. IsListed (as_span a) (as_span b)) spans (length spans) → (floor newest : ℕ) → All (IsSpan floor newest) (map as_span spans) → Pairwise are_apart (map as_span spans) → ⊥
 overlap_refused spans i x y some lt e f not_before listed floor newest are apart =
-    let S : LivedSpan → LivedSpan → Type 0 = λ a b. are_apart (lived_of a) (lived_of b) ≡ true in
-    let P : LivedSpan → Type 0 = λ s. IsSpan floor newest (lived_of s) in
-    not_before (listed_apart floor newest (lived_of x) (lived_of y)
-    (before (λ a b. IsListed (lived_of a) (lived_of b)) spans i x y some lt e f listed)
-    (subst P (sym f) (all_at (IsSpan floor newest) lived_of spans are i y lt))
-    (at_both S spans (i - 1) i x y (omega (arith, some, lt)) lt e f (pair_at lived_of are_apart spans apart (i - 1) i x (omega (arith, some)) lt)))
+    let S : ReadSpan → ReadSpan → Type 0 = λ a b. are_apart (as_span a) (as_span b) ≡ true in
+    let P : ReadSpan → Type 0 = λ s. IsSpan floor newest (as_span s) in
+    not_before (listed_apart floor newest (as_span x) (as_span y)
+    (before (λ a b. IsListed (as_span a) (as_span b)) spans i x y some lt e f listed)
+    (subst P (sym f) (all_at (IsSpan floor newest) as_span spans are i y lt))
+    (at_both S spans (i - 1) i x y (omega (arith, some, lt)) lt e f (pair_at as_span are_apart spans apart (i - 1) i x (omega (arith, some)) lt)))
 
 -- ---- configurations
 
-distinct_says : (floor : ℕ) (a b : Revised) → are_distinct floor a b ≡ true → a.rev ≤ b.rev → (a.rev < b.rev) × (floor < b.rev)
+distinct_says : (floor : ℕ) (a b : ConfigAt) → are_distinct floor a b ≡ true → a.rev ≤ b.rev → (a.rev < b.rev) × (floor < b.rev)
 distinct_says floor a b h le = by_same (a.rev == b.rev) refl (or_cases (nat_lt floor a.rev) (nat_lt floor b.rev))
   where
     by_same : (s : Bool) → (a.rev == b.rev) ≡ s → ((nat_lt floor a.rev || nat_lt floor b.rev) ≡ true → (nat_lt floor a.rev ≡ true) ⊎ (nat_lt floor b.rev ≡ true)) → (a.rev < b.rev) × (floor < b.rev)
@@ -123,11 +123,11 @@ distinct_says floor a b h le = by_same (a.rev == b.rev) refl (or_cases (nat_lt f
         above (inl t) = let l = ltb-true floor a.rev t in omega (arith, l, le)
         above (inr t) = ltb-true floor b.rev t
 
-pub rev_refused : (floor : ℕ) (configs : List RevisedConfig) (i : ℕ) (x y : RevisedConfig) → 0 < i → i < length configs → x ≡ get_or configs (i - 1) x → y ≡ get_or configs i y → (x.rev < y.rev → floor < y.rev → ⊥)
-    → AllAdjacentBelow (λ (a b : RevisedConfig). a.rev ≤ b.rev) configs (length configs) → Pairwise (are_distinct floor) (map revised_of configs) → ⊥
+pub rev_refused : (floor : ℕ) (configs : List ReadConfig) (i : ℕ) (x y : ReadConfig) → 0 < i → i < length configs → x ≡ get_or configs (i - 1) x → y ≡ get_or configs i y → (x.rev < y.rev → floor < y.rev → ⊥)
+    → AllAdjacentBelow (λ (a b : ReadConfig). a.rev ≤ b.rev) configs (length configs) → Pairwise (are_distinct floor) (map as_config configs) → ⊥
 rev_refused floor configs i x y some lt e f not_after listed distinct =
-    let S : RevisedConfig → RevisedConfig → Type 0 = λ a b. are_distinct floor (revised_of a) (revised_of b) ≡ true in
-    let says = distinct_says floor (revised_of x) (revised_of y)
-    (at_both S configs (i - 1) i x y (omega (arith, some, lt)) lt e f (pair_at revised_of (are_distinct floor) configs distinct (i - 1) i x (omega (arith, some)) lt))
-    (before (λ (a b : RevisedConfig). a.rev ≤ b.rev) configs i x y some lt e f listed) in
+    let S : ReadConfig → ReadConfig → Type 0 = λ a b. are_distinct floor (as_config a) (as_config b) ≡ true in
+    let says = distinct_says floor (as_config x) (as_config y)
+    (at_both S configs (i - 1) i x y (omega (arith, some, lt)) lt e f (pair_at as_config (are_distinct floor) configs distinct (i - 1) i x (omega (arith, some)) lt))
+    (before (λ (a b : ReadConfig). a.rev ≤ b.rev) configs i x y some lt e f listed) in
     not_after says.0 says.1

@@ -9,7 +9,7 @@ use Rattle.std.proofs.lemmas.List.Elements.{All-nil, All-cons, All-map}
 use Rattle.names.specs.Order.{tuple_cmp, is_same_tuple}
 use Rattle.names.specs.declared.tuple.Tuple.{Tuple}
 use Rattle.meaning.proofs.TupleSets.{tuples_total}
-use Rattle.store.specs.Written.{Lived, Revised, IsSpan, is_before, are_apart, are_distinct, Pairwise}
+use Rattle.store.specs.Written.{TupleSpan, ConfigAt, IsSpan, is_before, are_apart, are_distinct, Pairwise}
 use Rattle.store.specs.Following.{Precedes, Ascends}
 
 -- each is related to each that comes after it
@@ -30,10 +30,10 @@ pairwise f R test passes [] h = tt
 pairwise {A} {B} f R test passes (x ∷ xs) h = (All-map (λ y. test (f x) y ≡ true) f xs (λ k y lt. passes x _ (h.0 k y lt)), pairwise f R test passes xs h.1)
 
 -- spans
-abbrev Ends : Lived → Type 0
+abbrev Ends : TupleSpan → Type 0
 Ends b = (b.removed ≡ 0) ⊎ (b.added < b.removed)
 
-abbrev PrecedesEnding : Lived → Lived → Type 0
+abbrev PrecedesEnding : TupleSpan → TupleSpan → Type 0
 PrecedesEnding a b = Precedes a b × Ends b
 
 past : (a b c d e : ℕ) → a ≤ b → (c ≡ 0) ⊎ (b < c) → 0 < c → c ≤ e → a ≤ e
@@ -43,7 +43,7 @@ past a b c d e p q r s = ⊎_elim (λ (z : c ≡ 0). omega (arith, z, r)) (λ (l
     ⊎_elim f g (inl a) = f a
     ⊎_elim f g (inr b) = g b
 
-follows : (a b c : Lived) → PrecedesEnding a b → PrecedesEnding b c → PrecedesEnding a c
+follows : (a b c : TupleSpan) → PrecedesEnding a b → PrecedesEnding b c → PrecedesEnding a c
 follows a b c p q = (joined p.0 q.0, q.1)
   where
     joined : Precedes a b → Precedes b c → Precedes a c
@@ -52,13 +52,13 @@ follows a b c p q = (joined p.0 q.0, q.1)
     joined (inr l) (inl m) = inl (let P : Tuple → Type 0 = λ t. tuple_cmp t c.tuple ≡ Less in subst P (sym l.0) m)
     joined (inr l) (inr m) = inr (l.0 ∙ m.0, l.1, past a.removed b.added b.removed 0 c.added l.2 p.1 m.1 m.2)
 
-before : (a b : Lived) → 0 < a.removed → a.removed ≤ b.added → is_before a b ≡ true
+before : (a b : TupleSpan) → 0 < a.removed → a.removed ≤ b.added → is_before a b ≡ true
 before a b h k = both (nat_lt 0 a.removed) (nat_le a.removed b.added) (grind (arith, nat_tests)) (grind (arith, nat_tests))
   where
     both : (x y : Bool) → x ≡ true → y ≡ true → (x && y) ≡ true
     both x y p q = ap (λ b. b && y) p ∙ q
 
-apart_one : (a b : Lived) → Precedes a b → are_apart a b ≡ true
+apart_one : (a b : TupleSpan) → Precedes a b → are_apart a b ≡ true
 apart_one a b (inl l) = ap (λ o. cond (is_eq o) (is_before a b || is_before b a) true) l
 apart_one a b (inr e) = by_same (is_same_tuple a.tuple b.tuple)
   where
@@ -66,41 +66,41 @@ apart_one a b (inr e) = by_same (is_same_tuple a.tuple b.tuple)
     by_same true = ap (λ x. x || is_before b a) (before a b e.1 e.2)
     by_same false = refl
 
-in_order : {A : Type 0} (f : A → Lived) (floor newest : ℕ) (xs : List A) → AllAdjacentBelow (λ a b. Precedes (f a) (f b)) xs (length xs) → All (λ s. IsSpan floor newest (f s)) xs
+in_order : {A : Type 0} (f : A → TupleSpan) (floor newest : ℕ) (xs : List A) → AllAdjacentBelow (λ a b. Precedes (f a) (f b)) xs (length xs) → All (λ s. IsSpan floor newest (f s)) xs
     → Ordered (λ a b. PrecedesEnding (f a) (f b)) xs
 in_order {A} f floor newest xs adj all =
     ordered (λ a b. PrecedesEnding (f a) (f b)) (λ x y z. follows (f x) (f y) (f z)) xs (λ k d lt. (adj k d lt, ending (f (get_or xs (k + 1) d)) (all (k + 1) d lt).ends))
   where
-    ending : (b : Lived) → (b.removed ≡ 0) ⊎ ((b.added < b.removed) × (floor < b.removed) × (b.removed ≤ newest)) → Ends b
+    ending : (b : TupleSpan) → (b.removed ≡ 0) ⊎ ((b.added < b.removed) × (floor < b.removed) × (b.removed ≤ newest)) → Ends b
     ending b (inl z) = inl z
     ending b (inr e) = inr e.0
 
-pub apart : {A : Type 0} (f : A → Lived) (floor newest : ℕ) (xs : List A) → AllAdjacentBelow (λ a b. Precedes (f a) (f b)) xs (length xs) → All (λ s. IsSpan floor newest (f s)) xs → Pairwise are_apart (map f xs)
+pub apart : {A : Type 0} (f : A → TupleSpan) (floor newest : ℕ) (xs : List A) → AllAdjacentBelow (λ a b. Precedes (f a) (f b)) xs (length xs) → All (λ s. IsSpan floor newest (f s)) xs → Pairwise are_apart (map f xs)
 apart {A} f floor newest xs adj all =
     let R : A → A → Type 0 = λ a b. PrecedesEnding (f a) (f b) in
     pairwise f R are_apart (λ x y h. apart_one (f x) (f y) h.0) xs (in_order f floor newest xs adj all)
 
 -- each precedes each that comes after it
-abbrev pub InTurn : List Lived → Type 0
+abbrev pub InTurn : List TupleSpan → Type 0
 InTurn [] = Unit {0}
 InTurn (l ∷ ls) = All (Precedes l) ls × InTurn ls
 
-turned : {A : Type 0} (f : A → Lived) (xs : List A) → Ordered (λ a b. PrecedesEnding (f a) (f b)) xs → InTurn (map f xs)
+turned : {A : Type 0} (f : A → TupleSpan) (xs : List A) → Ordered (λ a b. PrecedesEnding (f a) (f b)) xs → InTurn (map f xs)
 turned f [] h = tt
 turned f (x ∷ xs) h = (All-map (Precedes (f x)) f xs (λ k y lt. (h.0 k y lt).0), turned f xs h.1)
 
-pub in_turn : {A : Type 0} (f : A → Lived) (floor newest : ℕ) (xs : List A) → AllAdjacentBelow (λ a b. Precedes (f a) (f b)) xs (length xs) → All (λ s. IsSpan floor newest (f s)) xs → InTurn (map f xs)
+pub in_turn : {A : Type 0} (f : A → TupleSpan) (floor newest : ℕ) (xs : List A) → AllAdjacentBelow (λ a b. Precedes (f a) (f b)) xs (length xs) → All (λ s. IsSpan floor newest (f s)) xs → InTurn (map f xs)
 in_turn f floor newest xs adj all = turned f xs (in_order f floor newest xs adj all)
 
 -- configurations
-distinct_one : (floor : ℕ) (a b : Revised) → Ascends floor a b → are_distinct floor a b ≡ true
+distinct_one : (floor : ℕ) (a b : ConfigAt) → Ascends floor a b → are_distinct floor a b ≡ true
 distinct_one floor a b h = by_tests (a.rev == b.rev) (nat_lt floor a.rev) (nat_lt floor b.rev) (let l = h.0 in grind (arith, nat_tests)) (let l = h.1 in grind (arith, nat_tests))
   where
     by_tests : (x y z : Bool) → x ≡ false → z ≡ true → cond x false (y || z) ≡ true
     by_tests x true z p q = ap (λ b. cond b false true) p
     by_tests x false z p q = ap (λ b. cond b false z) p ∙ q
 
-pub distinct : {A : Type 0} (f : A → Revised) (floor : ℕ) (xs : List A) → AllAdjacentBelow (λ a b. Ascends floor (f a) (f b)) xs (length xs) → Pairwise (are_distinct floor) (map f xs)
+pub distinct : {A : Type 0} (f : A → ConfigAt) (floor : ℕ) (xs : List A) → AllAdjacentBelow (λ a b. Ascends floor (f a) (f b)) xs (length xs) → Pairwise (are_distinct floor) (map f xs)
 distinct {A} f floor xs adj =
     let R : A → A → Type 0 = λ a b. Ascends floor (f a) (f b) in
     pairwise f R (are_distinct floor) (λ x y h. distinct_one floor (f x) (f y) h) xs (ordered R (λ x y z p q. (ascends (f x).rev (f y).rev (f z).rev p.0 q.0, q.1)) xs adj)

@@ -6,14 +6,14 @@ use Rattle.names.specs.declared.commit.Commit.{Commit}
 use Rattle.names.specs.declared.commit.Commit.TheVariants as kinds
 use Rattle.meaning.specs.Config.{Configured}
 use Rattle.meaning.specs.TupleSet as set
-use Rattle.meaning.specs.Verdict.{max_rev}
-use Rattle.rows.specs.Retained.{Retained, newest, newest_of, empty_store}
+use Rattle.rows.specs.Retained.{Retained, newest, newest_of}
 use Rattle.rows.specs.Follows.{IsNext}
 use Rattle.tables.specs.Storing.{CanStore}
-use Rattle.store_core.specs.Steps.{fresh}
-use Rattle.store.specs.Written.{Written, IsSpan, IsSound, IsRevised, IsHistory}
+use Rattle.store_core.specs.Steps.{new_store}
+use Rattle.store.specs.Written.{Written, IsSpan, IsSound, IsConfigAt, IsHistory}
 use Rattle.store.proofs.Causes.{accepted, accepted_config}
 use Rattle.std.specs.FinMap as map
+use Rattle.names.specs.declared.limits.TheConstants.{MAX_REV}
 use Rattle.names.specs.Order.{tuple_cmp}
 
 abbrev blank : ℕ → Written
@@ -29,7 +29,7 @@ blank_sound number some small = record {
   revs = omega arith;
   spans_are = All-nil (IsSpan 0 0);
   apart = tt;
-  configs_are = All-nil (IsRevised 0);
+  configs_are = All-nil (IsConfigAt 0);
   distinct = tt;
   whole = λ rev low high. absurd (omega (arith, low, high));
   admitted = λ rev low high. All-nil _;
@@ -37,11 +37,11 @@ blank_sound number some small = record {
   tuples = let z = len_none in omega (arith, z);
 }
 
-pub new_history : (number : ℕ) → 1 ≤ number → number < 2 ^ 63 → IsHistory (fresh number) (empty_store number)
+pub new_history : (number : ℕ) → 1 ≤ number → number < 2 ^ 63 → IsHistory (new_store number) (empty_store number)
 new_history number some small =
-    (blank number, record { spans = IsPermutation-refl []; configs = IsPermutation-refl []; entries = IsPermutation-refl (fresh number).entries }, blank_sound number some small, refl)
+    (blank number, record { spans = IsPermutation-refl []; configs = IsPermutation-refl []; entries = IsPermutation-refl (new_store number).entries }, blank_sound number some small, refl)
 
-rev_most : (r : Retained) (commit : Commit Configured) → IsNext r commit → newest r + 1 ≤ max_rev
+rev_most : (r : Retained) (commit : Commit Configured) → IsNext r commit → newest r + 1 ≤ MAX_REV
 rev_most r (kinds.Tuples es) next = (accepted (newest_of r) es next).revs
 rev_most r (kinds.Config config) next = (accepted_config (newest_of r) config next).revs
 
@@ -49,5 +49,5 @@ rev_most r (kinds.Config config) next = (accepted_config (newest_of r) config ne
 pub small_rev : (Holds : Retained → Type 0) (rev : ℕ) (commit : Commit Configured) → CanStore Holds rev commit → rev < 2 ^ 63
 small_rev Holds rev commit (r, held, next) = below (rev_most r commit next.0) next.1
   where
-    below : newest r + 1 ≤ max_rev → rev ≡ newest r + 1 → rev < 2 ^ 63
+    below : newest r + 1 ≤ MAX_REV → rev ≡ newest r + 1 → rev < 2 ^ 63
     below most at = omega (arith, most, at)

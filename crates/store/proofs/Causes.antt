@@ -7,6 +7,7 @@ use Rattle.std.specs.Ordering.{is_lt}
 use Rattle.std.specs.declared.cmp.Ordering.{Ordering}
 use Rattle.std.specs.declared.cmp.Ordering.TheVariants.{Less, Equal, Greater}
 use Rattle.std.proofs.lemmas.Bool.{true≢false, or_parts, and_parts, ltb-false, not-false, not_from_false}
+use Rattle.names.specs.declared.limits.TheConstants.{MAX_REV, MAX_ROWS, MAX_TUPLES}
 use Rattle.names.specs.Order.{tuple_cmp, is_same_tuple}
 use Rattle.names.specs.declared.tuple.Tuple.{Tuple}
 use Rattle.names.specs.declared.commit.Event.{Event}
@@ -18,7 +19,7 @@ use Rattle.meaning.specs.TupleSet as set
 use Rattle.meaning.specs.Config.{Configured}
 use Rattle.meaning.specs.Admits.{admits}
 use Rattle.meaning.specs.History.{replay, puts_in}
-use Rattle.meaning.specs.Verdict.{Newest, or_else, refused_if, at_place, first_from, in_the_way, event_of, is_in_range, is_unknown, is_untyped, is_twice, inserts_again, deletes_nothing, is_full, write_cause, max_tuples, max_rows, max_rev}
+use Rattle.meaning.specs.Verdict.{Newest, or_else, refused_if, at_place, first_from, in_the_way, event_of, is_in_range, is_unknown, is_untyped, is_twice, inserts_again, deletes_nothing, is_full, write_cause}
 use Rattle.meaning.proofs.TupleSets.{tuples_total}
 use Rattle.rows.specs.Follows.{is_in_order, touch_of, touch_kind, commit_cause}
 use Rattle.names.specs.declared.commit.Commit.TheVariants as kinds
@@ -72,9 +73,9 @@ pub record Accepted (n : Newest) (es : List Event) : Type 0 where
   pub admitted : (e : Event) → In e es → admits n.held.config e.tuple ≡ true
   pub once : Pairwise are_other es
   pub there : (e : Event) → In e es → e.kind ≡ Del → set.contains n.held.tuples e.tuple ≡ true
-  pub tuples : set.len (replay n.held.tuples es) ≤ max_tuples
-  pub rows : n.rows + puts_in es ≤ max_rows
-  pub revs : n.rev + 1 ≤ max_rev
+  pub tuples : set.len (replay n.held.tuples es) ≤ MAX_TUPLES
+  pub rows : n.rows + puts_in es ≤ MAX_ROWS
+  pub revs : n.rev + 1 ≤ MAX_REV
 
 less : (o : Ordering) → is_lt o ≡ true → o ≡ Less
 less Less h = refl
@@ -133,17 +134,17 @@ accepted n es h =
     by_full : (es : List Event) → is_in_order es ≡ true → is_in_range (map touch_of es) ≡ true → list_any (is_untyped n.held.config) (map touch_of es) ≡ false → is_twice (map touch_of es) ≡ false
         → list_any (deletes_nothing n.held.tuples) (map touch_of es) ≡ false → is_full n es ≡ false → Accepted n es
     by_full es order range typed twice gone full =
-        let p = or_parts (nat_lt max_tuples (set.len (replay n.held.tuples es)) || nat_lt max_rows (n.rows + puts_in es)) (nat_lt max_rev (n.rev + 1)) full in
-        let q = or_parts (nat_lt max_tuples (set.len (replay n.held.tuples es))) (nat_lt max_rows (n.rows + puts_in es)) p.0 in
+        let p = or_parts (nat_lt MAX_TUPLES (set.len (replay n.held.tuples es)) || nat_lt MAX_ROWS (n.rows + puts_in es)) (nat_lt MAX_REV (n.rev + 1)) full in
+        let q = or_parts (nat_lt MAX_TUPLES (set.len (replay n.held.tuples es))) (nat_lt MAX_ROWS (n.rows + puts_in es)) p.0 in
         record {
           some = some_length es range;
           sorted = strictly es order;
           admitted = λ e i. not-false (admits n.held.config e.tuple) (any_no (λ f. is_untyped n.held.config (touch_of f)) es (sym (any_map touch_of (is_untyped n.held.config) es) ∙ typed) e i);
           once = once_each es twice;
           there = there_each n es gone;
-          tuples = at_most max_tuples (set.len (replay n.held.tuples es)) q.0;
-          rows = at_most max_rows (n.rows + puts_in es) q.1;
-          revs = at_most max_rev (n.rev + 1) p.1;
+          tuples = at_most MAX_TUPLES (set.len (replay n.held.tuples es)) q.0;
+          rows = at_most MAX_ROWS (n.rows + puts_in es) q.1;
+          revs = at_most MAX_REV (n.rev + 1) p.1;
         }
 
 -- ---- configurations
@@ -165,10 +166,10 @@ no_way None h = refl
 -- nothing speaks against the configuration
 pub record AcceptedConfig (n : Newest) (config : Configured) : Type 0 where
   pub admitted : (t : Tuple) → In t (set.items n.held.tuples) → admits config t ≡ true
-  pub revs : n.rev + 1 ≤ max_rev
+  pub revs : n.rev + 1 ≤ MAX_REV
 
 pub accepted_config : (n : Newest) (config : Configured) → commit_cause n (kinds.Config config) ≡ None → AcceptedConfig n config
 accepted_config n config h = record {
   admitted = λ t i. not-false (admits config t) (never_found (λ t. not (admits config t)) (set.items n.held.tuples) (no_way _ (none_first _ _ h)) t i);
-  revs = at_most max_rev (n.rev + 1) (not_refused Full (nat_lt max_rev (n.rev + 1)) (none_later (in_the_way (find (λ t. not (admits config t)) (set.items n.held.tuples))) _ h));
+  revs = at_most MAX_REV (n.rev + 1) (not_refused Full (nat_lt MAX_REV (n.rev + 1)) (none_later (in_the_way (find (λ t. not (admits config t)) (set.items n.held.tuples))) _ h));
 }

@@ -5,6 +5,7 @@ use Rattle.std.specs.List.{list_any}
 use Rattle.std.specs.Ordering.{eq_by_cmp}
 use Rattle.std.proofs.lemmas.Bool.{or_left, lt-ltb, lt-leb, eq-eqb, ne_eqb, cases_lt, not_from_false}
 use Rattle.std.proofs.lemmas.List.Elements.{All-cons}
+use Rattle.names.specs.declared.limits.TheConstants.{MAX_ROWS, MAX_TUPLES}
 use Rattle.names.specs.Order.{tuple_cmp}
 use Rattle.names.specs.declared.tuple.Tuple.{Tuple}
 use Rattle.names.specs.declared.commit.Commit.TheVariants as kinds
@@ -12,12 +13,11 @@ use Rattle.meaning.specs.TupleSet as set
 use Rattle.meaning.specs.Config.{Configured}
 use Rattle.meaning.specs.Snap.{Snap}
 use Rattle.meaning.specs.Admits.{admits}
-use Rattle.meaning.specs.Verdict.{max_rows, max_tuples}
 use Rattle.meaning.proofs.TupleSets.{contains_items}
 use Rattle.config.specs.Causes.{Accepts}
 use Rattle.rows.specs.Retained.{newest_of, spans_of, with_commit}
 use Rattle.rows.specs.Follows.{IsNext}
-use Rattle.store.specs.Written.{Lived, Revised, Written, IsSound, IsRevised, Pairwise, is_alive, is_moved, events_at, config_at, commit_of, commit_at, commits_above, last_up_to, config_up_to, are_distinct, is_one, brings_one, history_of, canonical}
+use Rattle.store.specs.Written.{TupleSpan, ConfigAt, Written, IsSound, IsConfigAt, Pairwise, is_alive, is_moved, events_at, config_at, commit_of, commit_at, commits_above, last_up_to, config_up_to, are_distinct, is_one, brings_one, history_of, canonical}
 use Rattle.store.proofs.Picking.{In, found, any_in, all_in, all_from, any_none}
 use Rattle.store.proofs.Living.{is_of, one_tuple, contains_of}
 use Rattle.store.proofs.Held.{last_here}
@@ -26,7 +26,7 @@ use Rattle.store.proofs.Causes.{AcceptedConfig, accepted_config}
 use Rattle.store.proofs.Following.{unmoved_next, newest_is, itself as itself_same, upto, one_more, stand_onwards, configs_onwards, held_tuples, admitted_onwards, commits_push, after_push, rows_push, same_history, same_snap}
 
 module _ (w : Written) (sound : IsSound w) (config : Configured) (valid : Accepts (canonical config) config) (next : IsNext (history_of w) (kinds.Config config)) where
-  abbrev pub now : Revised
+  abbrev pub now : ConfigAt
   now = record { rev = w.newest + 1; config = config }
 
   abbrev pub with_config : Written
@@ -61,9 +61,9 @@ module _ (w : Written) (sound : IsSound w) (config : Configured) (valid : Accept
       now_is = ap (λ n. commit_at with_config (n + 1)) (upto w sound) ∙ ap (λ o. commit_of o (events_at (w.newest + 1) w.spans)) at_now
 
   distinct_now : Pairwise (are_distinct w.floor) (now ∷ w.configs)
-  distinct_now = (all_from (λ c. are_distinct w.floor now c ≡ true) w.configs (λ c i. apart c (all_in (IsRevised w.newest) w.configs sound.configs_are c i).begun sound.order), sound.distinct)
+  distinct_now = (all_from (λ c. are_distinct w.floor now c ≡ true) w.configs (λ c i. apart c (all_in (IsConfigAt w.newest) w.configs sound.configs_are c i).begun sound.order), sound.distinct)
     where
-      apart : (c : Revised) → c.rev ≤ w.newest → w.floor ≤ w.newest → are_distinct w.floor now c ≡ true
+      apart : (c : ConfigAt) → c.rev ≤ w.newest → w.floor ≤ w.newest → are_distinct w.floor now c ≡ true
       apart c begun order =
           ap (λ b. cond b false (nat_lt w.floor (w.newest + 1) || nat_lt w.floor c.rev)) (ne_eqb (w.newest + 1) c.rev (λ e. omega (arith, e, begun)))
           ∙ or_left (nat_lt w.floor (w.newest + 1)) (nat_lt w.floor c.rev) (lt-ltb w.floor (w.newest + 1) (omega (arith, order)))
@@ -86,7 +86,7 @@ module _ (w : Written) (sound : IsSound w) (config : Configured) (valid : Accept
           by_found : (u : Tuple) × In u (set.items (newest_of (history_of w)).held.tuples) × (eq_by_cmp tuple_cmp t u ≡ true) → In t (set.items (newest_of (history_of w)).held.tuples)
           by_found (u, i, e) = subst (λ v. In v (set.items (newest_of (history_of w)).held.tuples)) (sym (one_tuple t u e)) i
 
-      in_items : (l : Lived) → In l w.spans → is_alive w.newest l ≡ true → In l.tuple (set.items (newest_of (history_of w)).held.tuples)
+      in_items : (l : TupleSpan) → In l w.spans → is_alive w.newest l ≡ true → In l.tuple (set.items (newest_of (history_of w)).held.tuples)
       in_items l i alive = itself l.tuple
           (ap (λ s. set.contains s l.tuple) (held_tuples w sound) ∙ contains_of (is_alive w.newest) w.spans l.tuple ∙ any_in (is_of l.tuple (is_alive w.newest)) w.spans l i (here alive))
         where
@@ -112,16 +112,16 @@ module _ (w : Written) (sound : IsSound w) (config : Configured) (valid : Accept
     revs = let r = acc.revs in let n = newest_is w sound in omega (arith, r, n);
     spans_are = (stand_onwards w sound).are;
     apart = sound.apart;
-    configs_are = All-cons (IsRevised (w.newest + 1)) now w.configs (record { valid = valid; begins = omega arith; begun = omega arith }) (configs_onwards w sound);
+    configs_are = All-cons (IsConfigAt (w.newest + 1)) now w.configs (record { valid = valid; begins = omega arith; begun = omega arith }) (configs_onwards w sound);
     distinct = distinct_now;
     whole = whole_now;
     admitted = admitted_after;
-    rows = subst (λ r. spans_of r ≤ max_rows) (sym config_history) rows_now;
-    tuples = subst (λ r. set.len (newest_of r).held.tuples ≤ max_tuples) (sym config_history) tuples_now;
+    rows = subst (λ r. spans_of r ≤ MAX_ROWS) (sym config_history) rows_now;
+    tuples = subst (λ r. set.len (newest_of r).held.tuples ≤ MAX_TUPLES) (sym config_history) tuples_now;
   }
     where
-      rows_now : spans_of (with_commit (history_of w) (kinds.Config config)) ≤ max_rows
+      rows_now : spans_of (with_commit (history_of w) (kinds.Config config)) ≤ MAX_ROWS
       rows_now = let r = rows_push (history_of w).commits (kinds.Config config) in let a = sound.rows in omega (arith, r, a)
 
-      tuples_now : set.len (newest_of (with_commit (history_of w) (kinds.Config config))).held.tuples ≤ max_tuples
-      tuples_now = subst (λ (s : Snap). set.len s.tuples ≤ max_tuples) (sym (after_push (history_of w).base (history_of w).commits (kinds.Config config))) sound.tuples
+      tuples_now : set.len (newest_of (with_commit (history_of w) (kinds.Config config))).held.tuples ≤ MAX_TUPLES
+      tuples_now = subst (λ (s : Snap). set.len s.tuples ≤ MAX_TUPLES) (sym (after_push (history_of w).base (history_of w).commits (kinds.Config config))) sound.tuples

@@ -5,12 +5,12 @@ use Rattle.std.specs.List.{list_any}
 use Rattle.std.proofs.lemmas.Bool.{eqb-true, eqb-false}
 use Rattle.std.proofs.lemmas.List.{length-map}
 use Rattle.meaning.specs.Config.{Configured}
-use Rattle.store.specs.Written.{Lived, Revised, Written, is_moved, is_one, config_at, brings_one}
-use Rattle.store.specs.Reading.{lived_of, revised_of, written_of}
+use Rattle.store.specs.Written.{TupleSpan, ConfigAt, Written, is_moved, is_one, config_at, brings_one}
+use Rattle.store.specs.Reading.{as_span, as_config, as_written}
 use Rattle.store.specs.Refused.{IsWholeAbove}
-use Rattle.store.specs.declared.lived.LivedSpan.{LivedSpan}
-use Rattle.store.specs.declared.lived.RevisedConfig.{RevisedConfig}
-use Rattle.store.specs.declared.lived.Head.{Head}
+use Rattle.store.specs.declared.parts.ReadSpan.{ReadSpan}
+use Rattle.store.specs.declared.parts.ReadConfig.{ReadConfig}
+use Rattle.store.specs.declared.parts.Head.{Head}
 use Rattle.store.proofs.Picking.{In, found}
 use Rattle.store.proofs.Living.{moved_says}
 use Rattle.store.proofs.Once.{at_in}
@@ -55,20 +55,20 @@ all_there (suc n) floor xs h =
 
 -- ---- the revisions of rows
 
-revs_in : List Lived → List ℕ
+revs_in : List TupleSpan → List ℕ
 revs_in [] = []
 revs_in (l ∷ ls) = l.added ∷ l.removed ∷ revs_in ls
 
-revs_len : (ls : List Lived) → length (revs_in ls) ≡ length ls * 2
+revs_len : (ls : List TupleSpan) → length (revs_in ls) ≡ length ls * 2
 unfolding revs_in
 revs_len [] = refl
 revs_len (l ∷ ls) = let e = revs_len ls in omega (arith, e)
 
-in_revs : (rev : ℕ) (ls : List Lived) (l : Lived) → In l ls → (l.added ≡ rev) ⊎ (l.removed ≡ rev) → In rev (revs_in ls)
+in_revs : (rev : ℕ) (ls : List TupleSpan) (l : TupleSpan) → In l ls → (l.added ≡ rev) ⊎ (l.removed ≡ rev) → In rev (revs_in ls)
 unfolding revs_in
 in_revs rev [] l i h = absurd i
-in_revs rev (m ∷ ms) l (inl e) (inl h) = inl (sym h ∙ ap (λ (x : Lived). x.added) e)
-in_revs rev (m ∷ ms) l (inl e) (inr h) = inr (inl (sym h ∙ ap (λ (x : Lived). x.removed) e))
+in_revs rev (m ∷ ms) l (inl e) (inl h) = inl (sym h ∙ ap (λ (x : TupleSpan). x.added) e)
+in_revs rev (m ∷ ms) l (inl e) (inr h) = inr (inl (sym h ∙ ap (λ (x : TupleSpan). x.removed) e))
 in_revs rev (m ∷ ms) l (inr i) h = inr (inr (in_revs rev ms l i h))
 
 in_front : {A : Type 0} (x : A) (xs ys : List A) → In x xs → In x (xs ++ ys)
@@ -80,30 +80,30 @@ behind : {A : Type 0} (x : A) (xs ys : List A) → In x ys → In x (xs ++ ys)
 behind x [] ys i = i
 behind x (y ∷ xs) ys i = inr (behind x xs ys i)
 
-in_config : (cs : List Revised) (c : Revised) → In c cs → In c.rev (map (λ (c : Revised). c.rev) cs)
+in_config : (cs : List ConfigAt) (c : ConfigAt) → In c cs → In c.rev (map (λ (c : ConfigAt). c.rev) cs)
 in_config [] c i = absurd i
-in_config (d ∷ ds) c (inl e) = inl (ap (λ (c : Revised). c.rev) e)
+in_config (d ∷ ds) c (inl e) = inl (ap (λ (c : ConfigAt). c.rev) e)
 in_config (d ∷ ds) c (inr i) = inr (in_config ds c i)
 
-in_rows : (w : Written) (rev : ℕ) → brings_one w rev ≡ true → In rev (map (λ (c : Revised). c.rev) w.configs ++ revs_in w.spans)
+in_rows : (w : Written) (rev : ℕ) → brings_one w rev ≡ true → In rev (map (λ (c : ConfigAt). c.rev) w.configs ++ revs_in w.spans)
 in_rows w rev one = by_config (config_at rev w.configs) refl one
   where
-    by_config : (o : Option Configured) → config_at rev w.configs ≡ o → is_one o (list_any (is_moved rev) w.spans) ≡ true → In rev (map (λ (c : Revised). c.rev) w.configs ++ revs_in w.spans)
+    by_config : (o : Option Configured) → config_at rev w.configs ≡ o → is_one o (list_any (is_moved rev) w.spans) ≡ true → In rev (map (λ (c : ConfigAt). c.rev) w.configs ++ revs_in w.spans)
     by_config (Some config) e one =
         let c = at_in rev w.configs config e in
-        let P : ℕ → Type 0 = λ n. In n (map (λ (c : Revised). c.rev) w.configs ++ revs_in w.spans) in
-        subst P c.2 (in_front (c.0).rev (map (λ (c : Revised). c.rev) w.configs) (revs_in w.spans) (in_config w.configs c.0 c.1))
+        let P : ℕ → Type 0 = λ n. In n (map (λ (c : ConfigAt). c.rev) w.configs ++ revs_in w.spans) in
+        subst P c.2 (in_front (c.0).rev (map (λ (c : ConfigAt). c.rev) w.configs) (revs_in w.spans) (in_config w.configs c.0 c.1))
     by_config None e one =
         let l = found (is_moved rev) w.spans one in
-        behind rev (map (λ (c : Revised). c.rev) w.configs) (revs_in w.spans) (in_revs rev w.spans l.0 l.1 (moved_says rev l.0 l.2))
+        behind rev (map (λ (c : ConfigAt). c.rev) w.configs) (revs_in w.spans) (in_revs rev w.spans l.0 l.1 (moved_says rev l.0 l.2))
 
-pub few_refused : (head : Head) (spans : List LivedSpan) (configs : List RevisedConfig) → head.floor ≤ head.newest → length spans * 2 + length configs < head.newest - head.floor → IsWholeAbove (written_of head spans configs) → ⊥
+pub few_refused : (head : Head) (spans : List ReadSpan) (configs : List ReadConfig) → head.floor ≤ head.newest → length spans * 2 + length configs < head.newest - head.floor → IsWholeAbove (as_written head spans configs) → ⊥
 few_refused head spans configs order few whole =
-    let w = written_of head spans configs in
-    let most = all_there (head.newest - head.floor) head.floor (map (λ (c : Revised). c.rev) w.configs ++ revs_in w.spans) (λ k low high. in_rows w k (whole k low (omega (arith, high, order)))) in
-    let both = length-append (map (λ (c : Revised). c.rev) w.configs) (revs_in w.spans) in
-    let first = length-map w.configs (λ (c : Revised). c.rev) in
-    let configs_len = length-map configs revised_of in
+    let w = as_written head spans configs in
+    let most = all_there (head.newest - head.floor) head.floor (map (λ (c : ConfigAt). c.rev) w.configs ++ revs_in w.spans) (λ k low high. in_rows w k (whole k low (omega (arith, high, order)))) in
+    let both = length-append (map (λ (c : ConfigAt). c.rev) w.configs) (revs_in w.spans) in
+    let first = length-map w.configs (λ (c : ConfigAt). c.rev) in
+    let configs_len = length-map configs as_config in
     let second = revs_len w.spans in
-    let spans_len = length-map spans lived_of in
+    let spans_len = length-map spans as_span in
     omega (arith, few, most, both, first, configs_len, second, spans_len)

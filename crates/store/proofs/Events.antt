@@ -10,26 +10,26 @@ use Rattle.names.specs.declared.commit.EventKind.{EventKind}
 use Rattle.names.specs.declared.commit.EventKind.TheVariants.{Put, Del}
 use Rattle.meaning.specs.History.{after_event}
 use Rattle.meaning.proofs.TupleSets.{same_tuples}
-use Rattle.store.specs.Written.{Lived, IsSpan, Pairwise, is_alive, is_moved, tuples_of, is_put_at, are_apart}
+use Rattle.store.specs.Written.{TupleSpan, IsSpan, Pairwise, is_alive, is_moved, tuples_of, is_put_at, are_apart}
 use Rattle.store.proofs.Picking.{In, all_in, any_same}
 use Rattle.store.proofs.Living.{is_of, one_tuple, contains_of, alive_says, alive_from}
 use Rattle.store.proofs.Held.{puts, after_kind_has}
 
 -- the open span of the tuple ends
-abbrev pub ended : ℕ → Tuple → Lived → Lived
+abbrev pub ended : ℕ → Tuple → TupleSpan → TupleSpan
 ended rev t l = cond (is_same_tuple t l.tuple && (l.removed == 0)) (record { tuple = l.tuple; added = l.added; removed = rev }) l
 
-abbrev pub begun : ℕ → Tuple → Lived
+abbrev pub begun : ℕ → Tuple → TupleSpan
 begun rev t = record { tuple = t; added = rev; removed = 0 }
 
-abbrev pub with_kind : EventKind → ℕ → Tuple → List Lived → List Lived
+abbrev pub with_kind : EventKind → ℕ → Tuple → List TupleSpan → List TupleSpan
 with_kind Put rev t spans = begun rev t ∷ map (ended rev t) spans
 with_kind Del rev t spans = map (ended rev t) spans
 
-abbrev pub with_event : ℕ → List Lived → Event → List Lived
+abbrev pub with_event : ℕ → List TupleSpan → Event → List TupleSpan
 with_event rev spans e = with_kind e.kind rev e.tuple spans
 
-abbrev pub with_events : ℕ → List Event → List Lived → List Lived
+abbrev pub with_events : ℕ → List Event → List TupleSpan → List TupleSpan
 with_events rev [] spans = spans
 with_events rev (e ∷ es) spans = with_events rev es (with_event rev spans e)
 
@@ -39,7 +39,7 @@ same_itself t q e h = ap (is_same_tuple t) (sym e) ∙ h
 -- ---- one span
 
 -- what ending does, by cases
-pub ended_cases : (rev : ℕ) (t : Tuple) (l : Lived) → ((is_same_tuple t l.tuple ≡ true) × (l.removed ≡ 0) × (ended rev t l ≡ record { tuple = l.tuple; added = l.added; removed = rev }))
+pub ended_cases : (rev : ℕ) (t : Tuple) (l : TupleSpan) → ((is_same_tuple t l.tuple ≡ true) × (l.removed ≡ 0) × (ended rev t l ≡ record { tuple = l.tuple; added = l.added; removed = rev }))
     ⊎ (((is_same_tuple t l.tuple ≡ true) → l.removed ≡ 0 → ⊥) × (ended rev t l ≡ l))
 ended_cases rev t l = by_test (is_same_tuple t l.tuple && (l.removed == 0)) refl
   where
@@ -50,7 +50,7 @@ ended_cases rev t l = by_test (is_same_tuple t l.tuple && (l.removed == 0)) refl
     by_test false e = inr (λ s r. true≢false (sym (and_from (is_same_tuple t l.tuple) (l.removed == 0) s (eq-eqb l.removed 0 r)) ∙ e), refl)
 
 -- a fact of both the span and what it is when it ends is one of what it is
-pub ended_either : (P : Lived → Type 0) (rev : ℕ) (t : Tuple) (l : Lived)
+pub ended_either : (P : TupleSpan → Type 0) (rev : ℕ) (t : Tuple) (l : TupleSpan)
     → (is_same_tuple t l.tuple ≡ true → l.removed ≡ 0 → P (record { tuple = l.tuple; added = l.added; removed = rev }))
     → (((is_same_tuple t l.tuple ≡ true) → l.removed ≡ 0 → ⊥) → P l) → P (ended rev t l)
 ended_either P rev t l a b = by_case (ended_cases rev t l)
@@ -60,20 +60,20 @@ ended_either P rev t l a b = by_case (ended_cases rev t l)
     by_case (inl h) = subst P (sym h.2) (a h.0 h.1)
     by_case (inr h) = subst P (sym h.1) (b h.0)
 
-pub ended_tuple : (rev : ℕ) (t : Tuple) (l : Lived) → (ended rev t l).tuple ≡ l.tuple
+pub ended_tuple : (rev : ℕ) (t : Tuple) (l : TupleSpan) → (ended rev t l).tuple ≡ l.tuple
 ended_tuple rev t l = ended_either (λ m. m.tuple ≡ l.tuple) rev t l (λ _ _. refl) (λ _. refl)
 
-pub ended_added : (rev : ℕ) (t : Tuple) (l : Lived) → (ended rev t l).added ≡ l.added
+pub ended_added : (rev : ℕ) (t : Tuple) (l : TupleSpan) → (ended rev t l).added ≡ l.added
 ended_added rev t l = ended_either (λ m. m.added ≡ l.added) rev t l (λ _ _. refl) (λ _. refl)
 
 -- at older revisions nothing changes
-pub ended_alive : (rev at : ℕ) (t : Tuple) (l : Lived) → at < rev → is_alive at (ended rev t l) ≡ is_alive at l
+pub ended_alive : (rev at : ℕ) (t : Tuple) (l : TupleSpan) → at < rev → is_alive at (ended rev t l) ≡ is_alive at l
 ended_alive rev at t l old = ended_either (λ m. is_alive at m ≡ is_alive at l) rev t l (λ _ zero_is. ap (λ b. nat_le l.added at && b) (open_there zero_is)) (λ _. refl)
   where
     open_there : l.removed ≡ 0 → ((rev == 0) || nat_lt at rev) ≡ ((l.removed == 0) || nat_lt at l.removed)
     open_there z = or_right (rev == 0) (nat_lt at rev) (lt-ltb at rev old) ∙ sym (or_left (l.removed == 0) (nat_lt at l.removed) (eq-eqb l.removed 0 z))
 
-pub ended_moved : (rev at : ℕ) (t : Tuple) (l : Lived) → at < rev → 0 < at → is_moved at (ended rev t l) ≡ is_moved at l
+pub ended_moved : (rev at : ℕ) (t : Tuple) (l : TupleSpan) → at < rev → 0 < at → is_moved at (ended rev t l) ≡ is_moved at l
 ended_moved rev at t l old some = ended_either (λ m. is_moved at m ≡ is_moved at l) rev t l (λ _ zero_is. ap (λ b. (l.added == at) || b) (never zero_is)) (λ _. refl)
   where
     differ : rev ≡ at → ⊥
@@ -92,11 +92,11 @@ any_map f p [] = refl
 any_map f p (x ∷ xs) = ap (λ b. p (f x) || b) (any_map f p xs)
 
 -- a test that does not see the end finds what it found
-pub any_ended : (test : Lived → Bool) (rev : ℕ) (t : Tuple) (spans : List Lived) → ((l : Lived) → In l spans → test (ended rev t l) ≡ test l) → list_any test (map (ended rev t) spans) ≡ list_any test spans
+pub any_ended : (test : TupleSpan → Bool) (rev : ℕ) (t : Tuple) (spans : List TupleSpan) → ((l : TupleSpan) → In l spans → test (ended rev t l) ≡ test l) → list_any test (map (ended rev t) spans) ≡ list_any test spans
 any_ended test rev t spans h = any_map (ended rev t) test spans ∙ any_same (λ l. test (ended rev t l)) test spans h
 
 -- a test that is false of what begins finds what it found
-pub any_older : (test : Lived → Bool) (rev : ℕ) (e : Event) (spans : List Lived) → ((l : Lived) → In l spans → test (ended rev e.tuple l) ≡ test l) → test (begun rev e.tuple) ≡ false
+pub any_older : (test : TupleSpan → Bool) (rev : ℕ) (e : Event) (spans : List TupleSpan) → ((l : TupleSpan) → In l spans → test (ended rev e.tuple l) ≡ test l) → test (begun rev e.tuple) ≡ false
     → list_any test (with_event rev spans e) ≡ list_any test spans
 any_older test rev e spans h new = by_kind e.kind
   where
@@ -104,29 +104,29 @@ any_older test rev e spans h new = by_kind e.kind
     by_kind Put = ap (λ b. b || list_any test (map (ended rev e.tuple) spans)) new ∙ any_ended test rev e.tuple spans h
     by_kind Del = any_ended test rev e.tuple spans h
 
-pub alive_older : (rev at : ℕ) (e : Event) (spans : List Lived) (q : Tuple) → at < rev → list_any (is_of q (is_alive at)) (with_event rev spans e) ≡ list_any (is_of q (is_alive at)) spans
+pub alive_older : (rev at : ℕ) (e : Event) (spans : List TupleSpan) (q : Tuple) → at < rev → list_any (is_of q (is_alive at)) (with_event rev spans e) ≡ list_any (is_of q (is_alive at)) spans
 alive_older rev at e spans q old = any_older (is_of q (is_alive at)) rev e spans (λ l _. ap (λ t. is_same_tuple q t && is_alive at (ended rev e.tuple l)) (ended_tuple rev e.tuple l) ∙ ap (λ b. is_same_tuple q l.tuple && b) (ended_alive rev at e.tuple l old))
     (and_right (is_same_tuple q e.tuple) _ (and_left (nat_le rev at) _ (lt-leb rev at old)))
 
-pub moved_older : (rev at : ℕ) (e : Event) (spans : List Lived) (q : Tuple) → at < rev → 0 < at → list_any (is_of q (is_moved at)) (with_event rev spans e) ≡ list_any (is_of q (is_moved at)) spans
+pub moved_older : (rev at : ℕ) (e : Event) (spans : List TupleSpan) (q : Tuple) → at < rev → 0 < at → list_any (is_of q (is_moved at)) (with_event rev spans e) ≡ list_any (is_of q (is_moved at)) spans
 moved_older rev at e spans q old some = any_older (is_of q (is_moved at)) rev e spans (λ l _. ap (λ t. is_same_tuple q t && is_moved at (ended rev e.tuple l)) (ended_tuple rev e.tuple l) ∙ ap (λ b. is_same_tuple q l.tuple && b) (ended_moved rev at e.tuple l old some))
     (and_right (is_same_tuple q e.tuple) _ (or_from (rev == at) (0 == at) (ne_eqb rev at (λ x. omega (arith, x, old))) (ne_eqb 0 at (λ x. omega (arith, x, some)))))
 
-pub any_moved_older : (rev at : ℕ) (e : Event) (spans : List Lived) → at < rev → 0 < at → list_any (is_moved at) (with_event rev spans e) ≡ list_any (is_moved at) spans
+pub any_moved_older : (rev at : ℕ) (e : Event) (spans : List TupleSpan) → at < rev → 0 < at → list_any (is_moved at) (with_event rev spans e) ≡ list_any (is_moved at) spans
 any_moved_older rev at e spans old some = any_older (is_moved at) rev e spans (λ l _. ended_moved rev at e.tuple l old some)
     (or_from (rev == at) (0 == at) (ne_eqb rev at (λ x. omega (arith, x, old))) (ne_eqb 0 at (λ x. omega (arith, x, some))))
 
 -- whether some span of the tuple begins at a revision
-ended_put : (rev at : ℕ) (t q : Tuple) (l : Lived) → (is_same_tuple q (ended rev t l).tuple && ((ended rev t l).added == at)) ≡ (is_same_tuple q l.tuple && (l.added == at))
+ended_put : (rev at : ℕ) (t q : Tuple) (l : TupleSpan) → (is_same_tuple q (ended rev t l).tuple && ((ended rev t l).added == at)) ≡ (is_same_tuple q l.tuple && (l.added == at))
 ended_put rev at t q l = ended_either (λ m. (is_same_tuple q m.tuple && (m.added == at)) ≡ (is_same_tuple q l.tuple && (l.added == at))) rev t l (λ _ _. refl) (λ _. refl)
 
-pub put_older : (rev at : ℕ) (e : Event) (spans : List Lived) (q : Tuple) → at < rev → is_put_at at (with_event rev spans e) q ≡ is_put_at at spans q
+pub put_older : (rev at : ℕ) (e : Event) (spans : List TupleSpan) (q : Tuple) → at < rev → is_put_at at (with_event rev spans e) q ≡ is_put_at at spans q
 put_older rev at e spans q old = any_older (λ l. is_same_tuple q l.tuple && (l.added == at)) rev e spans (λ l _. ended_put rev at e.tuple q l) (and_right (is_same_tuple q e.tuple) _ (ne_eqb rev at (λ x. omega (arith, x, old))))
 
-pub put_now : (rev : ℕ) (e : Event) (spans : List Lived) (q : Tuple) → is_put_at rev (with_event rev spans e) q ≡ ((is_same_tuple q e.tuple && puts e.kind) || is_put_at rev spans q)
+pub put_now : (rev : ℕ) (e : Event) (spans : List TupleSpan) (q : Tuple) → is_put_at rev (with_event rev spans e) q ≡ ((is_same_tuple q e.tuple && puts e.kind) || is_put_at rev spans q)
 put_now rev e spans q = by_kind e.kind
   where
-    test : Lived → Bool
+    test : TupleSpan → Bool
     test l = is_same_tuple q l.tuple && (l.added == rev)
 
     rest : list_any (λ l. is_same_tuple q l.tuple && (l.added == rev)) (map (ended rev e.tuple) spans) ≡ is_put_at rev spans q
@@ -143,11 +143,11 @@ put_now rev e spans q = by_kind e.kind
 -- ---- one event: which spans stand
 
 -- every span is as it should be, and those of one tuple lie apart
-pub record Stand (floor rev : ℕ) (spans : List Lived) : Type 0 where
+pub record Stand (floor rev : ℕ) (spans : List TupleSpan) : Type 0 where
   pub are : All (IsSpan floor rev) spans
   pub apart : Pairwise are_apart spans
 
-pub removed_most : (floor rev : ℕ) (l : Lived) → IsSpan floor rev l → l.removed ≤ rev
+pub removed_most : (floor rev : ℕ) (l : TupleSpan) → IsSpan floor rev l → l.removed ≤ rev
 removed_most floor rev l span = by_end span.ends
   where
     by_end : (l.removed ≡ 0) ⊎ ((l.added < l.removed) × (floor < l.removed) × (l.removed ≤ rev)) → l.removed ≤ rev
@@ -155,19 +155,19 @@ removed_most floor rev l span = by_end span.ends
     by_end (inr e) = e.2
 
 -- at the revision itself
-pub alive_open : (floor rev : ℕ) (l : Lived) → IsSpan floor rev l → is_alive rev l ≡ true → l.removed ≡ 0
+pub alive_open : (floor rev : ℕ) (l : TupleSpan) → IsSpan floor rev l → is_alive rev l ≡ true → l.removed ≡ 0
 alive_open floor rev l span h = by_end (alive_says rev l h).1 (removed_most floor rev l span)
   where
     by_end : (l.removed ≡ 0) ⊎ (rev < l.removed) → l.removed ≤ rev → l.removed ≡ 0
     by_end (inl z) most = z
     by_end (inr x) most = omega (arith, x, most)
 
-not_alive : (rev : ℕ) (l : Lived) → 0 < l.removed → l.removed ≤ rev → is_alive rev l ≡ false
+not_alive : (rev : ℕ) (l : TupleSpan) → 0 < l.removed → l.removed ≤ rev → is_alive rev l ≡ false
 not_alive rev l some most = and_right (nat_le l.added rev) _ (or_from (l.removed == 0) (nat_lt rev l.removed) (ne_eqb l.removed 0 (λ x. omega (arith, x, some))) (le-ltb rev l.removed most))
 
-module _ (floor rev : ℕ) (spans : List Lived) (stand : Stand floor rev spans) where
+module _ (floor rev : ℕ) (spans : List TupleSpan) (stand : Stand floor rev spans) where
   -- what is alive after the event
-  ended_now : 0 < rev → (t q : Tuple) (l : Lived) → In l spans → is_of q (is_alive rev) (ended rev t l) ≡ (not (is_same_tuple q t) && is_of q (is_alive rev) l)
+  ended_now : 0 < rev → (t q : Tuple) (l : TupleSpan) → In l spans → is_of q (is_alive rev) (ended rev t l) ≡ (not (is_same_tuple q t) && is_of q (is_alive rev) l)
   ended_now some t q l i = ended_either (λ m. is_of q (is_alive rev) m ≡ (not (is_same_tuple q t) && is_of q (is_alive rev) l)) rev t l ends stays
     where
       span : IsSpan floor rev l
@@ -199,7 +199,7 @@ module _ (floor rev : ℕ) (spans : List Lived) (stand : Stand floor rev spans) 
   pub alive_now : 0 < rev → (e : Event) (q : Tuple) → list_any (is_of q (is_alive rev)) (with_event rev spans e) ≡ cond (is_same_tuple q e.tuple) (puts e.kind) (list_any (is_of q (is_alive rev)) spans)
   alive_now some e q = by_kind e.kind
     where
-      any_and : (b : Bool) (p : Lived → Bool) (ls : List Lived) → list_any (λ l. b && p l) ls ≡ (b && list_any p ls)
+      any_and : (b : Bool) (p : TupleSpan → Bool) (ls : List TupleSpan) → list_any (λ l. b && p l) ls ≡ (b && list_any p ls)
       any_and true p [] = refl
       any_and false p [] = refl
       any_and true p (l ∷ ls) = ap (λ c. p l || c) (any_and true p ls)

@@ -6,6 +6,7 @@ use Rattle.std.specs.Cmp.{eq_by_cmp_equiv}
 use Rattle.std.specs.Ordering.{eq_by_cmp}
 use Rattle.std.proofs.lemmas.Bool.{true≢false, or_left, or_parts, or_from, and_parts, and_from, and_right, ne_eqb, cases_lt, not-true}
 use Rattle.std.proofs.lemmas.List.Elements.{All-head, All-tail, All-weaker}
+use Rattle.names.specs.declared.limits.TheConstants.{MAX_ROWS, MAX_TUPLES}
 use Rattle.names.specs.Spelling.{IsTuple}
 use Rattle.names.specs.Order.{tuple_cmp, is_same_tuple}
 use Rattle.names.specs.declared.tuple.Tuple.{Tuple}
@@ -19,12 +20,11 @@ use Rattle.meaning.specs.TupleSet.{Tuples}
 use Rattle.meaning.specs.Config.{Configured}
 use Rattle.meaning.specs.Snap.{Snap}
 use Rattle.meaning.specs.Admits.{admits}
-use Rattle.meaning.specs.Verdict.{max_rows, max_tuples}
 use Rattle.meaning.specs.History.{History, after_commit, after_commits, rows_of, commit_rows}
 use Rattle.meaning.proofs.TupleSets.{contains_from_list, same_tuples, items_from_list, tuples_total}
 use Rattle.rows.specs.Retained.{Retained, newest, newest_of, spans_of, with_commit}
 use Rattle.rows.specs.Follows.{IsNext}
-use Rattle.store.specs.Written.{Lived, Revised, Written, IsSpan, IsSound, IsRevised, is_alive, is_moved, tuples_of, is_put_at, event_at, events_at, config_at, commit_of, commit_at, commits_above, config_up_to, is_one, brings_one, history_of}
+use Rattle.store.specs.Written.{TupleSpan, ConfigAt, Written, IsSpan, IsSound, IsConfigAt, is_alive, is_moved, tuples_of, is_put_at, event_at, events_at, config_at, commit_of, commit_at, commits_above, config_up_to, is_one, brings_one, history_of}
 use Rattle.store.proofs.Picking.{In, same_bool, found, any_in, all_in, all_from, any_same, any_none, pair_in}
 use Rattle.store.proofs.Living.{is_of, contains_of, alive_still}
 use Rattle.store.proofs.Held.{puts, whole_of, held_newest, last_still}
@@ -68,17 +68,17 @@ same_snap c d s t p q = cc
 -- ---- the rows at the next revision, before a commit
 
 module _ (w : Written) (sound : IsSound w) where
-  span_at : (l : Lived) → In l w.spans → IsSpan w.floor w.newest l
+  span_at : (l : TupleSpan) → In l w.spans → IsSpan w.floor w.newest l
   span_at l i = all_in (IsSpan w.floor w.newest) w.spans sound.spans_are l i
 
-  removed_at : (l : Lived) → In l w.spans → l.removed ≤ w.newest
+  removed_at : (l : TupleSpan) → In l w.spans → l.removed ≤ w.newest
   removed_at l i = by_end (span_at l i).ends
     where
       by_end : (l.removed ≡ 0) ⊎ ((l.added < l.removed) × (w.floor < l.removed) × (l.removed ≤ w.newest)) → l.removed ≤ w.newest
       by_end (inl z) = omega (arith, z)
       by_end (inr e) = e.2
 
-  pub unmoved_next : (l : Lived) → In l w.spans → is_moved (w.newest + 1) l ≡ false
+  pub unmoved_next : (l : TupleSpan) → In l w.spans → is_moved (w.newest + 1) l ≡ false
   unmoved_next l i =
       let begun = (span_at l i).begun in let removed = removed_at l i in
       or_from (l.added == (w.newest + 1)) (l.removed == (w.newest + 1)) (ne_eqb l.added (w.newest + 1) (λ e. omega (arith, e, begun))) (ne_eqb l.removed (w.newest + 1) (λ e. omega (arith, e, removed)))
@@ -89,14 +89,14 @@ module _ (w : Written) (sound : IsSound w) where
   pub no_config : config_at (w.newest + 1) w.configs ≡ None
   no_config = none w.configs sound.configs_are
     where
-      none : (cs : List Revised) → All (IsRevised w.newest) cs → config_at (w.newest + 1) cs ≡ None
+      none : (cs : List ConfigAt) → All (IsConfigAt w.newest) cs → config_at (w.newest + 1) cs ≡ None
       none [] h = refl
       none (c ∷ cs) h =
-          let begun = (All-head (IsRevised w.newest) c cs h).begun in
-          ap (λ b. cond b (Some c.config) (config_at (w.newest + 1) cs)) (ne_eqb c.rev (w.newest + 1) (λ e. omega (arith, e, begun))) ∙ none cs (All-tail (IsRevised w.newest) c cs h)
+          let begun = (All-head (IsConfigAt w.newest) c cs h).begun in
+          ap (λ b. cond b (Some c.config) (config_at (w.newest + 1) cs)) (ne_eqb c.rev (w.newest + 1) (λ e. omega (arith, e, begun))) ∙ none cs (All-tail (IsConfigAt w.newest) c cs h)
 
   config_onwards : config_up_to (w.newest + 1) w.configs ≡ config_up_to w.newest w.configs
-  config_onwards = ap (λ (l : Revised). l.config) (last_still w.newest w.configs no_config)
+  config_onwards = ap (λ (l : ConfigAt). l.config) (last_still w.newest w.configs no_config)
 
   pub newest_is : newest (history_of w) ≡ w.newest
   newest_is = let n = commits_length w (w.newest - w.floor) w.floor in let o = sound.order in omega (arith, n, o)
@@ -110,7 +110,7 @@ module _ (w : Written) (sound : IsSound w) where
   pub stand_onwards : Stand w.floor (w.newest + 1) w.spans
   stand_onwards = record { are = All-weaker (IsSpan w.floor w.newest) (IsSpan w.floor (w.newest + 1)) later w.spans sound.spans_are; apart = sound.apart }
     where
-      later : (l : Lived) → IsSpan w.floor w.newest l → IsSpan w.floor (w.newest + 1) l
+      later : (l : TupleSpan) → IsSpan w.floor w.newest l → IsSpan w.floor (w.newest + 1) l
       later l span = record { spelled = span.spelled; begins = span.begins; begun = more span.begun; ends = by_end span.ends }
         where
           more : l.added ≤ w.newest → l.added ≤ w.newest + 1
@@ -120,10 +120,10 @@ module _ (w : Written) (sound : IsSound w) where
           by_end (inl z) = inl z
           by_end (inr e) = let m = e.2 in inr (e.0, e.1, omega (arith, m))
 
-  pub configs_onwards : All (IsRevised (w.newest + 1)) w.configs
-  configs_onwards = All-weaker (IsRevised w.newest) (IsRevised (w.newest + 1)) later w.configs sound.configs_are
+  pub configs_onwards : All (IsConfigAt (w.newest + 1)) w.configs
+  configs_onwards = All-weaker (IsConfigAt w.newest) (IsConfigAt (w.newest + 1)) later w.configs sound.configs_are
     where
-      later : (c : Revised) → IsRevised w.newest c → IsRevised (w.newest + 1) c
+      later : (c : ConfigAt) → IsConfigAt w.newest c → IsConfigAt (w.newest + 1) c
       later c h = record { valid = h.valid; begins = h.begins; begun = more h.begun }
         where
           more : c.rev ≤ w.newest → c.rev ≤ w.newest + 1
@@ -243,7 +243,7 @@ module _ (w : Written) (sound : IsSound w) where
         by_first [] some h = absurd (omega (arith, some))
         by_first (e ∷ fs) some h = by_found (found (is_of e.tuple (is_moved (w.newest + 1))) (with_events (w.newest + 1) es w.spans) (h e (inl refl)))
           where
-            by_found : (l : Lived) × In l (with_events (w.newest + 1) es w.spans) × (is_of e.tuple (is_moved (w.newest + 1)) l ≡ true) → list_any (is_moved (w.newest + 1)) (with_events (w.newest + 1) es w.spans) ≡ true
+            by_found : (l : TupleSpan) × In l (with_events (w.newest + 1) es w.spans) × (is_of e.tuple (is_moved (w.newest + 1)) l ≡ true) → list_any (is_moved (w.newest + 1)) (with_events (w.newest + 1) es w.spans) ≡ true
             by_found (l, i, m) = any_in (is_moved (w.newest + 1)) (with_events (w.newest + 1) es w.spans) l i (and_parts (is_same_tuple e.tuple l.tuple) (is_moved (w.newest + 1) l) m).1
 
     whole_now : (at : ℕ) → w.floor < at → at ≤ w.newest + 1 → brings_one (with_tuples es) at ≡ true
@@ -278,12 +278,12 @@ module _ (w : Written) (sound : IsSound w) where
       distinct = sound.distinct;
       whole = whole_now;
       admitted = admitted_after;
-      rows = subst (λ r. spans_of r ≤ max_rows) (sym tuples_history) rows_now;
-      tuples = subst (λ r. set.len (newest_of r).held.tuples ≤ max_tuples) (sym tuples_history) tuples_now;
+      rows = subst (λ r. spans_of r ≤ MAX_ROWS) (sym tuples_history) rows_now;
+      tuples = subst (λ r. set.len (newest_of r).held.tuples ≤ MAX_TUPLES) (sym tuples_history) tuples_now;
     }
       where
-        rows_now : spans_of (with_commit (history_of w) (kinds.Tuples es)) ≤ max_rows
+        rows_now : spans_of (with_commit (history_of w) (kinds.Tuples es)) ≤ MAX_ROWS
         rows_now = let r = rows_push (history_of w).commits (kinds.Tuples es) in let a = acc.rows in omega (arith, r, a)
 
-        tuples_now : set.len (newest_of (with_commit (history_of w) (kinds.Tuples es))).held.tuples ≤ max_tuples
-        tuples_now = subst (λ (s : Snap). set.len s.tuples ≤ max_tuples) (sym (after_push (history_of w).base (history_of w).commits (kinds.Tuples es))) acc.tuples
+        tuples_now : set.len (newest_of (with_commit (history_of w) (kinds.Tuples es))).held.tuples ≤ MAX_TUPLES
+        tuples_now = subst (λ (s : Snap). set.len s.tuples ≤ MAX_TUPLES) (sym (after_push (history_of w).base (history_of w).commits (kinds.Tuples es))) acc.tuples

@@ -15,7 +15,7 @@ use Rattle.meaning.specs.Snap.{Snap}
 use Rattle.meaning.specs.History.{after_kind, replay, after_commit, after_commits}
 use Rattle.meaning.proofs.TupleSets.{contains_items, contains_insert, contains_remove, same_tuples}
 use Rattle.rows.specs.Retained.{snap_at, newest_of}
-use Rattle.store.specs.Written.{Revised, Written, IsSpan, IsSound, Pairwise, is_alive, is_moved, tuples_of, is_put_at, events_at, config_at, commit_of, commit_at, commits_above, last_up_to, config_up_to, are_apart, are_distinct, is_one, brings_one, history_of}
+use Rattle.store.specs.Written.{ConfigAt, Written, IsSpan, IsSound, Pairwise, is_alive, is_moved, tuples_of, is_put_at, events_at, config_at, commit_of, commit_at, commits_above, last_up_to, config_up_to, are_apart, are_distinct, is_one, brings_one, history_of}
 use Rattle.store.proofs.Picking.{In, same_bool, found, any_in, all_in}
 use Rattle.store.proofs.Living.{is_of, one_tuple, contains_of, alive_next}
 
@@ -64,7 +64,7 @@ replayed g (t ∷ ts) s q = replayed g ts (after_kind (cond (g t) Put Del) t s) 
 
 -- ---- configurations
 
-pub last_below : (rev : ℕ) (cs : List Revised) → (last_up_to rev cs).rev ≤ rev
+pub last_below : (rev : ℕ) (cs : List ConfigAt) → (last_up_to rev cs).rev ≤ rev
 last_below rev [] = omega arith
 last_below rev (c ∷ cs) = by_first (nat_le c.rev rev) refl (nat_lt (last_up_to rev cs).rev c.rev) (last_below rev cs)
   where
@@ -74,7 +74,7 @@ last_below rev (c ∷ cs) = by_first (nat_le c.rev rev) refl (nat_lt (last_up_to
     by_first false e b rest = rest
 
 -- where none is of the next revision, the last is as before it
-pub last_still : (rev : ℕ) (cs : List Revised) → config_at (rev + 1) cs ≡ None → last_up_to (rev + 1) cs ≡ last_up_to rev cs
+pub last_still : (rev : ℕ) (cs : List ConfigAt) → config_at (rev + 1) cs ≡ None → last_up_to (rev + 1) cs ≡ last_up_to rev cs
 last_still rev [] h = refl
 last_still rev (c ∷ cs) h = by_here (last_still rev cs) (c.rev == (rev + 1)) refl h
   where
@@ -87,11 +87,11 @@ last_still rev (c ∷ cs) h = by_here (last_still rev cs) (c.rev == (rev + 1)) r
         → cond (nat_le c.rev (rev + 1) && nat_lt (last_up_to (rev + 1) cs).rev c.rev) c (last_up_to (rev + 1) cs) ≡ cond (nat_le c.rev rev && nat_lt (last_up_to rev cs).rev c.rev) c (last_up_to rev cs)
     by_here rest true e h = cc
     by_here rest false e h =
-        ap (λ (l : Revised). cond (nat_le c.rev (rev + 1) && nat_lt l.rev c.rev) c l) (rest h)
+        ap (λ (l : ConfigAt). cond (nat_le c.rev (rev + 1) && nat_lt l.rev c.rev) c l) (rest h)
         ∙ ap (λ b. cond (b && nat_lt (last_up_to rev cs).rev c.rev) c (last_up_to rev cs)) (same_le (eqb-false c.rev (rev + 1) e))
 
 -- the last of configurations that are of other revisions
-last_other : (rev : ℕ) (cs : List Revised) → 0 < rev → ((c : Revised) → In c cs → c.rev ≡ rev → ⊥) → (last_up_to rev cs).rev < rev
+last_other : (rev : ℕ) (cs : List ConfigAt) → 0 < rev → ((c : ConfigAt) → In c cs → c.rev ≡ rev → ⊥) → (last_up_to rev cs).rev < rev
 last_other rev [] some others = some
 last_other rev (c ∷ cs) some others = by_first (nat_le c.rev rev) refl (nat_lt (last_up_to rev cs).rev c.rev) (last_other rev cs some (λ d i. others d (inr i)))
   where
@@ -104,11 +104,11 @@ last_other rev (c ∷ cs) some others = by_first (nat_le c.rev rev) refl (nat_lt
     by_first false e b rest = rest
 
 -- where one is of the revision, it is the last
-pub last_here : (floor rev : ℕ) (cs : List Revised) (config : Configured) → 0 < rev → Pairwise (are_distinct floor) cs → config_at rev cs ≡ Some config → (config_up_to rev cs ≡ config) × ((last_up_to rev cs).rev ≡ rev)
+pub last_here : (floor rev : ℕ) (cs : List ConfigAt) (config : Configured) → 0 < rev → Pairwise (are_distinct floor) cs → config_at rev cs ≡ Some config → (config_up_to rev cs ≡ config) × ((last_up_to rev cs).rev ≡ rev)
 last_here floor rev [] config some apart h = cc
 last_here floor rev (c ∷ cs) config some apart h = by_here (last_here floor rev cs config some apart.1) (c.rev == rev) refl h
   where
-    differs : (d : Revised) → are_distinct floor c d ≡ true → c.rev ≡ d.rev → ⊥
+    differs : (d : ConfigAt) → are_distinct floor c d ≡ true → c.rev ≡ d.rev → ⊥
     differs d h e = true≢false (sym h ∙ ap (λ b. cond b false (nat_lt floor c.rev || nat_lt floor d.rev)) (eq-eqb c.rev d.rev e))
 
     is_last : c.rev ≡ rev → c.config ≡ config → (nat_le c.rev rev && nat_lt (last_up_to rev cs).rev c.rev) ≡ true
@@ -192,7 +192,7 @@ module _ (w : Written) (sound : IsWhole w) where
       by_kind (Some config) e one =
           snap_by config (config_up_to (rev + 1) w.configs) _ _ (sym (last_here w.floor (rev + 1) w.configs config (omega arith) sound.distinct e).0)
           (by_config rev (not-true (list_any (is_moved (rev + 1)) w.spans) (sym (ap (λ o. is_one o (list_any (is_moved (rev + 1)) w.spans)) e) ∙ one)))
-      by_kind None e one = snap_by _ _ _ _ (sym (ap (λ (l : Revised). l.config) (last_still rev w.configs e))) (by_events rev)
+      by_kind None e one = snap_by _ _ _ _ (sym (ap (λ (l : ConfigAt). l.config) (last_still rev w.configs e))) (by_events rev)
 
   -- what the history holds a number of revisions above one
   pub held_above : (n rev : ℕ) → w.floor ≤ rev → rev + n ≤ w.newest → after_commits (snap_in w rev) (commits_above w rev n) ≡ snap_in w (rev + n)

@@ -1,4 +1,4 @@
--- What a connection keeps and leaves of a history.
+-- What a connection holds and leaves of a history.
 use Rattle.std.proofs.Common.{◌≡◌, inl, inr, IsTrue, refl, sym, subst, ◌∙◌, arith}
 use Rattle.sqlite.specs.Store.{Ghosts}
 use Rattle.sqlite.specs.Tree.{Trees}
@@ -10,15 +10,11 @@ use Rattle.names.specs.declared.commit.Commit.{Commit}
 use Rattle.meaning.specs.Config.{Configured}
 use Rattle.rows.specs.Retained.{Retained, with_commit}
 use Rattle.store_core.specs.Tables.{Contents, Holds}
-use Rattle.store_core.specs.Steps.{Stores, Undone, MayStore}
+use Rattle.store_core.specs.Steps.{Stores, Undoes, LeavesAtMost, MayStore}
 use Rattle.store_core.specs.Leaves.{Stands}
 use Rattle.store_core.proofs.LeavesLemmas.{Settles}
 use Rattle.store.specs.Written.{IsHistory}
-use Rattle.store.specs.Keeping.{KeepsHistory, LeavesHistory, IsEither}
-
--- nothing has happened
-pub survives_same : (s : State) (P : Trees → Type 0) → Survives s s P
-survives_same s P = record { clean = omega arith; shield = λ x. x; counts = omega arith; limit = refl; closes = λ _ is. inl is; crash = λ _ db left. inl left }
+use Rattle.store.specs.History.{HoldsHistory, LeavesHistory, IsEither}
 
 pub clean_before : (old new : State) (P : Trees → Type 0) → Survives old new P → HasCleanDisk new → HasCleanDisk old
 clean_before old new P survives clean = omega (arith, survives.clean, clean)
@@ -31,17 +27,17 @@ stands_still old new h same stands = record {
 }
 
 module _ {S : Type 0} (g : Ghosts S) where
-  -- what is kept, kept on
-  pub keeps_still : (old new : Held S) (r : Retained) (P : Trees → Type 0) → KeepsHistory g old r → Survives (state g old) (state g new) P
-      → (HasCleanDisk (state g new) → IsUnchanged (state g old) (state g new)) → KeepsHistory g new r
-  keeps_still old new r P keeps survives same clean =
+  -- what is held, held on
+  pub holds_still : (old new : Held S) (r : Retained) (P : Trees → Type 0) → HoldsHistory g old r → Survives (state g old) (state g new) P
+      → (HasCleanDisk (state g new) → IsUnchanged (state g old) (state g new)) → HoldsHistory g new r
+  holds_still old new r P keeps survives same clean =
       let k = keeps (clean_before (state g old) (state g new) P survives clean) in
       (k.0, stands_still (state g old) (state g new) k.0 (same clean) k.1, k.2)
 
   -- an attempt that was undone, after which the connection still answered
-  pub keeps_undone : (old mid new : Held S) (r : Retained) (P Q : Trees → Type 0) → KeepsHistory g old r → Survives (state g old) (state g mid) P → Survives (state g mid) (state g new) Q
-      → (HasCleanDisk (state g mid) → IsTrue (state g mid).is_open → Undone (state g old) (state g mid)) → (HasCleanDisk (state g new) → IsUnchanged (state g mid) (state g new)) → KeepsHistory g new r
-  keeps_undone old mid new r P Q keeps first second undone same clean =
+  pub holds_undone : (old mid new : Held S) (r : Retained) (P Q : Trees → Type 0) → HoldsHistory g old r → Survives (state g old) (state g mid) P → Survives (state g mid) (state g new) Q
+      → Undoes g old mid → (HasCleanDisk (state g new) → IsUnchanged (state g mid) (state g new)) → HoldsHistory g new r
+  holds_undone old mid new r P Q keeps first second undone same clean =
       let calm = clean_before (state g mid) (state g new) Q second clean in
       let k = keeps (clean_before (state g old) (state g mid) P first calm) in
       let still = same clean in
@@ -51,26 +47,26 @@ module _ {S : Type 0} (g : Ghosts S) where
       (k.0, stands_still (state g mid) (state g new) k.0 still at_mid, k.2)
 
   -- what was stored
-  pub keeps_stored : (old new : Held S) (r x : Retained) (f : Contents → Contents) (P : Trees → Type 0) → KeepsHistory g old r → Survives (state g old) (state g new) P
-      → (HasCleanDisk (state g new) → Stores (state g old) (state g new) f) → ((h : Contents) → IsHistory h r → IsHistory (f h) x) → KeepsHistory g new x
-  keeps_stored old new r x f P keeps survives stores next clean =
+  pub holds_stored : (old new : Held S) (r x : Retained) (f : Contents → Contents) (P : Trees → Type 0) → HoldsHistory g old r → Survives (state g old) (state g new) P
+      → Stores g old new f → ((h : Contents) → IsHistory h r → IsHistory (f h) x) → HoldsHistory g new x
+  holds_stored old new r x f P keeps survives stores next clean =
       let k = keeps (clean_before (state g old) (state g new) P survives clean) in
       let did = stores clean in
       (f k.0, record { is_open = did.is_open; committed = did.committed; holds = did.holds k.0 k.1.holds }, next k.0 k.2)
 
   module _ (settled : Settles g) where
-    pub leaves_kept : (c : Held S) (r : Retained) (P : Retained → Type 0) → P r → KeepsHistory g c r → LeavesHistory g c P
-    leaves_kept c r P is keeps clean trees left =
+    pub leaves_held : (c : Held S) (r : Retained) (P : Retained → Type 0) → P r → HoldsHistory g c r → LeavesHistory g c P
+    leaves_held c r P is keeps clean trees left =
         let k = keeps clean in
         ((state g c).committed, settled c.store trees k.1.is_open left, k.0, subst (λ (d : Database). Holds d k.0) (sym k.1.committed) k.1.holds, r, k.2, is)
 
-    pub leaves_stored : (old new : Held S) (r : Retained) (commit : Commit Configured) (f : Contents → Contents) → KeepsHistory g old r → Survives (state g old) (state g new) (MayStore (state g old) f)
+    pub leaves_stored : (old new : Held S) (r : Retained) (commit : Commit Configured) (f : Contents → Contents) → HoldsHistory g old r → LeavesAtMost g old new f
         → ((h : Contents) → IsHistory h r → IsHistory (f h) (with_commit r commit)) → LeavesHistory g new (IsEither r commit)
     leaves_stored old new r commit f keeps survives next clean trees left =
         let calm = clean_before (state g old) (state g new) (MayStore (state g old) f) survives clean in
         let k = keeps calm in
         elim (survives.crash clean trees left) [
-          | inl was ↦ leaves_kept old r (IsEither r commit) (inl refl) keeps calm trees was
+          | inl was ↦ leaves_held old r (IsEither r commit) (inl refl) keeps calm trees was
           | inr stored ↦ (stored.0, stored.1, f k.0, stored.2 k.0 k.1.holds, with_commit r commit, next k.0 k.2, inr refl)
         ]
 

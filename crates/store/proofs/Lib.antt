@@ -8,7 +8,7 @@ pub mod Causes
 pub mod Following
 pub mod Configuring
 pub mod Spellings
-pub mod Telling
+pub mod Storing
 pub mod Leaving
 pub mod Beginning
 pub mod Once

@@ -10,18 +10,18 @@ use Rattle.meaning.specs.TupleSet as set
 use Rattle.meaning.specs.TupleSet.{Tuples}
 use Rattle.meaning.proofs.TupleSets.{contains_from_list, exact_tuples}
 use Rattle.std.proofs.lemmas.Map.Views.{tells_apart}
-use Rattle.store.specs.Written.{Lived, IsSpan, Pairwise, is_alive, is_moved, tuples_of, is_put_at, are_apart, is_before}
+use Rattle.store.specs.Written.{TupleSpan, IsSpan, Pairwise, is_alive, is_moved, tuples_of, is_put_at, are_apart, is_before}
 use Rattle.store.proofs.Picking.{In, same_bool, found, any_in, all_in, any_same, any_no, pair_in}
 
 -- a span of the tuple, for which a test is true
-abbrev pub is_of : Tuple → (Lived → Bool) → Lived → Bool
+abbrev pub is_of : Tuple → (TupleSpan → Bool) → TupleSpan → Bool
 is_of t test l = is_same_tuple t l.tuple && test l
 
 pub one_tuple : (x y : Tuple) → is_same_tuple x y ≡ true → x ≡ y
 one_tuple = tells_apart exact_tuples
 
 -- what a set of such tuples has
-any_kept : (t : Tuple) (test : Lived → Bool) (spans : List Lived) → list_any (eq_by_cmp tuple_cmp t) (map (λ l. l.tuple) (filter test spans)) ≡ list_any (is_of t test) spans
+any_kept : (t : Tuple) (test : TupleSpan → Bool) (spans : List TupleSpan) → list_any (eq_by_cmp tuple_cmp t) (map (λ l. l.tuple) (filter test spans)) ≡ list_any (is_of t test) spans
 any_kept t test [] = refl
 any_kept t test (l ∷ ls) = by_test (test l) (any_kept t test ls)
   where
@@ -38,12 +38,12 @@ any_kept t test (l ∷ ls) = by_test (test l) (any_kept t test ls)
         by_same true = refl
         by_same false = refl
 
-pub contains_of : (test : Lived → Bool) (spans : List Lived) (t : Tuple) → set.contains (tuples_of test spans) t ≡ list_any (is_of t test) spans
+pub contains_of : (test : TupleSpan → Bool) (spans : List TupleSpan) (t : Tuple) → set.contains (tuples_of test spans) t ≡ list_any (is_of t test) spans
 contains_of test spans t = contains_from_list (map (λ l. l.tuple) (filter test spans)) t ∙ any_kept t test spans
 
 -- ---- what the tests say
 
-pub alive_says : (rev : ℕ) (l : Lived) → is_alive rev l ≡ true → (l.added ≤ rev) × ((l.removed ≡ 0) ⊎ (rev < l.removed))
+pub alive_says : (rev : ℕ) (l : TupleSpan) → is_alive rev l ≡ true → (l.added ≤ rev) × ((l.removed ≡ 0) ⊎ (rev < l.removed))
 alive_says rev l h =
     let p = and_parts (nat_le l.added rev) ((l.removed == 0) || nat_lt rev l.removed) h in
     (leb-true l.added rev p.0, open_or (or_cases (l.removed == 0) (nat_lt rev l.removed) p.1))
@@ -52,25 +52,25 @@ alive_says rev l h =
     open_or (inl e) = inl (eqb-true l.removed 0 e)
     open_or (inr e) = inr (ltb-true rev l.removed e)
 
-pub alive_from : (rev : ℕ) (l : Lived) → l.added ≤ rev → (l.removed ≡ 0) ⊎ (rev < l.removed) → is_alive rev l ≡ true
+pub alive_from : (rev : ℕ) (l : TupleSpan) → l.added ≤ rev → (l.removed ≡ 0) ⊎ (rev < l.removed) → is_alive rev l ≡ true
 alive_from rev l begun ends = and_from (nat_le l.added rev) _ (le-leb l.added rev begun) (by_end ends)
   where
     by_end : (l.removed ≡ 0) ⊎ (rev < l.removed) → ((l.removed == 0) || nat_lt rev l.removed) ≡ true
     by_end (inl e) = or_left (l.removed == 0) _ (eq-eqb l.removed 0 e)
     by_end (inr e) = or_right (l.removed == 0) _ (lt-ltb rev l.removed e)
 
-pub moved_says : (rev : ℕ) (l : Lived) → is_moved rev l ≡ true → (l.added ≡ rev) ⊎ (l.removed ≡ rev)
+pub moved_says : (rev : ℕ) (l : TupleSpan) → is_moved rev l ≡ true → (l.added ≡ rev) ⊎ (l.removed ≡ rev)
 moved_says rev l h = by_which (or_cases (l.added == rev) (l.removed == rev) h)
   where
     by_which : ((l.added == rev) ≡ true) ⊎ ((l.removed == rev) ≡ true) → (l.added ≡ rev) ⊎ (l.removed ≡ rev)
     by_which (inl e) = inl (eqb-true l.added rev e)
     by_which (inr e) = inr (eqb-true l.removed rev e)
 
-pub unmoved_says : (rev : ℕ) (l : Lived) → is_moved rev l ≡ false → (l.added ≡ rev → ⊥) × (l.removed ≡ rev → ⊥)
+pub unmoved_says : (rev : ℕ) (l : TupleSpan) → is_moved rev l ≡ false → (l.added ≡ rev → ⊥) × (l.removed ≡ rev → ⊥)
 unmoved_says rev l h = let p = or_parts (l.added == rev) (l.removed == rev) h in (eqb-false l.added rev p.0, eqb-false l.removed rev p.1)
 
 -- a span that neither begins nor ends at a revision is alive there as before it
-pub alive_still : (rev : ℕ) (l : Lived) → is_moved (rev + 1) l ≡ false → is_alive (rev + 1) l ≡ is_alive rev l
+pub alive_still : (rev : ℕ) (l : TupleSpan) → is_moved (rev + 1) l ≡ false → is_alive (rev + 1) l ≡ is_alive rev l
 alive_still rev l h =
     let still = unmoved_says (rev + 1) l h in
     same_bool (is_alive (rev + 1) l) (is_alive rev l) (λ a. back still (alive_says (rev + 1) l a)) (λ a. on still (alive_says rev l a))
@@ -93,7 +93,7 @@ alive_still rev l h =
         ends b (inr e) = inr (omega (arith, e, b))
 
 -- what begins at a revision is alive there
-pub alive_first : (floor newest rev : ℕ) (l : Lived) → IsSpan floor newest l → l.added ≡ rev → is_alive rev l ≡ true
+pub alive_first : (floor newest rev : ℕ) (l : TupleSpan) → IsSpan floor newest l → l.added ≡ rev → is_alive rev l ≡ true
 alive_first floor newest rev l span e = alive_from rev l (omega (arith, e)) (by_end span.ends)
   where
     by_end : (l.removed ≡ 0) ⊎ ((l.added < l.removed) × (floor < l.removed) × (l.removed ≤ newest)) → (l.removed ≡ 0) ⊎ (rev < l.removed)
@@ -102,7 +102,7 @@ alive_first floor newest rev l span e = alive_from rev l (omega (arith, e)) (by_
 
 -- ---- one span ends where the other begins, or before
 
-pub apart_both : (a b : Lived) → are_apart a b ≡ are_apart b a
+pub apart_both : (a b : TupleSpan) → are_apart a b ≡ are_apart b a
 apart_both a b = by_same (is_same_tuple a.tuple b.tuple) refl (is_same_tuple b.tuple a.tuple) refl
   where
     turned : (x y : Bool) → (x || y) ≡ (y || x)
@@ -120,10 +120,10 @@ apart_both a b = by_same (is_same_tuple a.tuple b.tuple) refl (is_same_tuple b.t
     by_same false e true f = absurd (true≢false (sym (alike b.tuple a.tuple f) ∙ e))
     by_same false e false f = refl
 
-before_says : (a b : Lived) → is_before a b ≡ true → (0 < a.removed) × (a.removed ≤ b.added)
+before_says : (a b : TupleSpan) → is_before a b ≡ true → (0 < a.removed) × (a.removed ≤ b.added)
 before_says a b h = let p = and_parts (nat_lt 0 a.removed) (nat_le a.removed b.added) h in (ltb-true 0 a.removed p.0, leb-true a.removed b.added p.1)
 
-pub apart_says : (a b : Lived) → is_same_tuple a.tuple b.tuple ≡ true → are_apart a b ≡ true
+pub apart_says : (a b : TupleSpan) → is_same_tuple a.tuple b.tuple ≡ true → are_apart a b ≡ true
     → ((0 < a.removed) × (a.removed ≤ b.added)) ⊎ ((0 < b.removed) × (b.removed ≤ a.added))
 apart_says a b same h = by_which (or_cases (is_before a b) (is_before b a) (sym (ap (λ s. cond s (is_before a b || is_before b a) true) same) ∙ h))
   where
@@ -135,7 +135,7 @@ same_as : (t x y : Tuple) → is_same_tuple t x ≡ true → is_same_tuple t y �
 same_as t x y p q = ap (λ v. is_same_tuple v y) (sym (one_tuple t x p)) ∙ q
 
 -- where a tuple's span ends at a revision, another that is alive there begins there
-begins_there : (floor newest rev : ℕ) (a b : Lived) → IsSpan floor newest a → is_same_tuple a.tuple b.tuple ≡ true → (a ≡ b) ⊎ (are_apart a b ≡ true) → a.removed ≡ rev → 0 < rev → is_alive rev b ≡ true → b.added ≡ rev
+begins_there : (floor newest rev : ℕ) (a b : TupleSpan) → IsSpan floor newest a → is_same_tuple a.tuple b.tuple ≡ true → (a ≡ b) ⊎ (are_apart a b ≡ true) → a.removed ≡ rev → 0 < rev → is_alive rev b ≡ true → b.added ≡ rev
 begins_there floor newest rev a b span same (inl e) ended some alive = absurd (still (alive_says rev b alive).1 (sym (ap (λ l. l.removed) e) ∙ ended))
   where
     still : (b.removed ≡ 0) ⊎ (rev < b.removed) → b.removed ≡ rev → ⊥
@@ -155,15 +155,15 @@ begins_there floor newest rev a b span same (inr apart) ended some alive = by_or
 
 -- ---- from one revision to the next
 
-module _ (floor newest : ℕ) (spans : List Lived) (spans_are : All (IsSpan floor newest) spans) (apart : Pairwise are_apart spans) (rev : ℕ) (t : Tuple) where
+module _ (floor newest : ℕ) (spans : List TupleSpan) (spans_are : All (IsSpan floor newest) spans) (apart : Pairwise are_apart spans) (rev : ℕ) (t : Tuple) where
   -- what is alive at the next revision, where the tuple comes or goes there
   alive_put : list_any (is_of t (is_moved (rev + 1))) spans ≡ true → list_any (is_of t (is_alive (rev + 1))) spans ≡ true → is_put_at (rev + 1) spans t ≡ true
   alive_put moved alive = by_move (found (is_of t (is_moved (rev + 1))) spans moved) (found (is_of t (is_alive (rev + 1))) spans alive)
     where
-      puts : (l : Lived) → In l spans → is_same_tuple t l.tuple ≡ true → l.added ≡ rev + 1 → is_put_at (rev + 1) spans t ≡ true
+      puts : (l : TupleSpan) → In l spans → is_same_tuple t l.tuple ≡ true → l.added ≡ rev + 1 → is_put_at (rev + 1) spans t ≡ true
       puts l i same e = any_in (λ l. is_same_tuple t l.tuple && (l.added == (rev + 1))) spans l i (and_from (is_same_tuple t l.tuple) _ same (eq-eqb l.added (rev + 1) e))
 
-      by_move : (a : Lived) × In a spans × (is_of t (is_moved (rev + 1)) a ≡ true) → (b : Lived) × In b spans × (is_of t (is_alive (rev + 1)) b ≡ true) → is_put_at (rev + 1) spans t ≡ true
+      by_move : (a : TupleSpan) × In a spans × (is_of t (is_moved (rev + 1)) a ≡ true) → (b : TupleSpan) × In b spans × (is_of t (is_alive (rev + 1)) b ≡ true) → is_put_at (rev + 1) spans t ≡ true
       by_move (a, in_a, ha) (b, in_b, hb) =
           let pa = and_parts (is_same_tuple t a.tuple) (is_moved (rev + 1) a) ha in
           let pb = and_parts (is_same_tuple t b.tuple) (is_alive (rev + 1) b) hb in
@@ -178,7 +178,7 @@ module _ (floor newest : ℕ) (spans : List Lived) (spans_are : All (IsSpan floo
   put_alive : is_put_at (rev + 1) spans t ≡ true → list_any (is_of t (is_alive (rev + 1))) spans ≡ true
   put_alive put = by_put (found (λ l. is_same_tuple t l.tuple && (l.added == (rev + 1))) spans put)
     where
-      by_put : (a : Lived) × In a spans × ((is_same_tuple t a.tuple && (a.added == (rev + 1))) ≡ true) → list_any (is_of t (is_alive (rev + 1))) spans ≡ true
+      by_put : (a : TupleSpan) × In a spans × ((is_same_tuple t a.tuple && (a.added == (rev + 1))) ≡ true) → list_any (is_of t (is_alive (rev + 1))) spans ≡ true
       by_put (a, in_a, ha) =
           let pa = and_parts (is_same_tuple t a.tuple) (a.added == (rev + 1)) ha in
           any_in (is_of t (is_alive (rev + 1))) spans a in_a
@@ -187,7 +187,7 @@ module _ (floor newest : ℕ) (spans : List Lived) (spans_are : All (IsSpan floo
   unmoved : list_any (is_of t (is_moved (rev + 1))) spans ≡ false → list_any (is_of t (is_alive (rev + 1))) spans ≡ list_any (is_of t (is_alive rev)) spans
   unmoved h = any_same (is_of t (is_alive (rev + 1))) (is_of t (is_alive rev)) spans (λ l i. each l (any_no (is_of t (is_moved (rev + 1))) spans h l i))
     where
-      each : (l : Lived) → (is_same_tuple t l.tuple && is_moved (rev + 1) l) ≡ false → (is_same_tuple t l.tuple && is_alive (rev + 1) l) ≡ (is_same_tuple t l.tuple && is_alive rev l)
+      each : (l : TupleSpan) → (is_same_tuple t l.tuple && is_moved (rev + 1) l) ≡ false → (is_same_tuple t l.tuple && is_alive (rev + 1) l) ≡ (is_same_tuple t l.tuple && is_alive rev l)
       each l still = by_same (is_same_tuple t l.tuple) still
         where
           by_same : (s : Bool) → (s && is_moved (rev + 1) l) ≡ false → (s && is_alive (rev + 1) l) ≡ (s && is_alive rev l)

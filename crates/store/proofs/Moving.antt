@@ -18,7 +18,7 @@ use Rattle.names.specs.declared.commit.Commit.TheVariants as kinds
 use Rattle.meaning.specs.Config.{Configured}
 use Rattle.meaning.specs.TupleSet as set
 use Rattle.meaning.proofs.TupleSets.{contains_from_list, same_tuples, items_from_list, exact_tuples, tuples_total}
-use Rattle.store.specs.Written.{Lived, is_moved, is_one, is_put_at, event_at, events_at, tuples_of}
+use Rattle.store.specs.Written.{TupleSpan, is_moved, is_one, is_put_at, event_at, events_at, tuples_of}
 use Rattle.store.specs.Moves.{moves, tuples_in, IsCommit, goes_on, event_if, put_of, del_of}
 
 pub same_is : (q t : Tuple) → is_same_tuple q t ≡ true → q ≡ t
@@ -68,17 +68,17 @@ and_right true b h = h
 and_right false b h = absurd (true≢false (sym h))
 
 -- some span of the tuple begins or ends at the revision
-abbrev pub has_moved : Tuple → ℕ → List Lived → Bool
+abbrev pub has_moved : Tuple → ℕ → List TupleSpan → Bool
 has_moved q rev spans = list_any (λ l. is_same_tuple q l.tuple && is_moved rev l) spans
 
-moves_next : (q : Tuple) (rev : ℕ) (l : Lived) (ls : List Lived) → goes_on l ls ≡ true → is_same_tuple q l.tuple ≡ true → (l.removed == rev) ≡ true → has_moved q rev ls ≡ true
+moves_next : (q : Tuple) (rev : ℕ) (l : TupleSpan) (ls : List TupleSpan) → goes_on l ls ≡ true → is_same_tuple q l.tuple ≡ true → (l.removed == rev) ≡ true → has_moved q rev ls ≡ true
 moves_next q rev l [] on same ends = absurd (true≢false (sym on))
 moves_next q rev l (m ∷ ms) on same ends =
     let next : is_same_tuple q m.tuple ≡ true = ap (λ t. is_same_tuple t m.tuple) (same_is q l.tuple same) ∙ and_left (is_same_tuple l.tuple m.tuple) (m.added == l.removed) on in
     let begins : (m.added == rev) ≡ true = eq-eqb m.added rev (eqb-true m.added l.removed (and_right (is_same_tuple l.tuple m.tuple) (m.added == l.removed) on) ∙ eqb-true l.removed rev ends) in
     ap (λ b. (b && is_moved rev m) || has_moved q rev ms) next ∙ ap (λ b. (b || (m.removed == rev)) || has_moved q rev ms) begins
 
-members : (q : Tuple) (rev : ℕ) (spans : List Lived) → list_any (is_same_tuple q) (tuples_in (moves rev spans)) ≡ has_moved q rev spans
+members : (q : Tuple) (rev : ℕ) (spans : List TupleSpan) → list_any (is_same_tuple q) (tuples_in (moves rev spans)) ≡ has_moved q rev spans
 members q rev [] = refl
 members q rev (l ∷ ls) =
     let s : Bool = is_same_tuple q l.tuple in
@@ -88,7 +88,7 @@ members q rev (l ∷ ls) =
     ∙ ap (λ b. (a && s) || b) (tuple_if q (r && not (goes_on l ls)) (del_of l) (moves rev ls) ∙ ap (λ b. ((r && not (goes_on l ls)) && s) || b) (members q rev ls))
     ∙ joined a s r (goes_on l ls) (has_moved q rev ls) (moves_next q rev l ls)
 
-filtered : (q : Tuple) (p : Lived → Bool) (spans : List Lived) → list_any (is_same_tuple q) (map (λ l. l.tuple) (filter p spans)) ≡ list_any (λ l. is_same_tuple q l.tuple && p l) spans
+filtered : (q : Tuple) (p : TupleSpan → Bool) (spans : List TupleSpan) → list_any (is_same_tuple q) (map (λ l. l.tuple) (filter p spans)) ≡ list_any (λ l. is_same_tuple q l.tuple && p l) spans
 filtered q p [] = refl
 filtered q p (l ∷ ls) = by_test (p l) (filtered q p ls)
   where
@@ -105,7 +105,7 @@ filtered q p (l ∷ ls) = by_test (p l) (filtered q p ls)
     by_test true rest = ap (λ m. is_same_tuple q l.tuple || m) rest ∙ ap (λ s. s || list_any (λ l. is_same_tuple q l.tuple && p l) ls) (both (is_same_tuple q l.tuple))
     by_test false rest = rest ∙ ap (λ s. s || list_any (λ l. is_same_tuple q l.tuple && p l) ls) (none (is_same_tuple q l.tuple))
 
-pub same_members : (rev : ℕ) (spans : List Lived) → set.from_list (tuples_in (moves rev spans)) ≡ tuples_of (is_moved rev) spans
+pub same_members : (rev : ℕ) (spans : List TupleSpan) → set.from_list (tuples_in (moves rev spans)) ≡ tuples_of (is_moved rev) spans
 same_members rev spans = same_tuples (set.from_list (tuples_in (moves rev spans))) (tuples_of (is_moved rev) spans) (λ q.
     contains_from_list (tuples_in (moves rev spans)) q ∙ members q rev spans ∙ sym (contains_from_list (map (λ l. l.tuple) (filter (is_moved rev) spans)) q ∙ filtered q (is_moved rev) spans))
 
@@ -119,7 +119,7 @@ joined_puts false true false m = refl
 joined_puts false false true m = refl
 joined_puts false false false m = refl
 
-puts_at : (q : Tuple) (rev : ℕ) (spans : List Lived) → puts (moves rev spans) q ≡ is_put_at rev spans q
+puts_at : (q : Tuple) (rev : ℕ) (spans : List TupleSpan) → puts (moves rev spans) q ≡ is_put_at rev spans q
 puts_at q rev [] = refl
 puts_at q rev (l ∷ ls) =
     let p : Event → Bool = λ e. is_same_tuple q e.tuple && is_put e.kind in
@@ -179,7 +179,7 @@ mapped : (f g : Tuple → Event) (ts : List Tuple) → ((t : Tuple) → f t ≡ 
 mapped f g [] h = refl
 mapped f g (t ∷ ts) h = ap (λ e. e ∷ map f ts) (h t) ∙ ap (λ es. g t ∷ es) (mapped f g ts h)
 
-pub events_are : (rev : ℕ) (spans : List Lived) → IsStrictlySortedBy tuple_cmp (tuples_in (moves rev spans)) → moves rev spans ≡ events_at rev spans
+pub events_are : (rev : ℕ) (spans : List TupleSpan) → IsStrictlySortedBy tuple_cmp (tuples_in (moves rev spans)) → moves rev spans ≡ events_at rev spans
 events_are rev spans sorted =
     let es : List Event = moves rev spans in
     sym (said (puts es) es (agrees es sorted))
@@ -201,13 +201,13 @@ joined_some false true true m h = h refl refl
 joined_some false true false m h = refl
 joined_some false false g m h = refl
 
-some_next : (rev : ℕ) (l : Lived) (ls : List Lived) → goes_on l ls ≡ true → (l.removed == rev) ≡ true → list_any (is_moved rev) ls ≡ true
+some_next : (rev : ℕ) (l : TupleSpan) (ls : List TupleSpan) → goes_on l ls ≡ true → (l.removed == rev) ≡ true → list_any (is_moved rev) ls ≡ true
 some_next rev l [] on ends = absurd (true≢false (sym on))
 some_next rev l (m ∷ ms) on ends =
     let begins : (m.added == rev) ≡ true = eq-eqb m.added rev (eqb-true m.added l.removed (and_right (is_same_tuple l.tuple m.tuple) (m.added == l.removed) on) ∙ eqb-true l.removed rev ends) in
     ap (λ b. (b || (m.removed == rev)) || list_any (is_moved rev) ms) begins
 
-pub some_moved : (rev : ℕ) (spans : List Lived) → some_event (moves rev spans) ≡ list_any (is_moved rev) spans
+pub some_moved : (rev : ℕ) (spans : List TupleSpan) → some_event (moves rev spans) ≡ list_any (is_moved rev) spans
 some_moved rev [] = refl
 some_moved rev (l ∷ ls) =
     some_if (l.added == rev) (put_of l) (event_if ((l.removed == rev) && not (goes_on l ls)) (del_of l) ++ moves rev ls)
@@ -223,13 +223,13 @@ some_some : (es : List Event) → 0 < length es → some_event es ≡ true
 some_some [] h = absurd (omega (arith, h))
 some_some (e ∷ es) h = refl
 
-pub config_is : (config : Configured) (es : List Event) → length es ≡ 0 → (rev : ℕ) (spans : List Lived) → es ≡ moves rev spans → IsCommit rev spans (Some config) (kinds.Config config)
+pub config_is : (config : Configured) (es : List Event) → length es ≡ 0 → (rev : ℕ) (spans : List TupleSpan) → es ≡ moves rev spans → IsCommit rev spans (Some config) (kinds.Config config)
 config_is config es none rev spans e = record {
   is = refl;
   one = ap not (sym (some_moved rev spans) ∙ sym (ap some_event e) ∙ none_some es none);
 }
 
-pub tuples_are : (es : List Event) → 0 < length es → IsStrictlySortedBy tuple_cmp (tuples_in es) → (rev : ℕ) (spans : List Lived) → es ≡ moves rev spans → IsCommit rev spans None (kinds.Tuples es)
+pub tuples_are : (es : List Event) → 0 < length es → IsStrictlySortedBy tuple_cmp (tuples_in es) → (rev : ℕ) (spans : List TupleSpan) → es ≡ moves rev spans → IsCommit rev spans None (kinds.Tuples es)
 tuples_are es some sorted rev spans e =
     let P : List Event → Type 0 = λ l. IsStrictlySortedBy tuple_cmp (tuples_in l) in
     record {
@@ -246,9 +246,9 @@ len_some [] h = absurd (true≢false (sym h))
 len_some (e ∷ es) h = omega arith
 
 -- a revision that brings a configuration brings no events, and one that brings none brings some
-pub config_alone : (rev : ℕ) (spans : List Lived) (config : Configured) (es : List Event) → es ≡ moves rev spans → (o : Option Configured) → Some config ≡ o → is_one o (list_any (is_moved rev) spans) ≡ true → length es ≡ 0
+pub config_alone : (rev : ℕ) (spans : List TupleSpan) (config : Configured) (es : List Event) → es ≡ moves rev spans → (o : Option Configured) → Some config ≡ o → is_one o (list_any (is_moved rev) spans) ≡ true → length es ≡ 0
 config_alone rev spans config es e o is one =
     len_none es (ap some_event e ∙ some_moved rev spans ∙ not-true (list_any (is_moved rev) spans) (ap (λ o. is_one o (list_any (is_moved rev) spans)) is ∙ one))
 
-pub events_come : (rev : ℕ) (spans : List Lived) (es : List Event) → es ≡ moves rev spans → (o : Option Configured) → None ≡ o → is_one o (list_any (is_moved rev) spans) ≡ true → 0 < length es
+pub events_come : (rev : ℕ) (spans : List TupleSpan) (es : List Event) → es ≡ moves rev spans → (o : Option Configured) → None ≡ o → is_one o (list_any (is_moved rev) spans) ≡ true → 0 < length es
 events_come rev spans es e o is one = len_some es (ap some_event e ∙ some_moved rev spans ∙ ap (λ o. is_one o (list_any (is_moved rev) spans)) is ∙ one)

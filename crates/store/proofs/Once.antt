@@ -21,8 +21,8 @@ use Rattle.config_core.specs.Texts.{RelationTexts, ConfigTexts}
 use Rattle.config_core.specs.Spelling.{Spells, IsNamed, defined_texts, configured_texts}
 use Rattle.config.specs.Causes.{Accepts}
 use Rattle.rows.specs.Retained.{Retained}
-use Rattle.store_core.specs.Tables.{Span, Dated, Entry, Contents}
-use Rattle.store.specs.Written.{Lived, Revised, Written, IsSpan, IsRevised, IsSound, IsWritten, Pairwise, is_alive, is_moved, tuples_of, event_at, events_at, config_at, commit_of, commit_at, commits_above, last_up_to, config_up_to, are_distinct, history_of, span_of, dated_of, entries_of, entry, canonical, IsHistory}
+use Rattle.store_core.specs.Tables.{Span, ConfigRow, Entry, Contents}
+use Rattle.store.specs.Written.{TupleSpan, ConfigAt, Written, IsSpan, IsConfigAt, IsSound, IsWritten, Pairwise, is_alive, is_moved, tuples_of, event_at, events_at, config_at, commit_of, commit_at, commits_above, last_up_to, config_up_to, are_distinct, history_of, span_of, config_row_of, entries_of, entry, canonical, IsHistory}
 use Rattle.store.proofs.Picking.{In, same_bool, found, any_in, all_in, pair_in}
 use Rattle.store.proofs.Living.{is_of, contains_of}
 use Rattle.store.proofs.Held.{last_below}
@@ -106,39 +106,39 @@ one_described bytes c d p q =
 
 -- ---- rows
 
-one_span : (l m : Lived) → IsTuple l.tuple → IsTuple m.tuple → span_of l ≡ span_of m → l ≡ m
+one_span : (l m : TupleSpan) → IsTuple l.tuple → IsTuple m.tuple → span_of l ≡ span_of m → l ≡ m
 one_span l m p q e =
     let subject = one_subject l.tuple.subject m.tuple.subject p.1 q.1 (ap (λ (s : Span). s.subject) e) in
     λ i. record { tuple = record { node = record { object = record { namespace = (e i).namespace; id = (e i).object }; relation = (e i).relation }; subject = subject i }; added = (e i).added; removed = (e i).removed }
 
-one_dated : (c d : Revised) → Accepts (canonical c.config) c.config → Accepts (canonical d.config) d.config → dated_of c ≡ dated_of d → c ≡ d
-one_dated c d p q e =
-    let describes : Describes (canonical d.config) c.config = subst (λ t. Describes t c.config) (ap (λ (x : Dated). x.text) e) p.describes in
+one_config_row : (c d : ConfigAt) → Accepts (canonical c.config) c.config → Accepts (canonical d.config) d.config → config_row_of c ≡ config_row_of d → c ≡ d
+one_config_row c d p q e =
+    let describes : Describes (canonical d.config) c.config = subst (λ t. Describes t c.config) (ap (λ (x : ConfigRow). x.text) e) p.describes in
     let config = one_described (canonical d.config) c.config d.config describes q.describes in
     λ i. record { rev = (e i).rev; config = config i }
 
 -- each row is what a row of a history may be
 pub record HasRows (w : Written) : Type 0 where
   pub spans_are : All (IsSpan w.floor w.newest) w.spans
-  pub configs_are : All (IsRevised w.newest) w.configs
+  pub configs_are : All (IsConfigAt w.newest) w.configs
 
 pub rows_in : (w : Written) → IsSound w → HasRows w
 rows_in w sound = record { spans_are = sound.spans_are; configs_are = sound.configs_are }
 
 module _ (h : Contents) (v w : Written) (is_v : IsWritten h v) (is_w : IsWritten h w) (rows_v : HasRows v) (rows_w : HasRows w) where
-  pub spans_in : (l : Lived) → In l v.spans → In l w.spans
+  pub spans_in : (l : TupleSpan) → In l v.spans → In l w.spans
   spans_in l i = by_row (in_unmap span_of w.spans (span_of l) (in_permuted _ _ (span_of l) (IsPermutation-trans _ _ _ (IsPermutation-sym _ _ is_v.spans) is_w.spans) (in_map span_of v.spans l i)))
     where
-      by_row : (m : Lived) × In m w.spans × (span_of l ≡ span_of m) → In l w.spans
+      by_row : (m : TupleSpan) × In m w.spans × (span_of l ≡ span_of m) → In l w.spans
       by_row (m, j, e) = subst (λ x. In x w.spans)
           (sym (one_span l m (all_in (IsSpan v.floor v.newest) v.spans rows_v.spans_are l i).spelled (all_in (IsSpan w.floor w.newest) w.spans rows_w.spans_are m j).spelled e)) j
 
-  pub configs_in : (c : Revised) → In c v.configs → In c w.configs
-  configs_in c i = by_row (in_unmap dated_of w.configs (dated_of c) (in_permuted _ _ (dated_of c) (IsPermutation-trans _ _ _ (IsPermutation-sym _ _ is_v.configs) is_w.configs) (in_map dated_of v.configs c i)))
+  pub configs_in : (c : ConfigAt) → In c v.configs → In c w.configs
+  configs_in c i = by_row (in_unmap config_row_of w.configs (config_row_of c) (in_permuted _ _ (config_row_of c) (IsPermutation-trans _ _ _ (IsPermutation-sym _ _ is_v.configs) is_w.configs) (in_map config_row_of v.configs c i)))
     where
-      by_row : (d : Revised) × In d w.configs × (dated_of c ≡ dated_of d) → In c w.configs
+      by_row : (d : ConfigAt) × In d w.configs × (config_row_of c ≡ config_row_of d) → In c w.configs
       by_row (d, j, e) = subst (λ x. In x w.configs)
-          (sym (one_dated c d (all_in (IsRevised v.newest) v.configs rows_v.configs_are c i).valid (all_in (IsRevised w.newest) w.configs rows_w.configs_are d j).valid e)) j
+          (sym (one_config_row c d (all_in (IsConfigAt v.newest) v.configs rows_v.configs_are c i).valid (all_in (IsConfigAt w.newest) w.configs rows_w.configs_are d j).valid e)) j
 
   pub entries_in : (e : Entry) → In e (entries_of v) → In e (entries_of w)
   entries_in e i = in_permuted _ _ e (IsPermutation-trans _ _ _ (IsPermutation-sym _ _ is_v.entries) is_w.entries) i
@@ -185,7 +185,7 @@ number_is n w i = by_value (value_at (codes "store") (entry (codes "store") n) w
 -- ---- configurations by revision
 
 -- no two are of one revision
-pub distinct_revs : (floor : ℕ) (cs : List Revised) → Pairwise (are_distinct floor) cs → (c d : Revised) → In c cs → In d cs → c.rev ≡ d.rev → c ≡ d
+pub distinct_revs : (floor : ℕ) (cs : List ConfigAt) → Pairwise (are_distinct floor) cs → (c d : ConfigAt) → In c cs → In d cs → c.rev ≡ d.rev → c ≡ d
 distinct_revs floor cs apart c d i j same = by_pair (pair_in (are_distinct floor) both cs apart c d i j)
   where
     turned : (x y : Bool) → (x || y) ≡ (y || x)
@@ -197,31 +197,31 @@ distinct_revs floor cs apart c d i j same = by_pair (pair_in (are_distinct floor
     swapped : (m n : ℕ) → (m == n) ≡ (n == m)
     swapped m n = same_bool (m == n) (n == m) (λ h. eq-eqb n m (sym (eqb-true m n h))) (λ h. eq-eqb m n (sym (eqb-true n m h)))
 
-    both : (x y : Revised) → are_distinct floor x y ≡ are_distinct floor y x
+    both : (x y : ConfigAt) → are_distinct floor x y ≡ are_distinct floor y x
     both x y = ap (λ b. cond b false (nat_lt floor x.rev || nat_lt floor y.rev)) (swapped x.rev y.rev) ∙ ap (λ b. cond (y.rev == x.rev) false b) (turned (nat_lt floor x.rev) (nat_lt floor y.rev))
 
     by_pair : (c ≡ d) ⊎ (are_distinct floor c d ≡ true) → c ≡ d
     by_pair (inl e) = e
     by_pair (inr e) = absurd (true≢false (sym e ∙ ap (λ b. cond b false (nat_lt floor c.rev || nat_lt floor d.rev)) (eq-eqb c.rev d.rev same)))
 
-pub at_in : (at : ℕ) (cs : List Revised) (x : Configured) → config_at at cs ≡ Some x → (c : Revised) × In c cs × (c.rev ≡ at) × (c.config ≡ x)
+pub at_in : (at : ℕ) (cs : List ConfigAt) (x : Configured) → config_at at cs ≡ Some x → (c : ConfigAt) × In c cs × (c.rev ≡ at) × (c.config ≡ x)
 at_in at [] x h = cc
 at_in at (c ∷ cs) x h = by_here (c.rev == at) refl h (at_in at cs x)
   where
-    by_here : (b : Bool) → (c.rev == at) ≡ b → cond b (Some c.config) (config_at at cs) ≡ Some x → (config_at at cs ≡ Some x → (d : Revised) × In d cs × (d.rev ≡ at) × (d.config ≡ x)) → (d : Revised) × In d (c ∷ cs) × (d.rev ≡ at) × (d.config ≡ x)
+    by_here : (b : Bool) → (c.rev == at) ≡ b → cond b (Some c.config) (config_at at cs) ≡ Some x → (config_at at cs ≡ Some x → (d : ConfigAt) × In d cs × (d.rev ≡ at) × (d.config ≡ x)) → (d : ConfigAt) × In d (c ∷ cs) × (d.rev ≡ at) × (d.config ≡ x)
     by_here true e h rest = (c, inl refl, eqb-true c.rev at e, cc)
     by_here false e h rest = let r = rest h in (r.0, inr r.1, r.2, r.3)
 
-pub at_none : (at : ℕ) (cs : List Revised) → config_at at cs ≡ None → (c : Revised) → In c cs → c.rev ≡ at → ⊥
+pub at_none : (at : ℕ) (cs : List ConfigAt) → config_at at cs ≡ None → (c : ConfigAt) → In c cs → c.rev ≡ at → ⊥
 at_none at [] h c i = absurd i
 at_none at (d ∷ cs) h c i = by_here (d.rev == at) refl h i (at_none at cs)
   where
-    by_here : (b : Bool) → (d.rev == at) ≡ b → cond b (Some d.config) (config_at at cs) ≡ None → (c ≡ d) ⊎ In c cs → (config_at at cs ≡ None → (c : Revised) → In c cs → c.rev ≡ at → ⊥) → c.rev ≡ at → ⊥
+    by_here : (b : Bool) → (d.rev == at) ≡ b → cond b (Some d.config) (config_at at cs) ≡ None → (c ≡ d) ⊎ In c cs → (config_at at cs ≡ None → (c : ConfigAt) → In c cs → c.rev ≡ at → ⊥) → c.rev ≡ at → ⊥
     by_here true e h i rest same = cc
-    by_here false e h (inl x) rest same = eqb-false d.rev at e (ap (λ (y : Revised). y.rev) (sym x) ∙ same)
+    by_here false e h (inl x) rest same = eqb-false d.rev at e (ap (λ (y : ConfigAt). y.rev) (sym x) ∙ same)
     by_here false e h (inr j) rest same = rest h c j same
 
-pub same_at : (floor at : ℕ) (cs ds : List Revised) → Pairwise (are_distinct floor) ds → ((c : Revised) → In c cs → In c ds) → ((c : Revised) → In c ds → In c cs) → config_at at cs ≡ config_at at ds
+pub same_at : (floor at : ℕ) (cs ds : List ConfigAt) → Pairwise (are_distinct floor) ds → ((c : ConfigAt) → In c cs → In c ds) → ((c : ConfigAt) → In c ds → In c cs) → config_at at cs ≡ config_at at ds
 same_at floor at cs ds apart f b = by_both (config_at at cs) refl (config_at at ds) refl
   where
     by_both : (o : Option Configured) → config_at at cs ≡ o → (p : Option Configured) → config_at at ds ≡ p → o ≡ p
@@ -231,12 +231,12 @@ same_at floor at cs ds apart f b = by_both (config_at at cs) refl (config_at at 
     by_both (Some x) e (Some y) g =
         let r = at_in at cs x e in let s = at_in at ds y g in
         let one = distinct_revs floor ds apart r.0 s.0 (f r.0 r.1) s.1 (r.2 ∙ sym s.2) in
-        ap (λ n. Some n) (sym r.3 ∙ ap (λ (c : Revised). c.config) one ∙ s.3)
+        ap (λ n. Some n) (sym r.3 ∙ ap (λ (c : ConfigAt). c.config) one ∙ s.3)
 
-abbrev unset : Revised
+abbrev unset : ConfigAt
 unset = record { rev = 0; config = empty_config }
 
-last_in : (at : ℕ) (cs : List Revised) → In (last_up_to at cs) cs ⊎ (last_up_to at cs ≡ unset)
+last_in : (at : ℕ) (cs : List ConfigAt) → In (last_up_to at cs) cs ⊎ (last_up_to at cs ≡ unset)
 last_in at [] = inr refl
 last_in at (c ∷ cs) = by_test (nat_le c.rev at && nat_lt (last_up_to at cs).rev c.rev) (last_in at cs)
   where
@@ -245,20 +245,20 @@ last_in at (c ∷ cs) = by_test (nat_le c.rev at && nat_lt (last_up_to at cs).re
     by_test false (inl i) = inl (inr i)
     by_test false (inr e) = inr e
 
-last_most : (at : ℕ) (cs : List Revised) (c : Revised) → In c cs → c.rev ≤ at → c.rev ≤ (last_up_to at cs).rev
+last_most : (at : ℕ) (cs : List ConfigAt) (c : ConfigAt) → In c cs → c.rev ≤ at → c.rev ≤ (last_up_to at cs).rev
 last_most at [] c i low = absurd i
 last_most at (d ∷ cs) c i low = by_first (nat_le d.rev at) refl (nat_lt (last_up_to at cs).rev d.rev) refl i (last_most at cs c)
   where
     by_first : (a : Bool) → nat_le d.rev at ≡ a → (b : Bool) → nat_lt (last_up_to at cs).rev d.rev ≡ b → (c ≡ d) ⊎ In c cs → (In c cs → c.rev ≤ at → c.rev ≤ (last_up_to at cs).rev) → c.rev ≤ (cond (a && b) d (last_up_to at cs)).rev
-    by_first true e true f (inl x) rest = let y = ap (λ (z : Revised). z.rev) x in omega (arith, y)
+    by_first true e true f (inl x) rest = let y = ap (λ (z : ConfigAt). z.rev) x in omega (arith, y)
     by_first true e true f (inr j) rest = let y = rest j low in let z = ltb-true (last_up_to at cs).rev d.rev f in omega (arith, y, z)
-    by_first true e false f (inl x) rest = let y = ap (λ (z : Revised). z.rev) x in let z = ltb-false (last_up_to at cs).rev d.rev f in omega (arith, y, z)
+    by_first true e false f (inl x) rest = let y = ap (λ (z : ConfigAt). z.rev) x in let z = ltb-false (last_up_to at cs).rev d.rev f in omega (arith, y, z)
     by_first true e false f (inr j) rest = rest j low
-    by_first false e b f (inl x) rest = let y = ap (λ (z : Revised). z.rev) x in absurd (true≢false (sym (le-leb d.rev at (omega (arith, y, low))) ∙ e))
+    by_first false e b f (inl x) rest = let y = ap (λ (z : ConfigAt). z.rev) x in absurd (true≢false (sym (le-leb d.rev at (omega (arith, y, low))) ∙ e))
     by_first false e b f (inr j) rest = rest j low
 
-pub same_last : (floor at : ℕ) (cs ds : List Revised) → Pairwise (are_distinct floor) ds → ((c : Revised) → In c cs → In c ds) → ((c : Revised) → In c ds → In c cs)
-    → ((c : Revised) → In c ds → 0 < c.rev) → last_up_to at cs ≡ last_up_to at ds
+pub same_last : (floor at : ℕ) (cs ds : List ConfigAt) → Pairwise (are_distinct floor) ds → ((c : ConfigAt) → In c cs → In c ds) → ((c : ConfigAt) → In c ds → In c cs)
+    → ((c : ConfigAt) → In c ds → 0 < c.rev) → last_up_to at cs ≡ last_up_to at ds
 same_last floor at cs ds apart f b some = by_both (last_in at cs) (last_in at ds)
   where
     by_both : In (last_up_to at cs) cs ⊎ (last_up_to at cs ≡ unset) → In (last_up_to at ds) ds ⊎ (last_up_to at ds ≡ unset) → last_up_to at cs ≡ last_up_to at ds
@@ -266,15 +266,15 @@ same_last floor at cs ds apart f b some = by_both (last_in at cs) (last_in at ds
         let x = last_most at ds (last_up_to at cs) (f _ i) (last_below at cs) in let y = last_most at cs (last_up_to at ds) (b _ j) (last_below at ds) in
         distinct_revs floor ds apart (last_up_to at cs) (last_up_to at ds) (f _ i) j (omega (arith, x, y))
     by_both (inl i) (inr e) =
-        let x = last_most at ds (last_up_to at cs) (f _ i) (last_below at cs) in let y = some (last_up_to at cs) (f _ i) in let z = ap (λ (r : Revised). r.rev) e in absurd (omega (arith, x, y, z))
+        let x = last_most at ds (last_up_to at cs) (f _ i) (last_below at cs) in let y = some (last_up_to at cs) (f _ i) in let z = ap (λ (r : ConfigAt). r.rev) e in absurd (omega (arith, x, y, z))
     by_both (inr e) (inl j) =
-        let x = last_most at cs (last_up_to at ds) (b _ j) (last_below at ds) in let y = some (last_up_to at ds) j in let z = ap (λ (r : Revised). r.rev) e in absurd (omega (arith, x, y, z))
+        let x = last_most at cs (last_up_to at ds) (b _ j) (last_below at ds) in let y = some (last_up_to at ds) j in let z = ap (λ (r : ConfigAt). r.rev) e in absurd (omega (arith, x, y, z))
     by_both (inr e) (inr g) = e ∙ sym g
 
 -- ---- histories
 
-module _ (v w : Written) (f : (l : Lived) → In l v.spans → In l w.spans) (b : (l : Lived) → In l w.spans → In l v.spans) where
-  same_set : (test : Lived → Bool) → tuples_of test v.spans ≡ tuples_of test w.spans
+module _ (v w : Written) (f : (l : TupleSpan) → In l v.spans → In l w.spans) (b : (l : TupleSpan) → In l w.spans → In l v.spans) where
+  same_set : (test : TupleSpan → Bool) → tuples_of test v.spans ≡ tuples_of test w.spans
   same_set test = same_tuples _ _ (λ q. contains_of test v.spans q ∙ any_both (is_of q test) v.spans w.spans f b ∙ sym (contains_of test w.spans q))
 
   same_events : (at : ℕ) → events_at at v.spans ≡ events_at at w.spans
@@ -304,9 +304,9 @@ history_once h v w is_v rows_v is_w sound_w =
     let floor : v.floor ≡ w.floor = floor_is v.floor w (entries _ (inl refl)) in
     let newest : v.newest ≡ w.newest = newest_is v.newest w (entries _ (inr (inr (inl refl)))) in
     let number : v.number ≡ w.number = number_is v.number w (entries _ (inr (inr (inr (inl refl))))) in
-    let last = λ (at : ℕ). same_last w.floor at v.configs w.configs sound_w.distinct cf cb (λ c i. (all_in (IsRevised w.newest) w.configs sound_w.configs_are c i).begins) in
+    let last = λ (at : ℕ). same_last w.floor at v.configs w.configs sound_w.distinct cf cb (λ c i. (all_in (IsConfigAt w.newest) w.configs sound_w.configs_are c i).begins) in
     whole_history v.number w.number v.floor w.floor _ _ _ _ number floor
-    (same_snap _ _ _ _ (ap (λ (c : Revised). c.config) (last v.floor) ∙ ap (λ n. config_up_to n w.configs) floor) (same_set v w f b (is_alive v.floor) ∙ ap (λ n. tuples_of (is_alive n) w.spans) floor))
+    (same_snap _ _ _ _ (ap (λ (c : ConfigAt). c.config) (last v.floor) ∙ ap (λ n. config_up_to n w.configs) floor) (same_set v w f b (is_alive v.floor) ∙ ap (λ n. tuples_of (is_alive n) w.spans) floor))
     (same_commits v w (v.newest - v.floor) v.floor (λ at. ap (λ o. commit_of o (events_at at v.spans)) (same_at w.floor at v.configs w.configs sound_w.distinct cf cb) ∙ ap (commit_of (config_at at w.configs)) (same_events v w f b at))
     ∙ ap (λ n. commits_above w n (v.newest - n)) floor ∙ ap (λ n. commits_above w w.floor (n - w.floor)) newest)
 

@@ -10,7 +10,7 @@ use Rattle.std.proofs.lemmas.List.Elements.{All-head, All-tail}
 use Rattle.names.specs.Order.{tuple_cmp, is_same_tuple}
 use Rattle.names.specs.declared.tuple.Tuple.{Tuple}
 use Rattle.meaning.proofs.TupleSets.{tuples_total}
-use Rattle.store.specs.Written.{Lived, IsSpan, is_alive, is_moved}
+use Rattle.store.specs.Written.{TupleSpan, IsSpan, is_alive, is_moved}
 use Rattle.store.specs.Moves.{moves, tuples_in, event_if, put_of, del_of, goes_on}
 use Rattle.store.specs.Following.{Precedes}
 use Rattle.store.proofs.Apart.{InTurn}
@@ -23,7 +23,7 @@ less_not_same a b less e = true≢false (sym (same_self a) ∙ ap (is_same_tuple
 
 module _ (floor newest rev : ℕ) (some : 0 < rev) where
   -- a span that begins above the revision neither begins nor ends there
-  later_than : (m : Lived) → IsSpan floor newest m → rev < m.added → is_moved rev m ≡ true → ⊥
+  later_than : (m : TupleSpan) → IsSpan floor newest m → rev < m.added → is_moved rev m ≡ true → ⊥
   later_than m span after moved = by_which (moved_says rev m moved) span.ends
     where
       by_which : (m.added ≡ rev) ⊎ (m.removed ≡ rev) → (m.removed ≡ 0) ⊎ ((m.added < m.removed) × (floor < m.removed) × (m.removed ≤ newest)) → ⊥
@@ -32,7 +32,7 @@ module _ (floor newest rev : ℕ) (some : 0 < rev) where
       by_which (inr e) (inr z) = let s = z.0 in omega (arith, e, s, after)
 
   -- one that begins or ends there, and not before it, begins there
-  begins_at : (m : Lived) → IsSpan floor newest m → rev ≤ m.added → is_moved rev m ≡ true → m.added ≡ rev
+  begins_at : (m : TupleSpan) → IsSpan floor newest m → rev ≤ m.added → is_moved rev m ≡ true → m.added ≡ rev
   begins_at m span after moved = by_which (moved_says rev m moved) span.ends
     where
       by_which : (m.added ≡ rev) ⊎ (m.removed ≡ rev) → (m.removed ≡ 0) ⊎ ((m.added < m.removed) × (floor < m.removed) × (m.removed ≤ newest)) → m.added ≡ rev
@@ -42,7 +42,7 @@ module _ (floor newest rev : ℕ) (some : 0 < rev) where
 
   -- ---- events
 
-  later_moves : (P : Tuple → Type 0) (ls : List Lived) → ((m : Lived) → In m ls → is_moved rev m ≡ true → P m.tuple) → AllByRecursion P (tuples_in (moves rev ls))
+  later_moves : (P : Tuple → Type 0) (ls : List TupleSpan) → ((m : TupleSpan) → In m ls → is_moved rev m ≡ true → P m.tuple) → AllByRecursion P (tuples_in (moves rev ls))
   later_moves P [] h = tt
   later_moves P (m ∷ ms) h = by_put (m.added == rev) refl (by_del ((m.removed == rev) && not (goes_on m ms)) refl (later_moves P ms (λ x i. h x (inr i))))
     where
@@ -55,7 +55,7 @@ module _ (floor newest rev : ℕ) (some : 0 < rev) where
       by_put true e rest = (h m (inl refl) (ap (λ b. b || (m.removed == rev)) e), rest)
       by_put false e rest = rest
 
-  after_put : (l m : Lived) → IsSpan floor newest l → IsSpan floor newest m → l.added ≡ rev → Precedes l m → is_moved rev m ≡ true → tuple_cmp l.tuple m.tuple ≡ Less
+  after_put : (l m : TupleSpan) → IsSpan floor newest l → IsSpan floor newest m → l.added ≡ rev → Precedes l m → is_moved rev m ≡ true → tuple_cmp l.tuple m.tuple ≡ Less
   after_put l m span_l span_m at (inl less) moved = less
   after_put l m span_l span_m at (inr p) moved = absurd (later_than m span_m (after span_l.ends) moved)
     where
@@ -64,7 +64,7 @@ module _ (floor newest rev : ℕ) (some : 0 < rev) where
       after (inr z) = let s = z.0 in let t = p.2 in omega (arith, at, s, t)
 
   -- a span of the same tuple between two
-  none_between : (l h m : Lived) → IsSpan floor newest h → l.tuple ≡ m.tuple → l.removed ≡ rev → m.added ≡ rev → Precedes l h → Precedes h m → ⊥
+  none_between : (l h m : TupleSpan) → IsSpan floor newest h → l.tuple ≡ m.tuple → l.removed ≡ rev → m.added ≡ rev → Precedes l h → Precedes h m → ⊥
   none_between l h m span same end begin (inl p) (inl q) = less_not_same l.tuple m.tuple (tuples_total.trans l.tuple h.tuple m.tuple p q) same
   none_between l h m span same end begin (inl p) (inr q) = less_not_same l.tuple h.tuple p (same ∙ sym q.0)
   none_between l h m span same end begin (inr p) (inl q) = less_not_same h.tuple m.tuple q (sym p.0 ∙ same)
@@ -74,15 +74,15 @@ module _ (floor newest rev : ℕ) (some : 0 < rev) where
       by_end (inl z) = let s = q.1 in omega (arith, z, s)
       by_end (inr z) = let s = z.0 in let t = q.2 in let u = p.2 in omega (arith, s, t, u, end, begin)
 
-  after_del : (l : Lived) (ls : List Lived) → All (Precedes l) ls → InTurn ls → All (IsSpan floor newest) ls → l.removed ≡ rev → goes_on l ls ≡ false
-      → (m : Lived) → In m ls → is_moved rev m ≡ true → tuple_cmp l.tuple m.tuple ≡ Less
+  after_del : (l : TupleSpan) (ls : List TupleSpan) → All (Precedes l) ls → InTurn ls → All (IsSpan floor newest) ls → l.removed ≡ rev → goes_on l ls ≡ false
+      → (m : TupleSpan) → In m ls → is_moved rev m ≡ true → tuple_cmp l.tuple m.tuple ≡ Less
   after_del l [] turn rest are end off m i moved = absurd i
   after_del l (h ∷ hs) turn rest are end off m i moved = by_tuple (all_in (Precedes l) (h ∷ hs) turn m i)
     where
       next : In m (h ∷ hs) → l.tuple ≡ m.tuple → m.added ≡ rev → ⊥
       next (inl e) same begin = true≢false (
-          sym (and_from (is_same_tuple l.tuple h.tuple) (h.added == l.removed) (ap (λ (x : Lived). is_same_tuple l.tuple x.tuple) (sym e) ∙ ap (is_same_tuple l.tuple) (sym same) ∙ same_self l.tuple)
-          (eq-eqb h.added l.removed (ap (λ (x : Lived). x.added) (sym e) ∙ begin ∙ sym end)))
+          sym (and_from (is_same_tuple l.tuple h.tuple) (h.added == l.removed) (ap (λ (x : TupleSpan). is_same_tuple l.tuple x.tuple) (sym e) ∙ ap (is_same_tuple l.tuple) (sym same) ∙ same_self l.tuple)
+          (eq-eqb h.added l.removed (ap (λ (x : TupleSpan). x.added) (sym e) ∙ begin ∙ sym end)))
           ∙ off)
       next (inr j) same begin =
           none_between l h m (All-head (IsSpan floor newest) h hs are) same end begin (All-head (Precedes l) h hs turn) (all_in (Precedes h) hs rest.0 m j)
@@ -91,7 +91,7 @@ module _ (floor newest rev : ℕ) (some : 0 < rev) where
       by_tuple (inl less) = less
       by_tuple (inr p) = let t = p.2 in absurd (next i p.0 (begins_at m (all_in (IsSpan floor newest) (h ∷ hs) are m i) (omega (arith, t, end)) moved))
 
-  pub moves_sorted : (ls : List Lived) → InTurn ls → All (IsSpan floor newest) ls → IsStrictlySortedBy tuple_cmp (tuples_in (moves rev ls))
+  pub moves_sorted : (ls : List TupleSpan) → InTurn ls → All (IsSpan floor newest) ls → IsStrictlySortedBy tuple_cmp (tuples_in (moves rev ls))
   unfolding IsStrictlySortedBy
   moves_sorted [] turn are = tt
   moves_sorted (l ∷ ls) turn are =
@@ -126,7 +126,7 @@ module _ (floor newest rev : ℕ) (some : 0 < rev) where
 
 -- ---- tuples
 
-later_alive : (rev : ℕ) (P : Tuple → Type 0) (ls : List Lived) → ((m : Lived) → In m ls → is_alive rev m ≡ true → P m.tuple) → AllByRecursion P (map (λ l. l.tuple) (filter (is_alive rev) ls))
+later_alive : (rev : ℕ) (P : Tuple → Type 0) (ls : List TupleSpan) → ((m : TupleSpan) → In m ls → is_alive rev m ≡ true → P m.tuple) → AllByRecursion P (map (λ l. l.tuple) (filter (is_alive rev) ls))
 later_alive rev P [] h = tt
 later_alive rev P (m ∷ ms) h = by_alive (is_alive rev m) refl (later_alive rev P ms (λ x i. h x (inr i)))
   where
@@ -134,7 +134,7 @@ later_alive rev P (m ∷ ms) h = by_alive (is_alive rev m) refl (later_alive rev
     by_alive true e rest = (h m (inl refl) e, rest)
     by_alive false e rest = rest
 
-never_both : (rev : ℕ) (a b : Lived) → Precedes a b → is_alive rev a ≡ true → is_alive rev b ≡ true → tuple_cmp a.tuple b.tuple ≡ Less
+never_both : (rev : ℕ) (a b : TupleSpan) → Precedes a b → is_alive rev a ≡ true → is_alive rev b ≡ true → tuple_cmp a.tuple b.tuple ≡ Less
 never_both rev a b (inl less) x y = less
 never_both rev a b (inr p) x y = absurd (by_end (alive_says rev a x).1 (alive_says rev b y).0)
   where
@@ -142,7 +142,7 @@ never_both rev a b (inr p) x y = absurd (by_end (alive_says rev a x).1 (alive_sa
     by_end (inl z) le = let s = p.1 in omega (arith, z, s)
     by_end (inr z) le = let s = p.2 in omega (arith, z, s, le)
 
-pub alive_sorted : (rev : ℕ) (ls : List Lived) → InTurn ls → IsStrictlySortedBy tuple_cmp (map (λ l. l.tuple) (filter (is_alive rev) ls))
+pub alive_sorted : (rev : ℕ) (ls : List TupleSpan) → InTurn ls → IsStrictlySortedBy tuple_cmp (map (λ l. l.tuple) (filter (is_alive rev) ls))
 unfolding IsStrictlySortedBy
 alive_sorted rev [] turn = tt
 alive_sorted rev (l ∷ ls) turn = by_alive (is_alive rev l) refl (alive_sorted rev ls turn.1)

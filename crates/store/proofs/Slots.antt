@@ -7,8 +7,8 @@ use Rattle.std.proofs.lemmas.Bool.{eqb-true, eq-eqb}
 use Rattle.std.proofs.lemmas.Bool.Decides.{nat_tests}
 use Rattle.names.specs.declared.commit.Event.{Event}
 use Rattle.store.specs.Moves.{slot, event_if, moves, goes_on, put_of, del_of}
-use Rattle.store.specs.declared.lived.LivedSpan.{LivedSpan}
-use Rattle.store.specs.Reading.{lived_of}
+use Rattle.store.specs.declared.parts.ReadSpan.{ReadSpan}
+use Rattle.store.specs.Reading.{as_span}
 use Rattle.store.proofs.RowSteps.{drop_next}
 
 pub slot_pushed : (vs : List (Vec Event)) (v : Vec Event) → v.items ≡ [] → ((k : ℕ) → slot vs k ≡ []) → (k : ℕ) → slot (vs ++ v ∷ []) k ≡ []
@@ -89,13 +89,13 @@ take_all (x ∷ xs) = ap (λ l. x ∷ l) (take_all xs)
 rest_all : {A : Type 0} (xs : List A) (n : ℕ) → take (length xs - n) (drop n xs) ≡ drop n xs
 rest_all xs n = ap (λ m. take m (drop n xs)) (sym (length-drop n xs)) ∙ take_all (drop n xs)
 
-pub step_over : (rev : ℕ) (spans : List LivedSpan) (i : ℕ) (x : LivedSpan) (on : Bool) (new old all : List Event) → i < length spans → x ≡ get_or spans i x
-    → on ≡ goes_on (lived_of x) (map lived_of (take (length spans - (i + 1)) (drop (i + 1) spans)))
-    → new ≡ (old ++ event_if (x.added == rev) (put_of (lived_of x))) ++ event_if ((x.removed == rev) && not on) (del_of (lived_of x))
-    → old ++ moves rev (map lived_of (drop i spans)) ≡ all → new ++ moves rev (map lived_of (drop (i + 1) spans)) ≡ all
+pub step_over : (rev : ℕ) (spans : List ReadSpan) (i : ℕ) (x : ReadSpan) (on : Bool) (new old all : List Event) → i < length spans → x ≡ get_or spans i x
+    → on ≡ goes_on (as_span x) (map as_span (take (length spans - (i + 1)) (drop (i + 1) spans)))
+    → new ≡ (old ++ event_if (x.added == rev) (put_of (as_span x))) ++ event_if ((x.removed == rev) && not on) (del_of (as_span x))
+    → old ++ moves rev (map as_span (drop i spans)) ≡ all → new ++ moves rev (map as_span (drop (i + 1) spans)) ≡ all
 step_over rev spans i x on new old all lt is goes grown so_far =
-    let rest = map lived_of (drop (i + 1) spans) in
-    let goes_is : on ≡ goes_on (lived_of x) rest = goes ∙ ap (λ l. goes_on (lived_of x) (map lived_of l)) (rest_all spans (i + 1)) in
-    placed_more new old (event_if (x.added == rev) (put_of (lived_of x))) (event_if ((x.removed == rev) && not (goes_on (lived_of x) rest)) (del_of (lived_of x))) (moves rev rest) all
-    (grown ∙ ap (λ b. (old ++ event_if (x.added == rev) (put_of (lived_of x))) ++ event_if ((x.removed == rev) && not b) (del_of (lived_of x))) goes_is)
-    (ap (λ l. old ++ moves rev (map lived_of l)) (sym (drop_next spans i x lt is)) ∙ so_far)
+    let rest = map as_span (drop (i + 1) spans) in
+    let goes_is : on ≡ goes_on (as_span x) rest = goes ∙ ap (λ l. goes_on (as_span x) (map as_span l)) (rest_all spans (i + 1)) in
+    placed_more new old (event_if (x.added == rev) (put_of (as_span x))) (event_if ((x.removed == rev) && not (goes_on (as_span x) rest)) (del_of (as_span x))) (moves rev rest) all
+    (grown ∙ ap (λ b. (old ++ event_if (x.added == rev) (put_of (as_span x))) ++ event_if ((x.removed == rev) && not b) (del_of (as_span x))) goes_is)
+    (ap (λ l. old ++ moves rev (map as_span l)) (sym (drop_next spans i x lt is)) ∙ so_far)

@@ -5,6 +5,7 @@ use Rattle.std.specs.List.Sorted.{IsStrictlySortedBy}
 use Rattle.std.proofs.lemmas.List.{length-map}
 use Rattle.std.proofs.lemmas.List.Elements.{All-map}
 use Rattle.std.proofs.lemmas.List.Sorted.{IsPermutation-trans}
+use Rattle.names.specs.declared.limits.TheConstants.{MAX_REV, MAX_ROWS, MAX_TUPLES}
 use Rattle.names.specs.Order.{tuple_cmp}
 use Rattle.names.specs.declared.tuple.Tuple.{Tuple}
 use Rattle.names.specs.declared.commit.Commit.{Commit}
@@ -12,22 +13,21 @@ use Rattle.meaning.specs.Config.{Configured}
 use Rattle.meaning.specs.Admits.{admits}
 use Rattle.meaning.specs.TupleSet as set
 use Rattle.meaning.specs.History.{rows_of}
-use Rattle.meaning.specs.Verdict.{max_rev, max_rows, max_tuples}
 use Rattle.meaning.proofs.TupleSets.{len_items, items_from_list}
 use Rattle.rows.specs.Retained.{Retained, spans_of}
 use Rattle.rows.specs.Loads.{retained_of, IsWithin}
 use Rattle.rows.specs.declared.loaded.Loaded.{Loaded}
-use Rattle.store_core.specs.Tables.{Contents, Dated, Entry}
-use Rattle.store_core.specs.Stored.{span_in, dated_in, entry_in, Loads}
+use Rattle.store_core.specs.Tables.{Contents, ConfigRow, Entry}
+use Rattle.store_core.specs.Stored.{span_in, config_row_in, entry_in, Loads}
 use Rattle.store_core.specs.declared.stored.Stored.{Stored}
 use Rattle.store_core.specs.declared.stored.StoredSpan.{StoredSpan}
 use Rattle.store_core.specs.declared.stored.StoredConfig.{StoredConfig}
 use Rattle.store_core.specs.declared.stored.StoredEntry.{StoredEntry}
-use Rattle.store.specs.Written.{Lived, Written, IsSpan, IsRevised, IsSound, IsHistory, history_of, commits_above, brings_one, is_alive, config_up_to, span_of, dated_of, entries_of}
-use Rattle.store.specs.Reading.{lived_of, revised_of, written_of, current, IsHead, ArePlaced}
-use Rattle.store.specs.declared.lived.LivedSpan.{LivedSpan}
-use Rattle.store.specs.declared.lived.RevisedConfig.{RevisedConfig}
-use Rattle.store.specs.declared.lived.Head.{Head}
+use Rattle.store.specs.Written.{TupleSpan, Written, IsSpan, IsConfigAt, IsSound, IsHistory, history_of, commits_above, brings_one, is_alive, config_up_to, span_of, config_row_of, entries_of}
+use Rattle.store.specs.Reading.{as_span, as_config, as_written, current, IsHead, ArePlaced}
+use Rattle.store.specs.declared.parts.ReadSpan.{ReadSpan}
+use Rattle.store.specs.declared.parts.ReadConfig.{ReadConfig}
+use Rattle.store.specs.declared.parts.Head.{Head}
 use Rattle.store.proofs.Apart.{apart, distinct}
 use Rattle.store.proofs.CommitRuns.{length_above}
 use Rattle.store.proofs.Held.{IsWhole, whole_of}
@@ -45,7 +45,7 @@ built number floor config g tuples ts commits cs p q r =
 len_sorted : (ts : List Tuple) → IsStrictlySortedBy tuple_cmp ts → set.len (set.from_list ts) ≡ length ts
 len_sorted ts sorted = len_items (set.from_list ts) ∙ ap length (items_from_list ts sorted)
 
-pub within : (l : Loaded) (w : Written) (n : ℕ) → IsStrictlySortedBy tuple_cmp l.tuples → l.commits ≡ commits_above w l.floor n → l.floor + n ≤ max_rev → length l.tuples + rows_of l.commits ≤ max_rows → IsWithin l
+pub within : (l : Loaded) (w : Written) (n : ℕ) → IsStrictlySortedBy tuple_cmp l.tuples → l.commits ≡ commits_above w l.floor n → l.floor + n ≤ MAX_REV → length l.tuples + rows_of l.commits ≤ MAX_ROWS → IsWithin l
 within l w n sorted commits revs rows = record {
   ordered = sorted;
   revs = let len = ap length commits ∙ length_above w l.floor n in omega (arith, len, revs);
@@ -54,64 +54,64 @@ within l w n sorted commits revs rows = record {
 
 -- a history has no more spans than it may
 pub room_refused : (w : Written) (tuples : List Tuple) (commits : List (Commit Configured)) → tuples ≡ map (λ l. l.tuple) (filter (is_alive w.floor) w.spans) → commits ≡ commits_above w w.floor (w.newest - w.floor)
-    → max_rows < length tuples + rows_of commits → IsSound w → ⊥
+    → MAX_ROWS < length tuples + rows_of commits → IsSound w → ⊥
 room_refused w tuples commits are above more sound =
     let len = len_alive w.floor w.spans sound.apart in
-    let same = ap length are ∙ length-map (filter (is_alive w.floor) w.spans) (λ (l : Lived). l.tuple) in
+    let same = ap length are ∙ length-map (filter (is_alive w.floor) w.spans) (λ (l : TupleSpan). l.tuple) in
     let rows = ap rows_of above in
     let most = sound.rows in
     omega (arith, len, same, rows, most, more)
 
 -- nor more tuples
-pub many_refused : (head : Head) (spans : List LivedSpan) (configs : List RevisedConfig) → max_tuples < current spans → IsSound (written_of head spans configs) → ⊥
+pub many_refused : (head : Head) (spans : List ReadSpan) (configs : List ReadConfig) → MAX_TUPLES < current spans → IsSound (as_written head spans configs) → ⊥
 many_refused head spans configs many sound =
-    let len = len_current head spans configs (whole_of (written_of head spans configs) sound) in
+    let len = len_current head spans configs (whole_of (as_written head spans configs) sound) in
     let most = sound.tuples in
     omega (arith, many, len, most)
 
 -- what was read
-pub sound : (head : Head) (spans : List LivedSpan) (configs : List RevisedConfig) → IsHead head
-    → All (λ s. IsSpan head.floor head.newest (lived_of s)) spans → All (λ c. IsRevised head.newest (revised_of c)) configs → ArePlaced head configs spans
-    → ((rev : ℕ) → head.floor < rev → rev ≤ head.newest → brings_one (written_of head spans configs) rev ≡ true)
-    → (r : Retained) → r ≡ history_of (written_of head spans configs) → spans_of r ≤ max_rows → current spans ≤ max_tuples
-    → IsSound (written_of head spans configs)
+pub sound : (head : Head) (spans : List ReadSpan) (configs : List ReadConfig) → IsHead head
+    → All (λ s. IsSpan head.floor head.newest (as_span s)) spans → All (λ c. IsConfigAt head.newest (as_config c)) configs → ArePlaced head configs spans
+    → ((rev : ℕ) → head.floor < rev → rev ≤ head.newest → brings_one (as_written head spans configs) rev ≡ true)
+    → (r : Retained) → r ≡ history_of (as_written head spans configs) → spans_of r ≤ MAX_ROWS → current spans ≤ MAX_TUPLES
+    → IsSound (as_written head spans configs)
 sound head spans configs is are revised placed whole r same rows few = record {
   number_is = (is.numbered, is.signed);
   order = is.order;
   revs = is.revs;
   spans_are = rows_are.spans_are;
   apart = rows_are.apart;
-  configs_are = All-map (IsRevised head.newest) revised_of configs revised;
+  configs_are = All-map (IsConfigAt head.newest) as_config configs revised;
   distinct = rows_are.distinct;
   whole = whole;
-  admitted = λ rev above below. All-map (λ (l : Lived). is_alive rev l ≡ true → admits (config_up_to rev (map revised_of configs)) l.tuple ≡ true) lived_of spans (λ k d lt. placed.admitted k d lt rev above);
-  rows = let P : Retained → Type 0 = λ x. spans_of x ≤ max_rows in subst P same rows;
+  admitted = λ rev above below. All-map (λ (l : TupleSpan). is_alive rev l ≡ true → admits (config_up_to rev (map as_config configs)) l.tuple ≡ true) as_span spans (λ k d lt. placed.admitted k d lt rev above);
+  rows = let P : Retained → Type 0 = λ x. spans_of x ≤ MAX_ROWS in subst P same rows;
   tuples = let len = len_current head spans configs rows_are in omega (arith, len, few);
 }
   where
-    rows_are : IsWhole (written_of head spans configs)
+    rows_are : IsWhole (as_written head spans configs)
     rows_are = record {
       order = is.order;
-      spans_are = All-map (IsSpan head.floor head.newest) lived_of spans are;
-      apart = apart lived_of head.floor head.newest spans placed.apart are;
-      distinct = distinct revised_of head.floor configs placed.distinct;
+      spans_are = All-map (IsSpan head.floor head.newest) as_span spans are;
+      apart = apart as_span head.floor head.newest spans placed.apart are;
+      distinct = distinct as_config head.floor configs placed.distinct;
       whole = whole;
     }
 
-pub history : (h : Contents) (s : Stored) (head : Head) (spans : List LivedSpan) (configs : List RevisedConfig) (es : List StoredEntry) (cs : List StoredConfig) (ss : List StoredSpan)
+pub history : (h : Contents) (s : Stored) (head : Head) (spans : List ReadSpan) (configs : List ReadConfig) (es : List StoredEntry) (cs : List StoredConfig) (ss : List StoredSpan)
     → es ≡ s.entries.items → cs ≡ s.configs.items → ss ≡ s.spans.items
-    → map entry_in es ≡ entries_of (written_of head [] [])
-    → map dated_of (map revised_of configs) ≡ map dated_in cs
-    → IsPermutation (map span_in ss) (map span_of (map lived_of spans))
-    → IsSound (written_of head spans configs) → (r : Retained) → r ≡ history_of (written_of head spans configs) → Loads h s → IsHistory h r
+    → map entry_in es ≡ entries_of (as_written head [] [])
+    → map config_row_of (map as_config configs) ≡ map config_row_in cs
+    → IsPermutation (map span_in ss) (map span_of (map as_span spans))
+    → IsSound (as_written head spans configs) → (r : Retained) → r ≡ history_of (as_written head spans configs) → Loads h s → IsHistory h r
 history h s head spans configs es cs ss e c p entries dated perm sound r same loads =
-    let Q : List StoredSpan → Type 0 = λ l. IsPermutation (map span_in l) (map span_of (map lived_of spans)) in
-    let D : List Dated → Type 0 = λ l. IsPermutation h.configs l in
+    let Q : List StoredSpan → Type 0 = λ l. IsPermutation (map span_in l) (map span_of (map as_span spans)) in
+    let D : List ConfigRow → Type 0 = λ l. IsPermutation h.configs l in
     let E : List Entry → Type 0 = λ l. IsPermutation h.entries l in (
-      written_of head spans configs,
+      as_written head spans configs,
       record {
-        spans = IsPermutation-trans h.spans (map span_in s.spans.items) (map span_of (map lived_of spans)) loads.spans (subst Q p perm);
-        configs = subst D (sym (dated ∙ ap (map dated_in) c)) loads.configs;
+        spans = IsPermutation-trans h.spans (map span_in s.spans.items) (map span_of (map as_span spans)) loads.spans (subst Q p perm);
+        configs = subst D (sym (dated ∙ ap (map config_row_in) c)) loads.configs;
         entries = subst E (ap (map entry_in) (sym e) ∙ entries) loads.entries;
       },
       sound,

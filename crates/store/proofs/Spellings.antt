@@ -11,7 +11,7 @@ use Rattle.names.specs.declared.tuple.Tuple.{Tuple}
 use Rattle.names.specs.declared.subject.Subject.{Subject}
 use Rattle.names.proofs.Splitting.{is_other, lacks_refused}
 use Rattle.store_core.specs.Tables.{same_tuple}
-use Rattle.store.specs.Written.{Lived, span_of}
+use Rattle.store.specs.Written.{TupleSpan, span_of}
 use Rattle.store.proofs.Picking.{same_bool}
 use Rattle.store.proofs.Living.{one_tuple}
 use Rattle.store.proofs.Following.{itself}
@@ -72,7 +72,7 @@ one_subject a b is_a is_b e =
     whole p q r = λ i. record { object = record { namespace = p i; id = q i }; relation = r i }
 
 -- rows are of one tuple where the tuples are one
-pub same_texts : (l : Lived) (t : Tuple) → IsTuple l.tuple → IsTuple t → same_tuple (span_of l) (span_of (record { tuple = t; added = 0; removed = 0 })) ≡ is_same_tuple t l.tuple
+pub same_texts : (l : TupleSpan) (t : Tuple) → IsTuple l.tuple → IsTuple t → same_tuple (span_of l) (span_of (record { tuple = t; added = 0; removed = 0 })) ≡ is_same_tuple t l.tuple
 same_texts l t is_l is_t = same_bool _ _ same back
   where
     bytes : (a b : List ℕ) → bytes_eq a b ≡ true → a ≡ b

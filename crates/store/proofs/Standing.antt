@@ -12,18 +12,18 @@ use Rattle.names.specs.declared.commit.EventKind.{EventKind}
 use Rattle.names.specs.declared.commit.EventKind.TheVariants.{Put, Del}
 use Rattle.meaning.specs.Config.{Configured}
 use Rattle.meaning.specs.Admits.{admits}
-use Rattle.store.specs.Written.{Lived, IsSpan, Pairwise, is_alive, is_moved, is_put_at, are_apart, is_before}
+use Rattle.store.specs.Written.{TupleSpan, IsSpan, Pairwise, is_alive, is_moved, is_put_at, are_apart, is_before}
 use Rattle.store.proofs.Picking.{In, found, any_in, all_in, all_from, any_same, any_no}
 use Rattle.store.proofs.Living.{is_of, one_tuple}
 use Rattle.store.proofs.Events.{ended, begun, with_kind, with_event, Stand, ended_either, ended_tuple, ended_added, any_map, removed_most, alive_open, ended_alive}
 
 -- ---- what comes or goes
 
-module _ (floor rev : ℕ) (spans : List Lived) (stand : Stand floor rev spans) where
+module _ (floor rev : ℕ) (spans : List TupleSpan) (stand : Stand floor rev spans) where
   moved_other : (t q : Tuple) → is_same_tuple q t ≡ false → list_any (is_of q (is_moved rev)) (map (ended rev t) spans) ≡ list_any (is_of q (is_moved rev)) spans
   moved_other t q other = any_map (ended rev t) (is_of q (is_moved rev)) spans ∙ any_same (λ l. is_of q (is_moved rev) (ended rev t l)) (is_of q (is_moved rev)) spans (λ l _. each l)
     where
-      each : (l : Lived) → is_of q (is_moved rev) (ended rev t l) ≡ is_of q (is_moved rev) l
+      each : (l : TupleSpan) → is_of q (is_moved rev) (ended rev t l) ≡ is_of q (is_moved rev) l
       each l = ended_either (λ m. is_of q (is_moved rev) m ≡ is_of q (is_moved rev) l) rev t l
           (λ same _. let unlike : is_same_tuple q l.tuple ≡ false = ap (is_same_tuple q) (sym (one_tuple t l.tuple same)) ∙ other in
           and_left (is_same_tuple q l.tuple) _ unlike ∙ sym (and_left (is_same_tuple q l.tuple) (is_moved rev l) unlike))
@@ -33,7 +33,7 @@ module _ (floor rev : ℕ) (spans : List Lived) (stand : Stand floor rev spans) 
   moved_same : (t : Tuple) → list_any (is_of t (is_alive rev)) spans ≡ true → list_any (is_of t (is_moved rev)) (map (ended rev t) spans) ≡ true
   moved_same t alive = by_found (found (is_of t (is_alive rev)) spans alive)
     where
-      by_found : (l : Lived) × In l spans × (is_of t (is_alive rev) l ≡ true) → list_any (is_of t (is_moved rev)) (map (ended rev t) spans) ≡ true
+      by_found : (l : TupleSpan) × In l spans × (is_of t (is_alive rev) l ≡ true) → list_any (is_of t (is_moved rev)) (map (ended rev t) spans) ≡ true
       by_found (l, i, h) =
           let p = and_parts (is_same_tuple t l.tuple) (is_alive rev l) h in
           any_map (ended rev t) (is_of t (is_moved rev)) spans
@@ -61,7 +61,7 @@ module _ (floor rev : ℕ) (spans : List Lived) (stand : Stand floor rev spans) 
 
 -- ---- the spans
 
-ended_span : (floor rev : ℕ) (t : Tuple) (l : Lived) → floor < rev → IsSpan floor rev l → (is_same_tuple t l.tuple ≡ true → l.added ≡ rev → ⊥) → IsSpan floor rev (ended rev t l)
+ended_span : (floor rev : ℕ) (t : Tuple) (l : TupleSpan) → floor < rev → IsSpan floor rev l → (is_same_tuple t l.tuple ≡ true → l.added ≡ rev → ⊥) → IsSpan floor rev (ended rev t l)
 ended_span floor rev t l above span older = ended_either (IsSpan floor rev) rev t l
     (λ same _. record { spelled = span.spelled; begins = span.begins; begun = span.begun; ends = inr (below span.begun (older same), above, omega arith) })
     (λ _. span)
@@ -69,7 +69,7 @@ ended_span floor rev t l above span older = ended_either (IsSpan floor rev) rev 
     below : l.added ≤ rev → (l.added ≡ rev → ⊥) → l.added < rev
     below a b = omega (arith, a, b)
 
-before_ended : (rev : ℕ) (t : Tuple) (a b : Lived) → is_before a b ≡ true → is_before (ended rev t a) (ended rev t b) ≡ true
+before_ended : (rev : ℕ) (t : Tuple) (a b : TupleSpan) → is_before a b ≡ true → is_before (ended rev t a) (ended rev t b) ≡ true
 before_ended rev t a b h = ended_either (λ m. is_before m (ended rev t b) ≡ true) rev t a
     (λ _ z. absurd (ended_not z (and_parts (nat_lt 0 a.removed) (nat_le a.removed b.added) h).0))
     (λ _. ap (λ n. nat_lt 0 a.removed && nat_le a.removed n) (ended_added rev t b) ∙ h)
@@ -77,7 +77,7 @@ before_ended rev t a b h = ended_either (λ m. is_before m (ended rev t b) ≡ t
     ended_not : a.removed ≡ 0 → nat_lt 0 a.removed ≡ true → ⊥
     ended_not z s = let x = ltb-true 0 a.removed s in omega (arith, x, z)
 
-apart_ended : (rev : ℕ) (t : Tuple) (a b : Lived) → are_apart a b ≡ true → are_apart (ended rev t a) (ended rev t b) ≡ true
+apart_ended : (rev : ℕ) (t : Tuple) (a b : TupleSpan) → are_apart a b ≡ true → are_apart (ended rev t a) (ended rev t b) ≡ true
 apart_ended rev t a b h =
     ap (λ v. cond (is_same_tuple v (ended rev t b).tuple) (is_before (ended rev t a) (ended rev t b) || is_before (ended rev t b) (ended rev t a)) true) (ended_tuple rev t a)
     ∙ ap (λ v. cond (is_same_tuple a.tuple v) (is_before (ended rev t a) (ended rev t b) || is_before (ended rev t b) (ended rev t a)) true) (ended_tuple rev t b)
@@ -97,7 +97,7 @@ pair_map f p q (x ∷ xs) h ps =
     (All-map (λ v. q (f x) v ≡ true) f xs (all_from (λ y. q (f x) (f y) ≡ true) xs (λ y i. h x y (all_in (λ z. p x z ≡ true) xs ps.0 y i))), pair_map f p q xs h ps.1)
 
 -- what begins lies apart from all that has ended
-begun_apart : (floor rev : ℕ) (t : Tuple) (l : Lived) → 0 < rev → IsSpan floor rev l → are_apart (begun rev t) (ended rev t l) ≡ true
+begun_apart : (floor rev : ℕ) (t : Tuple) (l : TupleSpan) → 0 < rev → IsSpan floor rev l → are_apart (begun rev t) (ended rev t l) ≡ true
 begun_apart floor rev t l some span =
     ap (λ v. cond (is_same_tuple t v) (is_before (begun rev t) (ended rev t l) || is_before (ended rev t l) (begun rev t)) true) (ended_tuple rev t l)
     ∙ by_same (is_same_tuple t l.tuple) refl
@@ -111,10 +111,10 @@ begun_apart floor rev t l some span =
     by_same true same = or_right (is_before (begun rev t) (ended rev t l)) _ (ended_before same)
     by_same false other = refl
 
-pub stand_now : (floor rev : ℕ) (spans : List Lived) → Stand floor rev spans → floor < rev → (e : Event) → IsTuple e.tuple → is_put_at rev spans e.tuple ≡ false → Stand floor rev (with_event rev spans e)
+pub stand_now : (floor rev : ℕ) (spans : List TupleSpan) → Stand floor rev spans → floor < rev → (e : Event) → IsTuple e.tuple → is_put_at rev spans e.tuple ≡ false → Stand floor rev (with_event rev spans e)
 stand_now floor rev spans stand above e spelled fresh = by_kind e.kind
   where
-    older : (l : Lived) → In l spans → is_same_tuple e.tuple l.tuple ≡ true → l.added ≡ rev → ⊥
+    older : (l : TupleSpan) → In l spans → is_same_tuple e.tuple l.tuple ≡ true → l.added ≡ rev → ⊥
     older l i same at = true≢false (sym (and_from (is_same_tuple e.tuple l.tuple) (l.added == rev) same (eq-eqb l.added rev at)) ∙ any_no (λ m. is_same_tuple e.tuple m.tuple && (m.added == rev)) spans fresh l i)
 
     are : All (IsSpan floor rev) (map (ended rev e.tuple) spans)
@@ -137,10 +137,10 @@ stand_now floor rev spans stand above e spelled fresh = by_kind e.kind
 -- ---- which tuples are admitted
 
 -- each tuple that is there at a revision is admitted
-abbrev pub Admitted : Configured → ℕ → List Lived → Type 0
+abbrev pub Admitted : Configured → ℕ → List TupleSpan → Type 0
 Admitted config at spans = All (λ l. is_alive at l ≡ true → admits config l.tuple ≡ true) spans
 
-pub admitted_older : (config : Configured) (rev at : ℕ) (e : Event) (spans : List Lived) → at < rev → Admitted config at spans → Admitted config at (with_event rev spans e)
+pub admitted_older : (config : Configured) (rev at : ℕ) (e : Event) (spans : List TupleSpan) → at < rev → Admitted config at spans → Admitted config at (with_event rev spans e)
 admitted_older config rev at e spans old h = by_kind e.kind
   where
     rest : Admitted config at (map (ended rev e.tuple) spans)
@@ -153,10 +153,10 @@ admitted_older config rev at e spans old h = by_kind e.kind
         (λ a. absurd (true≢false (sym a ∙ and_left (nat_le rev at) _ (lt-leb rev at old)))) rest
     by_kind Del = rest
 
-pub admitted_now : (config : Configured) (floor rev : ℕ) (e : Event) (spans : List Lived) → 0 < rev → Stand floor rev spans → admits config e.tuple ≡ true → Admitted config rev spans → Admitted config rev (with_event rev spans e)
+pub admitted_now : (config : Configured) (floor rev : ℕ) (e : Event) (spans : List TupleSpan) → 0 < rev → Stand floor rev spans → admits config e.tuple ≡ true → Admitted config rev spans → Admitted config rev (with_event rev spans e)
 admitted_now config floor rev e spans some stand good h = by_kind e.kind
   where
-    each : (l : Lived) → In l spans → is_alive rev (ended rev e.tuple l) ≡ true → admits config (ended rev e.tuple l).tuple ≡ true
+    each : (l : TupleSpan) → In l spans → is_alive rev (ended rev e.tuple l) ≡ true → admits config (ended rev e.tuple l).tuple ≡ true
     each l i = ended_either (λ m. is_alive rev m ≡ true → admits config m.tuple ≡ true) rev e.tuple l
         (λ same _ _. ap (admits config) (sym (one_tuple e.tuple l.tuple same)) ∙ good)
         (λ _ a. all_in (λ l. is_alive rev l ≡ true → admits config l.tuple ≡ true) spans h l i a)

@@ -11,23 +11,23 @@ use Rattle.std.proofs.lemmas.Map.Keys.{ge_from_not_lt}
 use Rattle.std.proofs.lemmas.List.{length-map}
 use Rattle.std.proofs.Math.ListN.{get_or-map}
 use Rattle.std.proofs.lemmas.Slice.Eq.{bytes_eq-Decides}
+use Rattle.names.specs.declared.limits.TheConstants.{MAX_REV, MAX_ROWS, MAX_TUPLES}
 use Rattle.names.specs.Spelling.{IsTuple}
 use Rattle.meaning.specs.Admits.{admits}
 use Rattle.meaning.specs.TupleSet as set
-use Rattle.meaning.specs.Verdict.{max_rev, max_rows, max_tuples}
 use Rattle.rows.specs.Retained.{newest_of, spans_of}
-use Rattle.store_core.specs.Tables.{Span, Dated, Entry, Contents, same_tuple}
-use Rattle.store_core.specs.Stored.{span_in, dated_in, entry_in, dated_cmp, Loads, IsInOrder}
+use Rattle.store_core.specs.Tables.{Span, ConfigRow, Entry, Contents, same_tuple}
+use Rattle.store_core.specs.Stored.{span_in, config_row_in, entry_in, config_cmp, Loads, IsInOrder}
 use Rattle.store_core.specs.declared.stored.Stored.{Stored}
 use Rattle.store_core.specs.declared.stored.StoredSpan.{StoredSpan}
 use Rattle.store_core.specs.declared.stored.StoredConfig.{StoredConfig}
 use Rattle.store_core.specs.declared.stored.StoredEntry.{StoredEntry}
-use Rattle.store.specs.Written.{Lived, Revised, Written, IsSpan, IsRevised, IsSound, IsWritten, Pairwise, is_alive, is_moved, is_one, is_before, are_apart, are_distinct, brings_one, config_at, last_up_to, config_up_to, history_of, span_of, dated_of, entry, entries_of}
-use Rattle.store.specs.Reading.{lived_of, revised_of, written_of, IsHead}
+use Rattle.store.specs.Written.{TupleSpan, ConfigAt, Written, IsSpan, IsConfigAt, IsSound, IsWritten, Pairwise, is_alive, is_moved, is_one, is_before, are_apart, are_distinct, brings_one, config_at, last_up_to, config_up_to, history_of, span_of, config_row_of, entry, entries_of}
+use Rattle.store.specs.Reading.{as_span, as_config, as_written, IsHead}
 use Rattle.store.specs.Refused.{IsOfSpan, IsOfConfig, AreOfHead, AreListed, IsListed, IsOfHistory}
-use Rattle.store.specs.declared.lived.LivedSpan.{LivedSpan}
-use Rattle.store.specs.declared.lived.RevisedConfig.{RevisedConfig}
-use Rattle.store.specs.declared.lived.Head.{Head}
+use Rattle.store.specs.declared.parts.ReadSpan.{ReadSpan}
+use Rattle.store.specs.declared.parts.ReadConfig.{ReadConfig}
+use Rattle.store.specs.declared.parts.Head.{Head}
 use Rattle.store.proofs.Picking.{In, same_bool, all_in, all_from}
 use Rattle.store.proofs.Moving.{same_self}
 use Rattle.store.proofs.Spellings.{same_texts}
@@ -64,10 +64,10 @@ rows_turned : (a b : Span) → rows_apart a b ≡ rows_apart b a
 rows_turned a b =
     ap (λ s. cond s (row_before a b || row_before b a) true) (tuples_turned b a) ∙ ap (λ o. cond (same_tuple a b) o true) (or_turned (row_before a b) (row_before b a))
 
-by_rows : (a b : Lived) → IsTuple a.tuple → IsTuple b.tuple → are_apart a b ≡ rows_apart (span_of a) (span_of b)
+by_rows : (a b : TupleSpan) → IsTuple a.tuple → IsTuple b.tuple → are_apart a b ≡ rows_apart (span_of a) (span_of b)
 by_rows a b p q = ap (λ s. cond s (is_before a b || is_before b a) true) (sym (same_texts b a.tuple q p))
 
-never_before_itself : (floor newest : ℕ) (l : Lived) → IsSpan floor newest l → is_before l l ≡ false
+never_before_itself : (floor newest : ℕ) (l : TupleSpan) → IsSpan floor newest l → is_before l l ≡ false
 never_before_itself floor newest l span = by_test (is_before l l) refl
   where
     never : 0 < l.removed → l.removed ≤ l.added → (l.removed ≡ 0) ⊎ ((l.added < l.removed) × (floor < l.removed) × (l.removed ≤ newest)) → ⊥
@@ -78,15 +78,15 @@ never_before_itself floor newest l span = by_test (is_before l l) refl
     by_test true e = let p = and_parts (nat_lt 0 l.removed) (nat_le l.removed l.added) e in absurd (never (ltb-true 0 l.removed p.0) (leb-true l.removed l.added p.1) span.ends)
     by_test false e = e
 
-not_apart_itself : (floor newest : ℕ) (l : Lived) → IsSpan floor newest l → are_apart l l ≡ false
+not_apart_itself : (floor newest : ℕ) (l : TupleSpan) → IsSpan floor newest l → are_apart l l ≡ false
 not_apart_itself floor newest l span =
     ap (λ s. cond s (is_before l l || is_before l l) true) (same_self l.tuple) ∙ ap (λ b. b || b) (never_before_itself floor newest l span)
 
 module _ (v w : Written) (rows_v : HasRows v) (rows_w : HasRows w) (perm : IsPermutation (map span_of w.spans) (map span_of v.spans)) where
-  tuple_w : (l : Lived) → In l w.spans → IsTuple l.tuple
+  tuple_w : (l : TupleSpan) → In l w.spans → IsTuple l.tuple
   tuple_w l i = (all_in (IsSpan w.floor w.newest) w.spans rows_w.spans_are l i).spelled
 
-  tuple_v : (l : Lived) → In l v.spans → IsTuple l.tuple
+  tuple_v : (l : TupleSpan) → In l v.spans → IsTuple l.tuple
   tuple_v l i = (all_in (IsSpan v.floor v.newest) v.spans rows_v.spans_are l i).spelled
 
   apart_read : Pairwise are_apart w.spans → Pairwise are_apart v.spans
@@ -98,27 +98,27 @@ module _ (v w : Written) (rows_v : HasRows v) (rows_w : HasRows w) (perm : IsPer
       itself : (x : Span) → In x (map span_of w.spans) → rows_apart x x ≡ false
       itself x i = by_span (in_unmap span_of w.spans x i)
         where
-          by_span : (l : Lived) × In l w.spans × (x ≡ span_of l) → rows_apart x x ≡ false
+          by_span : (l : TupleSpan) × In l w.spans × (x ≡ span_of l) → rows_apart x x ≡ false
           by_span (l, j, e) = ap (λ y. rows_apart y y) e ∙ sym (by_rows l l (tuple_w l j) (tuple_w l j)) ∙ not_apart_itself w.floor w.newest l (all_in (IsSpan w.floor w.newest) w.spans rows_w.spans_are l j)
 
 -- ---- configurations of distinct revisions, by their rows
 
-abbrev rows_distinct : ℕ → Dated → Dated → Bool
+abbrev rows_distinct : ℕ → ConfigRow → ConfigRow → Bool
 rows_distinct floor a b = cond (a.rev == b.rev) false (nat_lt floor a.rev || nat_lt floor b.rev)
 
 revs_turned : (m n : ℕ) → (m == n) ≡ (n == m)
 revs_turned m n = same_bool (m == n) (n == m) (λ h. eq-eqb n m (sym (eqb-true m n h))) (λ h. eq-eqb m n (sym (eqb-true n m h)))
 
-distinct_turned : (floor : ℕ) (a b : Dated) → rows_distinct floor a b ≡ rows_distinct floor b a
+distinct_turned : (floor : ℕ) (a b : ConfigRow) → rows_distinct floor a b ≡ rows_distinct floor b a
 distinct_turned floor a b =
     ap (λ s. cond s false (nat_lt floor a.rev || nat_lt floor b.rev)) (revs_turned a.rev b.rev) ∙ ap (λ o. cond (b.rev == a.rev) false o) (or_turned (nat_lt floor a.rev) (nat_lt floor b.rev))
 
-distinct_read : (floor : ℕ) (cs ds : List Revised) → IsPermutation (map dated_of cs) (map dated_of ds) → Pairwise (are_distinct floor) cs → Pairwise (are_distinct floor) ds
+distinct_read : (floor : ℕ) (cs ds : List ConfigAt) → IsPermutation (map config_row_of cs) (map config_row_of ds) → Pairwise (are_distinct floor) cs → Pairwise (are_distinct floor) ds
 distinct_read floor cs ds perm distinct =
-    pairwise_unseen dated_of (are_distinct floor) (rows_distinct floor) ds (λ a b i j. refl)
-    (pairwise_permuted (rows_distinct floor) (distinct_turned floor) (map dated_of cs) (map dated_of ds)
+    pairwise_unseen config_row_of (are_distinct floor) (rows_distinct floor) ds (λ a b i j. refl)
+    (pairwise_permuted (rows_distinct floor) (distinct_turned floor) (map config_row_of cs) (map config_row_of ds)
     (λ x i. ap (λ s. cond s false (nat_lt floor x.rev || nat_lt floor x.rev)) (eq-eqb x.rev x.rev refl)) perm
-    (pairwise_seen dated_of (are_distinct floor) (rows_distinct floor) cs (λ a b i j. refl) distinct))
+    (pairwise_seen config_row_of (are_distinct floor) (rows_distinct floor) cs (λ a b i j. refl) distinct))
 
 -- ---- the history
 
@@ -126,7 +126,7 @@ pub sound_read : (h : Contents) (v w : Written) → IsWritten h v → IsWritten 
 sound_read h v w is_v is_w rows_v sound_w = record {
   number_is = subst (λ n. (1 ≤ n) × (n < 2 ^ 63)) (sym number) sound_w.number_is;
   order = subst (λ n. n ≤ v.newest) (sym floor) (subst (λ n. w.floor ≤ n) (sym newest) sound_w.order);
-  revs = subst (λ n. n ≤ max_rev) (sym newest) sound_w.revs;
+  revs = subst (λ n. n ≤ MAX_REV) (sym newest) sound_w.revs;
   spans_are = rows_v.spans_are;
   apart = apart_read v w rows_v rows_w (IsPermutation-trans _ _ _ (IsPermutation-sym _ _ is_w.spans) is_v.spans) sound_w.apart;
   configs_are = rows_v.configs_are;
@@ -134,25 +134,25 @@ sound_read h v w is_v is_w rows_v sound_w = record {
       (distinct_read w.floor w.configs v.configs (IsPermutation-trans _ _ _ (IsPermutation-sym _ _ is_w.configs) is_v.configs) sound_w.distinct);
   whole = λ rev low high. same_one rev ∙ sound_w.whole rev (subst (λ n. n < rev) floor low) (subst (λ n. rev ≤ n) newest high);
   admitted = λ rev low high. all_from (λ l. is_alive rev l ≡ true → admits (config_up_to rev v.configs) l.tuple ≡ true) v.spans (λ l i alive.
-      ap (λ (c : Revised). admits c.config l.tuple) (same_up_to rev)
+      ap (λ (c : ConfigAt). admits c.config l.tuple) (same_up_to rev)
       ∙ all_in (λ l. is_alive rev l ≡ true → admits (config_up_to rev w.configs) l.tuple ≡ true) w.spans (sound_w.admitted rev (subst (λ n. n ≤ rev) floor low) (subst (λ n. rev ≤ n) newest high)) l (f l i) alive);
-  rows = subst (λ r. spans_of r ≤ max_rows) (sym same) sound_w.rows;
-  tuples = subst (λ r. set.len (newest_of r).held.tuples ≤ max_tuples) (sym same) sound_w.tuples;
+  rows = subst (λ r. spans_of r ≤ MAX_ROWS) (sym same) sound_w.rows;
+  tuples = subst (λ r. set.len (newest_of r).held.tuples ≤ MAX_TUPLES) (sym same) sound_w.tuples;
 }
   where
     rows_w : HasRows w
     rows_w = rows_in w sound_w
 
-    f : (l : Lived) → In l v.spans → In l w.spans
+    f : (l : TupleSpan) → In l v.spans → In l w.spans
     f = spans_in h v w is_v is_w rows_v rows_w
 
-    b : (l : Lived) → In l w.spans → In l v.spans
+    b : (l : TupleSpan) → In l w.spans → In l v.spans
     b = spans_in h w v is_w is_v rows_w rows_v
 
-    cf : (c : Revised) → In c v.configs → In c w.configs
+    cf : (c : ConfigAt) → In c v.configs → In c w.configs
     cf = configs_in h v w is_v is_w rows_v rows_w
 
-    cb : (c : Revised) → In c w.configs → In c v.configs
+    cb : (c : ConfigAt) → In c w.configs → In c v.configs
     cb = configs_in h w v is_w is_v rows_w rows_v
 
     entries : (e : Entry) → In e (entries_of v) → In e (entries_of w)
@@ -176,7 +176,7 @@ sound_read h v w is_v is_w rows_v sound_w = record {
         ∙ ap (is_one (config_at rev w.configs)) (any_both (is_moved rev) v.spans w.spans f b)
 
     same_up_to : (rev : ℕ) → last_up_to rev v.configs ≡ last_up_to rev w.configs
-    same_up_to rev = same_last w.floor rev v.configs w.configs sound_w.distinct cf cb (λ c i. (all_in (IsRevised w.newest) w.configs sound_w.configs_are c i).begins)
+    same_up_to rev = same_last w.floor rev v.configs w.configs sound_w.distinct cf cb (λ c i. (all_in (IsConfigAt w.newest) w.configs sound_w.configs_are c i).begins)
 
 -- ---- what is read
 
@@ -197,8 +197,8 @@ module _ (s : Stored) (order : IsInOrder s) (h : Contents) (w : Written) (loads 
     entries_read,
   )
 
-  module _ (head : Head) (is : map entry_in s.entries.items ≡ entries_of (written_of head [] [])) where
-    entry_there : (e : Entry) → In e (entries_of (written_of head [] [])) → In e (entries_of w)
+  module _ (head : Head) (is : map entry_in s.entries.items ≡ entries_of (as_written head [] [])) where
+    entry_there : (e : Entry) → In e (entries_of (as_written head [] [])) → In e (entries_of w)
     entry_there e = subst (In e) (sym is ∙ entries_read)
 
     floor_read : w.floor ≡ head.floor
@@ -208,36 +208,36 @@ module _ (s : Stored) (order : IsInOrder s) (h : Contents) (w : Written) (loads 
     newest_read = sym (newest_is head.newest w (entry_there (entry (codes "newest") head.newest) (inr (inr (inl refl)))))
 
     configs_read : All (IsOfConfig head.newest) s.configs.items
-    configs_read = all_from (IsOfConfig head.newest) s.configs.items (λ c i. by_row c (in_unmap dated_of w.configs (dated_in c) (in_permuted _ _ (dated_in c) (IsPermutation-trans _ _ _ (IsPermutation-sym _ _ loads.configs) is_w.configs) (in_map dated_in s.configs.items c i))))
+    configs_read = all_from (IsOfConfig head.newest) s.configs.items (λ c i. by_row c (in_unmap config_row_of w.configs (config_row_in c) (in_permuted _ _ (config_row_in c) (IsPermutation-trans _ _ _ (IsPermutation-sym _ _ loads.configs) is_w.configs) (in_map config_row_in s.configs.items c i))))
       where
-        by_row : (c : StoredConfig) → (d : Revised) × In d w.configs × (dated_in c ≡ dated_of d) → IsOfConfig head.newest c
-        by_row c (d, j, e) = (d, subst (λ n. IsRevised n d) newest_read (all_in (IsRevised w.newest) w.configs sound_w.configs_are d j), sym e)
+        by_row : (c : StoredConfig) → (d : ConfigAt) × In d w.configs × (config_row_in c ≡ config_row_of d) → IsOfConfig head.newest c
+        by_row c (d, j, e) = (d, subst (λ n. IsConfigAt n d) newest_read (all_in (IsConfigAt w.newest) w.configs sound_w.configs_are d j), sym e)
 
     spans_read : All (IsOfSpan head.floor head.newest) s.spans.items
     spans_read = all_from (IsOfSpan head.floor head.newest) s.spans.items (λ l i. by_row l (in_unmap span_of w.spans (span_in l) (in_permuted _ _ (span_in l) (IsPermutation-trans _ _ _ (IsPermutation-sym _ _ loads.spans) is_w.spans) (in_map span_in s.spans.items l i))))
       where
-        by_row : (l : StoredSpan) → (m : Lived) × In m w.spans × (span_in l ≡ span_of m) → IsOfSpan head.floor head.newest l
+        by_row : (l : StoredSpan) → (m : TupleSpan) × In m w.spans × (span_in l ≡ span_of m) → IsOfSpan head.floor head.newest l
         by_row l (m, j, e) = (m, subst (λ n. IsSpan n head.newest m) floor_read (subst (λ n. IsSpan w.floor n m) newest_read (all_in (IsSpan w.floor w.newest) w.spans sound_w.spans_are m j)), sym e)
 
-    module _ (spans : List LivedSpan) (configs : List RevisedConfig) (dated : map dated_of (map revised_of configs) ≡ map dated_in s.configs.items) (perm : IsPermutation (map span_in s.spans.items) (map span_of (map lived_of spans)))
-        (spans_are : All (λ l. IsSpan head.floor head.newest (lived_of l)) spans) (configs_are : All (λ c. IsRevised head.newest (revised_of c)) configs) where
-      is_read : IsWritten h (written_of head spans configs)
+    module _ (spans : List ReadSpan) (configs : List ReadConfig) (dated : map config_row_of (map as_config configs) ≡ map config_row_in s.configs.items) (perm : IsPermutation (map span_in s.spans.items) (map span_of (map as_span spans)))
+        (spans_are : All (λ l. IsSpan head.floor head.newest (as_span l)) spans) (configs_are : All (λ c. IsConfigAt head.newest (as_config c)) configs) where
+      is_read : IsWritten h (as_written head spans configs)
       is_read = record {
         spans = IsPermutation-trans _ _ _ loads.spans perm;
         configs = subst (λ l. IsPermutation h.configs l) (sym dated) loads.configs;
         entries = subst (λ l. IsPermutation h.entries l) is loads.entries;
       }
 
-      all_read : IsSound (written_of head spans configs)
-      all_read = sound_read h (written_of head spans configs) w is_read is_w
-          (record { spans_are = All-map (IsSpan head.floor head.newest) lived_of spans spans_are; configs_are = All-map (IsRevised head.newest) revised_of configs configs_are }) sound_w
+      all_read : IsSound (as_written head spans configs)
+      all_read = sound_read h (as_written head spans configs) w is_read is_w
+          (record { spans_are = All-map (IsSpan head.floor head.newest) as_span spans spans_are; configs_are = All-map (IsConfigAt head.newest) as_config configs configs_are }) sound_w
 
-      revs_read : AllAdjacentBelow (λ (a b : RevisedConfig). a.rev ≤ b.rev) configs (length configs)
+      revs_read : AllAdjacentBelow (λ (a b : ReadConfig). a.rev ≤ b.rev) configs (length configs)
       revs_read = λ k d lt. ge_from_not_lt _ _ (by_rev k d (omega arith) lt)
         where
-          by_rev : IsSorted (λ (a b : RevisedConfig). dated_cmp (dated_of (revised_of a)) (dated_of (revised_of b))) configs
-          by_rev = sorted_from (λ a b. dated_cmp (dated_of a) (dated_of b)) revised_of configs
-              (sorted_from dated_cmp dated_of (map revised_of configs) (subst (IsSorted dated_cmp) (sym dated) order.configs))
+          by_rev : IsSorted (λ (a b : ReadConfig). config_cmp (config_row_of (as_config a)) (config_row_of (as_config b))) configs
+          by_rev = sorted_from (λ a b. config_cmp (config_row_of a) (config_row_of b)) as_config configs
+              (sorted_from config_cmp config_row_of (map as_config configs) (subst (IsSorted config_cmp) (sym dated) order.configs))
 
 -- ---- what a refusal denies
 
@@ -245,8 +245,8 @@ module _ (s : Stored) (es : List StoredEntry) (same_es : es ≡ s.entries.items)
   pub head_of : IsOfHistory s → AreOfHead es
   head_of (order, (h, loads, (r, (w, is_w, sound_w, _)))) = subst AreOfHead (sym same_es) (head_read s order h w loads is_w sound_w)
 
-  module _ (head : Head) (is : map entry_in es ≡ entries_of (written_of head [] [])) where
-    state_is : map entry_in s.entries.items ≡ entries_of (written_of head [] [])
+  module _ (head : Head) (is : map entry_in es ≡ entries_of (as_written head [] [])) where
+    state_is : map entry_in s.entries.items ≡ entries_of (as_written head [] [])
     state_is = ap (map entry_in) (sym same_es) ∙ is
 
     pub configs_of : (cs : List StoredConfig) → cs ≡ s.configs.items → IsOfHistory s → All (IsOfConfig head.newest) cs
@@ -257,21 +257,21 @@ module _ (s : Stored) (es : List StoredEntry) (same_es : es ≡ s.entries.items)
     rows_of ss same (order, (h, loads, (r, (w, is_w, sound_w, _)))) =
         subst (All (IsOfSpan head.floor head.newest)) (sym same) (spans_read s order h w loads is_w sound_w head state_is)
 
-    pub judged_of : (cs : List StoredConfig) (ss : List StoredSpan) → cs ≡ s.configs.items → ss ≡ s.spans.items → (spans : List LivedSpan) (configs : List RevisedConfig)
-        → map dated_of (map revised_of configs) ≡ map dated_in cs → IsPermutation (map span_in ss) (map span_of (map lived_of spans))
-        → All (λ l. IsSpan head.floor head.newest (lived_of l)) spans → All (λ c. IsRevised head.newest (revised_of c)) configs
-        → AllAdjacentBelow (λ a b. IsListed (lived_of a) (lived_of b)) spans (length spans)
-        → IsOfHistory s → AreListed configs spans × IsSound (written_of head spans configs)
+    pub judged_of : (cs : List StoredConfig) (ss : List StoredSpan) → cs ≡ s.configs.items → ss ≡ s.spans.items → (spans : List ReadSpan) (configs : List ReadConfig)
+        → map config_row_of (map as_config configs) ≡ map config_row_in cs → IsPermutation (map span_in ss) (map span_of (map as_span spans))
+        → All (λ l. IsSpan head.floor head.newest (as_span l)) spans → All (λ c. IsConfigAt head.newest (as_config c)) configs
+        → AllAdjacentBelow (λ a b. IsListed (as_span a) (as_span b)) spans (length spans)
+        → IsOfHistory s → AreListed configs spans × IsSound (as_written head spans configs)
     judged_of cs ss same_cs same_ss spans configs dated perm spans_are configs_are listed (order, (h, loads, (r, (w, is_w, sound_w, _)))) =
-        let dated_is = dated ∙ ap (map dated_in) same_cs in
-        let perm_is = subst (λ l. IsPermutation (map span_in l) (map span_of (map lived_of spans))) same_ss perm in (
+        let dated_is = dated ∙ ap (map config_row_in) same_cs in
+        let perm_is = subst (λ l. IsPermutation (map span_in l) (map span_of (map as_span spans))) same_ss perm in (
           record { tuples = listed; revs = revs_read s order h w loads is_w sound_w head state_is spans configs dated_is perm_is spans_are configs_are },
           all_read s order h w loads is_w sound_w head state_is spans configs dated_is perm_is spans_are configs_are,
         )
 
 -- ---- the state's values
 
-pub at_entry : (es : List StoredEntry) (head : Head) → map entry_in es ≡ entries_of (written_of head [] []) → (k : ℕ) (e : StoredEntry) → e ≡ get_or es k e → entry_in e ≡ get_or (entries_of (written_of head [] [])) k (entry_in e)
+pub at_entry : (es : List StoredEntry) (head : Head) → map entry_in es ≡ entries_of (as_written head [] []) → (k : ℕ) (e : StoredEntry) → e ≡ get_or es k e → entry_in e ≡ get_or (entries_of (as_written head [] [])) k (entry_in e)
 at_entry es head same k e is = ap entry_in is ∙ sym (get_or-map entry_in es k e) ∙ ap (λ l. get_or l k (entry_in e)) same
 
 pub head_like : (number floor newest : ℕ) (head : Head) → number ≡ head.number → floor ≡ head.floor → newest ≡ head.newest → IsHead head → IsHead (record { number = number; floor = floor; newest = newest })
@@ -279,5 +279,5 @@ head_like number floor newest head p q r is = record {
   numbered = subst (λ n. 1 ≤ n) (sym p) is.numbered;
   signed = subst (λ n. n < 2 ^ 63) (sym p) is.signed;
   order = subst (λ n. n ≤ newest) (sym q) (subst (λ n. head.floor ≤ n) (sym r) is.order);
-  revs = subst (λ n. n ≤ max_rev) (sym r) is.revs;
+  revs = subst (λ n. n ≤ MAX_REV) (sym r) is.revs;
 }

@@ -1,7 +1,7 @@
 pub mod Written
-pub mod Told
-pub mod Keeping
-pub mod Kept
+pub mod EventTexts
+pub mod History
+pub mod StoreParts
 pub mod Moves
 pub mod Reading
 pub mod Following

@@ -1,28 +1,28 @@
 -- What the program reads, as rows.
 use Rattle.std.specs.Prelude.{◌≡◌, ◌≤◌, ◌<◌, ◌^◌, ◌==◌, ℕ, List, All, count_by, length, map, string_bytes}
 use Rattle.std.specs.List.{AllAdjacentBelow}
+use Rattle.names.specs.declared.limits.TheConstants.{MAX_REV}
 use Rattle.names.specs.Spelling.{subject_text}
 use Rattle.names.specs.declared.tuple.Tuple.{Tuple}
-use Rattle.meaning.specs.Verdict.{max_rev}
 use Rattle.store_core.specs.declared.stored.TupleText.{TupleText}
-use Rattle.store.specs.declared.lived.LivedSpan.{LivedSpan}
-use Rattle.store.specs.declared.lived.RevisedConfig.{RevisedConfig}
-use Rattle.store.specs.declared.lived.Head.{Head}
-use Rattle.store.specs.Written.{Lived, Revised, Written}
+use Rattle.store.specs.declared.parts.ReadSpan.{ReadSpan}
+use Rattle.store.specs.declared.parts.ReadConfig.{ReadConfig}
+use Rattle.store.specs.declared.parts.Head.{Head}
+use Rattle.store.specs.Written.{TupleSpan, ConfigAt, Written}
 use Rattle.store.specs.Following.{Precedes, Ascends, IsAdmitted}
 
-abbrev pub lived_of : LivedSpan → Lived
-lived_of s = record { tuple = s.tuple; added = s.added; removed = s.removed }
+abbrev pub as_span : ReadSpan → TupleSpan
+as_span s = record { tuple = s.tuple; added = s.added; removed = s.removed }
 
-abbrev pub revised_of : RevisedConfig → Revised
-revised_of c = record { rev = c.rev; config = c.config }
+abbrev pub as_config : ReadConfig → ConfigAt
+as_config c = record { rev = c.rev; config = c.config }
 
-abbrev pub written_of : Head → List LivedSpan → List RevisedConfig → Written
-written_of head spans configs =
-    record { number = head.number; floor = head.floor; newest = head.newest; spans = map lived_of spans; configs = map revised_of configs }
+abbrev pub as_written : Head → List ReadSpan → List ReadConfig → Written
+as_written head spans configs =
+    record { number = head.number; floor = head.floor; newest = head.newest; spans = map as_span spans; configs = map as_config configs }
 
 -- how many spans have not ended
-abbrev pub current : List LivedSpan → ℕ
+abbrev pub current : List ReadSpan → ℕ
 current spans = count_by (λ s. s.removed == 0) spans
 
 -- the texts are the tuple's
@@ -36,10 +36,22 @@ pub record IsHead (head : Head) : Type 0 where
   pub numbered : 1 ≤ head.number
   pub signed : head.number < 2 ^ 63
   pub order : head.floor ≤ head.newest
-  pub revs : head.newest ≤ max_rev
+  pub revs : head.newest ≤ MAX_REV
+
+-- each span comes before the next
+abbrev pub AreInTurn : List ReadSpan → Type 0
+AreInTurn spans = AllAdjacentBelow (λ a b. Precedes (as_span a) (as_span b)) spans (length spans)
+
+-- the revisions ascend, and all but the first are above the floor
+abbrev pub AreAscending : ℕ → List ReadConfig → Type 0
+AreAscending floor configs = AllAdjacentBelow (λ a b. Ascends floor (as_config a) (as_config b)) configs (length configs)
+
+-- each span's tuple is admitted
+abbrev pub AreAdmitted : ℕ → List ReadConfig → List ReadSpan → Type 0
+AreAdmitted floor configs spans = All (λ s. IsAdmitted floor (map as_config configs) (as_span s)) spans
 
 -- spans and configurations in order, and each tuple admitted
-pub record ArePlaced (head : Head) (configs : List RevisedConfig) (spans : List LivedSpan) : Type 0 where
-  pub apart : AllAdjacentBelow (λ a b. Precedes (lived_of a) (lived_of b)) spans (length spans)
-  pub distinct : AllAdjacentBelow (λ a b. Ascends head.floor (revised_of a) (revised_of b)) configs (length configs)
-  pub admitted : All (λ s. IsAdmitted head.floor (map revised_of configs) (lived_of s)) spans
+pub record ArePlaced (head : Head) (configs : List ReadConfig) (spans : List ReadSpan) : Type 0 where
+  pub apart : AreInTurn spans
+  pub distinct : AreAscending head.floor configs
+  pub admitted : AreAdmitted head.floor configs spans

@@ -1,29 +1,26 @@
 //! The commits above the floor, from rows.
-ghost use Rattle.std.specs.Prelude.{◌≡◌, ◌≤◌, ◌<◌, ◌+◌, ◌-◌, ◌++◌, ◌∷◌, [], ℕ, true, nat_le, OnOk, map, filter, length, IfOk, IfErr, List, All};
-ghost use Rattle.std.specs.List.{list_any, AllAdjacentBelow};
+ghost use Rattle.std.specs.Prelude.{◌≡◌, ◌≤◌, ◌<◌, ◌+◌, ◌++◌, ◌∷◌, [], nat_le, OnOk, map, length, IfOk, IfErr, All};
 ghost use Rattle.std.specs.List.Sorted.{IsStrictlySortedBy};
 ghost use Rattle.names.specs.Order.{tuple_cmp};
 ghost use Rattle.meaning.specs.History.{rows_of, commit_rows, puts_in};
-ghost use Rattle.meaning.specs.Verdict.{max_rows};
-ghost use Rattle.store.specs.Written.{Lived, IsSpan, commits_above, config_at, brings_one, is_alive, is_moved, is_one};
-ghost use Rattle.store.specs.Moves.{moves, tuples_in, IsCommit};
-ghost use Rattle.store.specs.Following.{Precedes};
-ghost use Rattle.store.specs.Reading.{written_of, lived_of, revised_of};
-ghost use Rattle.store.specs.Refused.{DeservedBy, IsWholeAbove};
+ghost use Rattle.store.specs.Written.{IsSpan, commits_of, config_at, is_alive, tuples_alive};
+ghost use Rattle.store.specs.Moves.{tuples_in, IsCommitAt, IsCommitOf};
+ghost use Rattle.store.specs.Reading.{as_written, as_span, as_config, AreInTurn};
+ghost use Rattle.store.specs.Refused.{DeservedBy, IsWholeAbove, IsWholeAt};
 ghost use Rattle.store.specs.declared.unread.Unread.TheVariants.{Memory};
 
 use crate::configs::config_at;
-use crate::lived::{Head, LivedSpan, RevisedConfig};
+use crate::parts::{Head, ReadConfig, ReadSpan};
 use crate::placing::{events_by_revision, take_events};
 use crate::unread::Unread;
 use config::Config;
+use names::limits::MAX_ROWS;
 use names::{Commit, Event, EventKind, Items, Tuple};
 use std::alloc::Global;
 
-const MAX_ROWS: usize = 4_000_000;
 
 fn config_commit(alloc: Global, config: &Config, events: &[Event]) -> Result<Commit<Config>, Unread>
-    ensures is { IfOk result (λ c. (rev : ℕ) (spans : List Lived) → events.now ≡ moves rev spans → IsCommit rev spans (Some config.now) c) }
+    ensures is { IfOk result (IsCommitOf (Some config.now) events.now) }
     ensures fault { IfErr result (DeservedBy (length events.now ≡ 0)) }
 {
     if events.len() != 0 {
@@ -34,7 +31,7 @@ fn config_commit(alloc: Global, config: &Config, events: &[Event]) -> Result<Com
 
 fn tuples_commit(events: Vec<Event>) -> Result<Commit<Config>, Unread>
     requires { IsStrictlySortedBy tuple_cmp (tuples_in events.items) }
-    ensures is { IfOk result (λ c. (rev : ℕ) (spans : List Lived) → events.items ≡ moves rev spans → IsCommit rev spans None c) }
+    ensures is { IfOk result (IsCommitOf None events.items) }
     ensures fault { IfErr result (DeservedBy (0 < length events.items)) }
 {
     if events.as_slice().len() == 0 {
@@ -46,13 +43,13 @@ fn tuples_commit(events: Vec<Event>) -> Result<Commit<Config>, Unread>
 // The commit of a revision with these events.
 fn commit_at(
     alloc: Global,
-    configs: &[RevisedConfig],
+    configs: &[ReadConfig],
     rev: u64,
     events: Vec<Event>,
 ) -> Result<Commit<Config>, Unread>
     requires { IsStrictlySortedBy tuple_cmp (tuples_in events.items) }
-    ensures is { IfOk result (λ c. (spans : List Lived) → events.items ≡ moves rev spans → IsCommit rev spans (config_at rev (map revised_of configs.now)) c) }
-    ensures fault { IfErr result (DeservedBy ((spans : List Lived) × (events.items ≡ moves rev spans) × (is_one (config_at rev (map revised_of configs.now)) (list_any (is_moved rev) spans) ≡ true))) }
+    ensures is { IfOk result (IsCommitAt rev (config_at rev (map as_config configs.now)) events.items) }
+    ensures fault { IfErr result (DeservedBy (IsWholeAt rev configs.now events.items)) }
 {
     match config_at(configs, rev) {
         Some(config) => config_commit(alloc, config, &events),
@@ -64,15 +61,15 @@ fn commit_at(
 pub(crate) fn read_commits(
     alloc: Global,
     head: Head,
-    configs: &[RevisedConfig],
-    spans: &[LivedSpan],
+    configs: &[ReadConfig],
+    spans: &[ReadSpan],
 ) -> Result<Vec<Commit<Config>>, Unread>
     requires order { head.floor ≤ head.newest }
-    requires spans { All (λ s. IsSpan head.floor head.newest (lived_of s)) spans.now }
-    requires apart { AllAdjacentBelow (λ a b. Precedes (lived_of a) (lived_of b)) spans.now (length spans.now) }
-    ensures commits { IfOk result (λ v. v.items ≡ commits_above (written_of head spans.now configs.now) head.floor (head.newest - head.floor)) }
-    ensures whole { IfOk result (λ v. (rev : ℕ) → head.floor < rev → rev ≤ head.newest → brings_one (written_of head spans.now configs.now) rev ≡ true) }
-    ensures fault { IfErr result (DeservedBy (IsWholeAbove (written_of head spans.now configs.now))) }
+    requires spans { All (λ s. IsSpan head.floor head.newest (as_span s)) spans.now }
+    requires apart { AreInTurn spans.now }
+    ensures commits { IfOk result (λ v. v.items ≡ commits_of (as_written head spans.now configs.now)) }
+    ensures whole { IfOk result (λ _. IsWholeAbove (as_written head spans.now configs.now)) }
+    ensures fault { IfErr result (DeservedBy (IsWholeAbove (as_written head spans.now configs.now))) }
 {
     let mut slots = events_by_revision(alloc, head, spans)?;
     let mut commits = Vec::new(alloc);
@@ -84,8 +81,8 @@ pub(crate) fn read_commits(
     Ok(commits)
 }
 
-fn is_alive(span: &LivedSpan, rev: u64) -> bool
-    ensures { result ≡ is_alive rev (lived_of span.now) }
+fn is_alive(span: &ReadSpan, rev: u64) -> bool
+    ensures { result ≡ is_alive rev (as_span span.now) }
 {
     span.added <= rev && (span.removed == 0 || rev < span.removed)
 }
@@ -99,8 +96,8 @@ fn push_copy(tuples: &mut Vec<Tuple>, tuple: &Tuple) -> Result<(), Unread>
 }
 
 /// The tuples that are there at a revision.
-pub(crate) fn tuples_at(alloc: Global, spans: &[LivedSpan], rev: u64) -> Result<Vec<Tuple>, Unread>
-    ensures are { IfOk result (λ v. v.items ≡ map (λ l. l.tuple) (filter (is_alive rev) (map lived_of spans.now))) }
+pub(crate) fn tuples_at(alloc: Global, spans: &[ReadSpan], rev: u64) -> Result<Vec<Tuple>, Unread>
+    ensures are { IfOk result (λ v. v.items ≡ tuples_alive rev (map as_span spans.now)) }
     ensures fault { IfErr result (λ e. e ≡ Memory) }
 {
     let mut tuples = Vec::new(alloc);
@@ -136,12 +133,13 @@ fn commit_rows(commit: &Commit<Config>) -> usize
 
 /// Whether so many tuples at the floor and the puts of the commits are within the limit.
 pub(crate) fn has_room(tuples: usize, commits: &[Commit<Config>]) -> bool
-    ensures { result ≡ nat_le (tuples + rows_of commits.now) max_rows }
+    ensures { result ≡ nat_le (tuples + rows_of commits.now) MAX_ROWS }
 {
-    if MAX_ROWS < tuples {
+    let most = MAX_ROWS as usize;
+    if most < tuples {
         return false;
     }
-    let mut left = MAX_ROWS - tuples;
+    let mut left = most - tuples;
     for commit in commits {
         let rows = commit_rows(commit);
         if left < rows {

@@ -1,26 +1,24 @@
 //! The configurations, read.
-ghost use Rattle.std.specs.Prelude.{◌≡◌, ◌≤◌, ◌<◌, ◌⊎◌, ℕ, true, false, map, length, IsTrue, IfOk, IfErr, All};
-ghost use Rattle.std.specs.List.{AllAdjacentBelow};
+ghost use Rattle.std.specs.Prelude.{◌≡◌, ◌≤◌, ◌⊎◌, false, map, IsTrue, IfOk, IfErr, All};
 ghost use Rattle.std.specs.Option.{option_copied};
 ghost use Rattle.meaning.specs.Admits.{admits};
 ghost use Rattle.meaning.specs.Config.{empty_config};
-ghost use Rattle.store_core.specs.Stored.{dated_in};
-ghost use Rattle.store.specs.declared.lived.RevisedConfig.{RevisedConfig};
-ghost use Rattle.store.specs.Written.{IsSpan, IsRevised, Pairwise, are_distinct, dated_of, config_at, config_up_to, is_alive};
-ghost use Rattle.store.specs.Following.{Ascends, IsAdmitted, is_between};
-ghost use Rattle.store.specs.Reading.{lived_of, revised_of};
-ghost use Rattle.store.specs.Refused.{DeservedBy, IsOfConfig, AreConfigs, IsAdmittedTo};
+ghost use Rattle.store_core.specs.Stored.{config_row_in};
+ghost use Rattle.store.specs.Written.{IsConfigAt, config_row_of, config_at, config_up_to};
+ghost use Rattle.store.specs.Following.{IsAdmitted, is_between};
+ghost use Rattle.store.specs.Reading.{as_span, as_config, AreAscending, AreAdmitted};
+ghost use Rattle.store.specs.Refused.{DeservedBy, IsOfConfig, ConfigsListed, AreDistinct, IsNotAdmitted, AreNotAdmitted};
 
-use crate::lived::{Head, LivedSpan, RevisedConfig};
+use crate::parts::{Head, ReadConfig, ReadSpan};
 use crate::unread::Unread;
 use config::Config;
 use names::Tuple;
 use std::alloc::Global;
 use store_core::StoredConfig;
 
-fn read_config(alloc: Global, newest: u64, stored: &StoredConfig) -> Result<RevisedConfig, Unread>
-    ensures same { IfOk result (λ c. dated_of (revised_of c) ≡ dated_in stored.now) }
-    ensures is { IfOk result (λ c. IsRevised newest (revised_of c)) }
+fn read_config(alloc: Global, newest: u64, stored: &StoredConfig) -> Result<ReadConfig, Unread>
+    ensures same { IfOk result (λ c. config_row_of (as_config c) ≡ config_row_in stored.now) }
+    ensures is { IfOk result (λ c. IsConfigAt newest (as_config c)) }
     ensures fault { IfErr result (DeservedBy (IsOfConfig newest stored.now)) }
 {
     let config = Config::from_json(alloc, stored.text.as_bytes())?;
@@ -28,7 +26,7 @@ fn read_config(alloc: Global, newest: u64, stored: &StoredConfig) -> Result<Revi
     if text.as_str() != stored.text.as_str() || stored.rev == 0 || newest < stored.rev {
         return Err(Unread::Fault);
     }
-    Ok(RevisedConfig {
+    Ok(ReadConfig {
         rev: stored.rev,
         config,
     })
@@ -39,9 +37,9 @@ pub(crate) fn read_configs(
     alloc: Global,
     newest: u64,
     stored: &[StoredConfig],
-) -> Result<Vec<RevisedConfig>, Unread>
-    ensures same { IfOk result (λ v. map dated_of (map revised_of v.items) ≡ map dated_in stored.now) }
-    ensures are { IfOk result (λ v. All (λ c. IsRevised newest (revised_of c)) v.items) }
+) -> Result<Vec<ReadConfig>, Unread>
+    ensures same { IfOk result (λ v. map config_row_of (map as_config v.items) ≡ map config_row_in stored.now) }
+    ensures are { IfOk result (λ v. All (λ c. IsConfigAt newest (as_config c)) v.items) }
     ensures fault { IfErr result (DeservedBy (All (IsOfConfig newest) stored.now)) }
 {
     let mut configs = Vec::new(alloc);
@@ -52,9 +50,9 @@ pub(crate) fn read_configs(
 }
 
 /// Whether the revisions ascend, and all but the first are above the floor.
-pub(crate) fn are_ascending(floor: u64, configs: &[RevisedConfig]) -> bool
-    ensures passes { IsTrue result → AllAdjacentBelow (λ a b. Ascends floor (revised_of a) (revised_of b)) configs.now (length configs.now) }
-    ensures refuses { result ≡ false → AllAdjacentBelow (λ (a b : RevisedConfig). a.rev ≤ b.rev) configs.now (length configs.now) → ¬ (Pairwise (are_distinct floor) (map revised_of configs.now)) }
+pub(crate) fn are_ascending(floor: u64, configs: &[ReadConfig]) -> bool
+    ensures passes { IsTrue result → AreAscending floor configs.now }
+    ensures refuses { result ≡ false → ConfigsListed configs.now → ¬ (AreDistinct floor configs.now) }
 {
     for i in 1..configs.len() {
         let rev = configs[i].rev;
@@ -66,8 +64,8 @@ pub(crate) fn are_ascending(floor: u64, configs: &[RevisedConfig]) -> bool
 }
 
 /// The configuration of a revision, if it brought one.
-pub(crate) fn config_at(configs: &[RevisedConfig], rev: u64) -> Option<&Config>
-    ensures { option_copied result ≡ config_at rev (map revised_of configs.now) }
+pub(crate) fn config_at(configs: &[ReadConfig], rev: u64) -> Option<&Config>
+    ensures { option_copied result ≡ config_at rev (map as_config configs.now) }
 {
     for revised in configs {
         if revised.rev == rev {
@@ -78,13 +76,9 @@ pub(crate) fn config_at(configs: &[RevisedConfig], rev: u64) -> Option<&Config>
 }
 
 /// The last configuration up to a revision; `empty` is the one of revision 0.
-pub(crate) fn config_up_to<'a>(
-    empty: &'a Config,
-    configs: &'a [RevisedConfig],
-    rev: u64,
-) -> &'a Config
+pub(crate) fn config_up_to<'a>(empty: &'a Config, configs: &'a [ReadConfig], rev: u64) -> &'a Config
     requires { empty.now ≡ empty_config }
-    ensures { result.now ≡ config_up_to rev (map revised_of configs.now) }
+    ensures { result.now ≡ config_up_to rev (map as_config configs.now) }
 {
     let mut config = empty;
     let mut found = 0;
@@ -100,16 +94,7 @@ pub(crate) fn config_up_to<'a>(
     config
 }
 
-fn admits(config: &Config, tuple: &Tuple) -> bool
-    ensures { result ≡ admits config.now tuple.now }
-{
-    match config.admits(tuple) {
-        Ok(()) => true,
-        Err(_) => false,
-    }
-}
-
-fn is_between(span: &LivedSpan, from: u64, rev: u64) -> bool
+fn is_between(span: &ReadSpan, from: u64, rev: u64) -> bool
     ensures { result ≡ is_between from span.now.removed rev }
 {
     from < rev && (span.removed == 0 || rev < span.removed)
@@ -125,20 +110,20 @@ fn later(a: u64, b: u64) -> u64
 /// Whether each configuration admits the span's tuple that is in force while it is there, from the floor on.
 pub(crate) fn is_admitted(
     empty: &Config,
-    configs: &[RevisedConfig],
+    configs: &[ReadConfig],
     floor: u64,
-    span: &LivedSpan,
+    span: &ReadSpan,
 ) -> bool
     requires { empty.now ≡ empty_config }
-    ensures passes { IsTrue result → IsAdmitted floor (map revised_of configs.now) (lived_of span.now) }
-    ensures refuses { result ≡ false → (newest : ℕ) → AreConfigs floor newest (map revised_of configs.now) → IsSpan floor newest (lived_of span.now) → ¬ (IsAdmittedTo floor newest (map revised_of configs.now) (lived_of span.now)) }
+    ensures passes { IsTrue result → IsAdmitted floor (map as_config configs.now) (as_span span.now) }
+    ensures refuses { result ≡ false → IsNotAdmitted floor configs.now span.now }
 {
     let from = later(floor, span.added);
-    if !admits(config_up_to(empty, configs, from), &span.tuple) {
+    if !config_up_to(empty, configs, from).allows(&span.tuple) {
         return false;
     }
     for revised in configs {
-        if is_between(span, from, revised.rev) && !admits(&revised.config, &span.tuple) {
+        if is_between(span, from, revised.rev) && !revised.config.allows(&span.tuple) {
             return false;
         }
     }
@@ -148,13 +133,13 @@ pub(crate) fn is_admitted(
 /// Whether that holds of each span.
 pub(crate) fn are_admitted(
     empty: &Config,
-    configs: &[RevisedConfig],
+    configs: &[ReadConfig],
     floor: u64,
-    spans: &[LivedSpan],
+    spans: &[ReadSpan],
 ) -> bool
     requires { empty.now ≡ empty_config }
-    ensures passes { IsTrue result → All (λ s. IsAdmitted floor (map revised_of configs.now) (lived_of s)) spans.now }
-    ensures refuses { result ≡ false → (newest : ℕ) → AreConfigs floor newest (map revised_of configs.now) → All (λ s. IsSpan floor newest (lived_of s)) spans.now → ¬ (All (λ s. IsAdmittedTo floor newest (map revised_of configs.now) (lived_of s)) spans.now) }
+    ensures passes { IsTrue result → AreAdmitted floor configs.now spans.now }
+    ensures refuses { result ≡ false → AreNotAdmitted floor configs.now spans.now }
 {
     for span in spans {
         if !is_admitted(empty, configs, floor, span) {

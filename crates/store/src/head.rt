@@ -3,13 +3,13 @@ ghost use Rattle.std.specs.Prelude.{◌≡◌, ◌<◌, ℕ, map, length, false,
 ghost use Rattle.store_core.specs.Stored.{entry_in};
 ghost use Rattle.store_core.specs.declared.stored.StoredEntry.{StoredEntry};
 ghost use Rattle.store.specs.Written.{entry, entries_of};
-ghost use Rattle.store.specs.Reading.{written_of, IsHead};
+ghost use Rattle.store.specs.Reading.{as_written, IsHead};
 ghost use Rattle.store.specs.Refused.{AreOfHead};
 
-use crate::lived::Head;
+use names::limits::MAX_REV;
+use crate::parts::Head;
 use store_core::StoredEntry;
 
-const MAX_REV: u64 = 1_000_000_000_000;
 
 const NUMBERS: u64 = 0x8000_0000_0000_0000;
 
@@ -29,7 +29,7 @@ fn is_within(head: Head) -> bool
 
 /// The state's four values, in the order of their keys.
 pub(crate) fn read_head(entries: &[StoredEntry]) -> Option<Head>
-    ensures entries { IfSome result (λ head. map entry_in entries.now ≡ entries_of (written_of head [] [])) }
+    ensures entries { IfSome result (λ head. map entry_in entries.now ≡ entries_of (as_written head [] [])) }
     ensures within { IfSome result IsHead }
     ensures refuses { result ≡ None → ¬ (AreOfHead entries.now) }
 {

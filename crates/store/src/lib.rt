@@ -7,8 +7,8 @@
 mod committing;
 mod configs;
 mod head;
-mod keeping;
-mod lived;
+mod history;
+mod parts;
 mod placing;
 mod reading;
 mod spans;
@@ -16,6 +16,6 @@ mod store;
 mod texts;
 mod unread;
 
-pub use keeping::make_tables;
+pub use history::make_tables;
 pub use reading::read;
 pub use store::Store;

@@ -1,11 +1,10 @@
 //! The events of each revision above the floor.
-ghost use Rattle.std.specs.Prelude.{◌≡◌, ◌≤◌, ◌<◌, ◌≢◌, ◌+◌, ◌-◌, ◌==◌, ◌&&◌, ◌++◌, ◌∷◌, [], ℕ, not, map, length, IfOk, IfErr, OnOk};
-ghost use Rattle.names.specs.declared.commit.Event.{Event};
-ghost use Rattle.store.specs.Moves.{moves, slot, event_if, put_of, del_of, goes_on};
-ghost use Rattle.store.specs.Reading.{lived_of};
+ghost use Rattle.std.specs.Prelude.{◌≡◌, ◌≤◌, ◌<◌, ◌≢◌, ◌-◌, ◌==◌, ◌++◌, ◌∷◌, [], ℕ, map, length, IfOk, IfErr, OnOk};
+ghost use Rattle.store.specs.Moves.{slot, event_if, event_at_place, goes_on, Adds, AddsSpan, HasMoves};
+ghost use Rattle.store.specs.Reading.{as_span};
 ghost use Rattle.store.specs.declared.unread.Unread.TheVariants.{Memory};
 
-use crate::lived::{Head, LivedSpan};
+use crate::parts::{Head, ReadSpan};
 use crate::unread::Unread;
 use names::{Event, EventKind, Tuple};
 use std::alloc::{AllocError, Global};
@@ -33,7 +32,7 @@ fn add(events: &mut Vec<Event>, event: Event) -> Result<(), Unread>
 
 fn push_at(slots: &mut Vec<Vec<Event>>, at: usize, event: Event) -> Result<(), Unread>
     ensures len { OnOk result (length slots.new.items ≡ length slots.old.items) }
-    ensures placed { OnOk result ((k : ℕ) → k < length slots.old.items → slot slots.new.items k ≡ slot slots.old.items k ++ event_if (at == k) event) }
+    ensures placed { OnOk result (Adds slots.old.items slots.new.items (λ k. event_if (at == k) event)) }
     ensures fault { IfErr result (λ e. e ≡ Memory) }
 {
     if at < slots.len() {
@@ -58,7 +57,7 @@ fn place(
     kind: EventKind,
 ) -> Result<(), Unread>
     ensures len { OnOk result (length slots.new.items ≡ length slots.old.items) }
-    ensures placed { OnOk result ((k : ℕ) → k < length slots.old.items → slot slots.new.items k ≡ slot slots.old.items k ++ event_if (rev == floor + (k + 1)) (record { tuple = tuple.now; kind = kind })) }
+    ensures placed { OnOk result (Adds slots.old.items slots.new.items (event_at_place floor rev tuple.now kind)) }
     ensures fault { IfErr result (λ e. e ≡ Memory) }
 {
     if rev <= floor {
@@ -72,11 +71,11 @@ fn place(
 fn place_span(
     slots: &mut Vec<Vec<Event>>,
     floor: u64,
-    span: &LivedSpan,
+    span: &ReadSpan,
     on: bool,
 ) -> Result<(), Unread>
     ensures len { OnOk result (length slots.new.items ≡ length slots.old.items) }
-    ensures placed { OnOk result ((k : ℕ) → k < length slots.old.items → slot slots.new.items k ≡ (slot slots.old.items k ++ event_if (span.now.added == floor + (k + 1)) (put_of (lived_of span.now))) ++ event_if ((span.now.removed == floor + (k + 1)) && not on) (del_of (lived_of span.now))) }
+    ensures placed { OnOk result (AddsSpan slots.old.items slots.new.items floor (as_span span.now) on) }
     ensures fault { IfErr result (λ e. e ≡ Memory) }
 {
     place(slots, floor, span.added, &span.tuple, EventKind::Put)?;
@@ -88,8 +87,8 @@ fn place_span(
 }
 
 // Whether the next span is of the same tuple, and begins where this one ends.
-fn goes_on(span: &LivedSpan, rest: &[LivedSpan]) -> bool
-    ensures { result ≡ goes_on (lived_of span.now) (map lived_of rest.now) }
+fn goes_on(span: &ReadSpan, rest: &[ReadSpan]) -> bool
+    ensures { result ≡ goes_on (as_span span.now) (map as_span rest.now) }
 {
     match rest.first() {
         Some(next) => span.tuple.cmp(&next.tuple).is_eq() && next.added == span.removed,
@@ -101,11 +100,11 @@ fn goes_on(span: &LivedSpan, rest: &[LivedSpan]) -> bool
 pub(crate) fn events_by_revision(
     alloc: Global,
     head: Head,
-    spans: &[LivedSpan],
+    spans: &[ReadSpan],
 ) -> Result<Vec<Vec<Event>>, Unread>
     requires { head.floor ≤ head.newest }
     ensures len { IfOk result (λ v. length v.items ≡ head.newest - head.floor) }
-    ensures placed { IfOk result (λ v. (k : ℕ) → k < length v.items → slot v.items k ≡ moves (head.floor + (k + 1)) (map lived_of spans.now)) }
+    ensures placed { IfOk result (λ v. HasMoves head.floor (map as_span spans.now) v.items) }
     ensures fault { IfErr result (λ e. e ≡ Memory) }
 {
     let mut slots = no_events(alloc, (head.newest - head.floor) as usize)?;

@@ -1,41 +1,38 @@
 //! A store's history, read from its tables.
-ghost use Rattle.std.specs.Prelude.{◌≡◌, ◌≤◌, ◌<◌, ℕ, true, false, nat_le, All, IfOk, IfErr, IsTrue, Err};
-ghost use Rattle.meaning.specs.Verdict.{max_tuples};
-ghost use Rattle.rows.specs.Retained.{Retained};
+ghost use Rattle.std.specs.Prelude.{◌≡◌, false, nat_le, All, IfOk, IfErr, IsTrue, Err};
 ghost use Rattle.rows.specs.Loads.{retained_of, IsWithin};
-ghost use Rattle.store_core.specs.Tables.{Contents};
-ghost use Rattle.store_core.specs.Stored.{Loads, IsInOrder};
-ghost use Rattle.store.specs.Written.{history_of, brings_one, IsRevised, IsSpan, IsSound, IsHistory};
-ghost use Rattle.store.specs.Reading.{lived_of, revised_of, written_of, current, IsHead, ArePlaced};
-ghost use Rattle.store.specs.Refused.{DeservedBy, IsWholeAbove, AreListed, IsOfHistory};
+ghost use Rattle.store_core.specs.Stored.{IsInOrder};
+ghost use Rattle.store.specs.Written.{history_of, IsConfigAt, IsSpan};
+ghost use Rattle.store.specs.Reading.{as_span, as_config, as_written, current, IsHead, ArePlaced};
+ghost use Rattle.store.specs.Refused.{DeservedBy, IsWholeAbove, AreListed, AreSound, IsOfHistory, IsHistoryOf, IsTheHistoryOf, HasNoHistory};
 
 use crate::committing::{has_room, read_commits, tuples_at};
 use crate::configs::{are_admitted, are_ascending, config_up_to, read_configs};
 use crate::head::read_head;
-use crate::lived::{Head, LivedSpan, RevisedConfig};
+use crate::parts::{Head, ReadConfig, ReadSpan};
 use crate::spans::{are_apart, read_spans};
 use crate::unread::Unread;
 use config::Config;
+use names::limits::MAX_TUPLES;
 use names::Items;
 use rows::Loaded;
 use std::alloc::Global;
 use store_core::Stored;
 use tables::TablesError;
 
-const MAX_TUPLES: usize = 1_000_000;
 
 // Whether the rows are enough for the revisions: each brings an event or a configuration.
-fn are_enough(head: Head, configs: &[RevisedConfig], spans: &[LivedSpan]) -> bool
+fn are_enough(head: Head, configs: &[ReadConfig], spans: &[ReadSpan]) -> bool
     requires { IsHead head }
-    ensures { result ≡ false → ¬ (IsWholeAbove (written_of head spans.now configs.now)) }
+    ensures { result ≡ false → ¬ (IsWholeAbove (as_written head spans.now configs.now)) }
 {
     let most = spans.len().saturating_mul(2).saturating_add(configs.len());
     head.newest - head.floor <= most as u64
 }
 
-fn are_placed(alloc: Global, head: Head, configs: &[RevisedConfig], spans: &[LivedSpan]) -> bool
+fn are_placed(alloc: Global, head: Head, configs: &[ReadConfig], spans: &[ReadSpan]) -> bool
     ensures passes { IsTrue result → ArePlaced head configs.now spans.now }
-    ensures refuses { result ≡ false → AreListed configs.now spans.now → ¬ (IsSound (written_of head spans.now configs.now)) }
+    ensures refuses { result ≡ false → AreListed configs.now spans.now → ¬ (AreSound head configs.now spans.now) }
 {
     if !are_apart(spans) || !are_ascending(head.floor, configs) {
         return false;
@@ -46,16 +43,16 @@ fn are_placed(alloc: Global, head: Head, configs: &[RevisedConfig], spans: &[Liv
 fn build(
     alloc: Global,
     head: Head,
-    configs: &[RevisedConfig],
-    spans: &[LivedSpan],
+    configs: &[ReadConfig],
+    spans: &[ReadSpan],
 ) -> Result<Loaded, Unread>
     requires head { IsHead head }
-    requires spans { All (λ s. IsSpan head.floor head.newest (lived_of s)) spans.now }
+    requires spans { All (λ s. IsSpan head.floor head.newest (as_span s)) spans.now }
     requires placed { ArePlaced head configs.now spans.now }
-    ensures same { IfOk result (λ l. retained_of l ≡ history_of (written_of head spans.now configs.now)) }
+    ensures same { IfOk result (λ l. retained_of l ≡ history_of (as_written head spans.now configs.now)) }
     ensures within { IfOk result IsWithin }
-    ensures whole { IfOk result (λ l. (rev : ℕ) → head.floor < rev → rev ≤ head.newest → brings_one (written_of head spans.now configs.now) rev ≡ true) }
-    ensures fault { IfErr result (DeservedBy (IsSound (written_of head spans.now configs.now))) }
+    ensures whole { IfOk result (λ _. IsWholeAbove (as_written head spans.now configs.now)) }
+    ensures fault { IfErr result (DeservedBy (AreSound head configs.now spans.now)) }
 {
     let tuples = tuples_at(alloc, spans, head.floor)?;
     let commits = read_commits(alloc, head, configs, spans)?;
@@ -73,8 +70,8 @@ fn build(
 }
 
 // Whether the spans that have not ended are within the limit of tuples.
-fn is_small(spans: &[LivedSpan]) -> bool
-    ensures { result ≡ nat_le (current spans.now) max_tuples }
+fn is_small(spans: &[ReadSpan]) -> bool
+    ensures { result ≡ nat_le (current spans.now) MAX_TUPLES }
 {
     let mut current = 0;
     for span in spans {
@@ -82,23 +79,23 @@ fn is_small(spans: &[LivedSpan]) -> bool
             current += 1;
         }
     }
-    current <= MAX_TUPLES
+    current <= MAX_TUPLES as usize
 }
 
 // The history of rows that each are what a row may be.
 fn judge(
     alloc: Global,
     head: Head,
-    configs: &[RevisedConfig],
-    spans: &[LivedSpan],
+    configs: &[ReadConfig],
+    spans: &[ReadSpan],
 ) -> Result<Loaded, Unread>
     requires head { IsHead head }
-    requires configs { All (λ c. IsRevised head.newest (revised_of c)) configs.now }
-    requires spans { All (λ s. IsSpan head.floor head.newest (lived_of s)) spans.now }
-    ensures sound { IfOk result (λ l. IsSound (written_of head spans.now configs.now)) }
-    ensures same { IfOk result (λ l. retained_of l ≡ history_of (written_of head spans.now configs.now)) }
+    requires configs { All (λ c. IsConfigAt head.newest (as_config c)) configs.now }
+    requires spans { All (λ s. IsSpan head.floor head.newest (as_span s)) spans.now }
+    ensures sound { IfOk result (λ _. AreSound head configs.now spans.now) }
+    ensures same { IfOk result (λ l. retained_of l ≡ history_of (as_written head spans.now configs.now)) }
     ensures within { IfOk result IsWithin }
-    ensures fault { IfErr result (DeservedBy (AreListed configs.now spans.now × IsSound (written_of head spans.now configs.now))) }
+    ensures fault { IfErr result (DeservedBy (AreListed configs.now spans.now × AreSound head configs.now spans.now)) }
 {
     if !are_enough(head, configs, spans)
         || !are_placed(alloc, head, configs, spans)
@@ -111,8 +108,8 @@ fn judge(
 }
 
 fn read_rows(alloc: Global, stored: &Stored) -> Result<Loaded, Unread>
-    ensures held { IfOk result (λ l. (h : Contents) → Loads h stored.now → IsHistory h (retained_of l)) }
-    ensures same { IfOk result (λ l. (h : Contents) (r : Retained) → Loads h stored.now → IsHistory h r → retained_of l ≡ r) }
+    ensures is_history { IfOk result (IsHistoryOf stored.now) }
+    ensures same { IfOk result (IsTheHistoryOf stored.now) }
     ensures within { IfOk result IsWithin }
     ensures fault { IfErr result (DeservedBy (IsOfHistory stored.now)) }
 {
@@ -128,10 +125,10 @@ fn read_rows(alloc: Global, stored: &Stored) -> Result<Loaded, Unread>
 /// The history that rows of the tables are. Rows that are no history are refused as a fault, and, where each list
 /// is in the order of [`Stored`], no others.
 pub fn read(alloc: Global, stored: &Stored) -> Result<Loaded, TablesError>
-    ensures held { IfOk result (λ l. (h : Contents) → Loads h stored.now → IsHistory h (retained_of l)) }
-    ensures same { IfOk result (λ l. (h : Contents) (r : Retained) → Loads h stored.now → IsHistory h r → retained_of l ≡ r) }
+    ensures is_history { IfOk result (IsHistoryOf stored.now) }
+    ensures same { IfOk result (IsTheHistoryOf stored.now) }
     ensures within { IfOk result IsWithin }
-    ensures fault { result ≡ Err TablesError.Fault → IsInOrder stored.now → (h : Contents) (r : Retained) → Loads h stored.now → ¬ (IsHistory h r) }
+    ensures fault { result ≡ Err TablesError.Fault → IsInOrder stored.now → HasNoHistory stored.now }
 {
     match read_rows(alloc, stored) {
         Ok(loaded) => Ok(loaded),

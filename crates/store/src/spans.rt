@@ -1,14 +1,13 @@
 //! The spans of tuples, read.
-ghost use Rattle.std.specs.Prelude.{◌≡◌, ◌⊎◌, ◌<◌, ◌≤◌, ℕ, false, map, length, IsTrue, IfOk, IfErr, All, IsPermutation};
-ghost use Rattle.std.specs.List.{AllAdjacentBelow};
+ghost use Rattle.std.specs.Prelude.{◌≡◌, ◌<◌, ◌≤◌, false, map, IsTrue, IfOk, IfErr, All, IsPermutation};
 ghost use Rattle.names.specs.Spelling.{IsTuple};
 ghost use Rattle.store_core.specs.Stored.{span_in};
-ghost use Rattle.store.specs.Written.{IsSpan, span_of, are_apart, Pairwise};
+ghost use Rattle.store.specs.Written.{Ends, IsSpan, span_of};
 ghost use Rattle.store.specs.Following.{Precedes};
-ghost use Rattle.store.specs.Reading.{lived_of, Spells};
-ghost use Rattle.store.specs.Refused.{DeservedBy, IsOfTuple, IsOfSpan, IsListed};
+ghost use Rattle.store.specs.Reading.{as_span, AreInTurn, Spells};
+ghost use Rattle.store.specs.Refused.{DeservedBy, IsOfTuple, IsOfSpan, SpansListed, Overlap};
 
-use crate::lived::{Head, LivedSpan};
+use crate::parts::{Head, ReadSpan};
 use crate::unread::Unread;
 use names::{Name, Node, Object, ObjectId, Subject, Tuple};
 use std::alloc::Global;
@@ -32,8 +31,8 @@ fn read_tuple(alloc: Global, text: &TupleText) -> Result<Tuple, Unread>
 fn is_span(head: Head, added: u64, removed: u64) -> bool
     ensures begins { IsTrue result → 0 < added }
     ensures begun { IsTrue result → added ≤ head.newest }
-    ensures ends { IsTrue result → (removed ≡ 0) ⊎ ((added < removed) × (head.floor < removed) × (removed ≤ head.newest)) }
-    ensures refuses { result ≡ false → 0 < added → added ≤ head.newest → ¬ ((removed ≡ 0) ⊎ ((added < removed) × (head.floor < removed) × (removed ≤ head.newest))) }
+    ensures ends { IsTrue result → Ends head.floor head.newest added removed }
+    ensures refuses { result ≡ false → 0 < added → added ≤ head.newest → ¬ (Ends head.floor head.newest added removed) }
 {
     if added == 0 || head.newest < added {
         return false;
@@ -41,25 +40,25 @@ fn is_span(head: Head, added: u64, removed: u64) -> bool
     removed == 0 || (added < removed && head.floor < removed && removed <= head.newest)
 }
 
-fn read_span(alloc: Global, head: Head, stored: &StoredSpan) -> Result<LivedSpan, Unread>
-    ensures same { IfOk result (λ s. span_of (lived_of s) ≡ span_in stored.now) }
-    ensures is { IfOk result (λ s. IsSpan head.floor head.newest (lived_of s)) }
+fn read_span(alloc: Global, head: Head, stored: &StoredSpan) -> Result<ReadSpan, Unread>
+    ensures same { IfOk result (λ s. span_of (as_span s) ≡ span_in stored.now) }
+    ensures is { IfOk result (λ s. IsSpan head.floor head.newest (as_span s)) }
     ensures fault { IfErr result (DeservedBy (IsOfSpan head.floor head.newest stored.now)) }
 {
     if !is_span(head, stored.added, stored.removed) {
         return Err(Unread::Fault);
     }
     let tuple = read_tuple(alloc, &stored.tuple)?;
-    Ok(LivedSpan {
+    Ok(ReadSpan {
         tuple,
         added: stored.added,
         removed: stored.removed,
     })
 }
 
-fn read_each(alloc: Global, head: Head, stored: &[StoredSpan]) -> Result<Vec<LivedSpan>, Unread>
-    ensures same { IfOk result (λ v. map span_of (map lived_of v.items) ≡ map span_in stored.now) }
-    ensures are { IfOk result (λ v. All (λ s. IsSpan head.floor head.newest (lived_of s)) v.items) }
+fn read_each(alloc: Global, head: Head, stored: &[StoredSpan]) -> Result<Vec<ReadSpan>, Unread>
+    ensures same { IfOk result (λ v. map span_of (map as_span v.items) ≡ map span_in stored.now) }
+    ensures are { IfOk result (λ v. All (λ s. IsSpan head.floor head.newest (as_span s)) v.items) }
     ensures fault { IfErr result (DeservedBy (All (IsOfSpan head.floor head.newest) stored.now)) }
 {
     let mut spans = Vec::new(alloc);
@@ -74,10 +73,10 @@ pub(crate) fn read_spans(
     alloc: Global,
     head: Head,
     stored: &[StoredSpan],
-) -> Result<Vec<LivedSpan>, Unread>
-    ensures same { IfOk result (λ v. IsPermutation (map span_in stored.now) (map span_of (map lived_of v.items))) }
-    ensures are { IfOk result (λ v. All (λ s. IsSpan head.floor head.newest (lived_of s)) v.items) }
-    ensures listed { IfOk result (λ v. AllAdjacentBelow (λ a b. IsListed (lived_of a) (lived_of b)) v.items (length v.items)) }
+) -> Result<Vec<ReadSpan>, Unread>
+    ensures same { IfOk result (λ v. IsPermutation (map span_in stored.now) (map span_of (map as_span v.items))) }
+    ensures are { IfOk result (λ v. All (λ s. IsSpan head.floor head.newest (as_span s)) v.items) }
+    ensures listed { IfOk result (λ v. SpansListed v.items) }
     ensures fault { IfErr result (DeservedBy (All (IsOfSpan head.floor head.newest) stored.now)) }
 {
     let mut spans = read_each(alloc, head, stored)?;
@@ -85,9 +84,9 @@ pub(crate) fn read_spans(
     Ok(spans)
 }
 
-fn precedes(a: &LivedSpan, b: &LivedSpan) -> bool
-    ensures passes { IsTrue result → Precedes (lived_of a.now) (lived_of b.now) }
-    ensures refuses { result ≡ false → ¬ (Precedes (lived_of a.now) (lived_of b.now)) }
+fn precedes(a: &ReadSpan, b: &ReadSpan) -> bool
+    ensures passes { IsTrue result → Precedes (as_span a.now) (as_span b.now) }
+    ensures refuses { result ≡ false → ¬ (Precedes (as_span a.now) (as_span b.now)) }
 {
     match a.tuple.cmp(&b.tuple) {
         Ordering::Less => true,
@@ -97,9 +96,9 @@ fn precedes(a: &LivedSpan, b: &LivedSpan) -> bool
 }
 
 /// Whether no two spans of one tuple overlap. Spans in their order are enough.
-pub(crate) fn are_apart(spans: &[LivedSpan]) -> bool
-    ensures passes { IsTrue result → AllAdjacentBelow (λ a b. Precedes (lived_of a) (lived_of b)) spans.now (length spans.now) }
-    ensures refuses { result ≡ false → AllAdjacentBelow (λ a b. IsListed (lived_of a) (lived_of b)) spans.now (length spans.now) → (floor newest : ℕ) → All (IsSpan floor newest) (map lived_of spans.now) → ¬ (Pairwise are_apart (map lived_of spans.now)) }
+pub(crate) fn are_apart(spans: &[ReadSpan]) -> bool
+    ensures passes { IsTrue result → AreInTurn spans.now }
+    ensures refuses { result ≡ false → SpansListed spans.now → Overlap spans.now }
 {
     for i in 1..spans.len() {
         if !precedes(&spans[i - 1], &spans[i]) {

@@ -1,7 +1,7 @@
 //! The tables of a store.
 ghost use Rattle.std.specs.Prelude.{◌≡◌, false};
 
-use crate::keeping::{load_history, make_tables, write_commit};
+use crate::history::{load_history, make_tables, write_commit};
 use config::Config;
 use names::Commit;
 use rows::Loaded;
@@ -21,11 +21,11 @@ pub struct Store<S: Alter> {
 
 impl<S: Alter + Drop> Store<S> {
     ghost use Rattle.std.specs.Prelude.{◌≡◌, ◌≤◌, ◌<◌, ◌^◌, false, IfOk, Err};
-    ghost use Rattle.sqlite.specs.Held.{state};
-    ghost use Rattle.store_core.specs.Format.{schema};
-    ghost use Rattle.store_core.specs.Steps.{IsBlank};
+    ghost use Rattle.store_core.specs.Leaves.{IsBlank};
+    ghost use Rattle.store_core.specs.Reading.{HasFormat};
+    ghost use Rattle.store.specs.History.{HoldsHistory, LeavesHistory};
     ghost use Rattle.rows.specs.Retained.{empty_store};
-    ghost use Rattle.store.specs.Kept.{HoldsHistory, LeavesOnly, connection, faults};
+    ghost use Rattle.store.specs.StoreParts.{connection, faults};
 
     /// Makes the tables of a store that has this number and no commit. Where there is a table, an index or a
     /// view already it is refused as a fault.
@@ -37,10 +37,10 @@ impl<S: Alter + Drop> Store<S> {
         requires idle { conn.in_transaction ≡ false }
         requires some { 1 ≤ number }
         requires small { number < 2 ^ 63 }
-        ensures held { IfOk result (λ s. HoldsHistory S.Store s (empty_store number)) }
-        ensures left { IfOk result (λ s. LeavesOnly S.Store s (λ r. r ≡ empty_store number)) }
+        ensures held { IfOk result (λ s. HoldsHistory S.Store (connection s) (empty_store number)) }
+        ensures left { IfOk result (λ s. LeavesHistory S.Store (connection s) (λ r. r ≡ empty_store number)) }
         ensures quiet { IfOk result (λ s. faults s ≡ 0) }
-        ensures taken { ¬ (IsBlank (state S.Store conn).now) → result ≡ Err TablesError.Fault }
+        ensures taken { ¬ (IsBlank S.Store conn) → result ≡ Err TablesError.Fault }
     {
         if let Err(why) = make_tables(&mut conn, number) {
             return Err(why);
@@ -57,7 +57,7 @@ impl<S: Alter + Drop> Store<S> {
     pub fn open(alloc: Global, conn: Connection<S>) -> Result<Store<S>, TablesError>
         requires { conn.in_transaction ≡ false }
         ensures same { IfOk result (λ s. connection s ≡ conn) }
-        ensures format { IfOk result (λ _. (state S.Store conn).now.schema ≡ schema) }
+        ensures format { IfOk result (λ _. HasFormat S.Store conn) }
         ensures quiet { IfOk result (λ s. faults s ≡ 0) }
     {
         if !is_format(&conn) {
@@ -72,13 +72,15 @@ impl<S: Alter + Drop> Store<S> {
 }
 
 impl<S: Alter> Tables for Store<S> {
-    ghost use Rattle.store.specs.Kept.{HoldsHistory, LeavesOnly, IsReliable, faults as refusals};
+    ghost use Rattle.store_core.specs.Reading.{IsClean};
+    ghost use Rattle.store.specs.History.{HoldsHistory, LeavesHistory};
+    ghost use Rattle.store.specs.StoreParts.{connection, faults as refusals};
 
-    ghost holds = { λ s r. HoldsHistory S.Store s r };
+    ghost holds = { λ s r. HoldsHistory S.Store (connection s) r };
 
-    ghost leaves_only = { λ s P. LeavesOnly S.Store s P };
+    ghost leaves_only = { λ s P. LeavesHistory S.Store (connection s) P };
 
-    ghost is_reliable = { λ s. IsReliable S.Store s };
+    ghost is_reliable = { λ s. IsClean S.Store (connection s) };
 
     ghost count = { λ s. refusals s };
 

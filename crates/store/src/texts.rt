@@ -1,7 +1,7 @@
-//! Events as the tables are told of them.
+//! Events as the tables are event_texts of them.
 ghost use Rattle.std.specs.Prelude.{◌≡◌, map, string_bytes, All, IfOk};
 ghost use Rattle.names.specs.Spelling.{IsSubject, IsTuple, subject_text};
-ghost use Rattle.store.specs.Told.{told, told_in};
+ghost use Rattle.store.specs.EventTexts.{event_texts, event_texts_in};
 
 use names::{Event, EventKind, Subject, Tuple};
 use std::alloc::{AllocError, Global};
@@ -36,11 +36,11 @@ fn see_tuple(tuple: &Tuple)
 }
 
 // The event's texts.
-fn event_of(alloc: Global, event: &Event) -> Result<store_core::Event, AllocError>
-    ensures { IfOk result (λ e. told_in e ≡ told event.now) }
+fn event_of(alloc: Global, event: &Event) -> Result<store_core::StoredEvent, AllocError>
+    ensures { IfOk result (λ e. event_texts_in e ≡ event_texts event.now) }
 {
     let node = &event.tuple.node;
-    Ok(store_core::Event {
+    Ok(store_core::StoredEvent {
         put: match event.kind {
             EventKind::Put => true,
             EventKind::Del => false,
@@ -58,8 +58,8 @@ fn event_of(alloc: Global, event: &Event) -> Result<store_core::Event, AllocErro
 pub(crate) fn events_of(
     alloc: Global,
     events: &[Event],
-) -> Result<Vec<store_core::Event>, AllocError>
-    ensures told { IfOk result (λ texts. map told_in texts.items ≡ map told events.now) }
+) -> Result<Vec<store_core::StoredEvent>, AllocError>
+    ensures texts { IfOk result (λ texts. map event_texts_in texts.items ≡ map event_texts events.now) }
     ensures spelled { IfOk result (λ _. All (λ e. IsTuple e.tuple) events.now) }
 {
     let mut texts = Vec::new(alloc);

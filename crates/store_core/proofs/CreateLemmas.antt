@@ -23,9 +23,9 @@ use Rattle.sqlite.specs.Listing.{understood}
 use Rattle.sqlite.proofs.Callers.{statement_of, one_step}
 use Rattle.store_core.specs.Format.{schema, no_schema, one_schema, two_schema, row_text, config_text, state_text, row_table, config_table, state_table}
 use Rattle.store_core.specs.Tables.{HasRowids, Holds, Lists, entry_cells}
-use Rattle.store_core.specs.Steps.{HasRow, HasConfig, HasTables, fresh}
+use Rattle.store_core.specs.Steps.{HasRow, HasConfig, HasTables, new_store}
 use Rattle.store_core.proofs.Texts.{row_is, config_is, state_is, init_text, init_terms}
-use Rattle.store_core.proofs.Insert.{went, same_value, cast_int}
+use Rattle.store_core.proofs.Insert.{goes, same_value, cast_int}
 use Rattle.store_core.proofs.Lists.{put_all_fresh}
 use Rattle.store_core.proofs.Rowids.{rowids_edit, no_rowids}
 
@@ -38,8 +38,8 @@ pub record Created (before : Schema) (table : Table) (old new : Database) : Type
 pub creates : (text : List ℕ) (table : Table) (before : Schema) → table_defined_by text ≡ Ok table → lacks_sequence (created before table) ≡ false → (old new : State) (count : ℕ) → old.now.schema ≡ before
     → Writes old new None CreateTable text [] count → Created before table old.now new.now
 creates text table before defined plain old new count has w =
-    let all = went (subst (λ k. Does old.step_limit (mode_of old) [] (record old.now { schema = k }) text None CreateTable (Ok (w.tally, new.now))) has w.changed) in
-    let first = went all.1 in
+    let all = goes (subst (λ k. Does old.step_limit (mode_of old) [] (record old.now { schema = k }) text None CreateTable (Ok (w.tally, new.now))) has w.changed) in
+    let first = goes all.1 in
     let made = first.1 in
     let same : made.table ≡ table = let both : Ok made.table ≡ Ok table = sym made.defined ∙ defined in cc in
     let schema_now : first.0.schema ≡ created before table = made.is ∙ ap (created before) same in
@@ -79,22 +79,25 @@ numbered_cells rowids rows (r ∷ news) =
 abbrev state_at : Table
 state_at = record state_table { tree = 3 }
 
-pub inits : (old new : State) (number count : ℕ) → HasTables old.now → Writes old new None (Insert 2 (Values init_terms 3)) (statement_of init_text (understood schema init_text)) (Int (pos number) ∷ []) count
-    → Holds new.now (fresh number)
+abbrev pub init_params : ℕ → Row
+init_params number = Int (pos number) ∷ []
+
+pub inits : (old new : State) (number count : ℕ) → HasTables old.now → Writes old new None (Insert 2 (Values init_terms 3)) (statement_of init_text (understood schema init_text)) (init_params number) count
+    → Holds new.now (new_store number)
 inits old new number count has w =
-    let params = Int (pos number) ∷ [] in
+    let params = init_params number in
     let db = old.now.trees in
     let command = Insert 2 (Values init_terms 3) in
     let text = statement_of init_text (understood schema init_text) in
-    let done = went (subst (λ k. Does old.step_limit (mode_of old) params (record old.now { schema = k }) text None command (Ok (w.tally, new.now))) has.schema_is w.changed) in
-    let now = ap (λ (p : Tally × Database). p.1) (same_value (went (went done.2).2).2) in
-    let given = went done.1 in
-    let written = went (went given.2).2 in
-    let counted = went written.2 in
+    let done = goes (subst (λ k. Does old.step_limit (mode_of old) params (record old.now { schema = k }) text None command (Ok (w.tally, new.now))) has.schema_is w.changed) in
+    let now = ap (λ (p : Tally × Database). p.1) (same_value (goes (goes done.2).2).2) in
+    let given = goes done.1 in
+    let written = goes (goes given.2).2 in
+    let counted = goes written.2 in
     let trees : done.0.trees ≡ written.0 = ap (λ (it : Written). it.trees) (same_value counted.2) ∙ same_value counted.1 in
     let edit : Edit = edit_of db state_at [] Chosen 0 given.0 in
     let did = one_step schema _ db written.0 edit refl written.1 in
-    let want : List Row = map entry_cells (fresh number).entries in
+    let want : List Row = map entry_cells (new_store number).entries in
     let cells : map (drop 1) edit.news ≡ want = numbered_cells Chosen (Rattle.sqlite.specs.Edit.without_all (db 3) []) _ ∙ (ap (λ all. map (drop 1) (map (λ s. Rattle.sqlite.specs.Cast.cast_row state_at (drop 0 s)) all)) given.1.1
     ∙ rw (cast_int (pos 0), cast_int (pos 1), cast_int (pos number))) in
     let none : HasRowids [] = no_rowids in

@@ -28,10 +28,10 @@ use Rattle.sqlite_rules.specs.Calls.{ids_of}
 use Rattle.sqlite.specs.Listing.{understood}
 use Rattle.sqlite.proofs.Callers.{statement_of, one_step}
 use Rattle.store_core.specs.Format.{schema, row_table, config_table}
-use Rattle.store_core.specs.Tables.{HasRowids, Span, Dated, Contents, Holds, Lists, span_cells, config_row, entry_cells, is_past, is_before}
-use Rattle.store_core.specs.Steps.{without_past, without_before}
+use Rattle.store_core.specs.Tables.{HasRowids, Span, ConfigRow, Contents, Holds, Lists, span_cells, config_with_rowid, entry_cells, is_past, is_below}
+use Rattle.store_core.specs.Steps.{without_past, without_below}
 use Rattle.store_core.proofs.Texts.{drop_text, drop_query, drop_configs_text, drop_configs_query, alone}
-use Rattle.store_core.proofs.Insert.{went, same_value}
+use Rattle.store_core.proofs.Insert.{goes, same_value}
 use Rattle.store_core.proofs.Scan.{scan_rows}
 use Rattle.store_core.proofs.Update.{left_is, filter_congr}
 use Rattle.store_core.proofs.Rowids.{rowids_edit}
@@ -68,16 +68,16 @@ below_as a b = truth (is_lt (value_cmp (Int (pos a)) (Int (pos b)))) ∙ (ap is_
 abbrev pub id_row : Row → Row
 id_row r = rowid r ∷ []
 
-pub deleted : (db : Trees) (table : Table) (P : Row → Bool) (rows : List Row) → HasRowids (db table.tree) → IsPermutation (map id_row (filter P (db table.tree))) rows
+pub deletes : (db : Trees) (table : Table) (P : Row → Bool) (rows : List Row) → HasRowids (db table.tree) → IsPermutation (map id_row (filter P (db table.tree))) rows
     → edited db (edit_of db table (ids_of rows) Given 0 []) ≡ filter (λ r. not (P r)) (db table.tree)
-deleted db table P rows shaped perm =
+deletes db table P rows shaped perm =
     left_is P (db table.tree) shaped (ids_of rows)
     (subst (λ ids. IsPermutation ids (ids_of rows)) (map-map (λ r. id_in (rowid r)) id_row (filter P (db table.tree))) (IsPermutation-map (λ r. id_in (rowid r)) _ _ perm))
 
 -- `cells` shows a value as the part of a row that the test looks at
-pub remaining : {X : Type 0} (cells : X → Row) (gone : X → Bool) (part : Row → Row) (Q P : Row → Bool) (tree : List Row) (xs : List X) → ((r : Row) → P r ≡ Q (part r)) → ((x : X) → Q (cells x) ≡ gone x)
+pub leaves : {X : Type 0} (cells : X → Row) (gone : X → Bool) (part : Row → Row) (Q P : Row → Bool) (tree : List Row) (xs : List X) → ((r : Row) → P r ≡ Q (part r)) → ((x : X) → Q (cells x) ≡ gone x)
     → IsPermutation (map cells xs) (map part tree) → IsPermutation (map cells (filter (λ x. not (gone x)) xs)) (map part (filter (λ r. not (P r)) tree))
-remaining {X} cells gone part Q P tree xs reads does held =
+leaves {X} cells gone part Q P tree xs reads does held =
     let keep : Row → Bool = λ r. not (Q r) in
     let model : filter keep (map cells xs) ≡ map cells (filter (λ x. not (gone x)) xs) = filter-map keep cells xs ∙ ap (map cells) (filter_congr (λ x. keep (cells x)) (λ x. not (gone x)) (λ x. ap not (does x)) xs) in
     let code : filter keep (map part tree) ≡ map part (filter (λ r. not (P r)) tree) = filter-map keep part tree ∙ ap (map part) (filter_congr (λ r. keep (part r)) (λ r. not (P r)) (λ r. ap not (sym (reads r))) tree) in
@@ -119,24 +119,24 @@ drops_spans old new floor count h holds w =
     let db = old.now.trees in
     let command = Delete 0 (alone drop_query) in
     let text = statement_of drop_text (understood schema drop_text) in
-    let done = went (subst (λ k. Does old.step_limit (mode_of old) params (record old.now { schema = k }) text None command (Ok (w.tally, new.now))) holds.schema_is w.changed) in
-    let now = ap (λ (p : Tally × Database). p.1) (same_value (went (went done.2).2).2) in
-    let given = went done.1 in
-    let wrote = went given.2 in
+    let done = goes (subst (λ k. Does old.step_limit (mode_of old) params (record old.now { schema = k }) text None command (Ok (w.tally, new.now))) holds.schema_is w.changed) in
+    let now = ap (λ (p : Tally × Database). p.1) (same_value (goes (goes done.2).2).2) in
+    let given = goes done.1 in
+    let wrote = goes given.2 in
     let trees : done.0.trees ≡ wrote.0 = ap (λ (it : Written). it.trees) (same_value wrote.2) in
     let edit : Edit = edit_of db row_table (ids_of given.0) Given 0 [] in
     let did = one_step schema _ db wrote.0 edit refl wrote.1 in
     let shown = scan_rows 0 drop_query.filter drop_query.project [] _ params given.0 (given.1.answer Null) in
     let tree : new.now.trees 0 ≡ edited db edit = ap (λ (d : Database). d.trees 0) now ∙ ap (λ (t : Trees). t 0) trees ∙ did.rows in
-    let left : edited db edit ≡ filter (λ r. not (passes_span floor r)) (db 0) = deleted db row_table (passes_span floor) given.0 holds.spans_rowids shown in
+    let left : edited db edit ≡ filter (λ r. not (passes_span floor r)) (db 0) = deletes db row_table (passes_span floor) given.0 holds.spans_rowids shown in
     let apart : (t : ℕ) → wrote.0 t ≡ db t → new.now.trees t ≡ db t = λ t same. ap (λ (d : Database). d.trees t) now ∙ ap (λ (all : Trees). all t) trees ∙ same in
     let config_same : new.now.trees 2 ≡ db 2 = apart 2 (did.tables.1.0 (λ e. absurd (omega (arith, e)))) in
     let entry_same : new.now.trees 3 ≡ db 3 = apart 3 (did.tables.1.1.0 (λ e. absurd (omega (arith, e)))) in
     record {
       schema_is = ap (λ (d : Database). d.schema) now;
       spans = subst (λ rows. Lists rows (map span_cells (without_past floor h).spans)) (sym (tree ∙ left))
-          (remaining span_cells (is_past floor) (drop 1) (λ cells. passes_span floor (Null ∷ cells)) (passes_span floor) (db 0) h.spans (span_reads floor) (span_past floor) holds.spans);
-      configs = subst (IsPermutation (map config_row h.configs)) (sym config_same) holds.configs;
+          (leaves span_cells (is_past floor) (drop 1) (λ cells. passes_span floor (Null ∷ cells)) (passes_span floor) (db 0) h.spans (span_reads floor) (span_past floor) holds.spans);
+      configs = subst (IsPermutation (map config_with_rowid h.configs)) (sym config_same) holds.configs;
       entries = subst (λ rows. Lists rows (map entry_cells h.entries)) (sym entry_same) holds.entries;
       spans_rowids = subst HasRowids (sym tree) (rowids_edit db edit did.keyed did.fresh holds.spans_rowids);
       configs_rowids = subst HasRowids (sym config_same) holds.configs_rowids;
@@ -145,42 +145,42 @@ drops_spans old new floor count h holds w =
 
 -- ---- the configurations
 
-abbrev config_at : Table
-config_at = record config_table { tree = 2 }
+abbrev config_table_at : Table
+config_table_at = record config_table { tree = 2 }
 
 abbrev passes_config : ℕ → Row → Bool
 passes_config rev r = list_all (holds (past_params rev ∷ r ∷ [])) drop_configs_query.filter
 
-config_before : (rev : ℕ) (c : Dated) → passes_config rev (config_row c) ≡ is_before rev c
-config_before rev c = rw (below_as c.rev rev) (single (nat_lt c.rev rev))
+config_below : (rev : ℕ) (c : ConfigRow) → passes_config rev (config_with_rowid c) ≡ is_below rev c
+config_below rev c = rw (below_as c.rev rev) (single (nat_lt c.rev rev))
 
 pub drops_configs : (old new : State) (rev count : ℕ) (h : Contents) → Holds old.now h → Writes old new None (Delete 1 (alone drop_configs_query)) (statement_of drop_configs_text (understood schema drop_configs_text)) (past_params rev) count
-    → Holds new.now (without_before rev h)
+    → Holds new.now (without_below rev h)
 drops_configs old new rev count h holds w =
     let params = past_params rev in
     let db = old.now.trees in
     let command = Delete 1 (alone drop_configs_query) in
     let text = statement_of drop_configs_text (understood schema drop_configs_text) in
-    let done = went (subst (λ k. Does old.step_limit (mode_of old) params (record old.now { schema = k }) text None command (Ok (w.tally, new.now))) holds.schema_is w.changed) in
-    let now = ap (λ (p : Tally × Database). p.1) (same_value (went (went done.2).2).2) in
-    let given = went done.1 in
-    let wrote = went given.2 in
+    let done = goes (subst (λ k. Does old.step_limit (mode_of old) params (record old.now { schema = k }) text None command (Ok (w.tally, new.now))) holds.schema_is w.changed) in
+    let now = ap (λ (p : Tally × Database). p.1) (same_value (goes (goes done.2).2).2) in
+    let given = goes done.1 in
+    let wrote = goes given.2 in
     let trees : done.0.trees ≡ wrote.0 = ap (λ (it : Written). it.trees) (same_value wrote.2) in
-    let edit : Edit = edit_of db config_at (ids_of given.0) Given 0 [] in
+    let edit : Edit = edit_of db config_table_at (ids_of given.0) Given 0 [] in
     let did = one_step schema _ db wrote.0 edit refl wrote.1 in
     let shown = scan_rows 2 drop_configs_query.filter drop_configs_query.project [] _ params given.0 (given.1.answer Null) in
     let tree : new.now.trees 2 ≡ edited db edit = ap (λ (d : Database). d.trees 2) now ∙ ap (λ (t : Trees). t 2) trees ∙ did.rows in
-    let left : edited db edit ≡ filter (λ r. not (passes_config rev r)) (db 2) = deleted db config_at (passes_config rev) given.0 holds.configs_rowids shown in
+    let left : edited db edit ≡ filter (λ r. not (passes_config rev r)) (db 2) = deletes db config_table_at (passes_config rev) given.0 holds.configs_rowids shown in
     let apart : (t : ℕ) → wrote.0 t ≡ db t → new.now.trees t ≡ db t = λ t same. ap (λ (d : Database). d.trees t) now ∙ ap (λ (all : Trees). all t) trees ∙ same in
     let row_same : new.now.trees 0 ≡ db 0 = apart 0 (did.tables.0 (λ e. absurd (omega (arith, e)))) in
     let entry_same : new.now.trees 3 ≡ db 3 = apart 3 (did.tables.1.1.0 (λ e. absurd (omega (arith, e)))) in
-    let whole : IsPermutation (map config_row h.configs) (map (λ r. r) (db 2)) = subst (IsPermutation (map config_row h.configs)) (sym (map_same (db 2))) holds.configs in
-    let kept = subst (IsPermutation (map config_row (without_before rev h).configs)) (map_same (filter (λ r. not (passes_config rev r)) (db 2)))
-    (remaining config_row (is_before rev) (λ r. r) (passes_config rev) (passes_config rev) (db 2) h.configs (λ r. refl) (config_before rev) whole) in
+    let whole : IsPermutation (map config_with_rowid h.configs) (map (λ r. r) (db 2)) = subst (IsPermutation (map config_with_rowid h.configs)) (sym (map_same (db 2))) holds.configs in
+    let kept = subst (IsPermutation (map config_with_rowid (without_below rev h).configs)) (map_same (filter (λ r. not (passes_config rev r)) (db 2)))
+    (leaves config_with_rowid (is_below rev) (λ r. r) (passes_config rev) (passes_config rev) (db 2) h.configs (λ r. refl) (config_below rev) whole) in
     record {
       schema_is = ap (λ (d : Database). d.schema) now;
       spans = subst (λ rows. Lists rows (map span_cells h.spans)) (sym row_same) holds.spans;
-      configs = subst (IsPermutation (map config_row (without_before rev h).configs)) (sym (tree ∙ left)) kept;
+      configs = subst (IsPermutation (map config_with_rowid (without_below rev h).configs)) (sym (tree ∙ left)) kept;
       entries = subst (λ rows. Lists rows (map entry_cells h.entries)) (sym entry_same) holds.entries;
       spans_rowids = subst HasRowids (sym row_same) holds.spans_rowids;
       configs_rowids = subst HasRowids (sym tree) (rowids_edit db edit did.keyed did.fresh holds.configs_rowids);

@@ -1,5 +1,5 @@
 -- What is read of the tables stands in them.
-use Rattle.std.proofs.Common.{◌≡◌, ◌≤◌, ◌+◌, ℕ, pos, Bool, true, false, List, [], ◌∷◌, map, drop, length, None, Option, refl, sym, ap, ◌∙◌, subst, inl, inr, true≢false, arith, IsTrue}
+use Rattle.std.proofs.Common.{◌≡◌, ◌≤◌, ◌+◌, ℕ, pos, Bool, true, false, List, [], ◌∷◌, map, drop, length, None, Option, Result, IfOk, refl, sym, ap, ◌∙◌, subst, inl, inr, true≢false, arith, IsTrue}
 use Rattle.std.specs.List.{AllByRecursion, IsDistinct}
 use Rattle.std.specs.Prelude.{slice_index_or}
 use Rattle.std.specs.List.Sorted.{IsPermutation, IsStrictlyIncreasing}
@@ -16,6 +16,9 @@ use Rattle.sqlite.specs.Query.{IsAnswer}
 use Rattle.sqlite.specs.Command.TheVariants.{Select}
 use Rattle.sqlite.specs.View.{is_int}
 use Rattle.sqlite_value.proofs.OrderLemmas.{value_cmp-Int}
+use Rattle.sqlite.specs.declared.error.Error.{Error}
+use Rattle.sqlite.specs.Listing.{understood}
+use Rattle.sqlite.specs.Given.{IsPlain}
 use Rattle.sqlite.specs.Effect.{Database, IsDatabase, Reads}
 use Rattle.sqlite.specs.Term.{eval_all}
 use Rattle.sqlite.specs.State.{State, HasCleanDisk, IsLive, IsUnchanged, Survives, Shown}
@@ -28,13 +31,14 @@ use Rattle.sqlite_schema.specs.Rules.{are_typed, Keeps}
 use Rattle.sqlite_rules.proofs.ListLemmas.{all_has, all_from}
 use Rattle.sqlite_trees.proofs.ListLemmas.{map-map, all-map, all_from_map, all-permutation}
 use Rattle.store_core.specs.Format.{schema, row_table, config_table, state_table}
-use Rattle.store_core.specs.Tables.{Span, Dated, Entry, Holds, Lists, HasRowids, AreKeyed, AsksRowids, same_rowid, span_cells, config_row, dated_cells, entry_cells, id_cells, one, two, six}
+use Rattle.store_core.specs.Tables.{Span, ConfigRow, Entry, Holds, Lists, HasRowids, AreKeyed, AsksRowids, same_rowid, span_cells, config_with_rowid, config_cells, entry_cells, id_cells, one, two, six}
+use Rattle.store_core.specs.Stored.{AreSpans, AreConfigs, AreEntries}
 use Rattle.store_core.proofs.Texts.{rows_text, rows_query, rows_is, rows_plain, rows_unlisted, configs_text, configs_query, configs_is, configs_plain, configs_unlisted, read_text, entries_query, entries_is, entries_plain, entries_unlisted, ids_query, ReadsIds, reads_ids, alone}
 use Rattle.store_core.proofs.Rowids.{flips, IsDistinct-none}
 use Rattle.store_core.proofs.Scan.{scan_rows}
 use Rattle.store_core.proofs.Update.{map_congr, filter_all_true}
-use Rattle.store_core.proofs.Sorting.{drawn, mapped, natural_as}
-use Rattle.store_core.proofs.LoadLemmas.{same_spans, same_configs, same_entries}
+use Rattle.store_core.proofs.Sorting.{draw, is_image, natural_as, spans_sorted, configs_sorted, entries_sorted}
+use Rattle.store_core.proofs.LoadLemmas.{same_spans, same_configs, same_entries, read_same, if_ok}
 
 -- ---- of any table
 
@@ -53,7 +57,7 @@ module _ {X : Type 0} (view cells : X → Row) (part shown : Row → Row) where
       let kept : map keep (map shown db) ≡ map shown db = map-map keep shown db ∙ map_congr (λ r. keep (shown r)) shown keeps db in
       let all : IsPermutation (map shown db) (map view xs) = subst (λ a. IsPermutation a (map view xs)) kept (subst (IsPermutation (map keep (map shown db))) read (IsPermutation-map keep _ _ answer)) in
       let back = IsPermutation-sym _ _ all in
-      let ys = drawn view (map shown db) (all_shuffled (λ y. (x : X) × (y ≡ view x)) (map view xs) (map shown db) back (mapped view xs)) in
+      let ys = draw view (map shown db) (all_shuffled (λ y. (x : X) × (y ≡ view x)) (map view xs) (map shown db) back (is_image view xs)) in
       subst (IsPermutation (map cells xs)) (sym (parts db ys.0 ys.1 each)) (IsPermutation-map cells xs ys.0 (same xs ys.0 (subst (IsPermutation (map view xs)) ys.1 back)))
 
 -- ---- a row has no more columns than its table
@@ -99,7 +103,7 @@ two_whole (a ∷ b ∷ c ∷ more) high x e = absurd (omega (arith, high))
 abbrev config_shown : Row → Row
 config_shown r = eval_all configs_query.project ([] ∷ r ∷ [])
 
-config_whole : (r : Row) → are_typed config_table.key 0 config_table.columns (drop 1 r) ≡ true → (c : Dated) → config_shown r ≡ dated_cells c → r ≡ config_row c
+config_whole : (r : Row) → are_typed config_table.key 0 config_table.columns (drop 1 r) ≡ true → (c : ConfigRow) → config_shown r ≡ config_cells c → r ≡ config_with_rowid c
 config_whole [] typed c e = absurd (not_text c.text (last_of 1 e))
 config_whole (a ∷ []) typed c e = absurd (not_text c.text (last_of 1 e))
 config_whole (a ∷ b ∷ []) typed c e = absurd (not_text c.text (last_of 1 e))
@@ -120,30 +124,34 @@ span_shown_is [] = refl
 span_shown_is (id ∷ cells) = refl
 
 pub found_spans : (old new : State) (rows : List Row) (xs : List Span) → old.now.schema ≡ schema → IsDatabase old.now → Shown rows_text [] old new rows → map six rows ≡ map span_cells xs
-    → Lists (old.now.trees 0) (map span_cells xs)
+    → AreSpans old.now.trees xs
 found_spans old new rows xs has sound did read =
     let db = old.now.trees 0 in
     let answer = (reads_as rows_text [] old new schema has _ rows_is rows_plain rows_unlisted rows did).answer Null in
     let all : IsPermutation (map span_shown db) rows = subst (λ l. IsPermutation (map span_shown l) rows) (filter_all_true db) (scan_rows 0 [] rows_query.project rows_query.order _ [] rows answer) in
     let typed = (typed_in old.now has sound).0 in
+    let rows_are : Lists (old.now.trees 0) (map span_cells xs) =
     stands span_cells span_cells (drop 1) span_shown six db rows xs same_spans (λ r. refl) all read
     (all_from _ db (λ r h s e.
-    six_whole (drop 1 r) (no_longer row_table.columns None 0 (drop 1 r) (and_parts _ _ (all_has _ db r typed h)).0) s (span_shown_is r ∙ e)))
+    six_whole (drop 1 r) (no_longer row_table.columns None 0 (drop 1 r) (and_parts _ _ (all_has _ db r typed h)).0) s (span_shown_is r ∙ e))) in
+    record { rows = rows_are; order = spans_sorted old new rows xs has did read }
 
 map_same : (rows : List Row) → map (λ r. r) rows ≡ rows
 map_same [] = refl
 map_same (r ∷ rows) = ap (λ (more : List Row). r ∷ more) (map_same rows)
 
-pub found_configs : (old new : State) (rows : List Row) (xs : List Dated) → old.now.schema ≡ schema → IsDatabase old.now → Shown configs_text [] old new rows → map two rows ≡ map dated_cells xs
-    → IsPermutation (map config_row xs) (old.now.trees 2)
+pub found_configs : (old new : State) (rows : List Row) (xs : List ConfigRow) → old.now.schema ≡ schema → IsDatabase old.now → Shown configs_text [] old new rows → map two rows ≡ map config_cells xs
+    → AreConfigs old.now.trees xs
 found_configs old new rows xs has sound did read =
     let db = old.now.trees 2 in
     let answer = (reads_as configs_text [] old new schema has _ configs_is configs_plain configs_unlisted rows did).answer Null in
     let all : IsPermutation (map config_shown db) rows = subst (λ l. IsPermutation (map config_shown l) rows) (filter_all_true db) (scan_rows 2 [] configs_query.project configs_query.order _ [] rows answer) in
     let typed = (typed_in old.now has sound).1.0 in
-    subst (IsPermutation (map config_row xs)) (map_same db)
-    (stands dated_cells config_row (λ r. r) config_shown two db rows xs same_configs (λ r. refl) all read
-    (all_from _ db (λ r h c e. config_whole r (and_parts _ _ (all_has _ db r typed h)).0 c e)))
+    let rows_are : IsPermutation (map config_with_rowid xs) (old.now.trees 2) =
+    subst (IsPermutation (map config_with_rowid xs)) (map_same db)
+    (stands config_cells config_with_rowid (λ r. r) config_shown two db rows xs same_configs (λ r. refl) all read
+    (all_from _ db (λ r h c e. config_whole r (and_parts _ _ (all_has _ db r typed h)).0 c e))) in
+    record { rows = rows_are; order = configs_sorted old new rows xs has did read }
 
 abbrev entry_shown : Row → Row
 entry_shown r = eval_all entries_query.project ([] ∷ r ∷ [])
@@ -153,15 +161,17 @@ entry_shown_is [] = refl
 entry_shown_is (id ∷ cells) = refl
 
 pub found_entries : (old new : State) (rows : List Row) (xs : List Entry) → old.now.schema ≡ schema → IsDatabase old.now → Shown read_text [] old new rows → map two rows ≡ map entry_cells xs
-    → Lists (old.now.trees 3) (map entry_cells xs)
+    → AreEntries old.now.trees xs
 found_entries old new rows xs has sound did read =
     let db = old.now.trees 3 in
     let answer = (reads_as read_text [] old new schema has _ entries_is entries_plain entries_unlisted rows did).answer Null in
     let all : IsPermutation (map entry_shown db) rows = subst (λ l. IsPermutation (map entry_shown l) rows) (filter_all_true db) (scan_rows 3 [] entries_query.project entries_query.order _ [] rows answer) in
     let typed = (typed_in old.now has sound).1.1.0 in
+    let rows_are : Lists (old.now.trees 3) (map entry_cells xs) =
     stands entry_cells entry_cells (drop 1) entry_shown two db rows xs same_entries (λ r. refl) all read
     (all_from _ db (λ r h x e.
-    two_whole (drop 1 r) (no_longer state_table.columns None 0 (drop 1 r) (and_parts _ _ (all_has _ db r typed h)).0) x (entry_shown_is r ∙ e)))
+    two_whole (drop 1 r) (no_longer state_table.columns None 0 (drop 1 r) (and_parts _ _ (all_has _ db r typed h)).0) x (entry_shown_is r ∙ e))) in
+    record { rows = rows_are; order = entries_sorted old new rows xs has did read }
 
 -- ---- the rowids
 
@@ -226,12 +236,20 @@ then_reads old mid new first same second =
     survives_then old mid new _ _ (λ _. ¬ (old.now.schema ≡ schema)) (λ _ db none. none)
     (λ clean db none has. none (ap (λ (d : Database). d.schema) (same (omega (arith, second.clean, clean)) has).0.now_is ∙ has)) first second
 
+-- what a query of a whole table found, where its rows are read as the values
+pub finds : {A X : Type 0} (sql : List ℕ) (plain : IsPlain (understood schema sql)) (old new : State) (rows : List Row) (keep : Row → Row) (cells : X → Row) (items : A → List X) (P : Trees → List X → Type 0)
+    → ((xs : List X) → old.now.schema ≡ schema → IsDatabase old.now → Shown sql [] old new rows → map keep rows ≡ map cells xs → P old.now.trees xs)
+    → old.now.schema ≡ schema → IsLive old → Shown sql [] old new rows → (all : List Row) → all ≡ rows → (r : Result A Error) → IfOk r (λ a. map keep all ≡ map cells (items a)) → IfOk r (λ a. P old.now.trees (items a))
+finds sql plain old new rows keep cells items P found has live did all same r read =
+    let was_open = (read_same sql plain old new rows has did).0.was_open in
+    if_ok r _ _ (λ a is. found (items a) has (live was_open).0 did (sym (ap (map keep) same) ∙ is)) read
+
 -- what each query found stands in the tables as they were at first
-pub whole : (first second third fourth : State) (xs : List Span) (cs : List Dated) (es : List Entry) → IsLive first → first.now.schema ≡ schema → AreKeyed first.now.trees → IsUnchanged first second
-    → (IsLive second → second.now.schema ≡ schema → Lists (second.now.trees 0) (map span_cells xs)) → (second.now.schema ≡ schema → IsUnchanged second third)
-    → (IsLive third → third.now.schema ≡ schema → IsPermutation (map config_row cs) (third.now.trees 2)) → (third.now.schema ≡ schema → IsUnchanged third fourth)
-    → (IsLive fourth → fourth.now.schema ≡ schema → Lists (fourth.now.trees 3) (map entry_cells es)) → Holds first.now (record { spans = xs; configs = cs; entries = es })
-whole first second third fourth xs cs es live has keyed same spans same_next configs same_last entries =
+pub whole : (first second third fourth : State) (xs : List Span) (cs : List ConfigRow) (es : List Entry) → IsLive first → first.now.schema ≡ schema → IsUnchanged first second
+    → (second.now.schema ≡ schema → IsLive second → AreSpans second.now.trees xs) → (second.now.schema ≡ schema → IsUnchanged second third)
+    → (third.now.schema ≡ schema → IsLive third → AreConfigs third.now.trees cs) → (third.now.schema ≡ schema → IsUnchanged third fourth)
+    → (fourth.now.schema ≡ schema → IsLive fourth → AreEntries fourth.now.trees es) → AreSpans first.now.trees xs × AreConfigs first.now.trees cs × AreEntries first.now.trees es
+whole first second third fourth xs cs es live has same spans same_next configs same_last entries =
     let now2 : second.now ≡ first.now = same.0.now_is in
     let has2 : second.now.schema ≡ schema = ap (λ (d : Database). d.schema) now2 ∙ has in
     let live2 = live_after first second live same in
@@ -241,13 +259,20 @@ whole first second third fourth xs cs es live has keyed same spans same_next con
     let live3 = live_after second third live2 still in
     let stays = same_last has3 in
     let now4 : fourth.now ≡ first.now = stays.0.now_is ∙ now3 in
-    let has4 : fourth.now.schema ≡ schema = ap (λ (d : Database). d.schema) now4 ∙ has in
-    record {
-      schema_is = has;
-      spans = subst (λ (d : Database). Lists (d.trees 0) (map span_cells xs)) now2 (spans live2 has2);
-      configs = subst (λ (d : Database). IsPermutation (map config_row cs) (d.trees 2)) now3 (configs live3 has3);
-      entries = subst (λ (d : Database). Lists (d.trees 3) (map entry_cells es)) now4 (entries (live_after third fourth live3 stays) has4);
-      spans_rowids = keyed.0;
-      configs_rowids = keyed.1;
-      entries_rowids = keyed.2;
-    }
+    let has4 : fourth.now.schema ≡ schema = ap (λ (d : Database). d.schema) now4 ∙ has in (
+      subst (λ (d : Database). AreSpans d.trees xs) now2 (spans has2 live2),
+      subst (λ (d : Database). AreConfigs d.trees cs) now3 (configs has3 live3),
+      subst (λ (d : Database). AreEntries d.trees es) now4 (entries has4 (live_after third fourth live3 stays)),
+    )
+
+pub holds_whole : (db : Database) (xs : List Span) (cs : List ConfigRow) (es : List Entry) → db.schema ≡ schema → AreKeyed db.trees → AreSpans db.trees xs × AreConfigs db.trees cs × AreEntries db.trees es
+    → Holds db (record { spans = xs; configs = cs; entries = es })
+holds_whole db xs cs es has keyed read = record {
+  schema_is = has;
+  spans = read.0.rows;
+  configs = read.1.rows;
+  entries = read.2.rows;
+  spans_rowids = keyed.0;
+  configs_rowids = keyed.1;
+  entries_rowids = keyed.2;
+}

@@ -20,7 +20,7 @@ use Rattle.sqlite.specs.State.{State, mode_of, Writes}
 use Rattle.sqlite.specs.Listing.{understood}
 use Rattle.sqlite.proofs.Callers.{statement_of, one_step}
 use Rattle.store_core.specs.Format.{schema, row_table}
-use Rattle.store_core.specs.Tables.{HasRowids, Span, Contents, Holds, Lists, span_cells, config_row, entry_cells}
+use Rattle.store_core.specs.Tables.{HasRowids, Span, Contents, Holds, Lists, span_cells, config_with_rowid, entry_cells}
 use Rattle.store_core.proofs.Texts.{insert_text, insert_terms}
 use Rattle.store_core.proofs.Rowids.{rowids_edit}
 use Rattle.store_core.proofs.Lists.{put_all_fresh}
@@ -38,9 +38,9 @@ unfolding unary
 cast_int n = either _ (Int n)
 
 -- a part that gave a value did not stop on the way
-pub went : {B E R : Type 0} {b : B} {Stops : E → Type 0} → ((stop : E) × Stops stop × (Ok b ≡ Err stop)) ⊎ R → R
-went (inl stopped) = absurd (let e = stopped.2 in cc)
-went (inr on) = on
+pub goes : {B E R : Type 0} {b : B} {Stops : E → Type 0} → ((stop : E) × Stops stop × (Ok b ≡ Err stop)) ⊎ R → R
+goes (inl stopped) = absurd (let e = stopped.2 in cc)
+goes (inr on) = on
 
 pub same_value : {B E : Type 0} {a b : B} → ◌≡◌ {A = Result B E} (Ok a) (Ok b) → a ≡ b
 same_value e = cc
@@ -48,25 +48,25 @@ same_value e = cc
 abbrev pub insert_params : Span → Row
 insert_params s = Text s.namespace ∷ Text s.object ∷ Text s.relation ∷ Text s.subject ∷ Int (pos s.added) ∷ []
 
-abbrev pub opened : Span → Span
-opened s = record s { removed = 0 }
+abbrev pub open_span : Span → Span
+open_span s = record s { removed = 0 }
 
 pub inserts : (old new : State) (s : Span) (count : ℕ) (h : Contents) → Holds old.now h → Writes old new None (Insert 0 (Values insert_terms 7)) (statement_of insert_text (understood schema insert_text)) (insert_params s) count
-    → Holds new.now (record h { spans = opened s ∷ h.spans })
+    → Holds new.now (record h { spans = open_span s ∷ h.spans })
 inserts old new s count h holds w =
     let params = insert_params s in
     let db = old.now.trees in
     let command = Insert 0 (Values insert_terms 7) in
     let text = statement_of insert_text (understood schema insert_text) in
-    let done = went (subst (λ k. Does old.step_limit (mode_of old) params (record old.now { schema = k }) text None command (Ok (w.tally, new.now))) holds.schema_is w.changed) in
-    let now = ap (λ (p : Tally × Database). p.1) (same_value (went (went done.2).2).2) in
-    let given = went done.1 in
-    let written = went (went given.2).2 in
-    let counted = went written.2 in
+    let done = goes (subst (λ k. Does old.step_limit (mode_of old) params (record old.now { schema = k }) text None command (Ok (w.tally, new.now))) holds.schema_is w.changed) in
+    let now = ap (λ (p : Tally × Database). p.1) (same_value (goes (goes done.2).2).2) in
+    let given = goes done.1 in
+    let written = goes (goes given.2).2 in
+    let counted = goes written.2 in
     let trees : done.0.trees ≡ written.0 = ap (λ (it : Written). it.trees) (same_value counted.2) ∙ same_value counted.1 in
     let edit : Edit = edit_of db row_table [] Chosen 0 given.0 in
     let did = one_step schema _ db written.0 edit refl written.1 in
-    let cells = span_cells (opened s) in
+    let cells = span_cells (open_span s) in
     let news : edit.news ≡ (Int (next_rowid (db 0)) ∷ cells) ∷ [] = ap (λ all. (edit_of db row_table [] Chosen 0 all).news) given.1.1 ∙ rw (cast_null, cast_int (pos s.added), cast_int (pos 0)) in
     let put : IsPermutation (edit.news ++ db 0) (edited db edit) = put_all_fresh edit.news (db 0) did.fresh in
     let tree : new.now.trees 0 ≡ edited db edit = ap (λ (d : Database). d.trees 0) now ∙ ap (λ (t : Trees). t 0) trees ∙ did.rows in
@@ -76,7 +76,7 @@ inserts old new s count h holds w =
       spans = subst (λ rows. Lists rows (cells ∷ map span_cells h.spans)) (sym tree)
           (IsPermutation-trans _ (cells ∷ map (drop 1) (db 0)) _ (IsPermutation-cons cells _ _ holds.spans)
           (subst (λ n. IsPermutation (map (drop 1) (n ++ db 0)) (map (drop 1) (edited db edit))) news (IsPermutation-map (drop 1) _ _ put)));
-      configs = subst (IsPermutation (map config_row h.configs)) (sym (apart 2 (did.tables.1.0 (λ e. absurd (omega (arith, e)))))) holds.configs;
+      configs = subst (IsPermutation (map config_with_rowid h.configs)) (sym (apart 2 (did.tables.1.0 (λ e. absurd (omega (arith, e)))))) holds.configs;
       configs_rowids = subst HasRowids (sym (apart 2 (did.tables.1.0 (λ e. absurd (omega (arith, e)))))) holds.configs_rowids;
       entries = subst (λ rows. Lists rows (map entry_cells h.entries)) (sym (apart 3 (did.tables.1.1.0 (λ e. absurd (omega (arith, e)))))) holds.entries;
       spans_rowids = subst HasRowids (sym tree) (rowids_edit db edit did.keyed did.fresh holds.spans_rowids);

@@ -6,7 +6,7 @@ use Rattle.sqlite.specs.Effect.{Database}
 use Rattle.sqlite.specs.State.{HasCleanDisk, Survives}
 use Rattle.sqlite.specs.Held.{Held, state}
 use Rattle.store_core.specs.Tables.{Contents, Holds}
-use Rattle.store_core.specs.Steps.{Stores, MayStore}
+use Rattle.store_core.specs.Steps.{Stores, LeavesAtMost}
 use Rattle.store_core.specs.Leaves.{TablesHold, LeavesOnly}
 
 -- the law that a store which is open has settled on its last commit
@@ -19,7 +19,7 @@ module _ {S : Type 0} (g : Ghosts S) (settled : Settles g) where
       let stands = holds clean in
       ((state g c).committed, settled c.store trees stands.is_open left, h, subst (λ (d : Database). Holds d h) (sym stands.committed) stands.holds, is)
 
-  pub leaves_either : (old new : Held S) (h : Contents) (f : Contents → Contents) → TablesHold g old h → Survives (state g old) (state g new) (MayStore (state g old) f)
+  pub leaves_either : (old new : Held S) (h : Contents) (f : Contents → Contents) → TablesHold g old h → LeavesAtMost g old new f
       → LeavesOnly g new (λ c. (c ≡ h) ⊎ (c ≡ f h))
   leaves_either old new h f holds survives clean trees left =
       let calm : HasCleanDisk (state g old) = omega (arith, survives.clean, clean) in
@@ -29,7 +29,7 @@ module _ {S : Type 0} (g : Ghosts S) (settled : Settles g) where
       ]
 
 pub stored_holds : {S : Type 0} (g : Ghosts S) (old new : Held S) (h : Contents) (f : Contents → Contents) (P : Trees → Type 0) → TablesHold g old h → Survives (state g old) (state g new) P
-    → (HasCleanDisk (state g new) → Stores (state g old) (state g new) f) → TablesHold g new (f h)
+    → Stores g old new f → TablesHold g new (f h)
 stored_holds g old new h f P holds survives stores clean =
     let calm : HasCleanDisk (state g old) = omega (arith, survives.clean, clean) in
     let did = stores clean in

@@ -4,7 +4,7 @@ pub mod Lists
 pub mod Rowids
 pub mod Update
 pub mod Insert
-pub mod Dating
+pub mod InsertConfig
 pub mod Scan
 pub mod Close
 pub mod Set

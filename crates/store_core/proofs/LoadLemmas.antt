@@ -1,23 +1,22 @@
 -- What the queries of whole tables show.
-use Rattle.std.proofs.Common.{◌≡◌, ℕ, pos, negsuc, List, [], ◌∷◌, inl, inr, map, drop, Ok, Err, Result, OnOk, IfOk, refl, sym, ap, ◌∙◌, subst}
+use Rattle.std.proofs.Common.{◌≡◌, ℕ, pos, negsuc, List, [], ◌∷◌, inl, inr, map, Ok, Err, Result, OnOk, IfOk, refl, sym, ap, ◌∙◌, subst}
 use Rattle.std.specs.List.Sorted.{IsPermutation}
-use Rattle.std.proofs.lemmas.List.Sorted.{IsPermutation-trans, IsPermutation-map}
+use Rattle.std.proofs.lemmas.List.Sorted.{IsPermutation-trans, IsPermutation-sym, IsPermutation-map}
 use Rattle.sqlite.specs.declared.types.Value.{Value}
 use Rattle.sqlite.specs.declared.types.Value.TheVariants.{Null, Int, Text, Real, Blob}
 use Rattle.sqlite.specs.Order.{Row, column, bytes}
-use Rattle.sqlite.specs.Term.{eval_all}
+use Rattle.sqlite.specs.Effect.{Database}
 use Rattle.sqlite.specs.State.{State, Shown, ShowsRows, IsUnchanged, QueriesRow, CommitsShowing, Survives}
 use Rattle.sqlite.specs.Clock.{timed}
 use Rattle.sqlite.proofs.StateLemmas.{survives_weaker}
 use Rattle.sqlite.specs.Listing.{understood}
 use Rattle.sqlite.specs.Given.{IsPlain}
-use Rattle.sqlite.proofs.Callers.{reads_as, never_commits}
-use Rattle.sqlite_trees.proofs.ListLemmas.{map-map}
+use Rattle.sqlite.proofs.Callers.{never_commits}
 use Rattle.store_core.specs.Format.{schema}
-use Rattle.store_core.specs.Tables.{Span, Dated, Entry, Contents, Holds, span_cells, config_row, dated_cells, entry_cells, two, six}
-use Rattle.store_core.proofs.Texts.{rows_text, rows_query, rows_is, rows_plain, rows_unlisted, configs_text, configs_query, configs_is, configs_plain, configs_unlisted, read_text, entries_query, entries_is, entries_plain, entries_unlisted, one_text, one_plain}
-use Rattle.store_core.proofs.Scan.{scan_rows}
-use Rattle.store_core.proofs.Update.{map_congr, filter_all_true}
+use Rattle.store_core.specs.Tables.{Span, ConfigRow, Entry, Contents, Holds, span_cells, config_with_rowid, config_cells, entry_cells}
+use Rattle.store_core.specs.Stored.{Loads}
+use Rattle.store_core.specs.declared.stored.Stored.{Stored}
+use Rattle.store_core.proofs.Texts.{one_text, one_plain}
 
 -- ---- back from the cells
 
@@ -33,8 +32,8 @@ abbrev span_from : Row → Span
 span_from row =
     record { namespace = bytes (column row 0); object = bytes (column row 1); relation = bytes (column row 2); subject = bytes (column row 3); added = natural (column row 4); removed = natural (column row 5) }
 
-abbrev dated_from : Row → Dated
-dated_from row = record { rev = natural (column row 0); text = bytes (column row 1) }
+abbrev config_from : Row → ConfigRow
+config_from row = record { rev = natural (column row 0); text = bytes (column row 1) }
 
 abbrev entry_from : Row → Entry
 entry_from row = record { key = bytes (column row 0); value = natural (column row 1) }
@@ -43,9 +42,9 @@ span_back : (s : Span) → span_from (span_cells s) ≡ s
 unfolding natural
 span_back s = refl
 
-dated_back : (c : Dated) → dated_from (dated_cells c) ≡ c
+config_back : (c : ConfigRow) → config_from (config_cells c) ≡ c
 unfolding natural
-dated_back c = refl
+config_back c = refl
 
 entry_back : (e : Entry) → entry_from (entry_cells e) ≡ e
 unfolding natural
@@ -62,67 +61,34 @@ module _ {X : Type 0} (from : Row → X) (cells : X → Row) (back : (x : X) →
 pub same_spans : (xs ys : List Span) → IsPermutation (map span_cells xs) (map span_cells ys) → IsPermutation xs ys
 same_spans = same_values span_from span_cells span_back
 
-pub same_configs : (xs ys : List Dated) → IsPermutation (map dated_cells xs) (map dated_cells ys) → IsPermutation xs ys
-same_configs = same_values dated_from dated_cells dated_back
+pub same_configs : (xs ys : List ConfigRow) → IsPermutation (map config_cells xs) (map config_cells ys) → IsPermutation xs ys
+same_configs = same_values config_from config_cells config_back
+
+abbrev config_of_row : Row → ConfigRow
+config_of_row row = record { rev = natural (column row 0); text = bytes (column row 2) }
+
+row_back : (c : ConfigRow) → config_of_row (config_with_rowid c) ≡ c
+unfolding natural
+row_back c = refl
+
+same_rows : (xs ys : List ConfigRow) → IsPermutation (map config_with_rowid xs) (map config_with_rowid ys) → IsPermutation xs ys
+same_rows = same_values config_of_row config_with_rowid row_back
 
 pub same_entries : (xs ys : List Entry) → IsPermutation (map entry_cells xs) (map entry_cells ys) → IsPermutation xs ys
 same_entries = same_values entry_from entry_cells entry_back
 
--- ---- what a query of all rows shows
+-- ---- two contents of one database are of the same rows
 
--- `cells` shows a value as the part of a row that is held, and `view` as the part that is shown
-seen : {X : Type 0} (cells view : X → Row) (part shown cut keep : Row → Row) (db rows : List Row) (xs : List X)
-    → ((r : Row) → cut (part r) ≡ shown r) → ((x : X) → cut (cells x) ≡ view x) → ((r : Row) → keep (shown r) ≡ shown r)
-    → IsPermutation (map cells xs) (map part db) → IsPermutation (map shown db) rows → IsPermutation (map view xs) (map keep rows)
-seen cells view part shown cut keep db rows xs reads views keeps held answer =
-    let left : map cut (map cells xs) ≡ map view xs = map-map cut cells xs ∙ map_congr (λ x. cut (cells x)) view views xs in
-    let right : map cut (map part db) ≡ map shown db = map-map cut part db ∙ map_congr (λ r. cut (part r)) shown reads db in
-    let kept : map keep (map shown db) ≡ map shown db = map-map keep shown db ∙ map_congr (λ r. keep (shown r)) shown keeps db in
-    IsPermutation-trans _ _ _ (subst (λ a. IsPermutation a (map shown db)) left (subst (IsPermutation (map cut (map cells xs))) right (IsPermutation-map cut _ _ held)))
-    (subst (λ a. IsPermutation a (map keep rows)) kept (IsPermutation-map keep _ _ answer))
+loads_some : {X : Type 0} (cells : X → Row) (xs ys zs : List X) (rows : List Row) → ((a b : List X) → IsPermutation (map cells a) (map cells b) → IsPermutation a b) → IsPermutation (map cells xs) rows → IsPermutation (map cells ys) rows
+    → IsPermutation ys zs → IsPermutation xs zs
+loads_some cells xs ys zs rows same held other loads = IsPermutation-trans _ _ _ (same xs ys (IsPermutation-trans _ _ _ held (IsPermutation-sym _ _ other))) loads
 
-abbrev span_shown : Row → Row
-span_shown r = eval_all rows_query.project ([] ∷ r ∷ [])
-
-span_shown_is : (r : Row) → six (drop 1 r) ≡ span_shown r
-span_shown_is [] = refl
-span_shown_is (id ∷ cells) = refl
-
-pub reads_spans : (old new : State) (h : Contents) (rows : List Row) → Holds old.now h → Shown rows_text [] old new rows → IsPermutation (map span_cells h.spans) (map six rows)
-reads_spans old new h rows holds did =
-    let db = old.now.trees 0 in
-    let answer = (reads_as rows_text [] old new schema holds.schema_is _ rows_is rows_plain rows_unlisted rows did).answer Null in
-    let all : IsPermutation (map span_shown db) rows = subst (λ xs. IsPermutation (map span_shown xs) rows) (filter_all_true db) (scan_rows 0 [] rows_query.project rows_query.order _ [] rows answer) in
-    seen span_cells span_cells (drop 1) span_shown six six db rows h.spans span_shown_is (λ s. refl) (λ r. refl) holds.spans all
-
-abbrev config_shown : Row → Row
-config_shown r = eval_all configs_query.project ([] ∷ r ∷ [])
-
-map_same : (rows : List Row) → map (λ r. r) rows ≡ rows
-map_same [] = refl
-map_same (r ∷ rows) = ap (λ (more : List Row). r ∷ more) (map_same rows)
-
-pub reads_configs : (old new : State) (h : Contents) (rows : List Row) → Holds old.now h → Shown configs_text [] old new rows → IsPermutation (map dated_cells h.configs) (map two rows)
-reads_configs old new h rows holds did =
-    let db = old.now.trees 2 in
-    let answer = (reads_as configs_text [] old new schema holds.schema_is _ configs_is configs_plain configs_unlisted rows did).answer Null in
-    let all : IsPermutation (map config_shown db) rows = subst (λ xs. IsPermutation (map config_shown xs) rows) (filter_all_true db) (scan_rows 2 [] configs_query.project configs_query.order _ [] rows answer) in
-    let whole : IsPermutation (map config_row h.configs) (map (λ r. r) db) = subst (IsPermutation (map config_row h.configs)) (sym (map_same db)) holds.configs in
-    seen config_row dated_cells (λ r. r) config_shown config_shown two db rows h.configs (λ r. refl) (λ c. refl) (λ r. refl) whole all
-
-abbrev entry_shown : Row → Row
-entry_shown r = eval_all entries_query.project ([] ∷ r ∷ [])
-
-entry_shown_is : (r : Row) → two (drop 1 r) ≡ entry_shown r
-entry_shown_is [] = refl
-entry_shown_is (id ∷ cells) = refl
-
-pub reads_entries : (old new : State) (h : Contents) (rows : List Row) → Holds old.now h → Shown read_text [] old new rows → IsPermutation (map entry_cells h.entries) (map two rows)
-reads_entries old new h rows holds did =
-    let db = old.now.trees 3 in
-    let answer = (reads_as read_text [] old new schema holds.schema_is _ entries_is entries_plain entries_unlisted rows did).answer Null in
-    let all : IsPermutation (map entry_shown db) rows = subst (λ xs. IsPermutation (map entry_shown xs) rows) (filter_all_true db) (scan_rows 3 [] entries_query.project entries_query.order _ [] rows answer) in
-    seen entry_cells entry_cells (drop 1) entry_shown two two db rows h.entries entry_shown_is (λ e. refl) (λ r. refl) holds.entries all
+pub loads_same : (db : Database) (h k : Contents) (s : Stored) → Holds db h → Holds db k → Loads k s → Loads h s
+loads_same db h k s held other loads = record {
+  spans = loads_some span_cells h.spans k.spans _ _ same_spans held.spans other.spans loads.spans;
+  configs = loads_some config_with_rowid h.configs k.configs _ _ same_rows held.configs other.configs loads.configs;
+  entries = loads_some entry_cells h.entries k.entries _ _ same_entries held.entries other.entries loads.entries;
+}
 
 -- ---- a query leaves all as it was
 

@@ -16,10 +16,10 @@ use Rattle.sqlite_rules.proofs.ListLemmas.{all_has}
 use Rattle.store_core.specs.Tables.{HasRowids, same_rowid}
 use Rattle.store_core.proofs.Lists.{put_fresh}
 
-flipped : (a b : Bool) → (a ≡ true → b ≡ true) → (b ≡ true → a ≡ true) → a ≡ b
-flipped true b f g = sym (f refl)
-flipped false true f g = g refl
-flipped false false f g = refl
+flip : (a b : Bool) → (a ≡ true → b ≡ true) → (b ≡ true → a ≡ true) → a ≡ b
+flip true b f g = sym (f refl)
+flip false true f g = g refl
+flip false false f g = refl
 
 equal_is : (o : Ordering) → is_eq o ≡ true → o ≡ Equal
 equal_is Less e = absurd (true≢false (sym e))
@@ -28,7 +28,7 @@ equal_is Greater e = absurd (true≢false (sym e))
 
 pub flips : (a b : Row) → same_rowid a b ≡ same_rowid b a
 flips a b =
-    flipped (same_rowid a b) (same_rowid b a) (λ e. ap is_eq (tied_back value_cmp_total (rowid a) (rowid b) (equal_is _ e))) (λ e. ap is_eq (tied_back value_cmp_total (rowid b) (rowid a) (equal_is _ e)))
+    flip (same_rowid a b) (same_rowid b a) (λ e. ap is_eq (tied_back value_cmp_total (rowid a) (rowid b) (equal_is _ e))) (λ e. ap is_eq (tied_back value_cmp_total (rowid b) (rowid a) (equal_is _ e)))
 
 pub one_row : (rows : List Row) (a b : Row) → IsDistinct same_rowid rows → Has rows a → Has rows b → same_rowid a b ≡ true → a ≡ b
 one_row [] a b apart h k tie = absurd h
@@ -37,16 +37,16 @@ one_row (r ∷ rows) a b apart (inl h) (inr k) tie = absurd (true≢false (sym t
 one_row (r ∷ rows) a b apart (inr h) (inl k) tie = absurd (true≢false (sym tie ∙ (flips a b ∙ (ap (λ (x : Row). same_rowid x a) k ∙ all_has _ rows a (IsDistinct-head same_rowid r rows apart) h))))
 one_row (r ∷ rows) a b apart (inr h) (inr k) tie = one_row rows a b (IsDistinct-tail same_rowid r rows apart) h k tie
 
-untaken : (n : Row) (rows : List Row) → is_taken rows n ≡ false → AllByRecursion (λ r. same_rowid n r ≡ false) rows
-untaken n [] free = tt
-untaken n (r ∷ rows) free = let parts = or_parts _ _ free in (flips n r ∙ parts.0, untaken n rows parts.1)
+none_taken : (n : Row) (rows : List Row) → is_taken rows n ≡ false → AllByRecursion (λ r. same_rowid n r ≡ false) rows
+none_taken n [] free = tt
+none_taken n (r ∷ rows) free = let parts = or_parts _ _ free in (flips n r ∙ parts.0, none_taken n rows parts.1)
 
 rowids_put : (n : Row) (rows : List Row) → is_int (rowid n) ≡ true → is_taken rows n ≡ false → HasRowids rows → HasRowids (put_row n rows)
 rowids_put n rows int free h =
     let put = put_fresh n rows free in
     record {
       integers = all-permutation (λ r. IsTrue (is_int (rowid r))) _ _ put (int, h.integers);
-      distinct = IsDistinct-IsPermutation same_rowid flips _ _ put (IsDistinct-cons same_rowid n rows (untaken n rows free) h.distinct);
+      distinct = IsDistinct-IsPermutation same_rowid flips _ _ put (IsDistinct-cons same_rowid n rows (none_taken n rows free) h.distinct);
     }
 
 rowids_puts : (news rows : List Row) → have_rowids news ≡ true → are_fresh rows news ≡ true → HasRowids rows → HasRowids (put_all rows news)

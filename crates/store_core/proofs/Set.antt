@@ -20,12 +20,12 @@ use Rattle.sqlite_rules.specs.Calls.{ids_of}
 use Rattle.sqlite.specs.Listing.{understood}
 use Rattle.sqlite.proofs.Callers.{statement_of, one_step}
 use Rattle.store_core.specs.Format.{schema, state_table}
-use Rattle.store_core.specs.Tables.{HasRowids, Contents, Holds, Lists, span_cells, config_row, entry_cells, Entry, with_value}
+use Rattle.store_core.specs.Tables.{HasRowids, Contents, Holds, Lists, span_cells, config_with_rowid, entry_cells, Entry, with_value}
 use Rattle.store_core.specs.Steps.{with_entry}
 use Rattle.store_core.proofs.Texts.{set_text, set_query, alone}
-use Rattle.store_core.proofs.Insert.{went, same_value, cast_int}
+use Rattle.store_core.proofs.Insert.{goes, same_value, cast_int}
 use Rattle.store_core.proofs.Scan.{scan_rows, text_test}
-use Rattle.store_core.proofs.Update.{updated, rewritten}
+use Rattle.store_core.proofs.Update.{updates, rewrites}
 use Rattle.store_core.proofs.Rowids.{rowids_edit}
 
 abbrev state_at : Table
@@ -40,15 +40,15 @@ passes key value r = list_all (holds (set_params key value ∷ r ∷ [])) set_qu
 abbrev fields : List Term
 fields = col 1 1 ∷ col 0 1 ∷ []
 
-abbrev written : List ℕ → ℕ → Row → Row
-written key value r = eval_all fields (set_params key value ∷ r ∷ [])
+abbrev row_after : List ℕ → ℕ → Row → Row
+row_after key value r = eval_all fields (set_params key value ∷ r ∷ [])
 
-abbrev changed : List ℕ → ℕ → Row → Row
-changed key value r = if passes key value r then cast_all state_table.columns (written key value r) else drop 1 r
+abbrev row_then : List ℕ → ℕ → Row → Row
+row_then key value r = if passes key value r then cast_all state_table.columns (row_after key value r) else drop 1 r
 
-changed_reads : (key : List ℕ) (value : ℕ) (r : Row) → changed key value r ≡ changed key value (Null ∷ drop 1 r)
-changed_reads key value [] = refl
-changed_reads key value (id ∷ cells) = refl
+row_then_reads : (key : List ℕ) (value : ℕ) (r : Row) → row_then key value r ≡ row_then key value (Null ∷ drop 1 r)
+row_then_reads key value [] = refl
+row_then_reads key value (id ∷ cells) = refl
 
 single : (b : Bool) → (b && true) ≡ b
 single true = refl
@@ -57,11 +57,11 @@ single false = refl
 passes_as : (key : List ℕ) (value : ℕ) (e : Entry) → passes key value (Null ∷ entry_cells e) ≡ bytes_eq e.key key
 passes_as key value e = rw (text_test e.key key) (single (bytes_eq e.key key))
 
-sets_entry : (key : List ℕ) (value : ℕ) (e : Entry) → changed key value (Null ∷ entry_cells e) ≡ entry_cells (with_value key value e)
+sets_entry : (key : List ℕ) (value : ℕ) (e : Entry) → row_then key value (Null ∷ entry_cells e) ≡ entry_cells (with_value key value e)
 sets_entry key value e =
-    ap (λ (b : Bool). if b then cast_all state_table.columns (written key value (Null ∷ entry_cells e)) else entry_cells e) (passes_as key value e) ∙ go (bytes_eq e.key key)
+    ap (λ (b : Bool). if b then cast_all state_table.columns (row_after key value (Null ∷ entry_cells e)) else entry_cells e) (passes_as key value e) ∙ go (bytes_eq e.key key)
   where
-    go : (b : Bool) → (if b then cast_all state_table.columns (written key value (Null ∷ entry_cells e)) else entry_cells e) ≡ entry_cells (if b then record e { value = value } else e)
+    go : (b : Bool) → (if b then cast_all state_table.columns (row_after key value (Null ∷ entry_cells e)) else entry_cells e) ≡ entry_cells (if b then record e { value = value } else e)
     go true = rw (cast_int (pos value))
     go false = refl
 
@@ -72,10 +72,10 @@ sets old new key value count h holds w =
     let db = old.now.trees in
     let command = Update 2 (alone set_query) in
     let text = statement_of set_text (understood schema set_text) in
-    let done = went (subst (λ k. Does old.step_limit (mode_of old) params (record old.now { schema = k }) text None command (Ok (w.tally, new.now))) holds.schema_is w.changed) in
-    let now = ap (λ (p : Tally × Database). p.1) (same_value (went (went done.2).2).2) in
-    let given = went done.1 in
-    let wrote = went given.2 in
+    let done = goes (subst (λ k. Does old.step_limit (mode_of old) params (record old.now { schema = k }) text None command (Ok (w.tally, new.now))) holds.schema_is w.changed) in
+    let now = ap (λ (p : Tally × Database). p.1) (same_value (goes (goes done.2).2).2) in
+    let given = goes done.1 in
+    let wrote = goes given.2 in
     let trees : done.0.trees ≡ wrote.0 = ap (λ (it : Written). it.trees) (same_value wrote.2) in
     let edit : Edit = edit_of db state_at (ids_of given.0) Given 1 given.0 in
     let did = one_step schema _ db wrote.0 edit refl wrote.1 in
@@ -83,14 +83,14 @@ sets old new key value count h holds w =
     let tree : new.now.trees 3 ≡ edited db edit = ap (λ (d : Database). d.trees 3) now ∙ ap (λ (t : Trees). t 3) trees ∙ did.rows in
     let apart : (t : ℕ) → wrote.0 t ≡ db t → new.now.trees t ≡ db t = λ t same. ap (λ (d : Database). d.trees t) now ∙ ap (λ (all : Trees). all t) trees ∙ same in
     let row_same : new.now.trees 0 ≡ db 0 = apart 0 (did.tables.0 (λ e. absurd (omega (arith, e)))) in
-    let wrote_rows = updated db state_at (passes key value) (written key value) given.0 holds.entries_rowids shown did.fresh in
+    let wrote_rows = updates db state_at (passes key value) (row_after key value) given.0 holds.entries_rowids shown did.fresh in
     record {
       schema_is = ap (λ (d : Database). d.schema) now;
       spans = subst (λ rows. Lists rows (map span_cells h.spans)) (sym row_same) holds.spans;
-      configs = subst (IsPermutation (map config_row h.configs)) (sym (apart 2 (did.tables.1.0 (λ e. absurd (omega (arith, e)))))) holds.configs;
+      configs = subst (IsPermutation (map config_with_rowid h.configs)) (sym (apart 2 (did.tables.1.0 (λ e. absurd (omega (arith, e)))))) holds.configs;
       configs_rowids = subst HasRowids (sym (apart 2 (did.tables.1.0 (λ e. absurd (omega (arith, e)))))) holds.configs_rowids;
       entries = subst (λ rows. Lists rows (map entry_cells (map (with_value key value) h.entries))) (sym tree)
-          (rewritten entry_cells (with_value key value) (drop 1) (λ cells. changed key value (Null ∷ cells)) (db 3) (changed key value) (edited db edit) h.entries (changed_reads key value) (sets_entry key value) holds.entries wrote_rows);
+          (rewrites entry_cells (with_value key value) (drop 1) (λ cells. row_then key value (Null ∷ cells)) (db 3) (row_then key value) (edited db edit) h.entries (row_then_reads key value) (sets_entry key value) holds.entries wrote_rows);
       spans_rowids = subst HasRowids (sym row_same) holds.spans_rowids;
       entries_rowids = subst HasRowids (sym tree) (rowids_edit db edit did.keyed did.fresh holds.entries_rowids);
     }

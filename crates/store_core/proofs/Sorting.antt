@@ -19,20 +19,20 @@ use Rattle.sqlite_value.proofs.OrderLemmas.{value_cmp-Int, value_cmp-Text, then-
 use Rattle.sqlite_trees.proofs.ListLemmas.{map-map}
 use Rattle.sqlite_exec.proofs.RowsLemmas.{IsSorted-map}
 use Rattle.sqlite_exec.proofs.PartitionLemmas.{IsSorted-from_map}
-use Rattle.store_core.specs.Tables.{Span, Dated, Entry, span_cells, dated_cells, entry_cells, two, six}
-use Rattle.store_core.specs.Stored.{span_cmp, dated_cmp, entry_cmp}
+use Rattle.store_core.specs.Tables.{Span, ConfigRow, Entry, span_cells, config_cells, entry_cells, two, six}
+use Rattle.store_core.specs.Stored.{span_cmp, config_cmp, entry_cmp}
 use Rattle.store_core.specs.Format.{schema}
 use Rattle.store_core.proofs.Texts.{scan, rows_text, rows_query, rows_is, rows_plain, rows_unlisted, configs_text, configs_query, configs_is, configs_plain, configs_unlisted, read_text, entries_query, entries_is, entries_plain, entries_unlisted}
 
 -- ---- of a query over one table
 
-pub drawn : {X Y : Type 0} (f : X → Y) (ys : List Y) → AllByRecursion (λ y. (x : X) × (y ≡ f x)) ys → (xs : List X) × (ys ≡ map f xs)
-drawn f [] h = ([], refl)
-drawn {X} {Y} f (y ∷ ys) h = let rest = drawn f ys h.1 in (h.0.0 ∷ rest.0, ap (λ (v : Y). v ∷ ys) h.0.1 ∙ ap (λ (l : List Y). f h.0.0 ∷ l) rest.1)
+pub draw : {X Y : Type 0} (f : X → Y) (ys : List Y) → AllByRecursion (λ y. (x : X) × (y ≡ f x)) ys → (xs : List X) × (ys ≡ map f xs)
+draw f [] h = ([], refl)
+draw {X} {Y} f (y ∷ ys) h = let rest = draw f ys h.1 in (h.0.0 ∷ rest.0, ap (λ (v : Y). v ∷ ys) h.0.1 ∙ ap (λ (l : List Y). f h.0.0 ∷ l) rest.1)
 
-pub mapped : {X Y : Type 0} (f : X → Y) (xs : List X) → AllByRecursion (λ y. (x : X) × (y ≡ f x)) (map f xs)
-mapped f [] = tt
-mapped f (x ∷ xs) = ((x, refl), mapped f xs)
+pub is_image : {X Y : Type 0} (f : X → Y) (xs : List X) → AllByRecursion (λ y. (x : X) × (y ≡ f x)) (map f xs)
+is_image f [] = tt
+is_image f (x ∷ xs) = ((x, refl), is_image f xs)
 
 pub sorted_as : {X : Type 0} (c d : X → X → Ordering) → ((x y : X) → c x y ≡ d x y) → (xs : List X) → IsSorted c xs → IsSorted d xs
 sorted_as c d same xs sorted k e low high = ap is_lt (sym (same _ _)) ∙ sorted k e low high
@@ -50,7 +50,7 @@ scan_sorted t test project order db params rows agrees a =
     let shown : Env → Row = eval_all project in
     let keys : Env → Row = eval_all (map (λ k. k.0) order) in
     let from : IsPermutation (map (output q) a.staged) a.ordered = subst (λ l. IsPermutation l a.ordered) a.distinct a.same in
-    let envs = drawn (output q) a.ordered (all_shuffled (λ o. (x : Env) × (o ≡ output q x)) _ a.ordered from (mapped (output q) a.staged)) in
+    let envs = draw (output q) a.ordered (all_shuffled (λ o. (x : Env) × (o ≡ output q x)) _ a.ordered from (is_image (output q) a.staged)) in
     let ordered : IsSorted (on (λ (o : Output). o.0) cmp) (map (output q) envs.0) = subst (IsSorted (on (λ (o : Output). o.0) cmp)) envs.1 a.sorted in
     let by_keys : IsSorted (λ x y. cmp (keys x) (keys y)) envs.0 = IsSorted-from_map (on (λ (o : Output). o.0) cmp) (output q) envs.0 ordered in
     let by_shown : IsSorted (λ x y. cmp (shown x) (shown y)) envs.0 = sorted_as _ _ agrees envs.0 by_keys in
@@ -79,8 +79,8 @@ pub span_as : (x y : Span) → key_cmp 0 (keys_of rows_query.order) (span_cells 
 span_as x y =
     rw (value_cmp-Text x.namespace y.namespace, value_cmp-Text x.object y.object, value_cmp-Text x.relation y.relation, value_cmp-Text x.subject y.subject, number_as x.added y.added)
 
-pub dated_as : (x y : Dated) → key_cmp 0 (keys_of configs_query.order) (dated_cells x) (dated_cells y) ≡ dated_cmp x y
-dated_as x y = number_as x.rev y.rev
+pub config_as : (x y : ConfigRow) → key_cmp 0 (keys_of configs_query.order) (config_cells x) (config_cells y) ≡ config_cmp x y
+config_as x y = number_as x.rev y.rev
 
 pub entry_as : (x y : Entry) → key_cmp 0 (keys_of entries_query.order) (entry_cells x) (entry_cells y) ≡ entry_cmp x y
 entry_as x y = text_as x.key y.key
@@ -90,10 +90,10 @@ spans_sorted old new rows xs has did same =
     let answer = (reads_as rows_text [] old new schema has _ rows_is rows_plain rows_unlisted rows did).answer Null in
     values_sorted six span_cells (key_cmp 0 (keys_of rows_query.order)) span_cmp rows xs (λ a b. refl) span_as same (scan_sorted 0 [] rows_query.project rows_query.order _ [] rows (λ x y. refl) answer)
 
-pub configs_sorted : (old new : State) (rows : List Row) (xs : List Dated) → old.now.schema ≡ schema → Shown configs_text [] old new rows → map two rows ≡ map dated_cells xs → IsSorted dated_cmp xs
+pub configs_sorted : (old new : State) (rows : List Row) (xs : List ConfigRow) → old.now.schema ≡ schema → Shown configs_text [] old new rows → map two rows ≡ map config_cells xs → IsSorted config_cmp xs
 configs_sorted old new rows xs has did same =
     let answer = (reads_as configs_text [] old new schema has _ configs_is configs_plain configs_unlisted rows did).answer Null in
-    values_sorted two dated_cells (key_cmp 0 (keys_of configs_query.order)) dated_cmp rows xs (λ a b. refl) dated_as same (scan_sorted 2 [] configs_query.project configs_query.order _ [] rows (λ x y. refl) answer)
+    values_sorted two config_cells (key_cmp 0 (keys_of configs_query.order)) config_cmp rows xs (λ a b. refl) config_as same (scan_sorted 2 [] configs_query.project configs_query.order _ [] rows (λ x y. refl) answer)
 
 pub entries_sorted : (old new : State) (rows : List Row) (xs : List Entry) → old.now.schema ≡ schema → Shown read_text [] old new rows → map two rows ≡ map entry_cells xs → IsSorted entry_cmp xs
 entries_sorted old new rows xs has did same =

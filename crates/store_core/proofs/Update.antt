@@ -108,11 +108,11 @@ module _ (P : Row → Bool) (es : List Row) (keyed : HasRowids es) where
 abbrev pub source_of : (Row → Row) → Row → Row
 source_of f r = rowid r ∷ rowid r ∷ f r
 
-pub updated : (db : Trees) (table : Table) (P : Row → Bool) (f : Row → Row) (rows : List Row) → HasRowids (db table.tree)
+pub updates : (db : Trees) (table : Table) (P : Row → Bool) (f : Row → Row) (rows : List Row) → HasRowids (db table.tree)
     → IsPermutation (map (source_of f) (filter P (db table.tree))) rows
     → are_fresh (left_by db (edit_of db table (ids_of rows) Given 1 rows)) (edit_of db table (ids_of rows) Given 1 rows).news ≡ true
     → IsPermutation (map (λ r. if P r then cast_all table.columns (f r) else drop 1 r) (db table.tree)) (map (drop 1) (edited db (edit_of db table (ids_of rows) Given 1 rows)))
-updated db table P f rows keyed perm fresh =
+updates db table P f rows keyed perm fresh =
     let es = db table.tree in
     let edit = edit_of db table (ids_of rows) Given 1 rows in
     let g : Row → Row = λ r. if P r then cast_all table.columns (f r) else drop 1 r in
@@ -143,10 +143,10 @@ map_congr f g same [] = refl
 map_congr {A} {B} f g same (x ∷ xs) = ap (λ (y : B). y ∷ map f xs) (same x) ∙ ap (λ (ys : List B). g x ∷ ys) (map_congr f g same xs)
 
 -- `cells` shows a value of the model as cells, on which the statement does what `change` does to the value
-pub rewritten : {X : Type 0} (cells : X → Row) (change : X → X) (whole : Row → Row) (G : Row → Row) (tree : List Row) (after : Row → Row) (next : List Row) (xs : List X)
+pub rewrites : {X : Type 0} (cells : X → Row) (change : X → X) (whole : Row → Row) (G : Row → Row) (tree : List Row) (after : Row → Row) (next : List Row) (xs : List X)
     → ((r : Row) → after r ≡ G (drop 1 r)) → ((x : X) → G (cells x) ≡ cells (change x))
     → IsPermutation (map cells xs) (map (drop 1) tree) → IsPermutation (map after tree) (map (drop 1) next) → IsPermutation (map cells (map change xs)) (map (drop 1) next)
-rewritten cells change whole G tree after next xs reads does held wrote =
+rewrites cells change whole G tree after next xs reads does held wrote =
     let model : map G (map cells xs) ≡ map cells (map change xs) = map-map G cells xs ∙ (map_congr _ _ does xs ∙ sym (map-map cells change xs)) in
     let code : map after tree ≡ map G (map (drop 1) tree) = map_congr _ _ reads tree ∙ sym (map-map G (drop 1) tree) in
     IsPermutation-trans _ _ _ (subst (λ all. IsPermutation all (map G (map (drop 1) tree))) model (IsPermutation-map G _ _ held)) (subst (λ all. IsPermutation all (map (drop 1) next)) code wrote)

@@ -3,3 +3,4 @@ pub mod Tables
 pub mod Stored
 pub mod Steps
 pub mod Leaves
+pub mod Reading

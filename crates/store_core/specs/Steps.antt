@@ -1,12 +1,16 @@
 -- What the statements and the transactions make of the contents.
-use Rattle.std.specs.Prelude.{◌≡◌, ℕ, true, List, [], ◌∷◌, map, filter, not, fold, codes, if◌then◌else◌, IsTrue}
-use Rattle.sqlite.specs.State.{State}
+use Rattle.std.specs.Prelude.{◌≡◌, ℕ, List, [], ◌∷◌, map, filter, not, fold, codes, if◌then◌else◌, IsTrue, Result, OnOk}
+use Rattle.std.specs.Borrow.{MutBor}
+use Rattle.sqlite.specs.Store.{Ghosts}
+use Rattle.sqlite.specs.State.{HasCleanDisk, KeepsCommit, State, Survives}
+use Rattle.sqlite.specs.Held.{Held, state}
+use Rattle.sqlite.specs.declared.error.Error.{Error}
 use Rattle.sqlite.specs.Effect.{Database}
 use Rattle.sqlite.specs.Tree.{Trees}
-use Rattle.store_core.specs.declared.stored.Event.{Event}
+use Rattle.store_core.specs.declared.stored.StoredEvent.{StoredEvent}
 use Rattle.store_core.specs.Format.{schema, no_schema, one_schema, two_schema}
-use Rattle.store_core.specs.Tables.{Span, Dated, Contents, Holds, closed, with_value, is_past, is_before}
-use Rattle.store_core.specs.Stored.{span_of}
+use Rattle.store_core.specs.Tables.{Span, ConfigRow, Contents, Holds, config_at, after_close, with_value, is_past, is_below}
+use Rattle.store_core.specs.Stored.{span_between}
 
 -- ---- the contents
 
@@ -14,9 +18,9 @@ abbrev pub with_span : Span → Contents → Contents
 with_span s h = record h { spans = s ∷ h.spans }
 
 abbrev pub with_closed : Span → ℕ → Contents → Contents
-with_closed tuple rev h = record h { spans = map (closed tuple rev) h.spans }
+with_closed tuple rev h = record h { spans = map (after_close tuple rev) h.spans }
 
-abbrev pub with_config : Dated → Contents → Contents
+abbrev pub with_config : ConfigRow → Contents → Contents
 with_config c h = record h { configs = c ∷ h.configs }
 
 abbrev pub with_entry : List ℕ → ℕ → Contents → Contents
@@ -25,55 +29,47 @@ with_entry key value h = record h { entries = map (with_value key value) h.entri
 abbrev pub without_past : ℕ → Contents → Contents
 without_past floor h = record h { spans = filter (λ s. not (is_past floor s)) h.spans }
 
-abbrev pub without_before : ℕ → Contents → Contents
-without_before rev h = record h { configs = filter (λ c. not (is_before rev c)) h.configs }
+abbrev pub without_below : ℕ → Contents → Contents
+without_below rev h = record h { configs = filter (λ c. not (is_below rev c)) h.configs }
 
 -- each event ends the open span of its tuple, and a put begins the next one
-abbrev pub after_event : ℕ → Contents → Event → Contents
-after_event rev h e = if e.put then with_span (span_of e.tuple rev 0) (with_closed (span_of e.tuple rev 0) rev h) else with_closed (span_of e.tuple rev 0) rev h
+abbrev pub after_event : ℕ → StoredEvent → Contents → Contents
+after_event rev e h = if e.put then with_span (span_between e.tuple rev 0) (with_closed (span_between e.tuple rev 0) rev h) else with_closed (span_between e.tuple rev 0) rev h
 
-abbrev pub after_events : ℕ → List Event → Contents → Contents
-after_events rev events h = fold (after_event rev) h events
+abbrev pub after_events : ℕ → List StoredEvent → Contents → Contents
+after_events rev events h = fold (λ x e. after_event rev e x) h events
 
 -- ---- the transactions
 
 -- a store with this number and no commit
-abbrev pub fresh : ℕ → Contents
-fresh number = record {
+abbrev pub new_store : ℕ → Contents
+new_store number = record {
   spans = [];
   configs = [];
   entries = record { key = codes "floor"; value = 0 } ∷ record { key = codes "format"; value = 1 } ∷ record { key = codes "newest"; value = 0 } ∷ record { key = codes "store"; value = number } ∷ [];
 }
 
-abbrev pub written : ℕ → List Event → Contents → Contents
-written rev events h = with_entry (codes "newest") rev (after_events rev events h)
+abbrev pub after_write : ℕ → List StoredEvent → Contents → Contents
+after_write rev events h = with_entry (codes "newest") rev (after_events rev events h)
 
-abbrev pub configured : ℕ → List ℕ → Contents → Contents
-configured rev text h = with_entry (codes "newest") rev (with_config (record { rev = rev; text = text }) h)
+abbrev pub after_configure : ℕ → List ℕ → Contents → Contents
+after_configure rev text h = with_entry (codes "newest") rev (with_config (config_at rev text) h)
 
--- `first` is the revision of the last configuration at or below the floor
-abbrev pub trimmed : ℕ → ℕ → Contents → Contents
-trimmed floor first h = with_entry (codes "floor") floor (without_before first (without_past floor h))
+-- what no revision from the floor on looks at is gone; `first` is the revision of the last configuration at or below it
+abbrev pub after_drop : ℕ → ℕ → Contents → Contents
+after_drop floor first h = without_below first (without_past floor h)
 
--- ---- one statement in a transaction
+abbrev pub after_trim : ℕ → ℕ → Contents → Contents
+after_trim floor first h = with_entry (codes "floor") floor (after_drop floor first h)
 
--- the transaction goes on and holds the new contents, and nothing is committed
-pub record Works (old new : State) (f : Contents → Contents) : Type 0 where
-  pub is_open : IsTrue old.is_open → IsTrue new.is_open
-  pub inside : new.in_transaction ≡ true
-  pub committed : new.committed ≡ old.committed
-  pub holds : (h : Contents) → Holds old.now h → Holds new.now (f h)
+-- what the tables held has become what `f` makes of it
+abbrev pub Becomes : (Contents → Contents) → Database → Database → Type 0
+Becomes f old new = (h : Contents) → Holds old h → Holds new (f h)
 
--- the same of a database that holds no contents yet
-pub record Makes (old new : State) (P Q : Database → Type 0) : Type 0 where
-  pub is_open : IsTrue old.is_open → IsTrue new.is_open
-  pub inside : new.in_transaction ≡ true
-  pub committed : new.committed ≡ old.committed
-  pub makes : P old.now → Q new.now
+-- ---- which tables are made
 
--- no table, index or view
-abbrev pub IsBlank : Database → Type 0
-IsBlank db = db.schema ≡ no_schema
+abbrev pub HasNone : Database → Type 0
+HasNone db = db.schema ≡ no_schema
 
 pub record HasRow (db : Database) : Type 0 where
   pub schema_is : db.schema ≡ one_schema
@@ -90,19 +86,58 @@ pub record HasTables (db : Database) : Type 0 where
   pub config : db.trees 2 ≡ []
   pub state : db.trees 3 ≡ []
 
+-- those of the new store, with their first values
+abbrev pub HasNew : ℕ → Database → Type 0
+HasNew number db = Holds db (new_store number)
+
+-- from tables of the one kind to tables of the other
+abbrev pub Founds : (Database → Type 0) → (Database → Type 0) → Database → Database → Type 0
+Founds P Q old new = P old → Q new
+
+-- ---- one statement in a transaction
+
+-- the transaction goes on, and its database has become so
+pub record Turns (R : Database → Database → Type 0) (old new : State) : Type 0 where
+  pub goes_on : IsTrue old.in_transaction → IsTrue new.in_transaction
+  pub does : R old.now new.now
+
+-- where it succeeded, the tables hold what `f` makes of what they held
+abbrev pub Changes : {S A : Type 0} → Ghosts S → MutBor (Held S) → MutBor (Held S) → Result A Error → (Contents → Contents) → Type 0
+Changes g old new result f = HasCleanDisk (state g new.now) → OnOk result (Turns (Becomes f) (state g old.now) (state g new.now))
+
+-- where it succeeded, there are tables of the second kind where there were those of the first
+abbrev pub Makes : {S A : Type 0} → Ghosts S → MutBor (Held S) → MutBor (Held S) → Result A Error → (Database → Type 0) → (Database → Type 0) → Type 0
+Makes g old new result P Q = HasCleanDisk (state g new.now) → OnOk result (Turns (Founds P Q) (state g old.now) (state g new.now))
+
+-- it commits nothing, and a crash leaves nothing of it
+pub record IsQuiet {S : Type 0} (g : Ghosts S) (old new : MutBor (Held S)) : Type 0 where
+  pub keeps_commit : HasCleanDisk (state g new.now) → KeepsCommit (state g old.now) (state g new.now)
+  pub survives : Survives (state g old.now) (state g new.now) (λ _. ⊥)
+
 -- ---- one transaction
 
 -- the change is made and committed
-pub record Stores (old new : State) (f : Contents → Contents) : Type 0 where
+pub record HasStored (f : Contents → Contents) (old : Database) (new : State) : Type 0 where
   pub is_open : IsTrue new.is_open
   pub committed : new.committed ≡ new.now
-  pub holds : (h : Contents) → Holds old.now h → Holds new.now (f h)
+  pub holds : Becomes f old new.now
+
+abbrev pub Stores : {S : Type 0} → Ghosts S → Held S → Held S → (Contents → Contents) → Type 0
+Stores g old new f = HasCleanDisk (state g new) → HasStored f (state g old).now (state g new)
 
 -- nothing is: what is held is what was committed before
-pub record Undone (old new : State) : Type 0 where
+pub record IsUndone (old new : State) : Type 0 where
   pub now : new.now ≡ old.committed
   pub committed : new.committed ≡ old.committed
 
+-- so it is as long as the connection is open
+abbrev pub Undoes : {S : Type 0} → Ghosts S → Held S → Held S → Type 0
+Undoes g old new = HasCleanDisk (state g new) → IsTrue (state g new).is_open → IsUndone (state g old) (state g new)
+
 -- what a crash may leave beside what it could leave before
 abbrev pub MayStore : State → (Contents → Contents) → Trees → Type 0
-MayStore old f trees = (db : Database) × (trees ≡ db.trees) × ((h : Contents) → Holds old.now h → Holds db (f h))
+MayStore old f trees = (db : Database) × (trees ≡ db.trees) × Becomes f old.now db
+
+-- a crash leaves what it left before, or the whole change
+abbrev pub LeavesAtMost : {S : Type 0} → Ghosts S → Held S → Held S → (Contents → Contents) → Type 0
+LeavesAtMost g old new f = Survives (state g old) (state g new) (MayStore (state g old) f)

@@ -19,9 +19,12 @@ pub record Span : Type 0 where
   pub removed : ℕ
 
 -- a configuration and its revision
-pub record Dated : Type 0 where
+pub record ConfigRow : Type 0 where
   pub rev : ℕ
   pub text : List ℕ
+
+abbrev pub config_at : ℕ → List ℕ → ConfigRow
+config_at rev text = record { rev = rev; text = text }
 
 -- a value of the state
 pub record Entry : Type 0 where
@@ -30,7 +33,7 @@ pub record Entry : Type 0 where
 
 pub record Contents : Type 0 where
   pub spans : List Span
-  pub configs : List Dated
+  pub configs : List ConfigRow
   pub entries : List Entry
 
 -- ---- as rows
@@ -39,8 +42,8 @@ abbrev pub span_cells : Span → Row
 span_cells s = Text s.namespace ∷ Text s.object ∷ Text s.relation ∷ Text s.subject ∷ Int (pos s.added) ∷ Int (pos s.removed) ∷ []
 
 -- the revision is the rowid, and its own column is empty
-abbrev pub config_row : Dated → Row
-config_row c = Int (pos c.rev) ∷ Null ∷ Text c.text ∷ []
+abbrev pub config_with_rowid : ConfigRow → Row
+config_with_rowid c = Int (pos c.rev) ∷ Null ∷ Text c.text ∷ []
 
 abbrev pub entry_cells : Entry → Row
 entry_cells e = Text e.key ∷ Int (pos e.value) ∷ []
@@ -65,7 +68,7 @@ AreKeyed trees = HasRowids (trees 0) × HasRowids (trees 2) × HasRowids (trees 
 pub record Holds (db : Database) (h : Contents) : Type 0 where
   pub schema_is : db.schema ≡ schema
   pub spans : Lists (db.trees 0) (map span_cells h.spans)
-  pub configs : IsPermutation (map config_row h.configs) (db.trees 2)
+  pub configs : IsPermutation (map config_with_rowid h.configs) (db.trees 2)
   pub entries : Lists (db.trees 3) (map entry_cells h.entries)
   pub spans_rowids : HasRowids (db.trees 0)
   pub configs_rowids : HasRowids (db.trees 2)
@@ -77,8 +80,8 @@ abbrev pub same_tuple : Span → Span → Bool
 same_tuple a b = bytes_eq a.namespace b.namespace && (bytes_eq a.object b.object && (bytes_eq a.relation b.relation && bytes_eq a.subject b.subject))
 
 -- the open span of the tuple ends at the revision
-abbrev pub closed : Span → ℕ → Span → Span
-closed tuple rev s = if same_tuple s tuple && (s.removed == 0) then record s { removed = rev } else s
+abbrev pub after_close : Span → ℕ → Span → Span
+after_close tuple rev s = if same_tuple s tuple && (s.removed == 0) then record s { removed = rev } else s
 
 abbrev pub with_value : List ℕ → ℕ → Entry → Entry
 with_value key value e = if bytes_eq e.key key then record e { value = value } else e
@@ -87,8 +90,8 @@ with_value key value e = if bytes_eq e.key key then record e { value = value } e
 abbrev pub is_past : ℕ → Span → Bool
 is_past floor s = nat_lt 0 s.removed && not (nat_lt floor s.removed)
 
-abbrev pub is_before : ℕ → Dated → Bool
-is_before rev c = nat_lt c.rev rev
+abbrev pub is_below : ℕ → ConfigRow → Bool
+is_below rev c = nat_lt c.rev rev
 
 -- ---- what is read of them
 
@@ -106,8 +109,8 @@ abbrev pub six : Row → Row
 six row = column row 0 ∷ column row 1 ∷ column row 2 ∷ column row 3 ∷ column row 4 ∷ column row 5 ∷ []
 
 -- a configuration as the query shows it
-abbrev pub dated_cells : Dated → Row
-dated_cells c = Int (pos c.rev) ∷ Text c.text ∷ []
+abbrev pub config_cells : ConfigRow → Row
+config_cells c = Int (pos c.rev) ∷ Text c.text ∷ []
 
 -- a rowid as the query shows it
 abbrev pub id_cells : ℕ → Row

@@ -3,57 +3,45 @@ ghost use Rattle.std.specs.Prelude.{◌≡◌, ◌^◌, ◌<◌, ◌≢◌, fals
 ghost use Rattle.sqlite.specs.declared.error.Error.TheVariants.{SqliteFailure};
 ghost use Rattle.sqlite.specs.declared.error.ErrorCode.TheVariants.{NameTaken};
 ghost use Rattle.store_core.specs.Format.{no_schema};
-ghost use Rattle.sqlite.specs.State.{HasCleanDisk, KeepsCommit, Survives};
-ghost use Rattle.sqlite.specs.Held.{state};
-ghost use Rattle.store_core.specs.Tables.{Holds};
-ghost use Rattle.store_core.specs.Steps.{Works, Makes, Stores, Undone, MayStore, IsBlank, after_event, after_events, written, with_config, configured, without_before, without_past, trimmed, fresh};
-ghost use Rattle.store_core.specs.Leaves.{Stands, MayCreate};
+ghost use Rattle.store_core.specs.Steps.{Changes, Makes, IsQuiet, Stores, Undoes, LeavesAtMost, HasNone, HasNew, after_event, after_events, after_write, after_configure, after_drop, after_trim, new_store};
+ghost use Rattle.store_core.specs.Leaves.{TablesHold, IsBlank, MayLeaveNew, LeavesAtMostNew};
 
 use crate::statement::{
     close_span, delete_configs, delete_spans, init_state, insert_config, insert_span, make_config,
     make_row, make_state, set_value,
 };
-use crate::stored::Event;
+use crate::stored::StoredEvent;
 use sqlite::{Alter, Connection, Error, ErrorCode, Transaction};
 use sqlite_schema::schema::Schema;
 
 // Does one event: the open span of its tuple ends, and a put begins another.
-fn apply_event<S: Alter>(tx: &mut Transaction<'_, S>, event: &Event, rev: u64) -> Result<(), Error>
+fn apply_event<S: Alter>(
+    tx: &mut Transaction<'_, S>,
+    event: &StoredEvent,
+    rev: u64,
+) -> Result<(), Error>
     requires { rev < 2 ^ 63 }
     ensures same_reference { tx.new.conn.ghost_name ≡ tx.old.conn.ghost_name }
-    ensures ok { HasCleanDisk (state S.Store tx.new.conn.now) → OnOk result (Works (state S.Store tx.old.conn.now) (state S.Store tx.new.conn.now) (λ h. after_event rev h event.now)) }
-    ensures kept { HasCleanDisk (state S.Store tx.new.conn.now) → KeepsCommit (state S.Store tx.old.conn.now) (state S.Store tx.new.conn.now) }
-    ensures survives { Survives (state S.Store tx.old.conn.now) (state S.Store tx.new.conn.now) (λ _. ⊥) }
+    ensures done { Changes S.Store tx.old.conn tx.new.conn result (after_event rev event.now) }
+    ensures quiet { IsQuiet S.Store tx.old.conn tx.new.conn }
 {
-    let tuple = &event.tuple;
-    close_span(
-        tx,
-        tuple.namespace.as_str(),
-        tuple.object.as_str(),
-        tuple.relation.as_str(),
-        tuple.subject.as_str(),
-        rev,
-    )?;
+    close_span(tx, &event.tuple, rev)?;
     if event.put {
-        insert_span(
-            tx,
-            tuple.namespace.as_str(),
-            tuple.object.as_str(),
-            tuple.relation.as_str(),
-            tuple.subject.as_str(),
-            rev,
-        )?;
+        insert_span(tx, &event.tuple, rev)?;
     }
     Ok(())
 }
 
 // Does the events in turn.
-fn apply_all<S: Alter>(tx: &mut Transaction<'_, S>, events: &[Event], rev: u64) -> Result<(), Error>
+fn apply_all<S: Alter>(
+    tx: &mut Transaction<'_, S>,
+    events: &[StoredEvent],
+    rev: u64,
+) -> Result<(), Error>
     requires { rev < 2 ^ 63 }
     ensures same_reference { tx.new.conn.ghost_name ≡ tx.old.conn.ghost_name }
-    ensures ok { HasCleanDisk (state S.Store tx.new.conn.now) → IsTrue (state S.Store tx.old.conn.now).in_transaction → OnOk result (Works (state S.Store tx.old.conn.now) (state S.Store tx.new.conn.now) (λ h. after_events rev events.now h)) }
-    ensures kept { HasCleanDisk (state S.Store tx.new.conn.now) → KeepsCommit (state S.Store tx.old.conn.now) (state S.Store tx.new.conn.now) }
-    ensures survives { Survives (state S.Store tx.old.conn.now) (state S.Store tx.new.conn.now) (λ _. ⊥) }
+    ensures done { Changes S.Store tx.old.conn tx.new.conn result (after_events rev events.now) }
+    ensures quiet { IsQuiet S.Store tx.old.conn tx.new.conn }
 {
     for event in events {
         apply_event(tx, event, rev)?;
@@ -62,13 +50,17 @@ fn apply_all<S: Alter>(tx: &mut Transaction<'_, S>, events: &[Event], rev: u64) 
 }
 
 /// Stores the events of one commit at its revision, which is the newest from then on.
-pub fn write<S: Alter>(conn: &mut Connection<S>, events: &[Event], rev: u64) -> Result<(), Error>
+pub fn write<S: Alter>(
+    conn: &mut Connection<S>,
+    events: &[StoredEvent],
+    rev: u64,
+) -> Result<(), Error>
     requires small { rev < 2 ^ 63 }
     requires idle { conn.old.in_transaction ≡ false }
     ensures idle { conn.new.in_transaction ≡ false }
-    ensures done { HasCleanDisk (state S.Store conn.new) → OnOk result (Stores (state S.Store conn.old) (state S.Store conn.new) (written rev events.now)) }
-    ensures undone { HasCleanDisk (state S.Store conn.new) → IsTrue (state S.Store conn.new).is_open → OnErr result (Undone (state S.Store conn.old) (state S.Store conn.new)) }
-    ensures crash { Survives (state S.Store conn.old) (state S.Store conn.new) (MayStore (state S.Store conn.old) (written rev events.now)) }
+    ensures done { OnOk result (Stores S.Store conn.old conn.new (after_write rev events.now)) }
+    ensures undone { OnErr result (Undoes S.Store conn.old conn.new) }
+    ensures crash { LeavesAtMost S.Store conn.old conn.new (after_write rev events.now) }
 {
     let mut tx = conn.transaction();
     apply_all(&mut tx, events, rev)?;
@@ -82,9 +74,9 @@ pub fn configure<S: Alter>(conn: &mut Connection<S>, text: &str, rev: u64) -> Re
     requires small { rev < 2 ^ 63 }
     requires idle { conn.old.in_transaction ≡ false }
     ensures idle { conn.new.in_transaction ≡ false }
-    ensures done { HasCleanDisk (state S.Store conn.new) → OnOk result (Stores (state S.Store conn.old) (state S.Store conn.new) (configured rev text.now)) }
-    ensures undone { HasCleanDisk (state S.Store conn.new) → IsTrue (state S.Store conn.new).is_open → OnErr result (Undone (state S.Store conn.old) (state S.Store conn.new)) }
-    ensures crash { Survives (state S.Store conn.old) (state S.Store conn.new) (MayStore (state S.Store conn.old) (configured rev text.now)) }
+    ensures done { OnOk result (Stores S.Store conn.old conn.new (after_configure rev text.now)) }
+    ensures undone { OnErr result (Undoes S.Store conn.old conn.new) }
+    ensures crash { LeavesAtMost S.Store conn.old conn.new (after_configure rev text.now) }
 {
     let mut tx = conn.transaction();
     insert_config(&mut tx, rev, text)?;
@@ -97,9 +89,8 @@ pub fn configure<S: Alter>(conn: &mut Connection<S>, text: &str, rev: u64) -> Re
 fn drop_past<S: Alter>(tx: &mut Transaction<'_, S>, floor: u64, first: u64) -> Result<(), Error>
     requires { (floor < 2 ^ 63) × (first < 2 ^ 63) }
     ensures same_reference { tx.new.conn.ghost_name ≡ tx.old.conn.ghost_name }
-    ensures ok { HasCleanDisk (state S.Store tx.new.conn.now) → OnOk result (Works (state S.Store tx.old.conn.now) (state S.Store tx.new.conn.now) (λ h. without_before first (without_past floor h))) }
-    ensures kept { HasCleanDisk (state S.Store tx.new.conn.now) → KeepsCommit (state S.Store tx.old.conn.now) (state S.Store tx.new.conn.now) }
-    ensures survives { Survives (state S.Store tx.old.conn.now) (state S.Store tx.new.conn.now) (λ _. ⊥) }
+    ensures done { Changes S.Store tx.old.conn tx.new.conn result (after_drop floor first) }
+    ensures quiet { IsQuiet S.Store tx.old.conn tx.new.conn }
 {
     delete_spans(tx, floor)?;
     delete_configs(tx, first)?;
@@ -112,9 +103,9 @@ pub fn trim<S: Alter>(conn: &mut Connection<S>, floor: u64, first: u64) -> Resul
     requires small { (floor < 2 ^ 63) × (first < 2 ^ 63) }
     requires idle { conn.old.in_transaction ≡ false }
     ensures idle { conn.new.in_transaction ≡ false }
-    ensures done { HasCleanDisk (state S.Store conn.new) → OnOk result (Stores (state S.Store conn.old) (state S.Store conn.new) (trimmed floor first)) }
-    ensures undone { HasCleanDisk (state S.Store conn.new) → IsTrue (state S.Store conn.new).is_open → OnErr result (Undone (state S.Store conn.old) (state S.Store conn.new)) }
-    ensures crash { Survives (state S.Store conn.old) (state S.Store conn.new) (MayStore (state S.Store conn.old) (trimmed floor first)) }
+    ensures done { OnOk result (Stores S.Store conn.old conn.new (after_trim floor first)) }
+    ensures undone { OnErr result (Undoes S.Store conn.old conn.new) }
+    ensures crash { LeavesAtMost S.Store conn.old conn.new (after_trim floor first) }
 {
     let mut tx = conn.transaction();
     drop_past(&mut tx, floor, first)?;
@@ -127,9 +118,8 @@ pub fn trim<S: Alter>(conn: &mut Connection<S>, floor: u64, first: u64) -> Resul
 fn make_all<S: Alter>(tx: &mut Transaction<'_, S>, number: u64) -> Result<(), Error>
     requires { number < 2 ^ 63 }
     ensures same_reference { tx.new.conn.ghost_name ≡ tx.old.conn.ghost_name }
-    ensures ok { HasCleanDisk (state S.Store tx.new.conn.now) → OnOk result (Makes (state S.Store tx.old.conn.now) (state S.Store tx.new.conn.now) IsBlank (λ db. Holds db (fresh number))) }
-    ensures kept { HasCleanDisk (state S.Store tx.new.conn.now) → KeepsCommit (state S.Store tx.old.conn.now) (state S.Store tx.new.conn.now) }
-    ensures survives { Survives (state S.Store tx.old.conn.now) (state S.Store tx.new.conn.now) (λ _. ⊥) }
+    ensures done { Makes S.Store tx.old.conn tx.new.conn result HasNone (HasNew number) }
+    ensures quiet { IsQuiet S.Store tx.old.conn tx.new.conn }
 {
     make_row(tx)?;
     make_config(tx)?;
@@ -143,9 +133,9 @@ fn make_store<S: Alter>(conn: &mut Connection<S>, number: u64) -> Result<(), Err
     requires small { number < 2 ^ 63 }
     requires idle { conn.old.in_transaction ≡ false }
     ensures idle { conn.new.in_transaction ≡ false }
-    ensures done { HasCleanDisk (state S.Store conn.new) → IsBlank (state S.Store conn.old).now → OnOk result (Stands (state S.Store conn.new) (fresh number)) }
-    ensures undone { HasCleanDisk (state S.Store conn.new) → IsTrue (state S.Store conn.new).is_open → OnErr result (Undone (state S.Store conn.old) (state S.Store conn.new)) }
-    ensures crash { Survives (state S.Store conn.old) (state S.Store conn.new) (MayCreate (state S.Store conn.old) number) }
+    ensures done { OnOk result (IsBlank S.Store conn.old → TablesHold S.Store conn.new (new_store number)) }
+    ensures undone { OnErr result (Undoes S.Store conn.old conn.new) }
+    ensures crash { MayLeaveNew S.Store conn.old conn.new number }
 {
     let mut tx = conn.transaction();
     make_all(&mut tx, number)?;
@@ -167,10 +157,11 @@ pub fn create<S: Alter>(conn: &mut Connection<S>, number: u64) -> Result<(), Err
     requires small { number < 2 ^ 63 }
     requires idle { conn.old.in_transaction ≡ false }
     ensures idle { conn.new.in_transaction ≡ false }
-    ensures done { HasCleanDisk (state S.Store conn.new) → OnOk result (IsBlank (state S.Store conn.old).now × Stands (state S.Store conn.new) (fresh number)) }
-    ensures refused { ¬ (IsBlank (state S.Store conn.old).now) → (result ≡ Err (SqliteFailure NameTaken)) × (conn.new ≡ conn.old) }
-    ensures undone { HasCleanDisk (state S.Store conn.new) → IsTrue (state S.Store conn.new).is_open → IsBlank (state S.Store conn.old).now → OnErr result (Undone (state S.Store conn.old) (state S.Store conn.new)) }
-    ensures crash { Survives (state S.Store conn.old) (state S.Store conn.new) (λ trees. IsBlank (state S.Store conn.old).now × MayCreate (state S.Store conn.old) number trees) }
+    ensures done { OnOk result (IsBlank S.Store conn.old × TablesHold S.Store conn.new (new_store number)) }
+    ensures refused { ¬ (IsBlank S.Store conn.old) → result ≡ Err (SqliteFailure NameTaken) }
+    ensures untouched { ¬ (IsBlank S.Store conn.old) → conn.new ≡ conn.old }
+    ensures undone { OnErr result (IsBlank S.Store conn.old → Undoes S.Store conn.old conn.new) }
+    ensures crash { LeavesAtMostNew S.Store conn.old conn.new number }
 {
     if !is_blank(conn.schema()) {
         return Err(Error::SqliteFailure(ErrorCode::NameTaken));

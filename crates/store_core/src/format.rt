@@ -4,7 +4,8 @@ ghost use Rattle.sqlite.specs.declared.types.Value.TheVariants.{Null};
 ghost use Rattle.sqlite.specs.State.{IsLive};
 ghost use Rattle.sqlite.specs.Held.{state};
 ghost use Rattle.sqlite_value.specs.Keys.{plain};
-ghost use Rattle.store_core.specs.Format.{required, schema, row_table, config_table, state_table, row_nodes, row_index, state_index};
+ghost use Rattle.store_core.specs.Format.{IsBare, HasKey, HasRowidKey, index_of, required, schema, row_table, config_table, state_table, row_nodes, row_index, state_index};
+ghost use Rattle.store_core.specs.Reading.{HasFormat};
 
 use sqlite::{Alter, Connection};
 use sqlite_schema::code::{Op, Terms};
@@ -96,7 +97,7 @@ fn are_no_terms(terms: &Terms) -> bool
 
 // It has no foreign key, no computed default and no AUTOINCREMENT.
 fn is_plain(table: &Table) -> bool
-    ensures { IsTrue result → (table.now.references ≡ []) × (table.now.computed ≡ []) × (table.now.stamps ≡ record { places = []; terms = []; formats = [] }) × (table.now.is_counted ≡ false) }
+    ensures { IsTrue result → IsBare table.now }
 {
     let stamps = &table.stamps;
     table.references.len() == 0
@@ -133,7 +134,7 @@ fn is_ordered(orders: &[Order]) -> bool
 
 // The key is that of a table whose rows have a rowid of their own.
 fn is_keyed(table: &Table, places: &[usize]) -> bool
-    ensures { IsTrue result → (table.now.key ≡ None) × (table.now.primary ≡ places.now) × (table.now.uniques ≡ places.now ∷ []) × (table.now.orders ≡ plain ∷ []) }
+    ensures { IsTrue result → HasKey table.now places.now }
 {
     table.key.is_none()
         && table.primary.as_slice() == places
@@ -152,7 +153,7 @@ fn is_first(key: Option<usize>) -> bool
 
 // The key is the rowid.
 fn is_rowid_keyed(table: &Table) -> bool
-    ensures { IsTrue result → (table.now.key ≡ Some 0) × (table.now.primary ≡ 0 ∷ []) × (table.now.uniques ≡ []) × (table.now.orders ≡ []) }
+    ensures { IsTrue result → HasRowidKey table.now }
 {
     is_first(table.key)
         && are_places(table.primary.as_slice(), &[0])
@@ -228,7 +229,7 @@ fn is_state_table(table: &Table) -> bool
 }
 
 fn is_index(index: &Index, name: &[u8], tree: u32, table: u32, places: &[usize]) -> bool
-    ensures { IsTrue result → index.now ≡ record { name = name.now; tree = tree; table = table; columns = places.now; order = plain; is_unique = true } }
+    ensures { IsTrue result → index.now ≡ index_of name.now tree table places.now }
 {
     index.name.as_slice() == name
         && index.tree == tree
@@ -275,7 +276,7 @@ fn is_schema(found: &Schema) -> bool
 
 /// Whether the connection's tables and indexes are those of the format, in the order in which `create` makes them.
 pub fn is_format<S: Alter>(conn: &Connection<S>) -> bool
-    ensures yes { IsTrue result → (state S.Store conn.now).now.schema ≡ schema }
+    ensures yes { IsTrue result → HasFormat S.Store conn.now }
     ensures live { IsLive (state S.Store conn.now) }
 {
     is_schema(conn.schema())

@@ -13,4 +13,4 @@ mod stored;
 pub use commit::{configure, create, trim, write};
 pub use format::is_format;
 pub use loading::{is_open, load};
-pub use stored::{Event, Stored, StoredConfig, StoredEntry, StoredSpan, TupleText};
+pub use stored::{Stored, StoredConfig, StoredEntry, StoredEvent, StoredSpan, TupleText};

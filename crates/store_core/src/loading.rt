@@ -1,11 +1,9 @@
 //! What the tables hold, read whole.
-ghost use Rattle.std.specs.Prelude.{◌≡◌, ℕ, false, map, IsTrue, IfOk, OnOk, IsPermutation, IsSorted};
+ghost use Rattle.std.specs.Prelude.{◌≡◌, ℕ, false, map, IsTrue, IfOk, OnOk};
 ghost use Rattle.std.specs.List.Sorted.{IsStrictlyIncreasing};
-ghost use Rattle.sqlite.specs.State.{HasCleanDisk, IsLive, IsUnchanged, Survives};
-ghost use Rattle.sqlite.specs.Held.{state};
-ghost use Rattle.store_core.specs.Format.{schema};
-ghost use Rattle.store_core.specs.Tables.{Contents, Holds, HasRowids, AreKeyed, Lists, HoldsCell, AsksRowids, span_cells, config_row, dated_cells, entry_cells, id_cells, one, two, six};
-ghost use Rattle.store_core.specs.Stored.{span_in, dated_in, entry_in, span_cmp, dated_cmp, entry_cmp, Loads, IsInOrder};
+ghost use Rattle.store_core.specs.Tables.{Contents, HoldsCell, AsksRowids, span_cells, config_cells, entry_cells, id_cells, one, two, six};
+ghost use Rattle.store_core.specs.Stored.{span_in, config_row_in, entry_in, AreSpans, AreConfigs, AreEntries, Loads, IsInOrder};
+ghost use Rattle.store_core.specs.Reading.{IsClean, HasFormat, HoldsNow, IsHeld, IsSame, LeavesNothing, LeavesAsRead, OverFormat, Finds, KeyedAsAsked, AllKeyed};
 
 use crate::format::is_format;
 use crate::stored::{Stored, StoredConfig, StoredEntry, StoredSpan, TupleText};
@@ -39,7 +37,7 @@ fn read_span(row: &Row) -> Result<StoredSpan, Error>
 }
 
 fn read_config(row: &Row) -> Result<StoredConfig, Error>
-    ensures { IfOk result (λ c. two row.now ≡ dated_cells (dated_in c)) }
+    ensures { IfOk result (λ c. two row.now ≡ config_cells (config_row_in c)) }
 {
     Ok(StoredConfig {
         rev: read_number(row, 0)?,
@@ -67,7 +65,7 @@ fn read_spans(alloc: Global, rows: &[Row]) -> Result<Vec<StoredSpan>, Error>
 }
 
 fn read_configs(alloc: Global, rows: &[Row]) -> Result<Vec<StoredConfig>, Error>
-    ensures { IfOk result (λ configs. map two rows.now ≡ map dated_cells (map dated_in configs.items)) }
+    ensures { IfOk result (λ configs. map two rows.now ≡ map config_cells (map config_row_in configs.items)) }
 {
     let mut configs = Vec::new(alloc);
     for row in rows {
@@ -113,9 +111,9 @@ fn are_rising(ids: &[u64]) -> bool
 fn check_rowids<S: Alter>(alloc: Global, conn: &mut Connection<S>, sql: &str) -> Result<(), Error>
     requires { (tree : ℕ) × AsksRowids sql.now tree }
     ensures mode { conn.old.in_transaction ≡ false → conn.new.in_transaction ≡ false }
-    ensures found { HasCleanDisk (state S.Store conn.new) → (state S.Store conn.old).now.schema ≡ schema → OnOk result ((tree : ℕ) → AsksRowids sql.now tree → HasRowids ((state S.Store conn.old).now.trees tree)) }
-    ensures same { HasCleanDisk (state S.Store conn.new) → (state S.Store conn.old).now.schema ≡ schema → OnOk result (IsUnchanged (state S.Store conn.old) (state S.Store conn.new)) }
-    ensures crash { Survives (state S.Store conn.old) (state S.Store conn.new) (λ _. ¬ ((state S.Store conn.old).now.schema ≡ schema)) }
+    ensures found { OverFormat S.Store conn.old conn.new (OnOk result (KeyedAsAsked S.Store conn.old sql.now)) }
+    ensures same { OverFormat S.Store conn.old conn.new (OnOk result (IsSame S.Store conn.old conn.new)) }
+    ensures crash { LeavesAsRead S.Store conn.old conn.new }
 {
     let rows = conn.query_all(sql, &[])?;
     let ids = read_ids(alloc, rows.as_slice())?;
@@ -128,9 +126,9 @@ fn check_rowids<S: Alter>(alloc: Global, conn: &mut Connection<S>, sql: &str) ->
 
 fn check_tables<S: Alter>(alloc: Global, conn: &mut Connection<S>) -> Result<(), Error>
     ensures mode { conn.old.in_transaction ≡ false → conn.new.in_transaction ≡ false }
-    ensures found { HasCleanDisk (state S.Store conn.new) → (state S.Store conn.old).now.schema ≡ schema → OnOk result (AreKeyed (state S.Store conn.old).now.trees) }
-    ensures same { HasCleanDisk (state S.Store conn.new) → (state S.Store conn.old).now.schema ≡ schema → OnOk result (IsUnchanged (state S.Store conn.old) (state S.Store conn.new)) }
-    ensures crash { Survives (state S.Store conn.old) (state S.Store conn.new) (λ _. ¬ ((state S.Store conn.old).now.schema ≡ schema)) }
+    ensures found { OverFormat S.Store conn.old conn.new (OnOk result (AllKeyed S.Store conn.old)) }
+    ensures same { OverFormat S.Store conn.old conn.new (OnOk result (IsSame S.Store conn.old conn.new)) }
+    ensures crash { LeavesAsRead S.Store conn.old conn.new }
 {
     check_rowids(alloc, conn, "SELECT rowid FROM row ORDER BY rowid")?;
     check_rowids(alloc, conn, "SELECT rowid FROM config ORDER BY rowid")?;
@@ -142,11 +140,9 @@ fn check_tables<S: Alter>(alloc: Global, conn: &mut Connection<S>) -> Result<(),
 // The spans in the order of their keys.
 fn load_spans<S: Alter>(alloc: Global, conn: &mut Connection<S>) -> Result<Vec<StoredSpan>, Error>
     ensures mode { conn.old.in_transaction ≡ false → conn.new.in_transaction ≡ false }
-    ensures held { HasCleanDisk (state S.Store conn.new) → (h : Contents) → Holds (state S.Store conn.old).now h → IfOk result (λ spans. IsPermutation h.spans (map span_in spans.items)) }
-    ensures found { HasCleanDisk (state S.Store conn.new) → IsLive (state S.Store conn.old) → (state S.Store conn.old).now.schema ≡ schema → IfOk result (λ spans. Lists ((state S.Store conn.old).now.trees 0) (map span_cells (map span_in spans.items))) }
-    ensures ordered { HasCleanDisk (state S.Store conn.new) → (state S.Store conn.old).now.schema ≡ schema → IfOk result (λ spans. IsSorted span_cmp (map span_in spans.items)) }
-    ensures same { HasCleanDisk (state S.Store conn.new) → (state S.Store conn.old).now.schema ≡ schema → OnOk result (IsUnchanged (state S.Store conn.old) (state S.Store conn.new)) }
-    ensures crash { Survives (state S.Store conn.old) (state S.Store conn.new) (λ _. ¬ ((state S.Store conn.old).now.schema ≡ schema)) }
+    ensures found { Finds S.Store conn.old conn.new result (λ trees v. AreSpans trees (map span_in v.items)) }
+    ensures same { OverFormat S.Store conn.old conn.new (OnOk result (IsSame S.Store conn.old conn.new)) }
+    ensures crash { LeavesAsRead S.Store conn.old conn.new }
 {
     let rows = conn.query_all(
         "SELECT namespace, object, relation, subject, added, removed FROM row ORDER BY namespace, object, relation, subject, added",
@@ -161,11 +157,9 @@ fn load_configs<S: Alter>(
     conn: &mut Connection<S>,
 ) -> Result<Vec<StoredConfig>, Error>
     ensures mode { conn.old.in_transaction ≡ false → conn.new.in_transaction ≡ false }
-    ensures held { HasCleanDisk (state S.Store conn.new) → (h : Contents) → Holds (state S.Store conn.old).now h → IfOk result (λ configs. IsPermutation h.configs (map dated_in configs.items)) }
-    ensures found { HasCleanDisk (state S.Store conn.new) → IsLive (state S.Store conn.old) → (state S.Store conn.old).now.schema ≡ schema → IfOk result (λ configs. IsPermutation (map config_row (map dated_in configs.items)) ((state S.Store conn.old).now.trees 2)) }
-    ensures ordered { HasCleanDisk (state S.Store conn.new) → (state S.Store conn.old).now.schema ≡ schema → IfOk result (λ configs. IsSorted dated_cmp (map dated_in configs.items)) }
-    ensures same { HasCleanDisk (state S.Store conn.new) → (state S.Store conn.old).now.schema ≡ schema → OnOk result (IsUnchanged (state S.Store conn.old) (state S.Store conn.new)) }
-    ensures crash { Survives (state S.Store conn.old) (state S.Store conn.new) (λ _. ¬ ((state S.Store conn.old).now.schema ≡ schema)) }
+    ensures found { Finds S.Store conn.old conn.new result (λ trees v. AreConfigs trees (map config_row_in v.items)) }
+    ensures same { OverFormat S.Store conn.old conn.new (OnOk result (IsSame S.Store conn.old conn.new)) }
+    ensures crash { LeavesAsRead S.Store conn.old conn.new }
 {
     let rows = conn.query_all("SELECT rev, text FROM config ORDER BY rev", &[])?;
     read_configs(alloc, rows.as_slice())
@@ -177,11 +171,9 @@ fn load_entries<S: Alter>(
     conn: &mut Connection<S>,
 ) -> Result<Vec<StoredEntry>, Error>
     ensures mode { conn.old.in_transaction ≡ false → conn.new.in_transaction ≡ false }
-    ensures held { HasCleanDisk (state S.Store conn.new) → (h : Contents) → Holds (state S.Store conn.old).now h → IfOk result (λ entries. IsPermutation h.entries (map entry_in entries.items)) }
-    ensures found { HasCleanDisk (state S.Store conn.new) → IsLive (state S.Store conn.old) → (state S.Store conn.old).now.schema ≡ schema → IfOk result (λ entries. Lists ((state S.Store conn.old).now.trees 3) (map entry_cells (map entry_in entries.items))) }
-    ensures ordered { HasCleanDisk (state S.Store conn.new) → (state S.Store conn.old).now.schema ≡ schema → IfOk result (λ entries. IsSorted entry_cmp (map entry_in entries.items)) }
-    ensures same { HasCleanDisk (state S.Store conn.new) → (state S.Store conn.old).now.schema ≡ schema → OnOk result (IsUnchanged (state S.Store conn.old) (state S.Store conn.new)) }
-    ensures crash { Survives (state S.Store conn.old) (state S.Store conn.new) (λ _. ¬ ((state S.Store conn.old).now.schema ≡ schema)) }
+    ensures found { Finds S.Store conn.old conn.new result (λ trees v. AreEntries trees (map entry_in v.items)) }
+    ensures same { OverFormat S.Store conn.old conn.new (OnOk result (IsSame S.Store conn.old conn.new)) }
+    ensures crash { LeavesAsRead S.Store conn.old conn.new }
 {
     let rows = conn.query_all("SELECT key, value FROM state ORDER BY key", &[])?;
     read_entries(alloc, rows.as_slice())
@@ -192,11 +184,11 @@ fn load_entries<S: Alter>(
 pub fn load<S: Alter>(alloc: Global, conn: &mut Connection<S>) -> Result<Stored, Error>
     requires idle { conn.old.in_transaction ≡ false }
     ensures idle { conn.new.in_transaction ≡ false }
-    ensures held { HasCleanDisk (state S.Store conn.new) → (h : Contents) → Holds (state S.Store conn.old).now h → IfOk result (Loads h) }
-    ensures found { HasCleanDisk (state S.Store conn.new) → IfOk result (λ s. (h : Contents) × Holds (state S.Store conn.old).now h × Loads h s) }
-    ensures ordered { HasCleanDisk (state S.Store conn.new) → (state S.Store conn.old).now.schema ≡ schema → IfOk result IsInOrder }
-    ensures same { HasCleanDisk (state S.Store conn.new) → (state S.Store conn.old).now.schema ≡ schema → OnOk result (IsUnchanged (state S.Store conn.old) (state S.Store conn.new)) }
-    ensures crash { (state S.Store conn.old).now.schema ≡ schema → Survives (state S.Store conn.old) (state S.Store conn.new) (λ _. ⊥) }
+    ensures held { IsClean S.Store conn.new → (h : Contents) → HoldsNow S.Store conn.old h → IfOk result (Loads h) }
+    ensures found { IsClean S.Store conn.new → IfOk result (IsHeld S.Store conn.old) }
+    ensures ordered { OverFormat S.Store conn.old conn.new (IfOk result IsInOrder) }
+    ensures same { OverFormat S.Store conn.old conn.new (OnOk result (IsSame S.Store conn.old conn.new)) }
+    ensures crash { HasFormat S.Store conn.old → LeavesNothing S.Store conn.old conn.new }
 {
     if !is_format(conn) {
         return Err(Error::SqliteFailure(ErrorCode::NotADatabase));
@@ -217,8 +209,8 @@ pub fn load<S: Alter>(alloc: Global, conn: &mut Connection<S>) -> Result<Stored,
 pub fn is_open<S: Alter>(conn: &mut Connection<S>) -> bool
     requires idle { conn.old.in_transaction ≡ false }
     ensures idle { conn.new.in_transaction ≡ false }
-    ensures same { HasCleanDisk (state S.Store conn.new) → IsTrue result → IsUnchanged (state S.Store conn.old) (state S.Store conn.new) }
-    ensures crash { Survives (state S.Store conn.old) (state S.Store conn.new) (λ _. ⊥) }
+    ensures same { IsClean S.Store conn.new → IsTrue result → IsSame S.Store conn.old conn.new }
+    ensures crash { LeavesNothing S.Store conn.old conn.new }
 {
     match conn.query_row("SELECT 1", &[]) {
         Ok(_) => true,

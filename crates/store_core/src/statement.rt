@@ -1,28 +1,28 @@
 //! The fixed statements, each inside a transaction: what it makes of the contents, that it commits nothing and
 //! that a crash leaves nothing of it.
-ghost use Rattle.std.specs.Prelude.{◌≡◌, ◌^◌, ◌<◌, OnOk};
-ghost use Rattle.sqlite.specs.State.{HasCleanDisk, KeepsCommit, Survives};
-ghost use Rattle.sqlite.specs.Held.{state};
-ghost use Rattle.store_core.specs.Tables.{Holds};
-ghost use Rattle.store_core.specs.Steps.{Works, Makes, with_span, with_closed, with_config, with_entry, without_past, without_before, IsBlank, HasRow, HasConfig, HasTables, fresh};
+ghost use Rattle.std.specs.Prelude.{◌≡◌, ◌^◌, ◌<◌};
+ghost use Rattle.store_core.specs.Tables.{config_at};
+ghost use Rattle.store_core.specs.Stored.{span_between};
+ghost use Rattle.store_core.specs.Steps.{Changes, Makes, IsQuiet, with_span, with_closed, with_config, with_entry, without_past, without_below, HasNone, HasRow, HasConfig, HasTables, HasNew};
 
+use crate::stored::TupleText;
 use sqlite::{Alter, Error, Transaction, params};
 
 // Adds an open span of the tuple.
 pub(crate) fn insert_span<S: Alter>(
     tx: &mut Transaction<'_, S>,
-    namespace: &str,
-    object: &str,
-    relation: &str,
-    subject: &str,
+    tuple: &TupleText,
     rev: u64,
 ) -> Result<usize, Error>
     requires { rev < 2 ^ 63 }
     ensures same_reference { tx.new.conn.ghost_name ≡ tx.old.conn.ghost_name }
-    ensures ok { HasCleanDisk (state S.Store tx.new.conn.now) → OnOk result (Works (state S.Store tx.old.conn.now) (state S.Store tx.new.conn.now) (with_span (record { namespace = namespace.now; object = object.now; relation = relation.now; subject = subject.now; added = rev; removed = 0 }))) }
-    ensures kept { HasCleanDisk (state S.Store tx.new.conn.now) → KeepsCommit (state S.Store tx.old.conn.now) (state S.Store tx.new.conn.now) }
-    ensures survives { Survives (state S.Store tx.old.conn.now) (state S.Store tx.new.conn.now) (λ _. ⊥) }
+    ensures done { Changes S.Store tx.old.conn tx.new.conn result (with_span (span_between tuple.now rev 0)) }
+    ensures quiet { IsQuiet S.Store tx.old.conn tx.new.conn }
 {
+    let namespace = tuple.namespace.as_str();
+    let object = tuple.object.as_str();
+    let relation = tuple.relation.as_str();
+    let subject = tuple.subject.as_str();
     let added = rev as i64;
     tx.execute(
         "INSERT INTO row VALUES (?1, ?2, ?3, ?4, ?5, 0)",
@@ -33,18 +33,18 @@ pub(crate) fn insert_span<S: Alter>(
 // Ends the open span of the tuple, if there is one.
 pub(crate) fn close_span<S: Alter>(
     tx: &mut Transaction<'_, S>,
-    namespace: &str,
-    object: &str,
-    relation: &str,
-    subject: &str,
+    tuple: &TupleText,
     rev: u64,
 ) -> Result<usize, Error>
     requires { rev < 2 ^ 63 }
     ensures same_reference { tx.new.conn.ghost_name ≡ tx.old.conn.ghost_name }
-    ensures ok { HasCleanDisk (state S.Store tx.new.conn.now) → OnOk result (Works (state S.Store tx.old.conn.now) (state S.Store tx.new.conn.now) (with_closed (record { namespace = namespace.now; object = object.now; relation = relation.now; subject = subject.now; added = rev; removed = 0 }) rev)) }
-    ensures kept { HasCleanDisk (state S.Store tx.new.conn.now) → KeepsCommit (state S.Store tx.old.conn.now) (state S.Store tx.new.conn.now) }
-    ensures survives { Survives (state S.Store tx.old.conn.now) (state S.Store tx.new.conn.now) (λ _. ⊥) }
+    ensures done { Changes S.Store tx.old.conn tx.new.conn result (with_closed (span_between tuple.now rev 0) rev) }
+    ensures quiet { IsQuiet S.Store tx.old.conn tx.new.conn }
 {
+    let namespace = tuple.namespace.as_str();
+    let object = tuple.object.as_str();
+    let relation = tuple.relation.as_str();
+    let subject = tuple.subject.as_str();
     let removed = rev as i64;
     tx.execute(
         "UPDATE row SET removed = ?5 WHERE namespace = ?1 AND object = ?2 AND relation = ?3 AND subject = ?4 AND removed = 0",
@@ -60,9 +60,8 @@ pub(crate) fn insert_config<S: Alter>(
 ) -> Result<usize, Error>
     requires { rev < 2 ^ 63 }
     ensures same_reference { tx.new.conn.ghost_name ≡ tx.old.conn.ghost_name }
-    ensures ok { HasCleanDisk (state S.Store tx.new.conn.now) → OnOk result (Works (state S.Store tx.old.conn.now) (state S.Store tx.new.conn.now) (with_config (record { rev = rev; text = text.now }))) }
-    ensures kept { HasCleanDisk (state S.Store tx.new.conn.now) → KeepsCommit (state S.Store tx.old.conn.now) (state S.Store tx.new.conn.now) }
-    ensures survives { Survives (state S.Store tx.old.conn.now) (state S.Store tx.new.conn.now) (λ _. ⊥) }
+    ensures done { Changes S.Store tx.old.conn tx.new.conn result (with_config (config_at rev text.now)) }
+    ensures quiet { IsQuiet S.Store tx.old.conn tx.new.conn }
 {
     let rev = rev as i64;
     tx.execute("INSERT INTO config VALUES (?1, ?2)", params![rev, text])
@@ -76,9 +75,8 @@ pub(crate) fn set_value<S: Alter>(
 ) -> Result<usize, Error>
     requires { value < 2 ^ 63 }
     ensures same_reference { tx.new.conn.ghost_name ≡ tx.old.conn.ghost_name }
-    ensures ok { HasCleanDisk (state S.Store tx.new.conn.now) → OnOk result (Works (state S.Store tx.old.conn.now) (state S.Store tx.new.conn.now) (with_entry key.now value)) }
-    ensures kept { HasCleanDisk (state S.Store tx.new.conn.now) → KeepsCommit (state S.Store tx.old.conn.now) (state S.Store tx.new.conn.now) }
-    ensures survives { Survives (state S.Store tx.old.conn.now) (state S.Store tx.new.conn.now) (λ _. ⊥) }
+    ensures done { Changes S.Store tx.old.conn tx.new.conn result (with_entry key.now value) }
+    ensures quiet { IsQuiet S.Store tx.old.conn tx.new.conn }
 {
     let value = value as i64;
     tx.execute(
@@ -94,9 +92,8 @@ pub(crate) fn delete_spans<S: Alter>(
 ) -> Result<usize, Error>
     requires { floor < 2 ^ 63 }
     ensures same_reference { tx.new.conn.ghost_name ≡ tx.old.conn.ghost_name }
-    ensures ok { HasCleanDisk (state S.Store tx.new.conn.now) → OnOk result (Works (state S.Store tx.old.conn.now) (state S.Store tx.new.conn.now) (without_past floor)) }
-    ensures kept { HasCleanDisk (state S.Store tx.new.conn.now) → KeepsCommit (state S.Store tx.old.conn.now) (state S.Store tx.new.conn.now) }
-    ensures survives { Survives (state S.Store tx.old.conn.now) (state S.Store tx.new.conn.now) (λ _. ⊥) }
+    ensures done { Changes S.Store tx.old.conn tx.new.conn result (without_past floor) }
+    ensures quiet { IsQuiet S.Store tx.old.conn tx.new.conn }
 {
     let floor = floor as i64;
     tx.execute(
@@ -112,9 +109,8 @@ pub(crate) fn delete_configs<S: Alter>(
 ) -> Result<usize, Error>
     requires { rev < 2 ^ 63 }
     ensures same_reference { tx.new.conn.ghost_name ≡ tx.old.conn.ghost_name }
-    ensures ok { HasCleanDisk (state S.Store tx.new.conn.now) → OnOk result (Works (state S.Store tx.old.conn.now) (state S.Store tx.new.conn.now) (without_before rev)) }
-    ensures kept { HasCleanDisk (state S.Store tx.new.conn.now) → KeepsCommit (state S.Store tx.old.conn.now) (state S.Store tx.new.conn.now) }
-    ensures survives { Survives (state S.Store tx.old.conn.now) (state S.Store tx.new.conn.now) (λ _. ⊥) }
+    ensures done { Changes S.Store tx.old.conn tx.new.conn result (without_below rev) }
+    ensures quiet { IsQuiet S.Store tx.old.conn tx.new.conn }
 {
     let rev = rev as i64;
     tx.execute("DELETE FROM config WHERE rev < ?1", params![rev])
@@ -125,9 +121,8 @@ pub(crate) fn delete_configs<S: Alter>(
 // Makes the table of spans.
 pub(crate) fn make_row<S: Alter>(tx: &mut Transaction<'_, S>) -> Result<usize, Error>
     ensures same_reference { tx.new.conn.ghost_name ≡ tx.old.conn.ghost_name }
-    ensures ok { HasCleanDisk (state S.Store tx.new.conn.now) → OnOk result (Makes (state S.Store tx.old.conn.now) (state S.Store tx.new.conn.now) IsBlank HasRow) }
-    ensures kept { HasCleanDisk (state S.Store tx.new.conn.now) → KeepsCommit (state S.Store tx.old.conn.now) (state S.Store tx.new.conn.now) }
-    ensures survives { Survives (state S.Store tx.old.conn.now) (state S.Store tx.new.conn.now) (λ _. ⊥) }
+    ensures done { Makes S.Store tx.old.conn tx.new.conn result HasNone HasRow }
+    ensures quiet { IsQuiet S.Store tx.old.conn tx.new.conn }
 {
     tx.execute(
         "CREATE TABLE row (namespace TEXT NOT NULL, object TEXT NOT NULL, relation TEXT NOT NULL, subject TEXT NOT NULL, added INTEGER NOT NULL CHECK (added > 0), removed INTEGER NOT NULL, CHECK (removed = 0 OR removed > added), PRIMARY KEY (namespace, object, relation, subject, added)) STRICT",
@@ -138,9 +133,8 @@ pub(crate) fn make_row<S: Alter>(tx: &mut Transaction<'_, S>) -> Result<usize, E
 // Makes the table of configurations.
 pub(crate) fn make_config<S: Alter>(tx: &mut Transaction<'_, S>) -> Result<usize, Error>
     ensures same_reference { tx.new.conn.ghost_name ≡ tx.old.conn.ghost_name }
-    ensures ok { HasCleanDisk (state S.Store tx.new.conn.now) → OnOk result (Makes (state S.Store tx.old.conn.now) (state S.Store tx.new.conn.now) HasRow HasConfig) }
-    ensures kept { HasCleanDisk (state S.Store tx.new.conn.now) → KeepsCommit (state S.Store tx.old.conn.now) (state S.Store tx.new.conn.now) }
-    ensures survives { Survives (state S.Store tx.old.conn.now) (state S.Store tx.new.conn.now) (λ _. ⊥) }
+    ensures done { Makes S.Store tx.old.conn tx.new.conn result HasRow HasConfig }
+    ensures quiet { IsQuiet S.Store tx.old.conn tx.new.conn }
 {
     tx.execute(
         "CREATE TABLE config (rev INTEGER PRIMARY KEY NOT NULL, text TEXT NOT NULL) STRICT",
@@ -151,9 +145,8 @@ pub(crate) fn make_config<S: Alter>(tx: &mut Transaction<'_, S>) -> Result<usize
 // Makes the table of the state.
 pub(crate) fn make_state<S: Alter>(tx: &mut Transaction<'_, S>) -> Result<usize, Error>
     ensures same_reference { tx.new.conn.ghost_name ≡ tx.old.conn.ghost_name }
-    ensures ok { HasCleanDisk (state S.Store tx.new.conn.now) → OnOk result (Makes (state S.Store tx.old.conn.now) (state S.Store tx.new.conn.now) HasConfig HasTables) }
-    ensures kept { HasCleanDisk (state S.Store tx.new.conn.now) → KeepsCommit (state S.Store tx.old.conn.now) (state S.Store tx.new.conn.now) }
-    ensures survives { Survives (state S.Store tx.old.conn.now) (state S.Store tx.new.conn.now) (λ _. ⊥) }
+    ensures done { Makes S.Store tx.old.conn tx.new.conn result HasConfig HasTables }
+    ensures quiet { IsQuiet S.Store tx.old.conn tx.new.conn }
 {
     tx.execute(
         "CREATE TABLE state (key TEXT NOT NULL PRIMARY KEY, value INTEGER NOT NULL) STRICT",
@@ -165,9 +158,8 @@ pub(crate) fn make_state<S: Alter>(tx: &mut Transaction<'_, S>) -> Result<usize,
 pub(crate) fn init_state<S: Alter>(tx: &mut Transaction<'_, S>, number: u64) -> Result<usize, Error>
     requires { number < 2 ^ 63 }
     ensures same_reference { tx.new.conn.ghost_name ≡ tx.old.conn.ghost_name }
-    ensures ok { HasCleanDisk (state S.Store tx.new.conn.now) → OnOk result (Makes (state S.Store tx.old.conn.now) (state S.Store tx.new.conn.now) HasTables (λ db. Holds db (fresh number))) }
-    ensures kept { HasCleanDisk (state S.Store tx.new.conn.now) → KeepsCommit (state S.Store tx.old.conn.now) (state S.Store tx.new.conn.now) }
-    ensures survives { Survives (state S.Store tx.old.conn.now) (state S.Store tx.new.conn.now) (λ _. ⊥) }
+    ensures done { Makes S.Store tx.old.conn tx.new.conn result HasTables (HasNew number) }
+    ensures quiet { IsQuiet S.Store tx.old.conn tx.new.conn }
 {
     let number = number as i64;
     tx.execute(

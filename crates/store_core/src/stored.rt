@@ -9,9 +9,9 @@ pub struct TupleText {
     pub subject: String,
 }
 
-/// One event of a commit: the tuple is put, or else deleted.
+/// One event of a commit: the tuple is put, or else deletes.
 #[derive(Debug, Drop)]
-pub struct Event {
+pub struct StoredEvent {
     pub put: bool,
     pub tuple: TupleText,
 }

@@ -5,5 +5,6 @@
 mod copy;
 mod listed;
 mod tables;
+
 pub use listed::Listed;
 pub use tables::{Tables, TablesError};

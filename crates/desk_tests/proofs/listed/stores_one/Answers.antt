@@ -7,7 +7,7 @@ use Rattle.meaning.specs.Snap.{empty_snap}
 use Rattle.meaning.specs.TupleSet.{items}
 use Rattle.meaning.specs.Verdict.{in_the_way, or_else}
 use Rattle.meaning.proofs.TupleSets.{items_from_list}
-use Rattle.tables.specs.Limits.{listed}
+use Rattle.rows.specs.Retained.{empty_store}
 use Rattle.tables.proofs.Storing.{none_ordered}
 use Rattle.desk_tests.proofs.listed.stores_one.Goals as goal
 
@@ -16,4 +16,4 @@ can_follow : (config : Configured) → or_else (in_the_way (find (λ t. not (adm
 can_follow config = ap (λ (ts : List Tuple). or_else (in_the_way (find (λ t. not (admits config t)) ts)) None) (items_from_list [] none_ordered)
 
 pub write-requires : goal.write-requires
-write-requires c = (listed 7 [], c.new-tables.ensures, (can_follow c.empty.result, refl))
+write-requires c = (empty_store 7, c.new-tables.ensures, (can_follow c.empty.result, refl))

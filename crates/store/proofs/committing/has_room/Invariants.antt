@@ -1,8 +1,8 @@
 use Rattle.std.proofs.Common.{◌≡◌, ◌+◌, drop}
+use Rattle.names.specs.declared.limits.TheConstants.{MAX_ROWS}
 use Rattle.meaning.specs.History.{rows_of}
-use Rattle.meaning.specs.Verdict.{max_rows}
 use Rattle.store.proofs.committing.has_room.Given as goal
 
 -- what is left of the limit is for the commits that are left
 abbrev pub invariant-loop-commit : goal.invariant-loop-commit
-invariant-loop-commit l = l.tuples + rows_of l.commits + l.left ≡ max_rows + rows_of (drop l.commit-index l.commits)
+invariant-loop-commit l = l.tuples + rows_of l.commits + l.left ≡ MAX_ROWS + rows_of (drop l.commit-index l.commits)

@@ -1,8 +1,8 @@
 use Rattle.std.proofs.Common.{◌≡◌, ℕ, ◌<◌, get_or, true}
 use Rattle.meaning.specs.Admits.{admits}
-use Rattle.store.specs.declared.lived.RevisedConfig.{RevisedConfig}
+use Rattle.store.specs.declared.parts.ReadConfig.{ReadConfig}
 use Rattle.store.specs.Following.{is_between}
 use Rattle.store.proofs.configs.is_admitted.Given as goal
 
 abbrev pub invariant-loop-revised : goal.invariant-loop-revised
-invariant-loop-revised l = (k : ℕ) (d : RevisedConfig) → k < l.revised-index → is_between l.from l.span.removed (get_or l.configs k d).rev ≡ true → admits (get_or l.configs k d).config l.span.tuple ≡ true
+invariant-loop-revised l = (k : ℕ) (d : ReadConfig) → k < l.revised-index → is_between l.from l.span.removed (get_or l.configs k d).rev ≡ true → admits (get_or l.configs k d).config l.span.tuple ≡ true

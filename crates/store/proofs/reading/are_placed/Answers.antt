@@ -1,7 +1,7 @@
 use Rattle.std.proofs.Common.{◌≡◌, true, map, refl}
 use Rattle.meaning.specs.Admits.{admits}
-use Rattle.store.specs.Written.{Lived, IsSpan, is_alive, config_up_to}
-use Rattle.store.specs.Reading.{lived_of, revised_of}
+use Rattle.store.specs.Written.{TupleSpan, IsSpan, is_alive, config_up_to}
+use Rattle.store.specs.Reading.{as_span, as_config}
 use Rattle.store.proofs.Adjacent.{all_at}
 use Rattle.store.proofs.reading.are_placed.Goals as goal
 use Rattle.store.proofs.reading.are_placed.Goals.{then-not-are_apart-via-then-not-are_apart, then-not-are_apart-via-else-not-are_apart+then-not-are_ascending}
@@ -16,5 +16,5 @@ returns-then-not-are_apart-clause-refuses c = λ _ listed sound.
 pub returns-clause-refuses : goal.returns-clause-refuses
 returns-clause-refuses c = λ refused listed sound.
     c.are_admitted-2.ensures.refuses refused c.args.head.newest (record { order = sound.order; are = sound.configs_are; distinct = sound.distinct })
-    (λ k d lt. all_at (IsSpan c.args.head.floor c.args.head.newest) lived_of c.args.spans.now sound.spans_are k d lt)
-    (λ k d lt rev low high alive. all_at (λ (l : Lived). is_alive rev l ≡ true → admits (config_up_to rev (map revised_of c.args.configs.now)) l.tuple ≡ true) lived_of c.args.spans.now (sound.admitted rev low high) k d lt alive)
+    (λ k d lt. all_at (IsSpan c.args.head.floor c.args.head.newest) as_span c.args.spans.now sound.spans_are k d lt)
+    (λ k d lt rev low high alive. all_at (λ (l : TupleSpan). is_alive rev l ≡ true → admits (config_up_to rev (map as_config c.args.configs.now)) l.tuple ≡ true) as_span c.args.spans.now (sound.admitted rev low high) k d lt alive)

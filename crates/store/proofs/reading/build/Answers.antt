@@ -3,9 +3,9 @@ use Rattle.std.specs.List.Sorted.{IsStrictlySortedBy}
 use Rattle.names.specs.Order.{tuple_cmp}
 use Rattle.names.specs.declared.tuple.Tuple.{Tuple}
 use Rattle.meaning.specs.History.{rows_of}
-use Rattle.meaning.specs.Verdict.{max_rev, max_rows}
 use Rattle.std.proofs.lemmas.Bool.{leb-true, leb-false}
-use Rattle.store.specs.Reading.{lived_of, written_of}
+use Rattle.names.specs.declared.limits.TheConstants.{MAX_REV, MAX_ROWS}
+use Rattle.store.specs.Reading.{as_span, as_written}
 use Rattle.store.proofs.Sound.{within, room_refused}
 use Rattle.store.proofs.Apart.{in_turn}
 use Rattle.store.proofs.Sequence.{alive_sorted}
@@ -16,14 +16,14 @@ returns-clause-within c =
     let P : List Tuple → Type 0 = λ ts. IsStrictlySortedBy tuple_cmp ts in
     let tuples = ap length (c.of.ensures ∙ sym c.as_slice.ensures.value) in
     let commits = ap rows_of (c.of-2.ensures ∙ sym c.deref.ensures.value) in
-    let room = leb-true _ max_rows (sym c.if-not-has_room.ensures) in
-    let revs : c.args.head.floor + (c.args.head.newest - c.args.head.floor) ≤ max_rev = omega (arith, c.requires.head.order, c.requires.head.revs) in
-    let rows : length c.of.result + rows_of c.of-2.result ≤ max_rows = omega (arith, tuples, commits, room) in
-    within _ (written_of c.args.head c.args.spans.now c.args.configs.now) (c.args.head.newest - c.args.head.floor)
-    (subst P (sym (c.of.ensures ∙ c.in_ok-tuples.ensures.are)) (alive_sorted c.args.head.floor (map lived_of c.args.spans.now) (in_turn lived_of c.args.head.floor c.args.head.newest c.args.spans.now c.requires.placed.apart c.requires.spans)))
+    let room = leb-true _ MAX_ROWS (sym c.if-not-has_room.ensures) in
+    let revs : c.args.head.floor + (c.args.head.newest - c.args.head.floor) ≤ MAX_REV = omega (arith, c.requires.head.order, c.requires.head.revs) in
+    let rows : length c.of.result + rows_of c.of-2.result ≤ MAX_ROWS = omega (arith, tuples, commits, room) in
+    within _ (as_written c.args.head c.args.spans.now c.args.configs.now) (c.args.head.newest - c.args.head.floor)
+    (subst P (sym (c.of.ensures ∙ c.in_ok-tuples.ensures.are)) (alive_sorted c.args.head.floor (map as_span c.args.spans.now) (in_turn as_span c.args.head.floor c.args.head.newest c.args.spans.now c.requires.placed.apart c.requires.spans)))
     (c.of-2.ensures ∙ c.in_ok-commits.ensures.commits) revs rows
 
 pub returns-then-not-has_room-clause-fault : goal.returns-then-not-has_room-clause-fault
 returns-then-not-has_room-clause-fault c = λ sound.
-    room_refused (written_of c.args.head c.args.spans.now c.args.configs.now) c.as_slice.result.now c.deref.result.now (c.as_slice.ensures.value ∙ c.in_ok-tuples.ensures.are) (c.deref.ensures.value ∙ c.in_ok-commits.ensures.commits)
-    (leb-false _ max_rows (sym c.if-not-has_room.ensures)) sound
+    room_refused (as_written c.args.head c.args.spans.now c.args.configs.now) c.as_slice.result.now c.deref.result.now (c.as_slice.ensures.value ∙ c.in_ok-tuples.ensures.are) (c.deref.ensures.value ∙ c.in_ok-commits.ensures.commits)
+    (leb-false _ MAX_ROWS (sym c.if-not-has_room.ensures)) sound

@@ -1,6 +1,6 @@
 use Rattle.std.proofs.Common.{refl, sym}
 use Rattle.std.proofs.lemmas.Bool.{leb-true, leb-false}
-use Rattle.meaning.specs.Verdict.{max_tuples}
+use Rattle.names.specs.declared.limits.TheConstants.{MAX_TUPLES}
 use Rattle.rows.specs.Loads.{retained_of}
 use Rattle.store.proofs.Sound.{sound, many_refused}
 use Rattle.store.proofs.reading.judge.Goals as goal
@@ -18,5 +18,5 @@ returns-then-not-are_enough-clause-fault c = λ (listed, sound).
       | then-not-are_enough-via-then-not-are_enough w ↦ w.if-not-are_enough.ensures refl sound.whole
       | then-not-are_enough-via-else-not-are_enough+then-not-are_placed w ↦ w.if-not-are_placed.ensures.refuses refl listed sound
       | then-not-are_enough-via-else-not-are_enough+else-not-are_placed+then-not-is_small w ↦
-          many_refused c.args.head c.args.spans.now c.args.configs.now (leb-false _ max_tuples (sym w.if-not-is_small.ensures)) sound
+          many_refused c.args.head c.args.spans.now c.args.configs.now (leb-false _ MAX_TUPLES (sym w.if-not-is_small.ensures)) sound
     ]

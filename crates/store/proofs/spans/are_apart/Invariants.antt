@@ -1,7 +1,7 @@
 use Rattle.std.specs.List.{AllAdjacentBelow}
 use Rattle.store.specs.Following.{Precedes}
-use Rattle.store.specs.Reading.{lived_of}
+use Rattle.store.specs.Reading.{as_span}
 use Rattle.store.proofs.spans.are_apart.Given as goal
 
 abbrev pub invariant-loop-i : goal.invariant-loop-i
-invariant-loop-i l = AllAdjacentBelow (λ a b. Precedes (lived_of a) (lived_of b)) l.spans l.i
+invariant-loop-i l = AllAdjacentBelow (λ a b. Precedes (as_span a) (as_span b)) l.spans l.i

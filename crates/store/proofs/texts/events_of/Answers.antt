@@ -3,7 +3,7 @@ use Rattle.std.proofs.lemmas.List.{map-append, map_more}
 use Rattle.std.proofs.lemmas.List.Elements.{All-more}
 use Rattle.names.specs.Spelling.{IsTuple}
 use Rattle.names.specs.declared.commit.Event.{Event}
-use Rattle.store.specs.Told.{told, told_in}
+use Rattle.store.specs.EventTexts.{event_texts, event_texts_in}
 use Rattle.store.proofs.texts.events_of.Goals as goal
 
 one_more : {A B C : Type 0} (f : A → C) (p : B → C) (xs new : List A) (ys : List B) (x : A) (y : B) (i : ℕ) → i < length ys → y ≡ get_or ys i y → map f xs ≡ map p (take i ys) → f x ≡ p y → new ≡ xs ++ x ∷ []
@@ -13,7 +13,7 @@ one_more f p xs new ys x y i small at same here pushed =
 
 pub loop-event-preserved : goal.loop-event-preserved
 loop-event-preserved c = (
-  one_more told_in told c.loop-event.texts.items c.push.new.self.items c.args.events.now c.in_ok-event_of.field-0 c.event-item.result c.loop-event.event-index
+  one_more event_texts_in event_texts c.loop-event.texts.items c.push.new.self.items c.args.events.now c.in_ok-event_of.field-0 c.event-item.result c.loop-event.event-index
       c.loop-event-test.true c.event-item.is c.loop-event.invariant.0 c.in_ok-event_of.ensures c.in_ok-push.ensures.items,
   All-more (λ (e : Event). IsTuple e.tuple) c.args.events.now c.loop-event.event-index c.event-item.result c.loop-event-test.true c.loop-event.invariant.1
       (subst (λ (e : Event). IsTuple e.tuple) c.event-item.is c.see_tuple.ensures),

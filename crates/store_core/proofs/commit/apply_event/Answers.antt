@@ -1,12 +1,17 @@
-use Rattle.std.proofs.Common.{arith}
-use Rattle.sqlite.specs.State.{HasCleanDisk}
-use Rattle.sqlite.specs.Held.{state}
-use Rattle.store_core.proofs.Inside.{works_then}
+use Rattle.store_core.specs.Steps.{with_closed, with_span}
+use Rattle.store_core.specs.Stored.{span_between}
+use Rattle.store_core.proofs.Inside.{quiet_then}
+use Rattle.store_core.proofs.Whole.{changes_then}
 use Rattle.store_core.proofs.commit.apply_event.Goals as goal
 
-pub returns-in_ok-insert_span-clause-ok : goal.returns-in_ok-insert_span-clause-ok
-returns-in_ok-insert_span-clause-ok g c clean =
-    let calm : HasCleanDisk (state g.S.Store c.close_span.new.tx.conn.now) = omega (arith, c.insert_span.ensures.survives.clean) in
-    let one = rw (c.as_str.ensures.value, c.as_str-2.ensures.value, c.as_str-3.ensures.value, c.as_str-4.ensures.value) at (c.in_ok-close_span.ensures.ok calm) in
-    let two = rw (c.as_str-then-event.ensures.value, c.as_str-then-event-2.ensures.value, c.as_str-then-event-3.ensures.value, c.as_str-then-event-4.ensures.value) at (c.in_ok-insert_span.ensures.ok clean) in
-    rw c.if-event.true (works_then _ _ _ _ _ one two)
+pub returns-in_ok-insert_span-clause-done : goal.returns-in_ok-insert_span-clause-done
+returns-in_ok-insert_span-clause-done g c =
+    let s = span_between c.args.event.now.tuple c.args.rev 0 in
+    rw c.if-event.true (changes_then g.S.Store c.args.tx.now.conn c.close_span.new.tx.conn c.insert_span.new.tx.conn (with_closed s c.args.rev) (with_span s) c.insert_span.ensures.quiet
+    c.in_ok-close_span.ensures.done c.in_ok-insert_span.ensures.done)
+
+pub returns-in_ok-insert_span-clause-quiet : goal.returns-in_ok-insert_span-clause-quiet
+returns-in_ok-insert_span-clause-quiet g c = quiet_then g.S.Store c.args.tx.now.conn c.close_span.new.tx.conn c.insert_span.new.tx.conn c.close_span.ensures.quiet c.insert_span.ensures.quiet
+
+pub returns-in_err-insert_span-clause-quiet : goal.returns-in_err-insert_span-clause-quiet
+returns-in_err-insert_span-clause-quiet g c = quiet_then g.S.Store c.args.tx.now.conn c.close_span.new.tx.conn c.insert_span.new.tx.conn c.close_span.ensures.quiet c.insert_span.ensures.quiet

@@ -1,10 +1,15 @@
-use Rattle.std.proofs.Common.{arith}
-use Rattle.sqlite.specs.State.{HasCleanDisk}
-use Rattle.sqlite.specs.Held.{state}
-use Rattle.store_core.proofs.Inside.{works_then}
+use Rattle.store_core.specs.Steps.{without_below, without_past}
+use Rattle.store_core.proofs.Inside.{quiet_then}
+use Rattle.store_core.proofs.Whole.{changes_then}
 use Rattle.store_core.proofs.commit.drop_past.Goals as goal
 
-pub returns-clause-ok : goal.returns-clause-ok
-returns-clause-ok g c clean =
-    let calm : HasCleanDisk (state g.S.Store c.delete_spans.new.tx.conn.now) = omega (arith, c.delete_configs.ensures.survives.clean, clean) in
-    works_then _ (state g.S.Store c.delete_spans.new.tx.conn.now) _ _ _ (c.in_ok-delete_spans.ensures.ok calm) (c.in_ok-delete_configs.ensures.ok clean)
+pub returns-clause-done : goal.returns-clause-done
+returns-clause-done g c =
+    changes_then g.S.Store c.args.tx.now.conn c.delete_spans.new.tx.conn c.delete_configs.new.tx.conn (without_past c.args.floor) (without_below c.args.first) c.delete_configs.ensures.quiet
+    c.in_ok-delete_spans.ensures.done c.in_ok-delete_configs.ensures.done
+
+pub returns-clause-quiet : goal.returns-clause-quiet
+returns-clause-quiet g c = quiet_then g.S.Store c.args.tx.now.conn c.delete_spans.new.tx.conn c.delete_configs.new.tx.conn c.delete_spans.ensures.quiet c.delete_configs.ensures.quiet
+
+pub returns-in_err-delete_configs-clause-quiet : goal.returns-in_err-delete_configs-clause-quiet
+returns-in_err-delete_configs-clause-quiet g c = quiet_then g.S.Store c.args.tx.now.conn c.delete_spans.new.tx.conn c.delete_configs.new.tx.conn c.delete_spans.ensures.quiet c.delete_configs.ensures.quiet

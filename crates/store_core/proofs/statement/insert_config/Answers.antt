@@ -1,15 +1,18 @@
 use Rattle.std.proofs.Common.{w64}
 use Rattle.std.proofs.lemmas.Int.{to_z_pos}
 use Rattle.sqlite.specs.Held.{state}
-use Rattle.store_core.proofs.Inside.{ok_inside, kept_inside, keeps, config_works}
+use Rattle.store_core.specs.Steps.{Becomes, with_config}
+use Rattle.store_core.specs.Tables.{config_at}
+use Rattle.store_core.proofs.Texts.{config_insert_text}
+use Rattle.store_core.proofs.InsertConfig.{config_params}
+use Rattle.store_core.proofs.Inside.{does_inside, quiet_inside, config_does}
 use Rattle.store_core.proofs.statement.insert_config.Goals as goal
 
-pub returns-clause-ok : goal.returns-clause-ok
-returns-clause-ok g c clean =
-    ok_inside g.S.Store c.args.tx.now.conn.now c.execute.new.self.conn.now c.execute.result _ c.execute.ensures.ended (λ inside.
-    config_works (state g.S.Store c.args.tx.now.conn.now) (state g.S.Store c.execute.new.self.conn.now) (record { rev = c.args.rev; text = c.args.text.now }) c.execute.result
-    (rw (c.params-to_sql.ensures, c.params-to_sql-2.ensures, to_z_pos w64 c.args.rev c.requires) at (c.execute.ensures.runs clean inside)))
+pub returns-clause-done : goal.returns-clause-done
+returns-clause-done g c =
+    does_inside g.S.Store c.args.tx.now.conn c.execute.new.self.conn c.execute.result c.execute.ensures.ended config_insert_text (config_params (config_at c.args.rev c.args.text.now))
+    (λ clean inside. rw (c.params-to_sql.ensures, c.params-to_sql-2.ensures, to_z_pos w64 c.args.rev c.requires) at (c.execute.ensures.runs clean inside)) (Becomes (with_config (config_at c.args.rev c.args.text.now)))
+    (λ count. config_does (state g.S.Store c.args.tx.now.conn.now) (state g.S.Store c.execute.new.self.conn.now) count (config_at c.args.rev c.args.text.now))
 
-pub returns-clause-kept : goal.returns-clause-kept
-returns-clause-kept g c clean =
-    kept_inside g.S.Store c.args.tx.now.conn.now c.execute.new.self.conn.now c.execute.result c.execute.ensures.ended (λ inside. keeps _ _ _ _ c.execute.result (c.execute.ensures.runs clean inside))
+pub returns-clause-quiet : goal.returns-clause-quiet
+returns-clause-quiet g c = quiet_inside g.S.Store c.args.tx.now.conn c.execute.new.self.conn c.execute.result c.execute.ensures.ended _ _ c.execute.ensures.runs c.execute.ensures.survives

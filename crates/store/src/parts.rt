@@ -5,7 +5,7 @@ use names::Tuple;
 
 /// The revisions from which and before which a tuple is there; `removed` is 0 while it still is.
 #[derive(Debug, PartialEq, Eq, PartialOrd, Ord, Drop)]
-pub(crate) struct LivedSpan {
+pub(crate) struct ReadSpan {
     pub(crate) tuple: Tuple,
     pub(crate) added: u64,
     pub(crate) removed: u64,
@@ -13,7 +13,7 @@ pub(crate) struct LivedSpan {
 
 /// A configuration, and the revision that it has been in force from.
 #[derive(Debug, Drop)]
-pub(crate) struct RevisedConfig {
+pub(crate) struct ReadConfig {
     pub(crate) rev: u64,
     pub(crate) config: Config,
 }

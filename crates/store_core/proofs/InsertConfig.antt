@@ -17,35 +17,35 @@ use Rattle.sqlite.specs.State.{State, mode_of, Writes}
 use Rattle.sqlite.specs.Listing.{understood}
 use Rattle.sqlite.proofs.Callers.{statement_of, one_step}
 use Rattle.store_core.specs.Format.{schema, config_table}
-use Rattle.store_core.specs.Tables.{HasRowids, Dated, Contents, Holds, Lists, span_cells, config_row, entry_cells}
+use Rattle.store_core.specs.Tables.{HasRowids, ConfigRow, Contents, Holds, Lists, span_cells, config_with_rowid, entry_cells}
 use Rattle.store_core.specs.Steps.{with_config}
 use Rattle.store_core.proofs.Texts.{config_insert_text, config_terms}
-use Rattle.store_core.proofs.Insert.{went, same_value, cast_null, cast_int}
+use Rattle.store_core.proofs.Insert.{goes, same_value, cast_null, cast_int}
 use Rattle.store_core.proofs.Rowids.{rowids_edit}
 use Rattle.store_core.proofs.Lists.{put_all_fresh}
 
-abbrev pub config_params : Dated → Row
+abbrev pub config_params : ConfigRow → Row
 config_params c = Int (pos c.rev) ∷ Text c.text ∷ []
 
-abbrev config_at : Table
-config_at = record config_table { tree = 2 }
+abbrev config_table_at : Table
+config_table_at = record config_table { tree = 2 }
 
-pub inserts_config : (old new : State) (c : Dated) (count : ℕ) (h : Contents) → Holds old.now h
+pub inserts_config : (old new : State) (c : ConfigRow) (count : ℕ) (h : Contents) → Holds old.now h
     → Writes old new None (Insert 1 (Values config_terms 3)) (statement_of config_insert_text (understood schema config_insert_text)) (config_params c) count → Holds new.now (with_config c h)
 inserts_config old new c count h holds w =
     let params = config_params c in
     let db = old.now.trees in
     let command = Insert 1 (Values config_terms 3) in
     let text = statement_of config_insert_text (understood schema config_insert_text) in
-    let done = went (subst (λ k. Does old.step_limit (mode_of old) params (record old.now { schema = k }) text None command (Ok (w.tally, new.now))) holds.schema_is w.changed) in
-    let now = ap (λ (p : Tally × Database). p.1) (same_value (went (went done.2).2).2) in
-    let given = went done.1 in
-    let written = went (went given.2).2 in
-    let counted = went written.2 in
+    let done = goes (subst (λ k. Does old.step_limit (mode_of old) params (record old.now { schema = k }) text None command (Ok (w.tally, new.now))) holds.schema_is w.changed) in
+    let now = ap (λ (p : Tally × Database). p.1) (same_value (goes (goes done.2).2).2) in
+    let given = goes done.1 in
+    let written = goes (goes given.2).2 in
+    let counted = goes written.2 in
     let trees : done.0.trees ≡ written.0 = ap (λ (it : Written). it.trees) (same_value counted.2) ∙ same_value counted.1 in
-    let edit : Edit = edit_of db config_at [] Chosen 0 given.0 in
+    let edit : Edit = edit_of db config_table_at [] Chosen 0 given.0 in
     let did = one_step schema _ db written.0 edit refl written.1 in
-    let news : edit.news ≡ config_row c ∷ [] = ap (λ all. (edit_of db config_at [] Chosen 0 all).news) given.1.1 ∙ rw (cast_null, cast_int (pos c.rev)) in
+    let news : edit.news ≡ config_with_rowid c ∷ [] = ap (λ all. (edit_of db config_table_at [] Chosen 0 all).news) given.1.1 ∙ rw (cast_null, cast_int (pos c.rev)) in
     let put : IsPermutation (edit.news ++ db 2) (edited db edit) = put_all_fresh edit.news (db 2) did.fresh in
     let tree : new.now.trees 2 ≡ edited db edit = ap (λ (d : Database). d.trees 2) now ∙ ap (λ (t : Trees). t 2) trees ∙ did.rows in
     let apart : (t : ℕ) → written.0 t ≡ db t → new.now.trees t ≡ db t = λ t same. ap (λ (d : Database). d.trees t) now ∙ ap (λ (all : Trees). all t) trees ∙ same in
@@ -54,8 +54,8 @@ inserts_config old new c count h holds w =
     record {
       schema_is = ap (λ (d : Database). d.schema) now;
       spans = subst (λ rows. Lists rows (map span_cells h.spans)) (sym row_same) holds.spans;
-      configs = subst (IsPermutation (config_row c ∷ map config_row h.configs)) (sym tree)
-          (IsPermutation-trans _ (config_row c ∷ db 2) _ (IsPermutation-cons (config_row c) _ _ holds.configs) (subst (λ n. IsPermutation (n ++ db 2) (edited db edit)) news put));
+      configs = subst (IsPermutation (config_with_rowid c ∷ map config_with_rowid h.configs)) (sym tree)
+          (IsPermutation-trans _ (config_with_rowid c ∷ db 2) _ (IsPermutation-cons (config_with_rowid c) _ _ holds.configs) (subst (λ n. IsPermutation (n ++ db 2) (edited db edit)) news put));
       entries = subst (λ rows. Lists rows (map entry_cells h.entries)) (sym entry_same) holds.entries;
       spans_rowids = subst HasRowids (sym row_same) holds.spans_rowids;
       configs_rowids = subst HasRowids (sym tree) (rowids_edit db edit did.keyed did.fresh holds.configs_rowids);

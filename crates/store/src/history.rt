@@ -1,15 +1,13 @@
 //! What is stored and read over a connection, as a history.
-ghost use Rattle.std.specs.Prelude.{◌≡◌, ◌^◌, ◌<◌, ◌≤◌, false, IsTrue, IfOk, OnOk, Err};
-ghost use Rattle.sqlite.specs.State.{HasCleanDisk, IsUnchanged, Survives};
-ghost use Rattle.sqlite.specs.Held.{state};
+ghost use Rattle.std.specs.Prelude.{◌≡◌, ◌^◌, ◌<◌, ◌≤◌, false, IfOk, OnOk, Err};
 ghost use Rattle.sqlite.specs.declared.error.Error.TheVariants.{SqliteFailure};
 ghost use Rattle.sqlite.specs.declared.error.ErrorCode.TheVariants.{OutOfMemory};
-ghost use Rattle.store_core.specs.Steps.{IsBlank, Undone};
+ghost use Rattle.store_core.specs.Leaves.{IsBlank};
+ghost use Rattle.store_core.specs.Reading.{IsClean, IsSame, LeavesNothing};
 ghost use Rattle.names.specs.declared.commit.Commit.TheVariants as kinds;
-ghost use Rattle.rows.specs.Retained.{Retained, empty_store, with_commit};
 ghost use Rattle.rows.specs.Loads.{IsWithin, retained_of};
-ghost use Rattle.tables.specs.Storing.{IsNextAt};
-ghost use Rattle.store.specs.Keeping.{KeepsHistory, LeavesHistory, IsEither, HasNewStore};
+ghost use Rattle.store.specs.History.{HoldsHistory, FindsHistory, IsSettled, Commits, SparesHistory, LeavesEither, HasUndone, LeavesAtMostNew};
+ghost use Rattle.rows.specs.Retained.{empty_store};
 
 use crate::reading::read;
 use crate::texts::events_of;
@@ -26,8 +24,8 @@ fn why<S: Alter>(conn: &mut Connection<S>, error: &Error) -> TablesError
     requires idle { conn.old.in_transaction ≡ false }
     ensures idle { conn.new.in_transaction ≡ false }
     ensures memory { result ≡ TablesError.Memory → error.now ≡ SqliteFailure OutOfMemory }
-    ensures same { HasCleanDisk (state S.Store conn.new) → result ≡ TablesError.Memory → IsUnchanged (state S.Store conn.old) (state S.Store conn.new) }
-    ensures crash { Survives (state S.Store conn.old) (state S.Store conn.new) (λ _. ⊥) }
+    ensures same { IsClean S.Store conn.new → result ≡ TablesError.Memory → IsSame S.Store conn.old conn.new }
+    ensures crash { LeavesNothing S.Store conn.old conn.new }
 {
     if *error == Error::SqliteFailure(ErrorCode::OutOfMemory) && is_open(conn) {
         return TablesError::Memory;
@@ -45,9 +43,9 @@ fn write_events<S: Alter>(
     requires small { rev < 2 ^ 63 }
     requires idle { conn.old.in_transaction ≡ false }
     ensures idle { conn.new.in_transaction ≡ false }
-    ensures done { (r : Retained) → KeepsHistory S.Store conn.old r → IsNextAt r rev (kinds.Tuples events.now) → OnOk result (KeepsHistory S.Store conn.new (with_commit r (kinds.Tuples events.now))) }
-    ensures undone { (r : Retained) → KeepsHistory S.Store conn.old r → result ≡ Err TablesError.Memory → KeepsHistory S.Store conn.new r }
-    ensures crash { (r : Retained) → KeepsHistory S.Store conn.old r → IsNextAt r rev (kinds.Tuples events.now) → LeavesHistory S.Store conn.new (IsEither r (kinds.Tuples events.now)) }
+    ensures done { Commits S.Store conn.old conn.new rev (kinds.Tuples events.now) result }
+    ensures undone { SparesHistory S.Store conn.old conn.new result }
+    ensures crash { LeavesEither S.Store conn.old conn.new rev (kinds.Tuples events.now) }
 {
     let Ok(texts) = events_of(alloc, events) else {
         return Err(TablesError::Memory);
@@ -68,9 +66,9 @@ fn write_config<S: Alter>(
     requires small { rev < 2 ^ 63 }
     requires idle { conn.old.in_transaction ≡ false }
     ensures idle { conn.new.in_transaction ≡ false }
-    ensures done { (r : Retained) → KeepsHistory S.Store conn.old r → IsNextAt r rev (kinds.Config config.now) → OnOk result (KeepsHistory S.Store conn.new (with_commit r (kinds.Config config.now))) }
-    ensures undone { (r : Retained) → KeepsHistory S.Store conn.old r → result ≡ Err TablesError.Memory → KeepsHistory S.Store conn.new r }
-    ensures crash { (r : Retained) → KeepsHistory S.Store conn.old r → IsNextAt r rev (kinds.Config config.now) → LeavesHistory S.Store conn.new (IsEither r (kinds.Config config.now)) }
+    ensures done { Commits S.Store conn.old conn.new rev (kinds.Config config.now) result }
+    ensures undone { SparesHistory S.Store conn.old conn.new result }
+    ensures crash { LeavesEither S.Store conn.old conn.new rev (kinds.Config config.now) }
 {
     let Ok(text) = config.to_json(alloc) else {
         return Err(TablesError::Memory);
@@ -91,9 +89,9 @@ pub(crate) fn write_commit<S: Alter>(
     requires small { rev < 2 ^ 63 }
     requires idle { conn.old.in_transaction ≡ false }
     ensures idle { conn.new.in_transaction ≡ false }
-    ensures done { (r : Retained) → KeepsHistory S.Store conn.old r → IsNextAt r rev commit.now → OnOk result (KeepsHistory S.Store conn.new (with_commit r commit.now)) }
-    ensures undone { (r : Retained) → KeepsHistory S.Store conn.old r → result ≡ Err TablesError.Memory → KeepsHistory S.Store conn.new r }
-    ensures crash { (r : Retained) → KeepsHistory S.Store conn.old r → IsNextAt r rev commit.now → LeavesHistory S.Store conn.new (IsEither r commit.now) }
+    ensures done { Commits S.Store conn.old conn.new rev commit.now result }
+    ensures undone { SparesHistory S.Store conn.old conn.new result }
+    ensures crash { LeavesEither S.Store conn.old conn.new rev commit.now }
 {
     match commit {
         Commit::Tuples(events) => write_events(alloc, conn, rev, events.as_slice()),
@@ -109,10 +107,10 @@ pub fn make_tables<S: Alter>(conn: &mut Connection<S>, number: u64) -> Result<()
     requires some { 1 ≤ number }
     requires small { number < 2 ^ 63 }
     ensures idle { conn.new.in_transaction ≡ false }
-    ensures done { OnOk result (KeepsHistory S.Store conn.new (empty_store number)) }
-    ensures taken { ¬ (IsBlank (state S.Store conn.old).now) → result ≡ Err TablesError.Fault }
-    ensures undone { HasCleanDisk (state S.Store conn.new) → IsBlank (state S.Store conn.old).now → result ≡ Err TablesError.Memory → Undone (state S.Store conn.old) (state S.Store conn.new) }
-    ensures crash { Survives (state S.Store conn.old) (state S.Store conn.new) (HasNewStore number) }
+    ensures done { OnOk result (HoldsHistory S.Store conn.new (empty_store number)) }
+    ensures taken { ¬ (IsBlank S.Store conn.old) → result ≡ Err TablesError.Fault }
+    ensures undone { result ≡ Err TablesError.Memory → IsBlank S.Store conn.old → HasUndone S.Store conn.old conn.new }
+    ensures crash { LeavesAtMostNew S.Store conn.old conn.new number }
 {
     let Err(error) = create(conn, number) else {
         return Ok(());
@@ -123,7 +121,7 @@ pub fn make_tables<S: Alter>(conn: &mut Connection<S>, number: u64) -> Result<()
 // Outside a transaction, what an open connection sees is what it has committed.
 fn see_settled<S: Alter>(conn: &Connection<S>)
     requires { conn.now.in_transaction ≡ false }
-    ensures { IsTrue (state S.Store conn.now).is_open → (state S.Store conn.now).now ≡ (state S.Store conn.now).committed }
+    ensures { IsSettled S.Store conn.now }
 {
     let _settled = conn.is_autocommit();
 }
@@ -135,8 +133,8 @@ pub(crate) fn load_history<S: Alter>(
 ) -> Result<Loaded, TablesError>
     requires idle { conn.old.in_transaction ≡ false }
     ensures idle { conn.new.in_transaction ≡ false }
-    ensures held { IfOk result (λ l. KeepsHistory S.Store conn.new (retained_of l)) }
-    ensures same { (r : Retained) → KeepsHistory S.Store conn.old r → HasCleanDisk (state S.Store conn.new) → IfOk result (λ l. retained_of l ≡ r) }
+    ensures held { IfOk result (λ l. HoldsHistory S.Store conn.new (retained_of l)) }
+    ensures same { FindsHistory S.Store conn.old conn.new result }
     ensures within { IfOk result IsWithin }
 {
     let stored = match load(alloc, conn) {
