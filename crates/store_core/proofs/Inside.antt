@@ -1,5 +1,5 @@
 -- A statement inside a transaction, from what it does to the contents.
-use Rattle.std.proofs.Common.{◌≡◌, ◌⊎◌, inl, inr, ℕ, pos, None, List, [], ◌∷◌, Ok, Err, Result, OnOk, IsTrue, Bool, true, false, refl, sym, subst, ◌∙◌, arith}
+use Rattle.std.proofs.Common.{◌≡◌, ◌⊎◌, inl, inr, ℕ, None, List, [], Ok, Err, Result, OnOk, IsTrue, Bool, true, false, refl, sym, subst, ◌∙◌, arith}
 use Rattle.std.specs.Borrow.{MutBor}
 use Rattle.sqlite.specs.Order.{Row}
 use Rattle.sqlite.specs.declared.error.Error.{Error}

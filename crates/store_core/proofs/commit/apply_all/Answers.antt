@@ -5,7 +5,7 @@ use Rattle.sqlite.specs.Held.{state}
 use Rattle.store_core.specs.Tables.{Contents, Holds}
 use Rattle.store_core.specs.declared.stored.StoredEvent.{StoredEvent}
 use Rattle.store_core.specs.Steps.{Becomes, Turns, after_event, after_events}
-use Rattle.store_core.proofs.Inside.{quiet_none, quiet_then}
+use Rattle.store_core.proofs.Inside.{quiet_then}
 use Rattle.store_core.proofs.Whole.{changes_then}
 use Rattle.store_core.proofs.commit.apply_all.Goals as goal
 

@@ -2,8 +2,7 @@ use Rattle.std.proofs.Common.{map, arith}
 use Rattle.std.proofs.lemmas.List.Sorted.{IsPermutation-refl}
 use Rattle.sqlite.specs.State.{HasCleanDisk}
 use Rattle.sqlite.specs.Held.{state}
-use Rattle.store_core.specs.Tables.{Contents}
-use Rattle.store_core.specs.Stored.{span_in, config_row_in, entry_in, AreSpans, AreConfigs, AreEntries}
+use Rattle.store_core.specs.Stored.{span_in, config_row_in, entry_in}
 use Rattle.store_core.proofs.Found.{whole, holds_whole}
 use Rattle.store_core.proofs.LoadLemmas.{loads_same}
 use Rattle.store_core.proofs.loading.load.Goals as goal
