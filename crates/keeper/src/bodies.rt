@@ -18,8 +18,6 @@ use std::alloc::Global;
 use std::str;
 use zookie::{Consistency, Zookie};
 
-
-
 /// What a body reads as.
 fn read_value(alloc: Global, body: &[u8]) -> Result<Value, Refusal>
     ensures ok { IfOk result (λ v. Reads body.now (view v)) }

@@ -6,4 +6,5 @@ pub mod bodies;
 mod ops;
 pub mod refusals;
 pub mod replies;
+
 pub use answer::answer_on;

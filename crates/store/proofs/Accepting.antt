@@ -111,19 +111,3 @@ same_config bytes c d p q = one_described bytes c d p.describes q.describes
 
 pub other_text : (a b : List ℕ) → a ≡ b → true ≡ not (bytes_eq a b) → ⊥
 other_text a b same e = true≢false (e ∙ ap not ((bytes_eq-Decides a b).1 same))
-
--- ---- tuples that are not admitted
-
-admits_missing : (config : Configured) (t : Tuple) → has_relation config (rel_of t.node) ≡ false → admits config t ≡ false
-admits_missing config t = none config.relations
-  where
-    none : (ds : List Defined) → list_any (is_relation (rel_of t.node)) ds ≡ false → list_any (λ d. is_relation (rel_of t.node) d && declares t.subject d) ds ≡ false
-    none [] h = refl
-    none (d ∷ ds) h =
-        let p = or_parts (is_relation (rel_of t.node) d) (list_any (is_relation (rel_of t.node)) ds) h in
-        ap (λ b. (b && declares t.subject d) || list_any (λ e. is_relation (rel_of t.node) e && declares t.subject e) ds) p.0 ∙ none ds p.1
-
-pub not_admitted : (config : Configured) (t : Tuple) (e : Refusal) → AdmitCause config t e → admits config t ≡ false
-not_admitted config t refusals.UnknownRelation h = admits_missing config t h
-not_admitted config t refusals.TypeRefused h = h.1
-not_admitted config t _ h = absurd h

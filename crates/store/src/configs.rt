@@ -1,7 +1,6 @@
 //! The configurations, read.
 ghost use Rattle.std.specs.Prelude.{◌≡◌, ◌≤◌, ◌⊎◌, false, map, IsTrue, IfOk, IfErr, All};
 ghost use Rattle.std.specs.Option.{option_copied};
-ghost use Rattle.meaning.specs.Admits.{admits};
 ghost use Rattle.meaning.specs.Config.{empty_config};
 ghost use Rattle.store_core.specs.Stored.{config_row_in};
 ghost use Rattle.store.specs.Written.{IsConfigAt, config_row_of, config_at, config_up_to};
@@ -12,7 +11,6 @@ ghost use Rattle.store.specs.Refused.{DeservedBy, IsOfConfig, ConfigsListed, Are
 use crate::parts::{Head, ReadConfig, ReadSpan};
 use crate::unread::Unread;
 use config::Config;
-use names::Tuple;
 use std::alloc::Global;
 use store_core::StoredConfig;
 

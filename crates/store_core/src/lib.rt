@@ -10,6 +10,7 @@ mod format;
 mod loading;
 mod statement;
 mod stored;
+
 pub use commit::{configure, create, trim, write};
 pub use format::is_format;
 pub use loading::{is_open, load};
