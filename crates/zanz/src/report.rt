@@ -6,7 +6,7 @@ ghost use Rattle.keeper.specs.Replies.{signed_text};
 ghost use Rattle.zanz.specs.Report.{level_line, level_lines, cycle_line, more_lines, cause_lines, Reports};
 
 use config::{Config, Relation};
-use keeper::refusals::{signed, start_of};
+use keeper::refusals::{signed_text, start_of};
 use names::{Cause, CycleStep, Refusal, RelationName};
 use std::alloc::{AllocError, Global};
 
@@ -63,7 +63,7 @@ fn text_of_steps(alloc: Global, steps: &[CycleStep]) -> Result<String, AllocErro
 {
     let mut text = String::new(alloc);
     for step in steps {
-        let relation = signed(alloc, step)?;
+        let relation = signed_text(alloc, step)?;
         text.push(' ')?;
         text.push_str(relation.as_str())?;
     }
