@@ -19,7 +19,7 @@ use Rattle.strata.proofs.Bounds.{path_few}
 use Rattle.config_core.specs.Order.{IsOrdered}
 use Rattle.config_core.specs.Spelling.{AreNamed, IsNamed}
 use Rattle.config.specs.Cycles.{IsChain, EndsApart, IsCertificate}
-use Rattle.config.specs.Graph.{nowhere, relation_at, name_at, IsGraph, step_by_name}
+use Rattle.config.specs.inside.Graph.{nowhere, relation_at, name_at, IsGraph, step_by_name}
 use Rattle.config.specs.Levels.{AreLevels}
 use Rattle.config.proofs.Places.{has_at}
 use Rattle.config.proofs.Distinct.{names_apart}

@@ -9,7 +9,7 @@ use Rattle.meaning.specs.Config.{Configured, Defined, Has, StepsTo}
 use Rattle.meaning.proofs.Lists.{contains_map, contains_none}
 use Rattle.config_core.specs.Forms.{form_of, defined_of}
 use Rattle.config_core.specs.Parts.{configured}
-use Rattle.config.specs.Graph.{nowhere, relation_at, name_at, IsStep, Adds, IsGraph}
+use Rattle.config.specs.inside.Graph.{nowhere, relation_at, name_at, IsStep, Adds, IsGraph}
 
 pub at_place : (ns : List (List ℕ)) (rs : List Relation) (k : ℕ) (r : Relation) → k < length rs → r ≡ get_or rs k r → relation_at (configured ns rs) k ≡ defined_of r
 at_place ns rs k r lt is = get_or-map defined_of rs k r nowhere lt ∙ ap defined_of (sym is)

@@ -1,6 +1,5 @@
 pub mod Causes
 pub mod Cycles
-pub mod Graph
 pub mod Invariant
 pub mod Levels
 pub mod Refused
@@ -14,3 +13,4 @@ pub use Rattle.config_core.specs.Shape
 pub use Rattle.config_core.specs.Size
 pub use Rattle.config_core.specs.Spelling
 pub use Rattle.config_core.specs.Texts
+pub mod inside

@@ -2,7 +2,7 @@
 ghost use Rattle.std.specs.Prelude.{◌≡◌, ◌<◌, ◌≤◌, ◌↔◌, IsTrue, IfOk, OnOk, length};
 ghost use Rattle.names.specs.declared.limits.TheConstants.{MAX_RELATIONS};
 ghost use Rattle.config_core.specs.Parts.{parts_of};
-ghost use Rattle.config.specs.Graph.{IsStep, Adds, IsGraph};
+ghost use Rattle.config.specs.inside.Graph.{IsStep, Adds, IsGraph};
 
 use crate::steps::steps_to;
 use config_core::Parts;

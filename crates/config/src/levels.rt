@@ -3,7 +3,7 @@ ghost use Rattle.std.specs.Prelude.{◌≡◌, ◌<◌, ◌^◌, All, IfOk, IfEr
 ghost use Rattle.config_core.specs.Order.{IsOrdered};
 ghost use Rattle.config_core.specs.Parts.{parts_of};
 ghost use Rattle.config_core.specs.Spelling.{AreNamed};
-ghost use Rattle.config.specs.Graph.{step_by_name, LevelsRefused};
+ghost use Rattle.config.specs.inside.Graph.{step_by_name, LevelsRefused};
 ghost use Rattle.config.specs.Levels.{AreLevels};
 ghost use Rattle.config.specs.Valid.{cause_of};
 

@@ -21,7 +21,7 @@ use Rattle.shown.specs.Standing.{Standing, standing}
 use Rattle.tables.specs.Storing.{one_more}
 use Rattle.keeper_core.specs.Posts.{Posts, ShowsMore, PostsStep, newest_shown}
 use Rattle.keeper_core.specs.Changes.{ReceiptFacts, Tells, WriteAccepted, ConfigAccepted, JudgedWith, CatchUpJudged, IsRefused}
-use Rattle.keeper_core.specs.Posting.{NotPosted}
+use Rattle.keeper_core.specs.inside.Posting.{NotPosted}
 use Rattle.keeper_core.proofs.Prefixes.{prefix_self, prefix_trans}
 
 module _ {T : Type 0} (old mid new : Posts T) (more : ShowsMore old mid) (same : mid.faults ≡ old.faults) (works : old.failed ≡ false) where

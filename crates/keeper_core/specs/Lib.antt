@@ -1,9 +1,6 @@
 pub mod Book
 pub mod Known
-pub mod Codes
 pub mod Posts
-pub mod Latching
 pub mod Changes
 pub mod Invariant
-pub mod DeskCodes
-pub mod Posting
+pub mod inside

@@ -126,7 +126,7 @@ pub struct StepPrefix {
 impl Model for StepPrefix {
     ghost use Rattle.std.specs.Prelude.{◌≡◌, ◌≤◌, ◌^◌, List, length};
     ghost use Rattle.keeper_core.specs.Known.{Known};
-    ghost use Rattle.keeper_core.specs.Codes.{coded_known};
+    ghost use Rattle.keeper_core.specs.inside.Codes.{coded_known};
 
     ghost Value = { Known };
 

@@ -10,7 +10,7 @@ ghost use Rattle.shown.specs.Standing.{standing, state_of, cursor_of, after_take
 ghost use Rattle.shown.specs.Answers.{IsAnswer, IsRefusal};
 ghost use Rattle.keeper_core.specs.Posts.{TablesAgree, OpensWith, SameTables, ShowsMore, PostsStep, newest_posted, newest_shown};
 ghost use Rattle.keeper_core.specs.Changes.{Tells, WriteAccepted, ConfigAccepted, CatchUpAccepted, IsRefused, JudgedWith, WriteJudged, CatchUpJudged, CannotOpen, receipt_at};
-ghost use Rattle.keeper_core.specs.Posting.{NotReady, NotPosted};
+ghost use Rattle.keeper_core.specs.inside.Posting.{NotReady, NotPosted};
 
 use crate::book::{Book, Opened, StepPrefix};
 use crate::latched_tables::{LatchedTables, load};
@@ -39,7 +39,7 @@ pub struct Desk<T: Tables + Drop> {
 
 impl<T: Tables + Drop> Model for Desk<T> {
     ghost use Rattle.keeper_core.specs.Posts.{Posts};
-    ghost use Rattle.keeper_core.specs.DeskCodes.{coded_posts};
+    ghost use Rattle.keeper_core.specs.inside.DeskCodes.{coded_posts};
 
     ghost Value = { Posts T };
 

@@ -5,7 +5,7 @@ ghost use Rattle.rows.specs.Loads.{retained_of, IsWithin};
 ghost use Rattle.tables.specs.Storing.{IsNextAt, CanStore};
 ghost use Rattle.keeper_core.specs.Changes.{CannotOpen};
 ghost use Rattle.keeper_core.specs.Posts.{Agrees};
-ghost use Rattle.keeper_core.specs.Latching.{IsLatched, AgreeWith};
+ghost use Rattle.keeper_core.specs.inside.Latching.{IsLatched, AgreeWith};
 
 use config::Config;
 use names::{Commit, Refusal};

@@ -24,7 +24,7 @@ pub struct Posted {
 
 impl Model for Receipt {
     ghost use Rattle.keeper_core.specs.Changes.{ReceiptFacts};
-    ghost use Rattle.keeper_core.specs.DeskCodes.{coded_receipt};
+    ghost use Rattle.keeper_core.specs.inside.DeskCodes.{coded_receipt};
 
     ghost Value = { ReceiptFacts };
 

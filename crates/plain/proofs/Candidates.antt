@@ -10,7 +10,7 @@ use Rattle.names.specs.declared.object.Object.{Object}
 use Rattle.names.specs.declared.node.Node.{Node}
 use Rattle.config_core.specs.declared.relation.Relation.{Relation}
 use Rattle.plain.specs.declared.source.Source.{Source}
-use Rattle.plain.specs.Candidates.{IsPlaced, GainsNodes, HasNodes}
+use Rattle.plain.specs.inside.Candidates.{IsPlaced, GainsNodes, HasNodes}
 
 module _ (s : Source) (i k : ℕ) where
   placed_more : (m : Node) → IsPlaced s i k m → IsPlaced s (i + 1) k m

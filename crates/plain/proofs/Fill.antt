@@ -5,7 +5,7 @@ use Rattle.std.proofs.lemmas.List.{get_or_default}
 use Rattle.std.proofs.lemmas.List.Elements.{Contains-append_left, Contains-push, Contains-push_cases}
 use Rattle.meaning.proofs.LeastLemmas.{Grows, IsFinitary, from_given, from_lower}
 use Rattle.meaning.specs.Least.{Gained, LevelRule}
-use Rattle.plain.specs.Rounds.{IsLeastOver}
+use Rattle.plain.specs.inside.Rounds.{IsLeastOver}
 use Rattle.meaning.proofs.Lists.{contains_remove, contains_removed}
 use Rattle.names.specs.declared.node.Node.{Node}
 

@@ -19,9 +19,9 @@ use Rattle.meaning.proofs.TupleSets.{items_contain}
 use Rattle.config.specs.Forms.{defined_of}
 use Rattle.config_core.specs.declared.relation.Relation.{Relation}
 use Rattle.plain.specs.declared.source.Source.{Source}
-use Rattle.plain.specs.Source.{snap_of, IsReady, IsOf}
-use Rattle.plain.specs.Candidates.{IsPlaced, HasNodes}
-use Rattle.plain.specs.Rounds.{IsLeastOver}
+use Rattle.plain.specs.inside.Source.{snap_of, IsReady, IsOf}
+use Rattle.plain.specs.inside.Candidates.{IsPlaced, HasNodes}
+use Rattle.plain.specs.inside.Rounds.{IsLeastOver}
 
 -- held are the nodes that the user is a member of, by the levels below k
 pub record IsDone (S : Snap) (u : Object) (k : ℕ) (held : List Node) : Type 0 where

@@ -17,7 +17,7 @@ use Rattle.meaning.proofs.TupleSets.{items_contain}
 use Rattle.config_core.specs.declared.relation.Relation.{Relation}
 use Rattle.config.specs.Forms.{defined_of, form_of}
 use Rattle.plain.specs.declared.source.Source.{Source}
-use Rattle.plain.specs.Source.{snap_of, config_of, GrantsBy, Grants, LeadsBy, LeadsOn, Names}
+use Rattle.plain.specs.inside.Source.{snap_of, config_of, GrantsBy, Grants, LeadsBy, LeadsOn, Names}
 
 -- a test that holds of an element
 both_true : (a b : Bool) → (a && b) ≡ true → (a ≡ true) × (b ≡ true)

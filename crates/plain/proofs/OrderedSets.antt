@@ -20,7 +20,7 @@ use Rattle.meaning.proofs.TupleSets.{tuples_total, objects_total, exact_objects,
 use Rattle.meaning.proofs.KnownLemmas.{below_user}
 use Rattle.config.specs.Refused.{AdmitCause}
 use Rattle.plain.specs.declared.source.Source.{Source}
-use Rattle.plain.specs.Source.{snap_of, IsSourceOf, Names}
+use Rattle.plain.specs.inside.Source.{snap_of, IsSourceOf, Names}
 use Rattle.plain.proofs.Alike.{AreAlike, member_alike}
 use Rattle.plain.proofs.LevelSteps.{all_whole}
 use Rattle.plain.proofs.Looks.{named_user}

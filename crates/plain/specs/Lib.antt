@@ -1,4 +1,2 @@
-pub mod Source
-pub mod Rounds
-pub mod Candidates
 pub mod Causes
+pub mod inside

@@ -4,8 +4,8 @@ ghost use Rattle.std.specs.Bool.{OnTrue};
 ghost use Rattle.names.specs.declared.node.Node.{Node};
 ghost use Rattle.names.specs.declared.object.Object.{Object};
 ghost use Rattle.meaning.specs.Membership.{IsMember};
-ghost use Rattle.plain.specs.Source.{snap_of, IsReady, IsOf};
-ghost use Rattle.plain.specs.Candidates.{GainsNodes, HasNodes};
+ghost use Rattle.plain.specs.inside.Source.{snap_of, IsReady, IsOf};
+ghost use Rattle.plain.specs.inside.Candidates.{GainsNodes, HasNodes};
 
 use crate::rounds::filled;
 use crate::source::Source;

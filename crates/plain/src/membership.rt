@@ -7,7 +7,7 @@ ghost use Rattle.meaning.specs.Admits.{has_relation};
 ghost use Rattle.meaning.specs.Config.{rel_of};
 ghost use Rattle.meaning.specs.Membership.{IsMember};
 ghost use Rattle.plain.specs.Causes.{CheckCause};
-ghost use Rattle.plain.specs.Source.{snap_of, IsReady, Names};
+ghost use Rattle.plain.specs.inside.Source.{snap_of, IsReady, Names};
 
 use crate::levels::nodes_of;
 use crate::snapshot::Snapshot;

@@ -2,7 +2,7 @@
 ghost use Rattle.std.specs.Prelude.{◌↔◌, Contains, IsTrue, map};
 ghost use Rattle.meaning.specs.Membership.{Gives, SomeGives, EachGives, RelationGives};
 ghost use Rattle.config.specs.Forms.{form_of, forms_of};
-ghost use Rattle.plain.specs.Source.{snap_of};
+ghost use Rattle.plain.specs.inside.Source.{snap_of};
 
 use crate::source::{Source, holds, is_direct, is_through};
 use config::Rewrite;

@@ -2,8 +2,8 @@
 ghost use Rattle.std.specs.Prelude.{◌≡◌, ℕ, ◌<◌, ◌≤◌, Contains, IfOk, IfSome, IfNone, length, slice_index_or};
 ghost use Rattle.names.specs.declared.node.Node.{Node};
 ghost use Rattle.meaning.specs.Membership.{RelationGives};
-ghost use Rattle.plain.specs.Source.{snap_of};
-ghost use Rattle.plain.specs.Rounds.{IsLeastOver};
+ghost use Rattle.plain.specs.inside.Source.{snap_of};
+ghost use Rattle.plain.specs.inside.Rounds.{IsLeastOver};
 
 use crate::rewrites::relation_gives;
 use crate::source::Source;

@@ -37,7 +37,7 @@ impl Model for Snapshot {
 }
 
 impl Snapshot {
-    ghost use Rattle.plain.specs.Source.{IsSourceOf};
+    ghost use Rattle.plain.specs.inside.Source.{IsSourceOf};
 
     /// What revision 0 holds. It takes no memory.
     pub fn empty(alloc: Global) -> Snapshot

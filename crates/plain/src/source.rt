@@ -7,7 +7,7 @@ ghost use Rattle.meaning.specs.Config.{Has};
 ghost use Rattle.meaning.specs.Form.{This, TupleTo};
 ghost use Rattle.meaning.specs.Membership.{Gives};
 ghost use Rattle.config.specs.Forms.{defined_of};
-ghost use Rattle.plain.specs.Source.{snap_of, Grants, LeadsOn};
+ghost use Rattle.plain.specs.inside.Source.{snap_of, Grants, LeadsOn};
 
 use config::Relation;
 use names::{Name, Node, Object, Tuple};

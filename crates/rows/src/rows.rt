@@ -35,7 +35,7 @@ pub struct Rows {
 
 impl Model for Rows {
     ghost use Rattle.rows.specs.Retained.{Retained};
-    ghost use Rattle.rows.specs.Codes.{coded_retained};
+    ghost use Rattle.rows.specs.inside.Codes.{coded_retained};
     ghost use Rattle.rows.specs.Representation.{as_retained, IsConsistent};
 
     ghost Value = { Retained };

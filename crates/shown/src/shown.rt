@@ -37,7 +37,7 @@ pub struct Shown {
 
 impl Model for Shown {
     ghost use Rattle.shown.specs.Standing.{Standing, IsSteady};
-    ghost use Rattle.shown.specs.Codes.{coded_standing};
+    ghost use Rattle.shown.specs.inside.Codes.{coded_standing};
 
     ghost Value = { Standing };
 

@@ -31,7 +31,7 @@ pub struct World {
 
 impl Model for World {
     ghost use Rattle.shown.specs.World.{State};
-    ghost use Rattle.shown.specs.WorldCodes.{coded_state};
+    ghost use Rattle.shown.specs.inside.WorldCodes.{coded_state};
     ghost use Rattle.shown.specs.WorldParts.{Fit};
 
     ghost Value = { State };

@@ -12,8 +12,8 @@ use Rattle.std.proofs.lemmas.Map.Keys.{ge_from_not_lt}
 use Rattle.names.specs.Order.{tuple_cmp, is_same_tuple}
 use Rattle.meaning.proofs.TupleSets.{tuples_total, exact_tuples}
 use Rattle.store.specs.Written.{TupleSpan, ConfigAt, IsSpan, Pairwise, are_apart, are_distinct}
-use Rattle.store.specs.Following.{Precedes}
-use Rattle.store.specs.Reading.{as_span, as_config}
+use Rattle.store.specs.inside.Following.{Precedes}
+use Rattle.store.specs.inside.Reading.{as_span, as_config}
 use Rattle.store.specs.Refused.{IsListed}
 use Rattle.store.specs.declared.parts.ReadSpan.{ReadSpan}
 use Rattle.store.specs.declared.parts.ReadConfig.{ReadConfig}

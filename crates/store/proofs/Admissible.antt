@@ -5,7 +5,7 @@ use Rattle.std.proofs.lemmas.Bool.{and_parts, or_cases, ltb-true, eqb-true}
 use Rattle.meaning.specs.Admits.{admits}
 use Rattle.meaning.specs.Config.{Configured}
 use Rattle.store.specs.Written.{TupleSpan, ConfigAt, IsSpan, IsConfigAt, Pairwise, are_distinct, config_at, config_up_to}
-use Rattle.store.specs.Following.{is_between}
+use Rattle.store.specs.inside.Following.{is_between}
 use Rattle.store.specs.Refused.{AreConfigs, IsAdmittedTo}
 use Rattle.store.proofs.Picking.{In, all_in}
 use Rattle.store.proofs.Living.{alive_from}

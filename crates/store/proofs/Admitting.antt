@@ -6,9 +6,9 @@ use Rattle.std.proofs.lemmas.Bool.Decides.{nat_tests}
 use Rattle.std.proofs.lemmas.List.Elements.{All-tail}
 use Rattle.meaning.specs.Admits.{admits}
 use Rattle.store.specs.Written.{TupleSpan, ConfigAt, last_up_to, config_up_to}
-use Rattle.store.specs.Following.{is_between, IsAdmitted}
+use Rattle.store.specs.inside.Following.{is_between, IsAdmitted}
 use Rattle.store.specs.declared.parts.ReadConfig.{ReadConfig}
-use Rattle.store.specs.Reading.{as_config}
+use Rattle.store.specs.inside.Reading.{as_config}
 use Rattle.store.proofs.RowSteps.{drop_next}
 
 le_true : (m n : ℕ) → m ≤ n → nat_le m n ≡ true

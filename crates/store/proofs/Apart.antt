@@ -10,7 +10,7 @@ use Rattle.names.specs.Order.{tuple_cmp, is_same_tuple}
 use Rattle.names.specs.declared.tuple.Tuple.{Tuple}
 use Rattle.meaning.proofs.TupleSets.{tuples_total}
 use Rattle.store.specs.Written.{TupleSpan, ConfigAt, IsSpan, is_before, are_apart, are_distinct, Pairwise}
-use Rattle.store.specs.Following.{Precedes, Ascends}
+use Rattle.store.specs.inside.Following.{Precedes, Ascends}
 
 -- each is related to each that comes after it
 abbrev pub Ordered : {A : Type 0} → (A → A → Type 0) → List A → Type 0

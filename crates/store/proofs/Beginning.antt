@@ -6,7 +6,7 @@ use Rattle.names.specs.declared.commit.Commit.{Commit}
 use Rattle.names.specs.declared.commit.Commit.TheVariants as kinds
 use Rattle.meaning.specs.Config.{Configured}
 use Rattle.meaning.specs.TupleSet as set
-use Rattle.rows.specs.Retained.{Retained, newest, newest_of}
+use Rattle.rows.specs.Retained.{Retained, empty_store, newest, newest_of}
 use Rattle.rows.specs.Follows.{IsNext}
 use Rattle.tables.specs.Storing.{CanStore}
 use Rattle.store_core.specs.Steps.{new_store}

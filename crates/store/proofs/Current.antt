@@ -10,7 +10,7 @@ use Rattle.meaning.specs.Snap.{Snap}
 use Rattle.meaning.proofs.TupleSets.{len_insert}
 use Rattle.rows.specs.Retained.{newest_of}
 use Rattle.store.specs.Written.{TupleSpan, IsSpan, Pairwise, is_alive, tuples_of, are_apart, history_of}
-use Rattle.store.specs.Reading.{as_span, as_written, current}
+use Rattle.store.specs.inside.Reading.{as_span, as_written, current}
 use Rattle.store.specs.declared.parts.ReadSpan.{ReadSpan}
 use Rattle.store.specs.declared.parts.ReadConfig.{ReadConfig}
 use Rattle.store.specs.declared.parts.Head.{Head}

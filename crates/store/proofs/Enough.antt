@@ -6,7 +6,7 @@ use Rattle.std.proofs.lemmas.Bool.{eqb-true, eqb-false}
 use Rattle.std.proofs.lemmas.List.{length-map}
 use Rattle.meaning.specs.Config.{Configured}
 use Rattle.store.specs.Written.{TupleSpan, ConfigAt, Written, is_moved, is_one, config_at, brings_one}
-use Rattle.store.specs.Reading.{as_span, as_config, as_written}
+use Rattle.store.specs.inside.Reading.{as_span, as_config, as_written}
 use Rattle.store.specs.Refused.{IsWholeAbove}
 use Rattle.store.specs.declared.parts.ReadSpan.{ReadSpan}
 use Rattle.store.specs.declared.parts.ReadConfig.{ReadConfig}

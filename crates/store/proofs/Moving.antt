@@ -19,7 +19,7 @@ use Rattle.meaning.specs.Config.{Configured}
 use Rattle.meaning.specs.TupleSet as set
 use Rattle.meaning.proofs.TupleSets.{contains_from_list, same_tuples, items_from_list, exact_tuples, tuples_total}
 use Rattle.store.specs.Written.{TupleSpan, is_moved, is_one, is_put_at, event_at, events_at, tuples_of}
-use Rattle.store.specs.Moves.{moves, tuples_in, IsCommit, goes_on, event_if, put_of, del_of}
+use Rattle.store.specs.inside.Moves.{moves, tuples_in, IsCommit, goes_on, event_if, put_of, del_of}
 
 pub same_is : (q t : Tuple) → is_same_tuple q t ≡ true → q ≡ t
 same_is = tells_apart exact_tuples

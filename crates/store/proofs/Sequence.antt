@@ -11,8 +11,8 @@ use Rattle.names.specs.Order.{tuple_cmp, is_same_tuple}
 use Rattle.names.specs.declared.tuple.Tuple.{Tuple}
 use Rattle.meaning.proofs.TupleSets.{tuples_total}
 use Rattle.store.specs.Written.{TupleSpan, IsSpan, is_alive, is_moved}
-use Rattle.store.specs.Moves.{moves, tuples_in, event_if, put_of, del_of, goes_on}
-use Rattle.store.specs.Following.{Precedes}
+use Rattle.store.specs.inside.Moves.{moves, tuples_in, event_if, put_of, del_of, goes_on}
+use Rattle.store.specs.inside.Following.{Precedes}
 use Rattle.store.proofs.Apart.{InTurn}
 use Rattle.store.proofs.Living.{alive_says, moved_says}
 use Rattle.store.proofs.Moving.{same_self}

@@ -6,9 +6,9 @@ use Rattle.std.specs.Global.{Vec}
 use Rattle.std.proofs.lemmas.Bool.{eqb-true, eq-eqb}
 use Rattle.std.proofs.lemmas.Bool.Decides.{nat_tests}
 use Rattle.names.specs.declared.commit.Event.{Event}
-use Rattle.store.specs.Moves.{slot, event_if, moves, goes_on, put_of, del_of}
+use Rattle.store.specs.inside.Moves.{slot, event_if, moves, goes_on, put_of, del_of}
 use Rattle.store.specs.declared.parts.ReadSpan.{ReadSpan}
-use Rattle.store.specs.Reading.{as_span}
+use Rattle.store.specs.inside.Reading.{as_span}
 use Rattle.store.proofs.RowSteps.{drop_next}
 
 pub slot_pushed : (vs : List (Vec Event)) (v : Vec Event) → v.items ≡ [] → ((k : ℕ) → slot vs k ≡ []) → (k : ℕ) → slot (vs ++ v ∷ []) k ≡ []

@@ -24,7 +24,7 @@ use Rattle.store_core.specs.declared.stored.StoredSpan.{StoredSpan}
 use Rattle.store_core.specs.declared.stored.StoredConfig.{StoredConfig}
 use Rattle.store_core.specs.declared.stored.StoredEntry.{StoredEntry}
 use Rattle.store.specs.Written.{TupleSpan, Written, IsSpan, IsConfigAt, IsSound, IsHistory, history_of, commits_above, brings_one, is_alive, config_up_to, span_of, config_row_of, entries_of}
-use Rattle.store.specs.Reading.{as_span, as_config, as_written, current, IsHead, ArePlaced}
+use Rattle.store.specs.inside.Reading.{as_span, as_config, as_written, current, IsHead, ArePlaced}
 use Rattle.store.specs.declared.parts.ReadSpan.{ReadSpan}
 use Rattle.store.specs.declared.parts.ReadConfig.{ReadConfig}
 use Rattle.store.specs.declared.parts.Head.{Head}

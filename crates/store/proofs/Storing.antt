@@ -18,7 +18,7 @@ use Rattle.store_core.specs.Stored as texts
 use Rattle.store_core.specs.Tables.{Span, Contents, after_close, with_value}
 use Rattle.store_core.specs.Steps.{after_event, after_events, after_write, after_configure, with_span, with_closed}
 use Rattle.store.specs.Written.{TupleSpan, Written, IsSpan, IsSound, IsWritten, IsHistory, history_of, span_of, config_row_of, entries_of, canonical}
-use Rattle.store.specs.EventTexts.{event_texts, event_texts_in, is_put}
+use Rattle.store.specs.inside.EventTexts.{event_texts, event_texts_in, is_put}
 use Rattle.store.proofs.Picking.{In, all_in}
 use Rattle.store.proofs.Events.{ended, with_kind, with_event, with_events, ended_tuple}
 use Rattle.store.proofs.Spellings.{same_texts}

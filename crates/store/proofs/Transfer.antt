@@ -23,7 +23,7 @@ use Rattle.store_core.specs.declared.stored.StoredSpan.{StoredSpan}
 use Rattle.store_core.specs.declared.stored.StoredConfig.{StoredConfig}
 use Rattle.store_core.specs.declared.stored.StoredEntry.{StoredEntry}
 use Rattle.store.specs.Written.{TupleSpan, ConfigAt, Written, IsSpan, IsConfigAt, IsSound, IsWritten, Pairwise, is_alive, is_moved, is_one, is_before, are_apart, are_distinct, brings_one, config_at, last_up_to, config_up_to, history_of, span_of, config_row_of, entry, entries_of}
-use Rattle.store.specs.Reading.{as_span, as_config, as_written, IsHead}
+use Rattle.store.specs.inside.Reading.{as_span, as_config, as_written, IsHead}
 use Rattle.store.specs.Refused.{IsOfSpan, IsOfConfig, AreOfHead, AreListed, IsListed, IsOfHistory}
 use Rattle.store.specs.declared.parts.ReadSpan.{ReadSpan}
 use Rattle.store.specs.declared.parts.ReadConfig.{ReadConfig}

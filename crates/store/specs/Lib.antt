@@ -1,8 +1,5 @@
 pub mod Written
-pub mod EventTexts
 pub mod History
 pub mod StoreParts
-pub mod Moves
-pub mod Reading
-pub mod Following
 pub mod Refused
+pub mod inside

@@ -4,8 +4,8 @@ ghost use Rattle.std.specs.List.Sorted.{IsStrictlySortedBy};
 ghost use Rattle.names.specs.Order.{tuple_cmp};
 ghost use Rattle.meaning.specs.History.{rows_of, commit_rows, puts_in};
 ghost use Rattle.store.specs.Written.{IsSpan, commits_of, config_at, is_alive, tuples_alive};
-ghost use Rattle.store.specs.Moves.{tuples_in, IsCommitAt, IsCommitOf};
-ghost use Rattle.store.specs.Reading.{as_written, as_span, as_config, AreInTurn};
+ghost use Rattle.store.specs.inside.Moves.{tuples_in, IsCommitAt, IsCommitOf};
+ghost use Rattle.store.specs.inside.Reading.{as_written, as_span, as_config, AreInTurn};
 ghost use Rattle.store.specs.Refused.{DeservedBy, IsWholeAbove, IsWholeAt};
 ghost use Rattle.store.specs.declared.unread.Unread.TheVariants.{Memory};
 
@@ -17,7 +17,6 @@ use config::Config;
 use names::limits::MAX_ROWS;
 use names::{Commit, Event, EventKind, Items, Tuple};
 use std::alloc::Global;
-
 
 fn config_commit(alloc: Global, config: &Config, events: &[Event]) -> Result<Commit<Config>, Unread>
     ensures is { IfOk result (IsCommitOf (Some config.now) events.now) }

@@ -4,8 +4,8 @@ ghost use Rattle.std.specs.Option.{option_copied};
 ghost use Rattle.meaning.specs.Config.{empty_config};
 ghost use Rattle.store_core.specs.Stored.{config_row_in};
 ghost use Rattle.store.specs.Written.{IsConfigAt, config_row_of, config_at, config_up_to};
-ghost use Rattle.store.specs.Following.{IsAdmitted, is_between};
-ghost use Rattle.store.specs.Reading.{as_span, as_config, AreAscending, AreAdmitted};
+ghost use Rattle.store.specs.inside.Following.{IsAdmitted, is_between};
+ghost use Rattle.store.specs.inside.Reading.{as_span, as_config, AreAscending, AreAdmitted};
 ghost use Rattle.store.specs.Refused.{DeservedBy, IsOfConfig, ConfigsListed, AreDistinct, IsNotAdmitted, AreNotAdmitted};
 
 use crate::parts::{Head, ReadConfig, ReadSpan};

@@ -3,13 +3,12 @@ ghost use Rattle.std.specs.Prelude.{◌≡◌, ◌<◌, ℕ, map, length, false,
 ghost use Rattle.store_core.specs.Stored.{entry_in};
 ghost use Rattle.store_core.specs.declared.stored.StoredEntry.{StoredEntry};
 ghost use Rattle.store.specs.Written.{entry, entries_of};
-ghost use Rattle.store.specs.Reading.{as_written, IsHead};
+ghost use Rattle.store.specs.inside.Reading.{as_written, IsHead};
 ghost use Rattle.store.specs.Refused.{AreOfHead};
 
-use names::limits::MAX_REV;
 use crate::parts::Head;
+use names::limits::MAX_REV;
 use store_core::StoredEntry;
-
 
 const NUMBERS: u64 = 0x8000_0000_0000_0000;
 

@@ -1,7 +1,7 @@
 //! The events of each revision above the floor.
 ghost use Rattle.std.specs.Prelude.{◌≡◌, ◌≤◌, ◌<◌, ◌≢◌, ◌-◌, ◌==◌, ◌++◌, ◌∷◌, [], ℕ, map, length, IfOk, IfErr, OnOk};
-ghost use Rattle.store.specs.Moves.{slot, event_if, event_at_place, goes_on, Adds, AddsSpan, HasMoves};
-ghost use Rattle.store.specs.Reading.{as_span};
+ghost use Rattle.store.specs.inside.Moves.{slot, event_if, event_at_place, goes_on, Adds, AddsSpan, HasMoves};
+ghost use Rattle.store.specs.inside.Reading.{as_span};
 ghost use Rattle.store.specs.declared.unread.Unread.TheVariants.{Memory};
 
 use crate::parts::{Head, ReadSpan};

@@ -3,7 +3,7 @@ ghost use Rattle.std.specs.Prelude.{◌≡◌, false, nat_le, All, IfOk, IfErr, 
 ghost use Rattle.rows.specs.Loads.{retained_of, IsWithin};
 ghost use Rattle.store_core.specs.Stored.{IsInOrder};
 ghost use Rattle.store.specs.Written.{history_of, IsConfigAt, IsSpan};
-ghost use Rattle.store.specs.Reading.{as_span, as_config, as_written, current, IsHead, ArePlaced};
+ghost use Rattle.store.specs.inside.Reading.{as_span, as_config, as_written, current, IsHead, ArePlaced};
 ghost use Rattle.store.specs.Refused.{DeservedBy, IsWholeAbove, AreListed, AreSound, IsOfHistory, IsHistoryOf, IsTheHistoryOf, HasNoHistory};
 
 use crate::committing::{has_room, read_commits, tuples_at};
@@ -13,13 +13,12 @@ use crate::parts::{Head, ReadConfig, ReadSpan};
 use crate::spans::{are_apart, read_spans};
 use crate::unread::Unread;
 use config::Config;
-use names::limits::MAX_TUPLES;
 use names::Items;
+use names::limits::MAX_TUPLES;
 use rows::Loaded;
 use std::alloc::Global;
 use store_core::Stored;
 use tables::TablesError;
-
 
 // Whether the rows are enough for the revisions: each brings an event or a configuration.
 fn are_enough(head: Head, configs: &[ReadConfig], spans: &[ReadSpan]) -> bool

@@ -3,8 +3,8 @@ ghost use Rattle.std.specs.Prelude.{◌≡◌, ◌<◌, ◌≤◌, false, map, I
 ghost use Rattle.names.specs.Spelling.{IsTuple};
 ghost use Rattle.store_core.specs.Stored.{span_in};
 ghost use Rattle.store.specs.Written.{Ends, IsSpan, span_of};
-ghost use Rattle.store.specs.Following.{Precedes};
-ghost use Rattle.store.specs.Reading.{as_span, AreInTurn, Spells};
+ghost use Rattle.store.specs.inside.Following.{Precedes};
+ghost use Rattle.store.specs.inside.Reading.{as_span, AreInTurn, Spells};
 ghost use Rattle.store.specs.Refused.{DeservedBy, IsOfTuple, IsOfSpan, SpansListed, Overlap};
 
 use crate::parts::{Head, ReadSpan};

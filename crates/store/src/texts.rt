@@ -1,7 +1,7 @@
 //! Events as the tables are event_texts of them.
 ghost use Rattle.std.specs.Prelude.{◌≡◌, map, string_bytes, All, IfOk};
 ghost use Rattle.names.specs.Spelling.{IsSubject, IsTuple, subject_text};
-ghost use Rattle.store.specs.EventTexts.{event_texts, event_texts_in};
+ghost use Rattle.store.specs.inside.EventTexts.{event_texts, event_texts_in};
 
 use names::{Event, EventKind, Subject, Tuple};
 use std::alloc::{AllocError, Global};

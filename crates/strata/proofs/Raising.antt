@@ -7,7 +7,7 @@ use Rattle.std.proofs.lemmas.List.Sums.{sum_by-set}
 use Rattle.meaning.specs.Levels.{Path, stop, plain, subtracted}
 use Rattle.strata.specs.declared.graph.Step.{Step}
 use Rattle.strata.specs.Graph.{HasStep, NoneBack, AreLevels, sign_cost}
-use Rattle.strata.specs.Raise.{IsRaising, IsMet, IsPass, room}
+use Rattle.strata.specs.inside.Raise.{IsRaising, IsMet, IsPass, room}
 use Rattle.strata.proofs.Bounds.{path_few, path_below}
 
 pub raising_none : (steps : List Step) (count : ℕ) → IsRaising steps count (replicate count 0)

@@ -8,7 +8,7 @@ use Rattle.std.proofs.lemmas.List.Sums.{sum_by-set}
 use Rattle.meaning.proofs.Lists.{contains_here, contains_cases, contains_none}
 use Rattle.strata.specs.declared.graph.Step.{Step}
 use Rattle.strata.specs.declared.search.Seen.{Seen}
-use Rattle.strata.specs.Search.{HasNode, IsTrail, IsReached, IsMarked, IsSpread, LeaveFrom, unmarked}
+use Rattle.strata.specs.inside.Search.{HasNode, IsTrail, IsReached, IsMarked, IsSpread, LeaveFrom, unmarked}
 use Rattle.strata.proofs.Trails.{trail_one, trail_more}
 
 pub spread_none : (seen : List Seen) (marks : List Bool) (steps : List Step) → IsMarked marks seen → IsSpread seen marks seen marks steps 0

@@ -7,7 +7,7 @@ use Rattle.std.proofs.lemmas.List.Elements.{Contains-append_left, Contains-push}
 use Rattle.strata.specs.declared.graph.Step.{Step}
 use Rattle.strata.specs.declared.search.Seen.{Seen}
 use Rattle.strata.specs.Graph.{HasStep, Walk, here, onward}
-use Rattle.strata.specs.Search.{HasNode, IsTrail, IsReached}
+use Rattle.strata.specs.inside.Search.{HasNode, IsTrail, IsReached}
 
 pub trail_one : (steps : List Step) (x : Seen) → IsTrail steps x.node (x ∷ [])
 trail_one steps x = record {

@@ -8,7 +8,7 @@ use Rattle.meaning.proofs.Lists.{contains_cases, contains_none}
 use Rattle.strata.specs.declared.graph.Step.{Step}
 use Rattle.strata.specs.declared.search.Seen.{Seen}
 use Rattle.strata.specs.Graph.{HasStep, IsChain, IsCycle, NoneBack, NoneBackTo, Walk}
-use Rattle.strata.specs.Search.{HasNode, IsTrail, IsReached, IsWay, IsMarked, IsClosing}
+use Rattle.strata.specs.inside.Search.{HasNode, IsTrail, IsReached, IsWay, IsMarked, IsClosing}
 use Rattle.strata.proofs.Trails.{walked}
 
 module _ (steps : List Step) (start : ℕ) (seen : List Seen) (trail : IsTrail steps start seen) where

@@ -1,3 +1,2 @@
 pub mod Graph
-pub mod Search
-pub mod Raise
+pub mod inside

@@ -4,7 +4,7 @@ ghost use Rattle.std.specs.List.Sorted.{IsNonDecreasingBy};
 ghost use Rattle.strata.specs.declared.graph.Step.{Step};
 ghost use Rattle.strata.specs.declared.search.Seen.{Seen};
 ghost use Rattle.strata.specs.Graph.{IsCertificate, NoneBack, NoneBackTo};
-ghost use Rattle.strata.specs.Search.{HasNode, IsTrail, IsWay, IsClosing};
+ghost use Rattle.strata.specs.inside.Search.{HasNode, IsTrail, IsWay, IsClosing};
 
 use crate::Step;
 use crate::search::{Seen, reached};

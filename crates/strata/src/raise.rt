@@ -2,7 +2,7 @@
 ghost use Rattle.std.specs.Prelude.{◌≡◌, ◌<◌, ◌+◌, ◌^◌, All, IfOk, length, replicate, slice_index};
 ghost use Rattle.strata.specs.declared.graph.Step.{Step};
 ghost use Rattle.strata.specs.Graph.{AreLevels, NoneBack, sign_cost};
-ghost use Rattle.strata.specs.Raise.{IsRaising, IsPass};
+ghost use Rattle.strata.specs.inside.Raise.{IsRaising, IsPass};
 
 use crate::Step;
 use std::alloc::{AllocError, Global};

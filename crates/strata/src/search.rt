@@ -3,7 +3,7 @@ ghost use Rattle.std.specs.Prelude.{◌≡◌, ◌<◌, true, false, All, IfOk, 
 ghost use Rattle.std.specs.List.Sorted.{IsNonDecreasingBy};
 ghost use Rattle.strata.specs.declared.graph.Step.{Step};
 ghost use Rattle.strata.specs.declared.search.Seen.{Seen};
-ghost use Rattle.strata.specs.Search.{IsReached, IsMarked, IsSpread, LeaveFrom};
+ghost use Rattle.strata.specs.inside.Search.{IsReached, IsMarked, IsSpread, LeaveFrom};
 
 use crate::Step;
 use crate::order::steps_from;

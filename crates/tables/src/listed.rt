@@ -20,7 +20,7 @@ pub struct Listed {
 
 impl Model for Listed {
     ghost use Rattle.rows.specs.Retained.{Retained, store_from};
-    ghost use Rattle.rows.specs.Codes.{coded_retained};
+    ghost use Rattle.rows.specs.inside.Codes.{coded_retained};
     ghost use Rattle.tables.specs.Limits.{IsInLimits};
 
     ghost Value = { Retained };

@@ -1,6 +1,6 @@
 use Rattle.std.proofs.Common.{◌≡◌, ◌<◌, ◌*◌}
 use Rattle.config_core.specs.Parts.{parts_of}
-use Rattle.config.specs.Graph.{Adds}
+use Rattle.config.specs.inside.Graph.{Adds}
 use Rattle.config.proofs.graph.add_steps_from.Given as goal
 
 abbrev pub invariant-loop-to : goal.invariant-loop-to

@@ -1,6 +1,6 @@
 use Rattle.std.proofs.Common.{◌≡◌, map, take}
 use Rattle.config_core.specs.Parts.{parts_of}
-use Rattle.config.specs.Graph.{step_by_name}
+use Rattle.config.specs.inside.Graph.{step_by_name}
 use Rattle.config.proofs.levels.all_by_name.Given as goal
 
 abbrev pub invariant-loop-step : goal.invariant-loop-step

@@ -6,7 +6,7 @@ use Rattle.strata.specs.Graph.{IsAnswer, AreLevels, IsCertificate}
 use Rattle.config_core.specs.Forms.{defined_of}
 use Rattle.config_core.specs.Parts.{parts_of}
 use Rattle.config.specs.Cycles as named
-use Rattle.config.specs.Graph.{step_by_name}
+use Rattle.config.specs.inside.Graph.{step_by_name}
 use Rattle.config.proofs.ByName.{levels_by_name, cycle_by_name, levels_small, certificate_within}
 use Rattle.config.proofs.Tested.{passed, ends_there}
 use Rattle.config.proofs.levels.levels_of.Goals as goal

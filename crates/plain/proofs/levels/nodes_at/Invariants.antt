@@ -1,4 +1,4 @@
-use Rattle.plain.specs.Candidates.{HasNodes}
+use Rattle.plain.specs.inside.Candidates.{HasNodes}
 use Rattle.plain.proofs.levels.nodes_at.Given as goal
 
 abbrev pub invariant-loop-object : goal.invariant-loop-object

@@ -1,4 +1,4 @@
-use Rattle.plain.specs.Source.{snap_of}
+use Rattle.plain.specs.inside.Source.{snap_of}
 use Rattle.plain.proofs.LevelSteps.{IsDone}
 use Rattle.plain.proofs.levels.nodes_of.Given as goal
 

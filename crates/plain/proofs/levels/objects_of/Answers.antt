@@ -1,7 +1,7 @@
 use Rattle.std.proofs.Common.{◌≡◌, [], subst, ◌∙◌, ap, sym}
 use Rattle.std.specs.Prelude.{◌↔◌, ◌⊎◌, Contains}
 use Rattle.names.specs.declared.object.Object.{Object}
-use Rattle.plain.specs.Source.{IsOf}
+use Rattle.plain.specs.inside.Source.{IsOf}
 use Rattle.plain.proofs.Gather.{gather_more, gather_all, pushed, had}
 use Rattle.plain.proofs.levels.objects_of.Goals as goal
 

@@ -1,6 +1,6 @@
 use Rattle.std.specs.Prelude.{◌↔◌, ◌⊎◌, Any, Contains}
 use Rattle.names.specs.declared.object.Object.{Object}
-use Rattle.plain.specs.Source.{IsOf}
+use Rattle.plain.specs.inside.Source.{IsOf}
 use Rattle.plain.proofs.levels.objects_of.Given as goal
 
 -- the objects so far, and those of what is left

@@ -1,4 +1,4 @@
-use Rattle.plain.specs.Candidates.{GainsNodes}
+use Rattle.plain.specs.inside.Candidates.{GainsNodes}
 use Rattle.plain.proofs.levels.push_nodes.Given as goal
 
 abbrev pub invariant-loop-i : goal.invariant-loop-i

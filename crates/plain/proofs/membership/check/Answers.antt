@@ -1,4 +1,4 @@
-use Rattle.plain.specs.Source.{snap_of}
+use Rattle.plain.specs.inside.Source.{snap_of}
 use Rattle.plain.proofs.Alike.{member_alike}
 use Rattle.plain.proofs.OrderedSets.{source_alike}
 use Rattle.plain.proofs.membership.check.Goals as goal

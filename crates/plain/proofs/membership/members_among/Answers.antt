@@ -1,7 +1,7 @@
 use Rattle.std.proofs.Common.{◌≡◌, sym, ◌∙◌, subst, inl, inr, ⊎_elim}
 use Rattle.std.specs.Prelude.{Contains, IsTrue}
 use Rattle.meaning.specs.Membership.{IsMember}
-use Rattle.plain.specs.Source.{snap_of}
+use Rattle.plain.specs.inside.Source.{snap_of}
 use Rattle.plain.proofs.Gather.{gather_more, gather_all}
 use Rattle.plain.proofs.OrderedSets.{Joins, joins_any}
 use Rattle.plain.proofs.membership.members_among.Goals as goal

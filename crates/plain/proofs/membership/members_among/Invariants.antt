@@ -1,6 +1,6 @@
 use Rattle.std.specs.Prelude.{◌↔◌, ◌⊎◌, Any, Contains}
 use Rattle.names.specs.declared.object.Object.{Object}
-use Rattle.plain.specs.Source.{snap_of}
+use Rattle.plain.specs.inside.Source.{snap_of}
 use Rattle.plain.proofs.OrderedSets.{Joins}
 use Rattle.plain.proofs.membership.members_among.Given as goal
 

@@ -1,6 +1,6 @@
 use Rattle.std.proofs.Common.{◌≡◌, ap, sym, ◌∙◌, inl, inr, ⊎_elim}
 use Rattle.std.specs.Prelude.{Contains, None, is_some}
-use Rattle.plain.specs.Source.{Names}
+use Rattle.plain.specs.inside.Source.{Names}
 use Rattle.plain.proofs.Gather.{gather_more, gather_all}
 use Rattle.plain.proofs.OrderedSets.{names_one, none_from}
 use Rattle.plain.proofs.membership.users_of.Goals as goal

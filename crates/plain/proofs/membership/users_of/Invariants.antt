@@ -1,6 +1,6 @@
 use Rattle.std.specs.Prelude.{◌↔◌, ◌⊎◌, Any, Contains}
 use Rattle.names.specs.declared.object.Object.{Object}
-use Rattle.plain.specs.Source.{Names}
+use Rattle.plain.specs.inside.Source.{Names}
 use Rattle.plain.proofs.membership.users_of.Given as goal
 
 -- the users so far, and those of what is left

@@ -2,7 +2,7 @@ use Rattle.std.proofs.Common.{drop, map}
 use Rattle.std.specs.Prelude.{◌↔◌, Contains}
 use Rattle.meaning.specs.Membership.{SomeGives, EachGives}
 use Rattle.config.specs.Forms.{form_of, forms_of}
-use Rattle.plain.specs.Source.{snap_of}
+use Rattle.plain.specs.inside.Source.{snap_of}
 use Rattle.plain.proofs.rewrites.+gives.Given as goal
 
 -- what is left of the parts decides

@@ -5,7 +5,7 @@ use Rattle.meaning.specs.Config.{rel_of}
 use Rattle.meaning.specs.Membership.{Gives}
 use Rattle.config_core.specs.declared.relation.Relation.{Relation}
 use Rattle.config.specs.Forms.{defined_of, form_of}
-use Rattle.plain.specs.Source.{snap_of}
+use Rattle.plain.specs.inside.Source.{snap_of}
 use Rattle.plain.proofs.rewrites.relation_gives.Given as goal
 
 -- none before

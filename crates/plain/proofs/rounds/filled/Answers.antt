@@ -2,7 +2,7 @@ use Rattle.std.proofs.Common.{sym, subst, arith}
 use Rattle.std.specs.Prelude.{Contains}
 use Rattle.meaning.specs.Membership.{RelationGives}
 use Rattle.meaning.proofs.GivesLemmas.{relation_grows, relation_finitary}
-use Rattle.plain.specs.Source.{snap_of}
+use Rattle.plain.specs.inside.Source.{snap_of}
 use Rattle.plain.proofs.Fill.{filling_none, filling_more, filling_done}
 use Rattle.plain.proofs.rounds.filled.Goals as goal
 

@@ -1,7 +1,7 @@
 use Rattle.std.proofs.Common.{◌+◌, ◌*◌}
 use Rattle.std.specs.Prelude.{vec_len, min}
 use Rattle.meaning.specs.Membership.{RelationGives}
-use Rattle.plain.specs.Source.{snap_of}
+use Rattle.plain.specs.inside.Source.{snap_of}
 use Rattle.plain.proofs.Fill.{IsFilling}
 use Rattle.plain.proofs.rounds.filled.Given as goal
 

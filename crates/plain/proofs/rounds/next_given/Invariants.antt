@@ -2,7 +2,7 @@ use Rattle.std.proofs.Common.{◌≡◌, ℕ, ◌<◌, ◌≤◌, get_or}
 use Rattle.std.specs.Prelude.{Contains}
 use Rattle.names.specs.declared.node.Node.{Node}
 use Rattle.meaning.specs.Membership.{RelationGives}
-use Rattle.plain.specs.Source.{snap_of}
+use Rattle.plain.specs.inside.Source.{snap_of}
 use Rattle.plain.proofs.rounds.next_given.Given as goal
 
 -- none before

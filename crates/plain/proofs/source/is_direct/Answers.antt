@@ -1,6 +1,6 @@
 use Rattle.std.proofs.Common.{rules}
 use Rattle.std.specs.Prelude.{◌↔◌, IsTrue, Any}
-use Rattle.plain.specs.Source.{Grants}
+use Rattle.plain.specs.inside.Source.{Grants}
 use Rattle.plain.proofs.Looks.{direct_given, given_direct}
 use Rattle.plain.proofs.source.is_direct.Goals as goal
 

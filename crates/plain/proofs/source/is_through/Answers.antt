@@ -1,6 +1,6 @@
 use Rattle.std.proofs.Common.{rules}
 use Rattle.std.specs.Prelude.{◌↔◌, IsTrue, Any}
-use Rattle.plain.specs.Source.{LeadsOn}
+use Rattle.plain.specs.inside.Source.{LeadsOn}
 use Rattle.plain.proofs.Looks.{through_given, given_through}
 use Rattle.plain.proofs.source.is_through.Goals as goal
 

@@ -2,7 +2,7 @@ use Rattle.std.proofs.Common.{sym, subst}
 use Rattle.std.specs.Prelude.{Some}
 use Rattle.names.specs.declared.commit.Commit.TheVariants as kinds
 use Rattle.meaning.specs.Config.{Configured}
-use Rattle.store.specs.Moves.{IsCommit}
+use Rattle.store.specs.inside.Moves.{IsCommit}
 use Rattle.store.proofs.Moving.{config_is}
 use Rattle.store.proofs.committing.config_commit.Goals as goal
 

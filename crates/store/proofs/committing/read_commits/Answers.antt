@@ -7,8 +7,8 @@ use Rattle.names.specs.declared.commit.Commit.{Commit}
 use Rattle.names.specs.declared.commit.Event.{Event}
 use Rattle.meaning.specs.Config.{Configured}
 use Rattle.store.specs.Written.{IsSpan, commits_above}
-use Rattle.store.specs.Moves.{tuples_in}
-use Rattle.store.specs.Reading.{as_written, as_span}
+use Rattle.store.specs.inside.Moves.{tuples_in}
+use Rattle.store.specs.inside.Reading.{as_written, as_span}
 use Rattle.store.specs.Refused.{IsWholeAbove, IsWholeAt}
 use Rattle.store.proofs.Apart.{in_turn}
 use Rattle.store.proofs.Deserving.{deserved}

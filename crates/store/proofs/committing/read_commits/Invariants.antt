@@ -1,7 +1,7 @@
 use Rattle.std.proofs.Common.{◌≡◌, ℕ, ◌+◌, ◌-◌, ◌<◌, ◌≤◌, length, map, true}
 use Rattle.store.specs.Written.{commits_above, brings_one}
-use Rattle.store.specs.Moves.{slot, moves}
-use Rattle.store.specs.Reading.{as_written, as_span}
+use Rattle.store.specs.inside.Moves.{slot, moves}
+use Rattle.store.specs.inside.Reading.{as_written, as_span}
 use Rattle.store.proofs.committing.read_commits.Given as goal
 
 abbrev pub invariant-loop-i : goal.invariant-loop-i

@@ -1,7 +1,7 @@
 use Rattle.std.proofs.Common.{◌≡◌, ◌++◌, drop, map}
 use Rattle.std.specs.Prelude.{filter}
 use Rattle.store.specs.Written.{TupleSpan, is_alive}
-use Rattle.store.specs.Reading.{as_span}
+use Rattle.store.specs.inside.Reading.{as_span}
 use Rattle.store.proofs.committing.tuples_at.Given as goal
 
 -- what is found and what is left are all

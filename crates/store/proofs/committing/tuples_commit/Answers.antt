@@ -2,7 +2,7 @@ use Rattle.std.proofs.Common.{◌<◌, List, length, ap, sym, subst, arith}
 use Rattle.std.specs.Prelude.{None}
 use Rattle.names.specs.declared.commit.Event.{Event}
 use Rattle.names.specs.declared.commit.Commit.TheVariants as kinds
-use Rattle.store.specs.Moves.{IsCommit}
+use Rattle.store.specs.inside.Moves.{IsCommit}
 use Rattle.store.proofs.Moving.{tuples_are}
 use Rattle.store.proofs.committing.tuples_commit.Goals as goal
 

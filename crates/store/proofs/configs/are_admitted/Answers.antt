@@ -1,6 +1,6 @@
 use Rattle.std.proofs.Common.{map, refl}
 use Rattle.store.specs.Written.{IsSpan}
-use Rattle.store.specs.Reading.{as_span, as_config}
+use Rattle.store.specs.inside.Reading.{as_span, as_config}
 use Rattle.store.specs.Refused.{IsAdmittedTo}
 use Rattle.store.proofs.Deserving.{one_of}
 use Rattle.store.proofs.configs.are_admitted.Goals as goal

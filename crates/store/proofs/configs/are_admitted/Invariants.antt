@@ -1,7 +1,7 @@
 use Rattle.std.proofs.Common.{ℕ, ◌<◌, get_or, map}
 use Rattle.store.specs.declared.parts.ReadSpan.{ReadSpan}
-use Rattle.store.specs.Following.{IsAdmitted}
-use Rattle.store.specs.Reading.{as_span, as_config}
+use Rattle.store.specs.inside.Following.{IsAdmitted}
+use Rattle.store.specs.inside.Reading.{as_span, as_config}
 use Rattle.store.proofs.configs.are_admitted.Given as goal
 
 abbrev pub invariant-loop-span : goal.invariant-loop-span

@@ -1,6 +1,6 @@
 use Rattle.std.specs.List.{AllAdjacentBelow}
-use Rattle.store.specs.Following.{Ascends}
-use Rattle.store.specs.Reading.{as_config}
+use Rattle.store.specs.inside.Following.{Ascends}
+use Rattle.store.specs.inside.Reading.{as_config}
 use Rattle.store.proofs.configs.are_ascending.Given as goal
 
 abbrev pub invariant-loop-i : goal.invariant-loop-i

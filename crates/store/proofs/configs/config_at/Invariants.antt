@@ -1,6 +1,6 @@
 use Rattle.std.proofs.Common.{◌≡◌, map, drop}
 use Rattle.store.specs.Written.{config_at}
-use Rattle.store.specs.Reading.{as_config}
+use Rattle.store.specs.inside.Reading.{as_config}
 use Rattle.store.proofs.configs.config_at.Given as goal
 
 abbrev pub invariant-loop-revised : goal.invariant-loop-revised

@@ -1,6 +1,6 @@
 use Rattle.std.proofs.Common.{◌≡◌, ◌≤◌, map, drop, length}
 use Rattle.store.specs.Written.{last_up_to}
-use Rattle.store.specs.Reading.{as_config}
+use Rattle.store.specs.inside.Reading.{as_config}
 use Rattle.store.proofs.configs.config_up_to.Given as goal
 
 abbrev pub invariant-loop-left : goal.invariant-loop-left

@@ -3,8 +3,8 @@ use Rattle.std.proofs.lemmas.List.Elements.{All-map}
 use Rattle.meaning.specs.Admits.{admits}
 use Rattle.meaning.specs.Config.{Configured}
 use Rattle.store.specs.Written.{ConfigAt}
-use Rattle.store.specs.Following.{is_between}
-use Rattle.store.specs.Reading.{as_span, as_config}
+use Rattle.store.specs.inside.Following.{is_between}
+use Rattle.store.specs.inside.Reading.{as_span, as_config}
 use Rattle.store.proofs.Admitting.{admitted}
 use Rattle.store.proofs.Admissible.{first_admitted, later_admitted}
 use Rattle.store.proofs.Deserving.{in_at}

@@ -1,7 +1,7 @@
 use Rattle.std.proofs.Common.{◌≡◌, ℕ, ◌<◌, get_or, true}
 use Rattle.meaning.specs.Admits.{admits}
 use Rattle.store.specs.declared.parts.ReadConfig.{ReadConfig}
-use Rattle.store.specs.Following.{is_between}
+use Rattle.store.specs.inside.Following.{is_between}
 use Rattle.store.proofs.configs.is_admitted.Given as goal
 
 abbrev pub invariant-loop-revised : goal.invariant-loop-revised

@@ -5,7 +5,7 @@ use Rattle.names.specs.Spelling.{IsTuple}
 use Rattle.store.proofs.Picking.{all_in}
 use Rattle.rows.specs.Retained.{with_commit}
 use Rattle.store_core.specs.Steps.{after_write, MayStore}
-use Rattle.store.specs.EventTexts.{event_texts_in}
+use Rattle.store.specs.inside.EventTexts.{event_texts_in}
 use Rattle.store.specs.History.{IsEither}
 use Rattle.store.proofs.Leaving.{holds_undone, holds_stored, leaves_held, leaves_stored, survives_quiet}
 use Rattle.store.proofs.Storing.{events_next}

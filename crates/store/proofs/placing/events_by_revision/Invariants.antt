@@ -1,6 +1,6 @@
 use Rattle.std.proofs.Common.{◌≡◌, ℕ, ◌+◌, ◌-◌, ◌<◌, ◌++◌, length, drop, map}
-use Rattle.store.specs.Moves.{slot, moves}
-use Rattle.store.specs.Reading.{as_span}
+use Rattle.store.specs.inside.Moves.{slot, moves}
+use Rattle.store.specs.inside.Reading.{as_span}
 use Rattle.store.proofs.placing.events_by_revision.Given as goal
 
 -- what is placed and what is left are all

@@ -1,7 +1,7 @@
 use Rattle.std.proofs.Common.{◌+◌, List, ap, ◌∙◌}
 use Rattle.std.specs.Global.{Vec}
 use Rattle.names.specs.declared.commit.Event.{Event}
-use Rattle.store.specs.Moves.{slot}
+use Rattle.store.specs.inside.Moves.{slot}
 use Rattle.store.proofs.Slots.{slot_pushed, length_pushed}
 use Rattle.store.proofs.placing.no_events.Goals as goal
 

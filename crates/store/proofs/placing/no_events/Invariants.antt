@@ -1,5 +1,5 @@
 use Rattle.std.proofs.Common.{◌≡◌, ℕ, [], length}
-use Rattle.store.specs.Moves.{slot}
+use Rattle.store.specs.inside.Moves.{slot}
 use Rattle.store.proofs.placing.no_events.Given as goal
 
 abbrev pub invariant-loop-i : goal.invariant-loop-i

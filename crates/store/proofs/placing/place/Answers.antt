@@ -1,7 +1,7 @@
 use Rattle.std.proofs.Common.{◌++◌, ◌+◌, ap, ◌∙◌}
 use Rattle.std.specs.Prelude.{◌==◌}
 use Rattle.names.specs.declared.tuple.Tuple.{Tuple}
-use Rattle.store.specs.Moves.{slot, event_if}
+use Rattle.store.specs.inside.Moves.{slot, event_if}
 use Rattle.store.proofs.Slots.{above_floor}
 use Rattle.store.proofs.placing.place.Goals as goal
 

@@ -2,7 +2,7 @@ use Rattle.std.proofs.Common.{◌++◌, ◌∷◌, [], ◌<◌, length, List, ap
 use Rattle.std.specs.Global.{Vec}
 use Rattle.names.specs.declared.commit.Event.{Event}
 use Rattle.store.proofs.Slots.{slot_at, slot_grown, no_place, no_event}
-use Rattle.store.specs.Moves.{slot}
+use Rattle.store.specs.inside.Moves.{slot}
 use Rattle.store.proofs.placing.push_at.Goals as goal
 
 pub returns-then-at-len-clause-placed : goal.returns-then-at-len-clause-placed

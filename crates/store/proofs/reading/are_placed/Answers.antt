@@ -1,7 +1,7 @@
 use Rattle.std.proofs.Common.{◌≡◌, true, map, refl}
 use Rattle.meaning.specs.Admits.{admits}
 use Rattle.store.specs.Written.{TupleSpan, IsSpan, is_alive, config_up_to}
-use Rattle.store.specs.Reading.{as_span, as_config}
+use Rattle.store.specs.inside.Reading.{as_span, as_config}
 use Rattle.store.proofs.Adjacent.{all_at}
 use Rattle.store.proofs.reading.are_placed.Goals as goal
 use Rattle.store.proofs.reading.are_placed.Goals.{then-not-are_apart-via-then-not-are_apart, then-not-are_apart-via-else-not-are_apart+then-not-are_ascending}

@@ -5,7 +5,7 @@ use Rattle.names.specs.declared.tuple.Tuple.{Tuple}
 use Rattle.meaning.specs.History.{rows_of}
 use Rattle.std.proofs.lemmas.Bool.{leb-true, leb-false}
 use Rattle.names.specs.declared.limits.TheConstants.{MAX_REV, MAX_ROWS}
-use Rattle.store.specs.Reading.{as_span, as_written}
+use Rattle.store.specs.inside.Reading.{as_span, as_written}
 use Rattle.store.proofs.Sound.{within, room_refused}
 use Rattle.store.proofs.Apart.{in_turn}
 use Rattle.store.proofs.Sequence.{alive_sorted}

@@ -1,5 +1,5 @@
 use Rattle.std.proofs.Common.{◌≡◌, ◌+◌, ◌≤◌, drop}
-use Rattle.store.specs.Reading.{current}
+use Rattle.store.specs.inside.Reading.{current}
 use Rattle.store.proofs.reading.is_small.Given as goal
 
 -- what is counted and what is left are all

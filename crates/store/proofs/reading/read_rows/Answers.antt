@@ -5,7 +5,7 @@ use Rattle.std.proofs.lemmas.Result.{err_from_is_err_and}
 use Rattle.rows.specs.Loads.{retained_of}
 use Rattle.store_core.specs.Stored.{span_in}
 use Rattle.store.specs.Written.{IsSpan, IsConfigAt, IsSound, span_of, config_row_of}
-use Rattle.store.specs.Reading.{as_span, as_config, as_written}
+use Rattle.store.specs.inside.Reading.{as_span, as_config, as_written}
 use Rattle.store.specs.Refused.{IsOfSpan, IsOfConfig, IsListed, AreListed, IsOfHistory}
 use Rattle.store.specs.declared.parts.ReadSpan.{ReadSpan}
 use Rattle.store.specs.declared.parts.ReadConfig.{ReadConfig}

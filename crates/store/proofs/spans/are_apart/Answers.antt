@@ -1,8 +1,8 @@
 use Rattle.std.proofs.Common.{◌-◌, refl, arith}
 use Rattle.std.proofs.lemmas.List.Sorted.{all_adjacent_more}
-use Rattle.store.specs.Following.{Precedes}
+use Rattle.store.specs.inside.Following.{Precedes}
 use Rattle.store.specs.declared.parts.ReadSpan.{ReadSpan}
-use Rattle.store.specs.Reading.{as_span}
+use Rattle.store.specs.inside.Reading.{as_span}
 use Rattle.store.proofs.Adjacent.{overlap_refused}
 use Rattle.store.proofs.RowSteps.{related_at}
 use Rattle.store.proofs.spans.are_apart.Goals as goal

@@ -1,6 +1,6 @@
 use Rattle.std.specs.List.{AllAdjacentBelow}
-use Rattle.store.specs.Following.{Precedes}
-use Rattle.store.specs.Reading.{as_span}
+use Rattle.store.specs.inside.Following.{Precedes}
+use Rattle.store.specs.inside.Reading.{as_span}
 use Rattle.store.proofs.spans.are_apart.Given as goal
 
 abbrev pub invariant-loop-i : goal.invariant-loop-i

@@ -1,7 +1,7 @@
 use Rattle.std.proofs.Common.{inr, sym}
 use Rattle.std.proofs.lemmas.Bool.{leb-true}
 use Rattle.meaning.proofs.TupleSets.{exact_tuples}
-use Rattle.store.specs.Reading.{as_span}
+use Rattle.store.specs.inside.Reading.{as_span}
 use Rattle.store.proofs.Adjacent.{greater_refused}
 use Rattle.store.proofs.spans.precedes.Goals as goal
 

@@ -2,7 +2,7 @@ use Rattle.std.specs.Prelude.{All}
 use Rattle.std.proofs.lemmas.Result.{err_from_is_err_and}
 use Rattle.store_core.specs.Stored.{span_in}
 use Rattle.store.specs.Written.{IsSpan, span_of}
-use Rattle.store.specs.Reading.{as_span}
+use Rattle.store.specs.inside.Reading.{as_span}
 use Rattle.store.specs.Refused.{IsOfSpan}
 use Rattle.store.proofs.Deserving.{deserved, one_of}
 use Rattle.store.proofs.RowSteps.{map_more, all_more}

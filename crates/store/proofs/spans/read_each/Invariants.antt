@@ -2,7 +2,7 @@ use Rattle.std.proofs.Common.{◌≡◌, map, take}
 use Rattle.std.specs.Prelude.{All}
 use Rattle.store_core.specs.Stored.{span_in}
 use Rattle.store.specs.Written.{IsSpan, span_of}
-use Rattle.store.specs.Reading.{as_span}
+use Rattle.store.specs.inside.Reading.{as_span}
 use Rattle.store.proofs.spans.read_each.Given as goal
 
 abbrev pub invariant-loop-span : goal.invariant-loop-span

@@ -3,7 +3,7 @@ use Rattle.std.specs.Prelude.{IsPermutation}
 use Rattle.std.proofs.lemmas.List.Sorted.{IsPermutation-map, All-permutation}
 use Rattle.store_core.specs.Tables.{Span}
 use Rattle.store.specs.Written.{IsSpan, span_of}
-use Rattle.store.specs.Reading.{as_span}
+use Rattle.store.specs.inside.Reading.{as_span}
 use Rattle.store.proofs.Adjacent.{listed_from}
 use Rattle.store.proofs.spans.read_spans.Goals as goal
 

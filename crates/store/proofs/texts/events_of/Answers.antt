@@ -3,7 +3,7 @@ use Rattle.std.proofs.lemmas.List.{map-append, map_more}
 use Rattle.std.proofs.lemmas.List.Elements.{All-more}
 use Rattle.names.specs.Spelling.{IsTuple}
 use Rattle.names.specs.declared.commit.Event.{Event}
-use Rattle.store.specs.EventTexts.{event_texts, event_texts_in}
+use Rattle.store.specs.inside.EventTexts.{event_texts, event_texts_in}
 use Rattle.store.proofs.texts.events_of.Goals as goal
 
 one_more : {A B C : Type 0} (f : A → C) (p : B → C) (xs new : List A) (ys : List B) (x : A) (y : B) (i : ℕ) → i < length ys → y ≡ get_or ys i y → map f xs ≡ map p (take i ys) → f x ≡ p y → new ≡ xs ++ x ∷ []

@@ -1,6 +1,6 @@
 use Rattle.std.proofs.Common.{◌≡◌, map, take, All}
 use Rattle.names.specs.Spelling.{IsTuple}
-use Rattle.store.specs.EventTexts.{event_texts, event_texts_in}
+use Rattle.store.specs.inside.EventTexts.{event_texts, event_texts_in}
 use Rattle.store.proofs.texts.events_of.Given as goal
 
 abbrev pub invariant-loop-event : goal.invariant-loop-event

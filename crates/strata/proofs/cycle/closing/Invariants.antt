@@ -1,6 +1,6 @@
 use Rattle.std.proofs.Common.{◌≡◌, ℕ, ◌<◌, get_or}
 use Rattle.strata.specs.declared.graph.Step.{Step}
-use Rattle.strata.specs.Search.{IsClosing}
+use Rattle.strata.specs.inside.Search.{IsClosing}
 use Rattle.strata.proofs.cycle.closing.Given as goal
 
 abbrev pub invariant-loop-s : goal.invariant-loop-s

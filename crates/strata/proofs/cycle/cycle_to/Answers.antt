@@ -1,5 +1,5 @@
 use Rattle.std.proofs.Common.{subst}
-use Rattle.strata.specs.Search.{IsClosing}
+use Rattle.strata.specs.inside.Search.{IsClosing}
 use Rattle.strata.proofs.Ways.{closing_reached, closed_cycle, none_back_to, none_subtracted}
 use Rattle.strata.proofs.cycle.cycle_to.Goals as goal
 

@@ -1,7 +1,7 @@
 use Rattle.std.proofs.Common.{arith, ◌≡◌, ◌<◌, length, get_or, false, subst}
 use Rattle.std.proofs.lemmas.List.{get_or_default}
 use Rattle.strata.specs.declared.search.Seen.{Seen}
-use Rattle.strata.specs.Search.{IsWay}
+use Rattle.strata.specs.inside.Search.{IsWay}
 use Rattle.strata.proofs.Ways.{way_none, way_more}
 use Rattle.strata.proofs.cycle.way_to.Goals as goal
 

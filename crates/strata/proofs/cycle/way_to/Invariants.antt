@@ -1,6 +1,6 @@
 use Rattle.std.proofs.Common.{ℕ, ◌<◌, List, length}
 use Rattle.strata.specs.declared.graph.Step.{Step}
-use Rattle.strata.specs.Search.{IsTrail, IsWay}
+use Rattle.strata.specs.inside.Search.{IsTrail, IsWay}
 use Rattle.strata.proofs.cycle.way_to.Given as goal
 
 abbrev pub invariant-loop-at : goal.invariant-loop-at

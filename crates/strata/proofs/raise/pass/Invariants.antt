@@ -1,4 +1,4 @@
-use Rattle.strata.specs.Raise.{IsPass}
+use Rattle.strata.specs.inside.Raise.{IsPass}
 use Rattle.strata.proofs.raise.pass.Given as goal
 
 abbrev pub invariant-loop-s : goal.invariant-loop-s

@@ -1,4 +1,4 @@
-use Rattle.strata.specs.Raise.{IsRaising, room}
+use Rattle.strata.specs.inside.Raise.{IsRaising, room}
 use Rattle.strata.proofs.raise.raised.Given as goal
 
 abbrev pub invariant-loop : goal.invariant-loop

@@ -1,5 +1,5 @@
 use Rattle.std.proofs.Common.{◌+◌, ◌-◌, length}
-use Rattle.strata.specs.Search.{unmarked}
+use Rattle.strata.specs.inside.Search.{unmarked}
 use Rattle.strata.proofs.Spreads.{IsSearch}
 use Rattle.strata.proofs.search.reached.Given as goal
 

@@ -1,7 +1,7 @@
 use Rattle.std.proofs.Common.{ap, ◌∙◌, sym, subst}
 use Rattle.std.specs.Prelude.{All}
 use Rattle.meaning.specs.Config.{IsWhole}
-use Rattle.plain.specs.Source.{config_of}
+use Rattle.plain.specs.inside.Source.{config_of}
 use Rattle.plain.proofs.Alike.{levels_alike}
 use Rattle.plain.proofs.snapshot.Snapshot.source.Goals as goal
 

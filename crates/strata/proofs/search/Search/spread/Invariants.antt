@@ -1,4 +1,4 @@
-use Rattle.strata.specs.Search.{IsSpread}
+use Rattle.strata.specs.inside.Search.{IsSpread}
 use Rattle.strata.proofs.search.Search.spread.Given as goal
 
 abbrev pub invariant-loop-s : goal.invariant-loop-s

@@ -9,7 +9,7 @@ use Rattle.store.specs.declared.parts.ReadSpan.{ReadSpan}
 use Rattle.store.specs.declared.parts.ReadConfig.{ReadConfig}
 use Rattle.store.specs.declared.parts.Head.{Head}
 use Rattle.store.specs.Written.{TupleSpan, ConfigAt, Written}
-use Rattle.store.specs.Following.{Precedes, Ascends, IsAdmitted}
+use Rattle.store.specs.inside.Following.{Precedes, Ascends, IsAdmitted}
 
 abbrev pub as_span : ReadSpan → TupleSpan
 as_span s = record { tuple = s.tuple; added = s.added; removed = s.removed }

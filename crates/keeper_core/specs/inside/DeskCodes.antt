@@ -4,7 +4,7 @@ use Rattle.std.specs.Coded.{Coded, code_by, coded×, coded_ℕ, coded_bool}
 use Rattle.logbook.specs.Pages.{Book}
 use Rattle.shown.specs.declared.step.Step.{Step}
 use Rattle.keeper_core.specs.Known.{Known}
-use Rattle.keeper_core.specs.Codes.{coded_book, coded_steps, coded_known}
+use Rattle.keeper_core.specs.inside.Codes.{coded_book, coded_steps, coded_known}
 use Rattle.keeper_core.specs.Posts.{Posts}
 use Rattle.keeper_core.specs.Changes.{ReceiptFacts}
 

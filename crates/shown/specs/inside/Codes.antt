@@ -2,7 +2,7 @@
 use Rattle.std.specs.Prelude.{ℕ, refl}
 use Rattle.std.specs.Coded.{Coded, code_by, coded×, coded_ℕ}
 use Rattle.rows.specs.Retained.{Retained}
-use Rattle.rows.specs.Codes.{coded_retained}
+use Rattle.rows.specs.inside.Codes.{coded_retained}
 use Rattle.shown.specs.Standing.{Standing}
 
 abbrev pub coded_standing : Coded Standing

@@ -2,7 +2,7 @@
 use Rattle.std.specs.Prelude.{ℕ, List, refl}
 use Rattle.std.specs.Coded.{Coded, code_by, coded×, coded_ℕ, coded_list}
 use Rattle.rows.specs.Retained.{Retained}
-use Rattle.rows.specs.Codes.{coded_retained}
+use Rattle.rows.specs.inside.Codes.{coded_retained}
 use Rattle.shown.specs.declared.step.Step.{Step}
 use Rattle.shown.specs.contracts.step.Step as step_row
 use Rattle.shown.specs.World.{State}

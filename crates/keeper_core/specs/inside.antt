@@ -1,0 +1,5 @@
+-- What no promise rests on, which a reader of the promises can pass over.
+pub mod Latching
+pub mod Posting
+pub mod Codes
+pub mod DeskCodes

@@ -1,0 +1,5 @@
+-- What no promise rests on, which a reader of the promises can pass over.
+pub mod EventTexts
+pub mod Following
+pub mod Moves
+pub mod Reading
