@@ -8,5 +8,6 @@ mod rewrites;
 mod rounds;
 mod snapshot;
 mod source;
+
 pub use membership::{check, members};
 pub use snapshot::Snapshot;
