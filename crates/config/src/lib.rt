@@ -9,8 +9,6 @@ mod levels;
 mod rewrites;
 mod sizes;
 mod steps;
-#[cfg(test)]
-mod tests;
 
 pub use config::Config;
 pub use config_core::{Relation, Rewrite};

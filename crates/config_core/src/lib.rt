@@ -12,8 +12,6 @@ mod relation;
 mod rewrite;
 mod rewrites;
 mod shape;
-#[cfg(test)]
-mod tests;
 
 pub use canonical::text_of;
 pub use parts::Parts;

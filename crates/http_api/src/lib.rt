@@ -8,8 +8,6 @@
 
 mod answers;
 mod end;
-#[cfg(test)]
-mod tests;
 
 pub use answers::Answers;
 pub use end::End;

@@ -6,7 +6,5 @@ pub mod bodies;
 mod ops;
 pub mod refusals;
 pub mod replies;
-#[cfg(test)]
-mod tests;
 
 pub use answer::answer_on;

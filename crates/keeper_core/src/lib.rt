@@ -6,8 +6,6 @@ mod book;
 mod desk;
 mod receipt;
 mod showing;
-#[cfg(test)]
-mod tests;
 mod watched;
 
 pub use book::{Book, Front, Naming, Opened};

@@ -16,8 +16,6 @@ mod object_id;
 mod refusal;
 mod relation;
 mod subject;
-#[cfg(test)]
-mod tests;
 mod tuple;
 mod write;
 

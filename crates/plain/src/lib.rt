@@ -8,8 +8,6 @@ mod rewrites;
 mod rounds;
 mod snapshot;
 mod source;
-#[cfg(test)]
-mod tests;
 
 pub use membership::{check, members};
 pub use snapshot::Snapshot;

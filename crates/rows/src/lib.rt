@@ -17,6 +17,3 @@ pub use law::{refuses_what_no_write_gives, what_follows_has_room};
 pub use loaded::{Counts, Loaded};
 pub use rows::Rows;
 pub use view::View;
-
-#[cfg(test)]
-mod tests;

@@ -15,6 +15,3 @@ pub use change::Change;
 pub use kept::{KeptCommit, KeptEvent};
 pub use mark::Mark;
 pub use marked::Marked;
-
-#[cfg(test)]
-mod tests;

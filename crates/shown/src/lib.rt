@@ -9,8 +9,6 @@ mod law;
 mod shown;
 mod state;
 mod step;
-#[cfg(test)]
-mod tests;
 mod within;
 mod world;
 

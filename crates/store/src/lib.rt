@@ -11,12 +11,8 @@ mod keeping;
 mod lived;
 mod placing;
 mod reading;
-#[cfg(test)]
-mod reading_tests;
 mod spans;
 mod store;
-#[cfg(test)]
-mod tests;
 mod texts;
 mod unread;
 

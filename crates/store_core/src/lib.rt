@@ -10,8 +10,6 @@ mod format;
 mod loading;
 mod statement;
 mod stored;
-#[cfg(test)]
-mod tests;
 
 pub use commit::{configure, create, trim, write};
 pub use format::is_format;

@@ -14,8 +14,6 @@ mod graph;
 mod order;
 mod raise;
 mod search;
-#[cfg(test)]
-mod tests;
 
 use cycle::first_cycle;
 pub use graph::{Answer, Graph, Step};

@@ -5,8 +5,6 @@
 mod copy;
 mod listed;
 mod tables;
-#[cfg(test)]
-mod tests;
 
 pub use listed::Listed;
 pub use tables::{Tables, TablesError};

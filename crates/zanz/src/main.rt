@@ -10,8 +10,6 @@ mod lent;
 mod place;
 mod report;
 mod run;
-#[cfg(test)]
-mod tests;
 mod words;
 
 use command::{command, tell};

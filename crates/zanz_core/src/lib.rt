@@ -10,8 +10,6 @@ mod feed;
 mod pending;
 mod put;
 mod served;
-#[cfg(test)]
-mod tests;
 mod watched;
 mod watched_writer;
 

@@ -14,8 +14,6 @@ use names::Refusal;
 use std::alloc::{AllocError, Global};
 
 mod consistency;
-#[cfg(test)]
-mod tests;
 
 pub use consistency::Consistency;
 
