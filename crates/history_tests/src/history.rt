@@ -122,10 +122,13 @@ fn changes_last_at(alloc: Global, word: &str, rev: u64) -> Result<bool, Refusal>
     Ok(!before && is_unchanged(&rows, &tuple, rev))
 }
 
+fn change_last(alloc: Global) -> Result<bool, Refusal> {
+    Ok(changes_last_at(alloc, ANN, 3)? && changes_last_at(alloc, "doc:a#viewer@u:bob", 0)?)
+}
+
 #[test]
 fn a_tuple_is_unchanged_since_its_last_event(rt: HostRuntime) -> Result<(), Fail> {
-    assert!(rt; changes_last_at(rt.alloc(), ANN, 3)?);
-    assert!(rt; changes_last_at(rt.alloc(), "doc:a#viewer@u:bob", 0)?);
+    assert!(rt; change_last(rt.alloc())?);
     Ok(())
 }
 
