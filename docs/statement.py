@@ -67,6 +67,13 @@ class File:
             self.imports[(new or old).strip()] = path, old.strip()
 
 
+def in_order(folder):
+    """Returns the files of definitions in the order of the folder's Lib.antt, which is that of reading."""
+    named = re.findall(r"(?m)^pub mod (\w+)", (folder / "Lib.antt").read_text())
+    found = [it for it in sorted(folder.rglob("*.antt")) if it.name != "Lib.antt"]
+    return sorted(found, key=lambda it: named.index(it.stem) if it.stem in named else len(named))
+
+
 def constructors(file, name):
     text = "\n".join(file.definitions[name])
     return re.findall(r"(?m)^ +(?:pub )?(\S+) :", text) if re.match(r" *(?:pub )?data ", text) else []
@@ -164,10 +171,9 @@ def main(words):
     files = {}
     for crate in order:
         folder = ROOT / "crates" / crate / "specs"
-        for path in sorted(folder.rglob("*.antt")) if folder.exists() else []:
-            if path.name != "Lib.antt":
-                file = File(crate, path)
-                files[file.module] = file
+        for path in in_order(folder) if folder.exists() else []:
+            file = File(crate, path)
+            files[file.module] = file
     inside = "--inside" in words
     wanted = [it for it in words if not it.startswith("--")] or ["zanz::run"]
     found = reached(files, of_functions(files, None if inside else wanted))

@@ -112,7 +112,7 @@ fn holds_at(rows: &Rows, rev: u64, tuple: &Tuple) -> bool {
 }
 
 fn is_unchanged(rows: &Rows, tuple: &Tuple, rev: u64) -> bool {
-    rev >= rows.floor() && rows.unchanged(tuple, rev)
+    rev >= rows.floor() && rows.is_unchanged(tuple, rev)
 }
 
 fn changes_last_at(alloc: Global, word: &str, rev: u64) -> Result<bool, Refusal> {
