@@ -4,7 +4,7 @@ ghost use Rattle.std.specs.Prelude.{◌≡◌, false, IfOk};
 use sqlite::{Connection, Error, MemStore};
 use std::alloc::{AllocError, Global};
 use std::test::Fail;
-use store_core::{StoredEvent, Stored, TupleText, configure, create, load, trim, write};
+use store_core::{Stored, StoredEvent, TupleText, configure, create, load, trim, write};
 
 fn event(alloc: Global, put: bool, subject: &str) -> Result<StoredEvent, AllocError> {
     Ok(StoredEvent {
