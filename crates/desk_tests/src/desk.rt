@@ -2,7 +2,7 @@
 ghost use Rattle.std.specs.Prelude.{◌≡◌};
 
 use config::Config;
-use keeper_core::{Desk, Front, Opened, Receipt};
+use keeper_core::{Desk, StepPrefix, Opened, Receipt};
 use names::{Commit, Items, Op, OpKind, Refusal, Tuple, Write};
 use rows::Loaded;
 use shown::Part;
@@ -62,10 +62,11 @@ fn faults_close(alloc: Global) -> Result<bool, Refusal> {
     let inner = Listed::new(alloc, 7);
     let mut desk = Desk::open(alloc, Opened::new(), Broken { inner, faults: 0 })?;
     let many = number_of(&desk.catch_up(Part::Hot, 65_537));
+    let worked = !desk.has_failed();
     let fault = number_of(&configure(alloc, &mut desk));
     let next = number_of(&configure(alloc, &mut desk));
     let closed = number_of(&desk.catch_up(Part::Hot, 65_537));
-    Ok(many == 1 && fault == 22 && next == 23 && closed == 23)
+    Ok(worked && desk.has_failed() && many == 1 && fault == 22 && next == 23 && closed == 23)
 }
 
 #[test]
@@ -86,8 +87,8 @@ fn insert_of(alloc: Global, text: &str) -> Result<Write<Zookie>, Refusal> {
     })
 }
 
-fn has_steps(front: &Front, steps: u64) -> bool {
-    front.len() == steps && front.begins(front) && front.longer(front).len() == steps
+fn has_steps(prefix: &StepPrefix, steps: u64) -> bool {
+    prefix.len() == steps && prefix.begins(prefix) && prefix.longer(prefix).len() == steps
 }
 
 // The opening, a configuration and a write are three steps.
@@ -95,7 +96,7 @@ fn publishes(alloc: Global) -> Result<bool, Refusal> {
     let mut desk = Desk::open(alloc, Opened::new(), Listed::new(alloc, 7))?;
     let first = configure(alloc, &mut desk)?;
     let second = desk.write(insert_of(alloc, "group:a#member@user:ann")?)?;
-    let told = has_steps(first.published(), 2) && has_steps(second.published(), 3);
+    let told = has_steps(first.published_steps(), 2) && has_steps(second.published_steps(), 3);
     Ok(told && second.zookie() == Zookie { store: 7, rev: 2 } && desk.publish())
 }
 
