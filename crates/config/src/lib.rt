@@ -9,5 +9,6 @@ mod levels;
 mod rewrites;
 mod sizes;
 mod steps;
+
 pub use config::Config;
 pub use config_core::{Relation, Rewrite};

@@ -12,6 +12,7 @@ mod relation;
 mod rewrite;
 mod rewrites;
 mod shape;
+
 pub use canonical::text_of;
 pub use members::{has_only_members, text_at};
 pub use parts::Parts;

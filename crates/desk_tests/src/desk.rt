@@ -2,7 +2,7 @@
 ghost use Rattle.std.specs.Prelude.{◌≡◌};
 
 use config::Config;
-use keeper_core::{Desk, StepPrefix, Opened, Receipt};
+use keeper_core::{Desk, Opened, Receipt, StepPrefix};
 use names::{Commit, Items, Op, OpKind, Refusal, Tuple, Write};
 use rows::Loaded;
 use shown::Part;

@@ -8,5 +8,6 @@
 
 mod answers;
 mod end;
+
 pub use answers::Answers;
 pub use end::End;

@@ -14,6 +14,7 @@ mod graph;
 mod order;
 mod raise;
 mod search;
+
 use cycle::first_cycle;
 pub use graph::{Answer, Graph, Step};
 use order::distinct;

@@ -14,6 +14,7 @@ use names::Refusal;
 use std::alloc::{AllocError, Global};
 
 mod consistency;
+
 pub use consistency::Consistency;
 
 /// A store's number and a revision of it.
