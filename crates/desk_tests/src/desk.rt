@@ -3,9 +3,8 @@ ghost use Rattle.std.specs.Prelude.{◌≡◌};
 
 use config::Config;
 use keeper_core::{Desk, Opened, Receipt, StepPrefix};
-use names::{Commit, Items, Op, OpKind, Refusal, Tuple, Write};
+use names::{Commit, Items, Op, OpKind, Part, Refusal, Tuple, Write};
 use rows::Loaded;
-use shown::Part;
 use std::alloc::Global;
 use tables::{Listed, Tables, TablesError};
 use zookie::Zookie;

@@ -1,7 +1,7 @@
 //! Replies that no run of the program gives, or only for want of memory.
 
-use keeper::refusals::refusal;
-use keeper::replies::{cursor, receipt};
+use bodies::refusals::refusal;
+use bodies::replies::{cursor, receipt};
 use names::{Refusal, Reply};
 use std::alloc::Global;
 use zookie::Zookie;

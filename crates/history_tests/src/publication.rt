@@ -1,9 +1,9 @@
 //! The pure machine of publication, which no program runs.
 
 use config::Config;
-use names::{Commit, Items, Node, Object, Op, OpKind, Refusal, Tuple};
+use names::{Commit, Items, Node, Object, Op, OpKind, Part, Refusal, Tuple};
 use rows::{Loaded, events_of};
-use shown::{Event, Outcome, Part, Posting, Question, World};
+use shown::{Event, Outcome, Posting, Question, World};
 use std::alloc::Global;
 use std::test::Fail;
 use zookie::{Consistency, Zookie};

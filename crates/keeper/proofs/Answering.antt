@@ -14,14 +14,14 @@ use Rattle.config.specs.Causes.{Accepts, ConfigCause}
 use Rattle.zookie.specs.Text.{zookie_text}
 use Rattle.zookie.specs.declared.Zookie.{Zookie}
 use Rattle.zookie.specs.declared.consistency.Consistency.{Consistency}
-use Rattle.shown.specs.declared.step.Part.{Part}
-use Rattle.shown.specs.declared.state.State.{State}
+use Rattle.names.specs.declared.part.Part.{Part}
+use Rattle.names.specs.declared.state.State.{State}
 use Rattle.shown.specs.Standing.{standing, state_of}
 use Rattle.shown.specs.Answers.{IsChecked, CheckRefused}
 use Rattle.keeper_core.specs.Posts.{Posts, newest_posted}
 use Rattle.keeper_core.specs.Changes.{ReceiptFacts, WriteAccepted, ConfigAccepted, CatchUpAccepted, WriteJudged, IsRefused}
-use Rattle.keeper.specs.Bodies.{AsksWrite, AsksCheck, CheckCause, AsksCatchUp}
-use Rattle.keeper.specs.Replies.{Says, SaysRefusal, SaysRefusalAt, receipt_data, answer_data, cursor_data, state_data}
+use Rattle.bodies.specs.Requests.{AsksWrite, AsksCheck, CheckCause, AsksCatchUp}
+use Rattle.bodies.specs.Replies.{Says, SaysRefusal, SaysRefusalAt, receipt_data, answer_data, cursor_data, state_data}
 use Rattle.keeper.specs.Rules.{WriteStep, ConfigStep, CheckStep, CatchUpStep, StateStep, DeskStep}
 use Rattle.keeper.specs.Rules.{write_malformed, write_accepted, write_refused, write_unread, config_invalid, config_accepted, config_unread, check_malformed, check_bad_zookie, check_answered, check_refused, check_unread, catch_up_malformed, catch_up_accepted, catch_up_unread}
 

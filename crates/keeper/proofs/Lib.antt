@@ -1,6 +1,1 @@
-pub mod Bytes
-pub mod Asking
-pub mod Checking
-pub mod Literals
-pub mod Refusing
 pub mod Answering

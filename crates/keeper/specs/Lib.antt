@@ -1,3 +1,1 @@
-pub mod Bodies
-pub mod Replies
 pub mod Rules

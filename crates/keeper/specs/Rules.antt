@@ -13,13 +13,13 @@ use Rattle.config.specs.Causes.{Accepts, IsCause}
 use Rattle.zookie.specs.Text.{zookie_text}
 use Rattle.zookie.specs.declared.consistency.Consistency.{Consistency}
 use Rattle.rows.specs.Judging.{WriteRefused, ConfigRefused as ConfigJudged}
-use Rattle.shown.specs.declared.step.Part.{Part}
+use Rattle.names.specs.declared.part.Part.{Part}
 use Rattle.shown.specs.Standing.{standing, state_of}
 use Rattle.shown.specs.Answers.{IsChecked, CheckRefused}
 use Rattle.keeper_core.specs.Posts.{Posts, newest_posted}
 use Rattle.keeper_core.specs.Changes.{ReceiptFacts, WriteAccepted, ConfigAccepted, CatchUpAccepted, CatchUpJudged, IsRefused}
-use Rattle.keeper.specs.Bodies.{AsksWrite, AsksCheck, IsCheckForm, HasBadZookie, AsksCatchUp, AsksNoWrite, AsksNoCatchUp, unconditional_write}
-use Rattle.keeper.specs.Replies.{Says, SaysRefusal, SaysRefusalAt, receipt_data, answer_data, cursor_data, state_data, no_route_data}
+use Rattle.bodies.specs.Requests.{AsksWrite, AsksCheck, IsCheckForm, HasBadZookie, AsksCatchUp, AsksNoWrite, AsksNoCatchUp, unconditional_write}
+use Rattle.bodies.specs.Replies.{Says, SaysRefusal, SaysRefusalAt, receipt_data, answer_data, cursor_data, state_data, no_route_data}
 
 -- `write`: the body asks for no write; its operations are done, as one commit; or they are refused; or there
 -- was no memory to read it

@@ -2,12 +2,12 @@
 ghost use Rattle.std.specs.Prelude.{option_map};
 ghost use Rattle.names.specs.Calls.{told};
 ghost use Rattle.zookie.specs.Text.{zookie_text};
-ghost use Rattle.keeper.specs.Replies.{SaysRefusalAt};
+ghost use Rattle.bodies.specs.Replies.{SaysRefusalAt};
 ghost use Rattle.keeper.specs.Rules.{DeskStep, WriteStep, ConfigStep, CheckStep, CatchUpStep, StateStep};
 
-use crate::bodies::{catch_up_body, check_body, write_body};
-use crate::refusals::{refusal, refusal_at};
-use crate::replies::{answer, cursor, no_route, receipt, state};
+use bodies::refusals::{refusal, refusal_at};
+use bodies::replies::{answer, cursor, no_route, receipt, state};
+use bodies::requests::{catch_up_body, check_body, write_body};
 use config::Config;
 use keeper_core::Desk;
 use names::{Call, Items, Reply, Write};

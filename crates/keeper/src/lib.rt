@@ -1,10 +1,6 @@
-//! Calls by bytes: what their bodies ask of a desk, and what they are answered.
+//! Calls by bytes: what a desk does for each, and what it is answered.
 #![tactic(auto)]
 
 mod answer;
-pub mod bodies;
-mod ops;
-pub mod refusals;
-pub mod replies;
 
 pub use answer::answer_on;

@@ -16,7 +16,7 @@ use Rattle.rows.specs.Retained.{newest}
 use Rattle.rows.specs.Follows.{AreEventsOf, IsAccepted}
 use Rattle.rows.specs.Judging.{WriteRefused}
 use Rattle.tables.specs.Storing.{one_more}
-use Rattle.shown.specs.declared.step.Part.{Part}
+use Rattle.names.specs.declared.part.Part.{Part}
 use Rattle.shown.specs.declared.step.Step.TheVariants.{Commit as CommitStep, Take}
 use Rattle.shown.specs.Standing.{standing, cursor_of}
 use Rattle.keeper_core.specs.Known.{Known}

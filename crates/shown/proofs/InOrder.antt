@@ -10,8 +10,8 @@ use Rattle.meaning.specs.Config.{Configured}
 use Rattle.meaning.specs.History.{History}
 use Rattle.rows.specs.Retained.{Retained, with_commit}
 use Rattle.rows.specs.Loads.{retained_of}
-use Rattle.shown.specs.declared.step.Part.{Part}
-use Rattle.shown.specs.declared.step.Part.TheVariants.{Index, Hot}
+use Rattle.names.specs.declared.part.Part.{Part}
+use Rattle.names.specs.declared.part.Part.TheVariants.{Index, Hot}
 use Rattle.shown.specs.declared.step.Step.{Step}
 use Rattle.shown.specs.declared.step.Step.TheVariants.{Open, Commit, Take}
 use Rattle.shown.specs.declared.event.Event.{Event}

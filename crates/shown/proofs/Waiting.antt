@@ -12,8 +12,8 @@ use Rattle.rows.specs.Retained.{Retained, with_commit}
 use Rattle.rows.specs.Follows.{IsNext}
 use Rattle.rows.specs.Loads.{IsWithin, retained_of}
 use Rattle.rows.specs.declared.loaded.Loaded.{Loaded}
-use Rattle.shown.specs.declared.step.Part.{Part}
-use Rattle.shown.specs.declared.step.Part.TheVariants.{Index, Hot}
+use Rattle.names.specs.declared.part.Part.{Part}
+use Rattle.names.specs.declared.part.Part.TheVariants.{Index, Hot}
 use Rattle.shown.specs.declared.step.Step.{Step}
 use Rattle.shown.specs.declared.step.Step.TheVariants.{Open, Commit, Take}
 use Rattle.shown.specs.Standing.{Standing, nothing, after_step, after_take, standing, HasRoom}

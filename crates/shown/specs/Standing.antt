@@ -5,11 +5,11 @@ use Rattle.meaning.specs.TupleSet as set
 use Rattle.rows.specs.Retained.{Retained, newest, newest_of, spans_of, with_commit, commits_between, last_config}
 use Rattle.rows.specs.Loads.{IsWithin, retained_of}
 use Rattle.rows.specs.Follows.{IsNext}
-use Rattle.shown.specs.declared.step.Part.{Part}
-use Rattle.shown.specs.declared.step.Part.TheVariants.{Index, Hot}
+use Rattle.names.specs.declared.part.Part.{Part}
+use Rattle.names.specs.declared.part.Part.TheVariants.{Index, Hot}
 use Rattle.shown.specs.declared.step.Step.{Step}
 use Rattle.shown.specs.declared.step.Step.TheVariants.{Open, Commit, Take}
-use Rattle.shown.specs.declared.state.State.{State}
+use Rattle.names.specs.declared.state.State.{State}
 
 -- What is retained of the history, and three of its revisions: that of the group index's base, and those up
 -- to which the index and the hot table have read.

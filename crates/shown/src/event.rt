@@ -1,9 +1,8 @@
 //! What can happen to a published state, and what comes of it.
 
 use crate::answer::{Answer, Refused};
-use crate::step::Part;
 use config::Config;
-use names::{Commit, Node, Object};
+use names::{Commit, Node, Object, Part};
 use rows::Loaded;
 use zookie::Consistency;
 

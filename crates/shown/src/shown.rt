@@ -1,6 +1,7 @@
 //! The published state.
 ghost use Rattle.std.specs.Prelude.{◌≡◌, ◌≤◌, ◌↔◌, min, None, true, false, IsTrue, IfOk, IfErr, OnOk, OnErr};
 ghost use Rattle.names.specs.declared.limits.TheConstants.{MAX_REV};
+ghost use Rattle.names.specs.declared.part.Part.TheVariants.{Index, Hot};
 ghost use Rattle.meaning.specs.Admits.{has_relation};
 ghost use Rattle.meaning.specs.Config.{rel_of};
 ghost use Rattle.meaning.specs.Membership.{IsMember};
@@ -11,14 +12,12 @@ ghost use Rattle.rows.specs.Judging.{WriteRefused, ConfigRefused};
 ghost use Rattle.rows.specs.Retained.{IsRetained, newest, newest_of, snap_at};
 ghost use Rattle.shown.specs.Standing.{nothing, after_step, after_take, cursor_after, state_of, HasRoom};
 ghost use Rattle.shown.specs.Answers.{IsAskedAt, IsAnswer, IsRefusal};
-ghost use Rattle.shown.specs.declared.step.Part.TheVariants.{Index, Hot};
 
 use crate::answer::{Answer, Refused};
 use crate::copies::snapshot_of;
-use crate::state::State;
-use crate::step::{Part, Step};
+use crate::step::Step;
 use config::Config;
-use names::{Commit, Node, Object, Op, Refusal};
+use names::{Commit, Node, Object, Op, Part, Refusal, State};
 use plain::Snapshot;
 use rows::{Loaded, Rows, what_follows_has_room};
 use std::alloc::{AllocError, Global};

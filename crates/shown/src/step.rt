@@ -1,17 +1,8 @@
 //! Steps.
 
 use config::Config;
-use names::Commit;
+use names::{Commit, Part};
 use rows::Loaded;
-
-/// One of the two parts that follow the history by cursors of their own.
-#[derive(Clone, Copy, Debug, PartialEq, Eq)]
-pub enum Part {
-    /// The index of groups.
-    Index,
-    /// The table of marked nodes.
-    Hot,
-}
 
 /// One change of the state.
 #[derive(Debug, Drop)]

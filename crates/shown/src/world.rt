@@ -8,11 +8,11 @@ ghost use Rattle.shown.specs.WorldParts.{HaveRoom};
 
 use crate::event::{Event, Outcome, Posting, Question};
 use crate::shown::Shown;
-use crate::step::{Part, Step};
+use crate::step::Step;
 use crate::within::is_within;
 use config::Config;
 use names::limits::MAX_CATCH_UP;
-use names::{Commit, Refusal};
+use names::{Commit, Part, Refusal};
 use rows::{Loaded, Rows, what_follows_has_room};
 use std::alloc::{AllocError, Global};
 use std::collections::VecDeque;

@@ -11,7 +11,7 @@ use Rattle.names.specs.declared.relation.RelationName.{RelationName}
 use Rattle.meaning.specs.Config.{Configured, Defined}
 use Rattle.config.specs.Causes.{Accepts, IsCause}
 use Rattle.config.specs.Levels.{AreLevels}
-use Rattle.keeper.specs.Replies.{start_text, signed_text}
+use Rattle.bodies.specs.Replies.{start_text, signed_text}
 
 -- a relation, a space and its level
 abbrev pub level_line : RelationName → ℕ → List ℕ

@@ -2,11 +2,11 @@
 ghost use Rattle.std.specs.Prelude.{◌≡◌, ◌++◌, ◌∷◌, [], IfOk, length, map, string_bytes};
 ghost use Rattle.std.specs.List.{flat_map};
 ghost use Rattle.config.specs.Forms.{defined_of};
-ghost use Rattle.keeper.specs.Replies.{signed_text};
+ghost use Rattle.bodies.specs.Replies.{signed_text};
 ghost use Rattle.zanz.specs.Report.{level_line, level_lines, cycle_line, more_lines, cause_lines, Reports};
 
+use bodies::refusals::{signed_text, start_of};
 use config::{Config, Relation};
-use keeper::refusals::{signed_text, start_of};
 use names::{Cause, CycleStep, Refusal, RelationName};
 use std::alloc::{AllocError, Global};
 

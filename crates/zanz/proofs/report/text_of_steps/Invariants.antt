@@ -1,6 +1,6 @@
 use Rattle.std.proofs.Common.{◌≡◌, ◌++◌, ◌∷◌, drop, string_bytes}
 use Rattle.std.specs.List.{flat_map}
-use Rattle.keeper.specs.Replies.{signed_text}
+use Rattle.bodies.specs.Replies.{signed_text}
 use Rattle.zanz.proofs.report.text_of_steps.Given as goal
 
 abbrev pub invariant-loop-step : goal.invariant-loop-step

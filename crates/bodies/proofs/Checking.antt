@@ -1,0 +1,26 @@
+-- Why the body of a check is refused.
+use Rattle.std.proofs.Common.{◌≡◌, ℕ, List, Option, Result, IfErr, subst}
+use Rattle.std.specs.Result.{IsErrAnd}
+use Rattle.std.proofs.lemmas.Result.{err_from_is_err_and}
+use Rattle.names.specs.Refusals.{ReadCause}
+use Rattle.names.specs.declared.refusal.Refusal.{Refusal}
+use Rattle.names.specs.declared.refusal.Refusal.TheVariants.{Malformed, BadZookie, Memory}
+use Rattle.names.specs.declared.node.Node.{Node}
+use Rattle.names.specs.declared.object.Object.{Object}
+use Rattle.zookie.specs.declared.Zookie.{Zookie}
+use Rattle.serde_json.specs.Data.{Data}
+use Rattle.config_core.specs.Reading.{Reads}
+use Rattle.bodies.specs.Requests.{HasZookieText, IsZookieOf, AtCause, CheckOf, CheckCause}
+use Rattle.bodies.proofs.Bytes.{same_read}
+
+-- at the exit of a `?`
+pub exit : {T : Type 0} (cause : Refusal → Type 0) (r : Result T Refusal) (e : Refusal) → IsErrAnd r (λ x. x ≡ e) → cause e → IfErr r cause
+exit cause r e was why = let p = err_from_is_err_and r was in rw (p.1, p.2) why
+
+pub at_bad : (at : Option Data) (text : List ℕ) (e : Refusal) → HasZookieText at text → (e ≡ BadZookie) × ((zookie : Zookie) → IsZookieOf text zookie → ⊥) → AtCause at e
+at_bad at text e has bad = rw bad.0 (text, has, bad.1)
+
+pub check_unasked : (body : List ℕ) (d : Data) (e : Refusal) → Reads body d → ReadCause ((node : Node) (user : Object) → CheckOf d node user → ⊥) e → CheckCause body e
+check_unasked body d Malformed reads not = λ f. not f.node f.user (subst (λ (x : Data). CheckOf x f.node f.user) (same_read body f.data_read d f.reads reads) f.check)
+check_unasked body d Memory reads not = tt
+check_unasked body d _ reads not = absurd not

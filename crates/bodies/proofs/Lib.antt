@@ -1,0 +1,5 @@
+pub mod Bytes
+pub mod Asking
+pub mod Checking
+pub mod Literals
+pub mod Refusing

@@ -1,0 +1,7 @@
+//! The bodies of calls and replies as JSON: what a body asks for, or why it is refused, and what a reply says.
+#![tactic(auto)]
+
+mod ops;
+pub mod refusals;
+pub mod replies;
+pub mod requests;

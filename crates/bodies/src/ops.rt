@@ -1,0 +1,58 @@
+//! The operations of a write, as JSON.
+ghost use Rattle.std.specs.Prelude.{◌≡◌, List, IfOk, IfErr, MatchOption};
+ghost use Rattle.serde_json.specs.View.{view, items_view};
+ghost use Rattle.names.specs.Refusals.{ReadCause};
+ghost use Rattle.bodies.specs.Requests.{IsKind, AsksOp, AskOps};
+
+use config_core::{has_only_members, text_at};
+use names::{Op, OpKind, Refusal, Tuple};
+use serde_json::Value;
+use std::alloc::Global;
+
+/// What the word of an operation asks to be done.
+fn kind_of(word: &str) -> Option<OpKind>
+    ensures { MatchOption result ((k : OpKind) → ¬ (IsKind word.now k)) (λ k. IsKind word.now k) }
+{
+    if word == "insert" {
+        return Some(OpKind::Insert);
+    }
+    if word == "delete" {
+        return Some(OpKind::Delete);
+    }
+    None
+}
+
+/// The operation that a value asks for.
+fn read_op(alloc: Global, value: &Value) -> Result<Op, Refusal>
+    ensures ok { IfOk result (λ o. AsksOp (view value.now) o) }
+    ensures err { IfErr result (ReadCause ((o : Op) → ¬ (AsksOp (view value.now) o))) }
+{
+    if !has_only_members(value, ["op", "tuple"].as_slice()) {
+        return Err(Refusal::Malformed);
+    }
+    let Some(word) = text_at(value, "op") else {
+        return Err(Refusal::Malformed);
+    };
+    let Some(kind) = kind_of(word) else {
+        return Err(Refusal::Malformed);
+    };
+    let Some(text) = text_at(value, "tuple") else {
+        return Err(Refusal::Malformed);
+    };
+    let tuple = Tuple::parse(alloc, text)?;
+    Ok(Op { kind, tuple })
+}
+
+/// The operations that values ask for, in their order.
+pub(crate) fn read_ops(alloc: Global, items: &Vec<Value>) -> Result<Vec<Op>, Refusal>
+    ensures ok { IfOk result (λ ops. AskOps (items_view items.now.items) ops.items) }
+    ensures err { IfErr result
+        (ReadCause ((ops : List Op) → ¬ (AskOps (items_view items.now.items) ops))) }
+{
+    let mut ops = Vec::new(alloc);
+    for item in items {
+        let op = read_op(alloc, item)?;
+        ops.push(op)?;
+    }
+    Ok(ops)
+}

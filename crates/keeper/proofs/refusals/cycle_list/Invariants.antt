@@ -1,8 +1,0 @@
-use Rattle.std.proofs.Common.{◌≡◌, ◌∷◌, take, map}
-use Rattle.serde_json.specs.Data.{string}
-use Rattle.serde_json.specs.View.{view}
-use Rattle.keeper.specs.Replies.{start_text, signed_text}
-use Rattle.keeper.proofs.refusals.cycle_list.Given as goal
-
-abbrev pub invariant-loop-step : goal.invariant-loop-step
-invariant-loop-step l = map view l.list.items ≡ string (start_text l.steps) ∷ map (λ s. string (signed_text s)) (take l.step-index l.steps)
