@@ -111,9 +111,3 @@ pub record IsRefused {T : Type 0}
     (old : Posts T) (judged : Refusal → Type 0) (why : Refusal) (new : Posts T) : Type 0 where
   pub shows : ShowsMore old new
   pub cause : Refuses old judged why new
-
--- why tables cannot be opened
-abbrev pub CannotOpen : Refusal → Type 0
-CannotOpen Memory = Unit {0}
-CannotOpen StoreFault = Unit {0}
-CannotOpen _ = ⊥

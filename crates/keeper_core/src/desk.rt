@@ -9,7 +9,8 @@ ghost use Rattle.shown.specs.declared.step.Step.TheVariants.{Commit as CommitSte
 ghost use Rattle.shown.specs.Standing.{standing, state_of, cursor_of, after_take};
 ghost use Rattle.shown.specs.Answers.{IsAnswer, IsRefusal};
 ghost use Rattle.keeper_core.specs.Posts.{TablesAgree, OpensWith, SameTables, ShowsMore, PostsStep, newest_posted, newest_shown};
-ghost use Rattle.keeper_core.specs.Changes.{Tells, WriteAccepted, ConfigAccepted, CatchUpAccepted, IsRefused, JudgedWith, WriteJudged, CatchUpJudged, CannotOpen, receipt_at};
+ghost use Rattle.tables.specs.Opening.{CannotOpen};
+ghost use Rattle.keeper_core.specs.Changes.{Tells, WriteAccepted, ConfigAccepted, CatchUpAccepted, IsRefused, JudgedWith, WriteJudged, CatchUpJudged, receipt_at};
 ghost use Rattle.keeper_core.specs.inside.Posting.{NotReady, NotPosted};
 
 use crate::book::{Book, Opened, StepPrefix};

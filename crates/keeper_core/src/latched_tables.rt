@@ -3,7 +3,7 @@ ghost use Rattle.std.specs.Prelude.{◌≡◌, false, IfOk, IfErr, OnOk, OnErr};
 ghost use Rattle.rows.specs.Retained.{Retained, with_commit};
 ghost use Rattle.rows.specs.Loads.{retained_of, IsWithin};
 ghost use Rattle.tables.specs.Storing.{IsNextAt, CanStore};
-ghost use Rattle.keeper_core.specs.Changes.{CannotOpen};
+ghost use Rattle.tables.specs.Opening.{CannotOpen};
 ghost use Rattle.keeper_core.specs.Posts.{Agrees};
 ghost use Rattle.keeper_core.specs.inside.Latching.{IsLatched, AgreeWith};
 

@@ -6,7 +6,7 @@ use Rattle.rows.specs.Loads.{retained_of}
 use Rattle.rows.specs.declared.loaded.Loaded.{Loaded}
 use Rattle.keeper_core.specs.Posts.{Posts}
 use Rattle.zanz.specs.Runs.{seen, Opening, ServedBy, BeginsWith, RanFrom}
-use Rattle.zanz.specs.declared.words.Place.{Place}
+use Rattle.tasks.specs.declared.words.Place.{Place}
 
 pub ran_from : {T : Type 0} (place : Place) (Holds : Retained → Type 0) (IsReliable : T → Type 0) (left left_after held holds : Option (List ℕ))
     → ((loaded : Loaded) (first : Posts T) → ((r : Retained) → Holds r → IsReliable first.tables → retained_of loaded ≡ r) → BeginsWith place (retained_of loaded))

@@ -5,13 +5,12 @@ use Rattle.rows.specs.Loads.{retained_of}
 use Rattle.rows.specs.declared.loaded.Loaded.{Loaded}
 use Rattle.shown.specs.declared.step.Step.TheVariants.{Open}
 use Rattle.keeper_core.specs.Posts.{Posts}
-use Rattle.keeper_core.specs.Changes.{CannotOpen}
 use Rattle.keeper.specs.Rules.{DeskStep}
 use Rattle.http_api.specs.Served.{ReadAll, Served, Paused, Cut}
-use Rattle.zanz.specs.declared.fault.Fault.{Fault}
-use Rattle.zanz.specs.declared.fault.Fault.TheVariants.{CommandLine, Refused, CannotRead, CannotWrite}
-use Rattle.zanz.specs.declared.words.Place.{Place}
-use Rattle.zanz.specs.declared.words.Place.TheVariants.{Memory, New, There}
+use Rattle.tasks.specs.declared.fault.Fault.{Fault}
+use Rattle.tasks.specs.declared.fault.Fault.TheVariants.{CannotRead, CannotWrite}
+use Rattle.tasks.specs.declared.words.Place.{Place}
+use Rattle.tasks.specs.declared.words.Place.TheVariants.{Memory, New, There}
 
 -- the desk, but for its tables
 abbrev pub seen : {T : Type 0} → Posts T → Posts (Unit {0})
@@ -62,10 +61,3 @@ is_read_fault _ = false
 abbrev pub is_write_fault : {T : Type 0} → Result T Fault → Bool
 is_write_fault (Err CannotWrite) = true
 is_write_fault _ = false
-
--- a store is refused where it cannot be opened, or memory is refused
-abbrev pub IsRunFault : Fault → Type 0
-IsRunFault CommandLine = ⊥
-IsRunFault (Refused why) = CannotOpen why
-IsRunFault CannotRead = Unit {0}
-IsRunFault CannotWrite = Unit {0}

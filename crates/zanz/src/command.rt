@@ -1,19 +1,15 @@
 //! The program, but for its process.
 ghost use Rattle.std.specs.Prelude.{◌≡◌, ◌≢◌, ◌≤◌, ◌⊎◌, true, false, IfOk, IfErr, OnOk};
-ghost use Rattle.zanz.specs.Faults.{fault_status};
-ghost use Rattle.zanz.specs.Runs.{Ran, RanFrom, IsRunFault};
-ghost use Rattle.zanz.specs.Report.{Reported};
+ghost use Rattle.tasks.specs.Faults.{fault_status, IsRunFault};
+ghost use Rattle.zanz.specs.Runs.{Ran, RanFrom};
+ghost use Rattle.tasks.specs.Report.{Reported};
 
-use crate::fault::Fault;
-use crate::file::read_file;
-use crate::place::{create, open};
-use crate::report::report_of;
 use crate::run::run;
-use crate::words::{Place, Task, task_of};
 use std::alloc::Global;
 use std::io::{Read, Write};
 use std::rt::Files;
 use tables::Listed;
+use tasks::{Fault, Place, Task, create, open, read_file, report_of, task_of};
 use zanz_core::{TrackedReader, TrackedWriter, say};
 
 // Prints what there is to say of a file's configuration, and answers the status that the process ends with.

@@ -4,20 +4,15 @@
 #![tactic(auto)]
 
 mod command;
-mod fault;
-mod file;
 mod lent;
-mod place;
-mod report;
 mod run;
-mod words;
 
 use command::{command, tell};
-use fault::Fault;
 use names::Refusal;
 use std::io;
 use std::io::{BufWriter, ErrorKind};
 use std::process::ExitCode;
+use tasks::Fault;
 use zanz_core::{TrackedReader, TrackedWriter};
 
 fn main(rt: HostRuntime) -> ExitCode {

@@ -2,10 +2,10 @@
 ghost use Rattle.std.specs.Prelude.{ℕ, ◌≡◌, List, true, false, IfErr, OnOk};
 ghost use Rattle.std.specs.Io.KnownBytes.{Consumes};
 ghost use Rattle.http_api.specs.Served.{ReadAll};
-ghost use Rattle.zanz.specs.declared.fault.Fault.TheVariants.{Refused};
-ghost use Rattle.zanz.specs.Runs.{ServedBy, PausedBy, CutBy, Opening, IsRunFault, is_read_fault, is_write_fault};
+ghost use Rattle.tasks.specs.declared.fault.Fault.TheVariants.{Refused};
+ghost use Rattle.tasks.specs.Faults.{IsRunFault};
+ghost use Rattle.zanz.specs.Runs.{ServedBy, PausedBy, CutBy, Opening, is_read_fault, is_write_fault};
 
-use crate::fault::Fault;
 use crate::lent::Lent;
 use http_api::End;
 use keeper_core::{Desk, Opened};
@@ -13,6 +13,7 @@ use names::Refusal;
 use std::alloc::Global;
 use std::io::{Read, Write};
 use tables::Tables;
+use tasks::Fault;
 use zanz_core::{TrackedReader, TrackedWriter, lines};
 
 /// Answers lines from the store that these tables keep.

@@ -1,6 +1,6 @@
 //! Why the program ends before its work is done.
 ghost use Rattle.std.specs.Prelude.{◌≡◌};
-ghost use Rattle.zanz.specs.Faults.{fault_status};
+ghost use Rattle.tasks.specs.Faults.{fault_status};
 
 use names::Refusal;
 use std::alloc::AllocError;
@@ -36,7 +36,7 @@ impl Fault {
 
 impl Display for Fault {
     ghost use Rattle.std.specs.Prelude.{Some};
-    ghost use Rattle.zanz.specs.Faults.{fault_text};
+    ghost use Rattle.tasks.specs.Faults.{fault_text};
 
     ghost output = { λ f. Some (fault_text f) };
 
@@ -57,7 +57,7 @@ impl Display for Fault {
 impl From<AllocError> for Fault {
     ghost use Rattle.std.specs.Prelude.{◌≡◌};
     ghost use Rattle.names.specs.declared.refusal.Refusal.TheVariants.{Memory};
-    ghost use Rattle.zanz.specs.declared.fault.Fault.TheVariants.{Refused};
+    ghost use Rattle.tasks.specs.declared.fault.Fault.TheVariants.{Refused};
 
     ghost from_gives = { λ _ f. f ≡ Refused Memory };
 

@@ -2,8 +2,9 @@
 use Rattle.std.specs.Prelude.{ℕ, List, ◌++◌, ◌∷◌, codes, decimal}
 use Rattle.names.specs.Refusals.{number_of, name_of}
 use Rattle.names.specs.declared.refusal.Refusal.TheVariants.{Memory}
-use Rattle.zanz.specs.declared.fault.Fault.{Fault}
-use Rattle.zanz.specs.declared.fault.Fault.TheVariants.{CommandLine, Refused, CannotRead, CannotWrite}
+use Rattle.tables.specs.Opening.{CannotOpen}
+use Rattle.tasks.specs.declared.fault.Fault.{Fault}
+use Rattle.tasks.specs.declared.fault.Fault.TheVariants.{CommandLine, Refused, CannotRead, CannotWrite}
 
 -- the line on standard error, without its end
 abbrev pub fault_text : Fault → List ℕ
@@ -22,3 +23,10 @@ abbrev pub IsLineFault : Fault → Type 0
 IsLineFault CommandLine = Unit {0}
 IsLineFault (Refused Memory) = Unit {0}
 IsLineFault _ = ⊥
+
+-- a store is refused where it cannot be opened, or memory is refused
+abbrev pub IsRunFault : Fault → Type 0
+IsRunFault CommandLine = ⊥
+IsRunFault (Refused why) = CannotOpen why
+IsRunFault CannotRead = Unit {0}
+IsRunFault CannotWrite = Unit {0}

@@ -1,6 +1,6 @@
 //! The command line.
 ghost use Rattle.std.specs.Prelude.{IfErr};
-ghost use Rattle.zanz.specs.Faults.{IsLineFault};
+ghost use Rattle.tasks.specs.Faults.{IsLineFault};
 
 use crate::fault::Fault;
 use clap::error::ErrorKind;

@@ -1,6 +1,6 @@
 //! Stores in files.
 ghost use Rattle.std.specs.Prelude.{◌≡◌, false, IfOk, IfErr};
-ghost use Rattle.zanz.specs.Runs.{IsRunFault};
+ghost use Rattle.tasks.specs.Faults.{IsRunFault};
 
 use crate::fault::Fault;
 use names::Refusal;

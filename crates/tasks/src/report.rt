@@ -3,7 +3,7 @@ ghost use Rattle.std.specs.Prelude.{◌≡◌, ◌++◌, ◌∷◌, [], IfOk, le
 ghost use Rattle.std.specs.List.{flat_map};
 ghost use Rattle.config.specs.Forms.{defined_of};
 ghost use Rattle.bodies.specs.Replies.{signed_text};
-ghost use Rattle.zanz.specs.Report.{level_line, level_lines, cycle_line, more_lines, cause_lines, Reports};
+ghost use Rattle.tasks.specs.Report.{level_line, level_lines, cycle_line, more_lines, cause_lines, Reports};
 
 use bodies::refusals::{signed_text, start_of};
 use config::{Config, Relation};
