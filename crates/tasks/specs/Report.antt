@@ -1,6 +1,5 @@
 -- What is printed of a configuration.
-use Rattle.std.specs.Prelude.{ℕ, ◌≡◌, ◌++◌, Bool, true, false, List, [], ◌∷◌, Option, codes, decimal}
-use Rattle.std.specs.Io.KnownBytes.{Appends}
+use Rattle.std.specs.Prelude.{ℕ, ◌≡◌, ◌++◌, Bool, true, false, List, [], ◌∷◌, codes, decimal}
 use Rattle.std.specs.List.{flat_map}
 use Rattle.names.specs.Refusals.{cause_name_of}
 use Rattle.names.specs.Spelling.{relation_text}
@@ -39,7 +38,3 @@ cause_lines cause = codes "refused 9 " ++ (cause_name_of cause ++ (10 ∷ more_l
 abbrev pub Reports : List ℕ → Bool → List ℕ → Type 0
 Reports bytes true text = (c : Configured) × (levels : List ℕ) × Accepts bytes c × AreLevels c levels × (text ≡ level_lines c.relations levels)
 Reports bytes false text = (cause : Cause) × IsCause bytes cause × (text ≡ cause_lines cause)
-
--- a report of some bytes was written
-abbrev pub Reported : Bool → Option (List ℕ) → Option (List ℕ) → Type 0
-Reported accepted held holds = (bytes : List ℕ) × (text : List ℕ) × Reports bytes accepted text × Appends held holds text

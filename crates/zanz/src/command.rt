@@ -1,8 +1,7 @@
 //! The program, but for its process.
 ghost use Rattle.std.specs.Prelude.{◌≡◌, ◌≢◌, ◌≤◌, ◌⊎◌, true, false, IfOk, IfErr, OnOk};
 ghost use Rattle.tasks.specs.Faults.{fault_status, IsRunFault};
-ghost use Rattle.zanz.specs.Runs.{Ran, RanFrom};
-ghost use Rattle.tasks.specs.Report.{Reported};
+ghost use Rattle.zanz.specs.Runs.{AreWhole, Ran, RanFrom, Reported};
 
 use crate::run::run;
 use std::alloc::Global;
@@ -20,8 +19,8 @@ fn report<F: Files, W: Write>(
     writer: &mut TrackedWriter<W>,
 ) -> Result<u8, Fault>
     requires unbroken_writer { writer.old.failed ≡ false }
-    ensures accepted { IfOk result (λ status. status ≡ 0 → Reported true (W.contents writer.old.inner) (W.contents writer.new.inner)) }
-    ensures refused { IfOk result (λ status. status ≡ 1 → Reported false (W.contents writer.old.inner) (W.contents writer.new.inner)) }
+    ensures accepted { IfOk result (λ status. status ≡ 0 → Reported W.contents true writer.old writer.new) }
+    ensures refused { IfOk result (λ status. status ≡ 1 → Reported W.contents false writer.old writer.new) }
     ensures whole { IfOk result (λ _. (writer.new.failed ≡ false) × (writer.new.flushed ≡ true)) }
     ensures status { IfOk result (λ status. status ≤ 1) }
     ensures line { IfErr result (λ fault. fault ≢ Fault.CommandLine) }
@@ -43,8 +42,9 @@ fn run_at<R: Read, W: Write>(
 ) -> Result<(), Fault>
     requires unbroken_reader { reader.old.failed ≡ false }
     requires unbroken_writer { writer.old.failed ≡ false }
-    ensures ok { OnOk result (RanFrom place.now (R.remaining reader.old.inner) (R.remaining reader.new.inner) (W.contents writer.old.inner) (W.contents writer.new.inner)) }
-    ensures whole { OnOk result ((reader.new.failed ≡ false) × (writer.new.failed ≡ false) × (writer.new.flushed ≡ true)) }
+    ensures ok { OnOk result
+        (RanFrom place.now R.remaining W.contents (reader.old, writer.old) (reader.new, writer.new)) }
+    ensures whole { OnOk result (AreWhole reader.new writer.new) }
     ensures cause { IfErr result IsRunFault }
 {
     let alloc = rt.alloc();
@@ -66,12 +66,15 @@ fn obey<R: Read, W: Write>(
 ) -> Result<u8, Fault>
     requires unbroken_reader { reader.old.failed ≡ false }
     requires unbroken_writer { writer.old.failed ≡ false }
-    ensures done { IfOk result (λ status. status ≡ 0 → Ran (R.remaining reader.old.inner) (R.remaining reader.new.inner) (W.contents writer.old.inner) (W.contents writer.new.inner)
-        ⊎ ((reader.new ≡ reader.old) × Reported true (W.contents writer.old.inner) (W.contents writer.new.inner))) }
-    ensures told { IfOk result (λ status. status ≡ 1 → (reader.new ≡ reader.old) × Reported false (W.contents writer.old.inner) (W.contents writer.new.inner)) }
-    ensures whole { IfOk result (λ _. (reader.new.failed ≡ false) × (writer.new.failed ≡ false) × (writer.new.flushed ≡ true)) }
+    ensures done { IfOk result (λ status. status ≡ 0
+        → Ran R.remaining W.contents (reader.old, writer.old) (reader.new, writer.new)
+        ⊎ ((reader.new ≡ reader.old) × Reported W.contents true writer.old writer.new)) }
+    ensures told { IfOk result (λ status. status ≡ 1
+        → (reader.new ≡ reader.old) × Reported W.contents false writer.old writer.new) }
+    ensures whole { IfOk result (λ _. AreWhole reader.new writer.new) }
     ensures status { IfOk result (λ status. status ≤ 1) }
-    ensures refused { IfErr result (λ fault. fault ≡ Fault.CommandLine → (reader.new ≡ reader.old) × (writer.new ≡ writer.old)) }
+    ensures refused { IfErr result (λ fault. fault ≡ Fault.CommandLine
+        → (reader.new ≡ reader.old) × (writer.new ≡ writer.old)) }
 {
     let alloc = rt.alloc();
     match task_of(alloc, words)? {
@@ -96,9 +99,9 @@ pub fn command<R: Read, W: Write, E: Write>(
 
     // All that was there was read, each line answered, and the answers handed on; or the levels of a valid
     // configuration were printed, and nothing was read.
-    ensures done { result ≡ 0 → Ran (R.remaining reader.old.inner) (R.remaining reader.new.inner) (W.contents writer.old.inner) (W.contents writer.new.inner)
-        ⊎ ((reader.new ≡ reader.old) × Reported true (W.contents writer.old.inner) (W.contents writer.new.inner)) }
-    ensures whole { result ≡ 0 → (reader.new.failed ≡ false) × (writer.new.failed ≡ false) × (writer.new.flushed ≡ true) }
+    ensures done { result ≡ 0 → Ran R.remaining W.contents (reader.old, writer.old) (reader.new, writer.new)
+        ⊎ ((reader.new ≡ reader.old) × Reported W.contents true writer.old writer.new) }
+    ensures whole { result ≡ 0 → AreWhole reader.new writer.new }
     ensures quiet { result ≡ 0 → errors.new ≡ errors.old }
 
     // Nothing was read or written.

@@ -1,9 +1,8 @@
 //! A run over lines.
 ghost use Rattle.std.specs.Prelude.{ℕ, ◌≡◌, List, true, false, IfErr, OnOk};
-ghost use Rattle.std.specs.Io.KnownBytes.{Consumes};
-ghost use Rattle.http_api.specs.Served.{ReadAll};
 ghost use Rattle.tasks.specs.declared.fault.Fault.TheVariants.{Refused};
 ghost use Rattle.tasks.specs.Faults.{IsRunFault};
+ghost use Rattle.zanz_core.specs.Tracking.{Reads, ReadsAll};
 ghost use Rattle.zanz.specs.Runs.{ServedBy, PausedBy, CutBy, Opening, is_read_fault, is_write_fault};
 
 use crate::lent::Lent;
@@ -27,23 +26,26 @@ pub fn run<T: Tables + Drop, R: Read, W: Write>(
     requires unbroken_writer { writer.old.failed ≡ false }
 
     // All that was there was read, each line answered, and the answers handed on.
-    ensures ok { OnOk result ((input : List ℕ) × ReadAll (R.remaining reader.old.inner) (R.remaining reader.new.inner) input
-        × Opening (T.holds tables) T.is_reliable (λ first. ServedBy first (W.contents writer.old.inner) input (W.contents writer.new.inner))) }
+    ensures ok { OnOk result ((input : List ℕ) × ReadsAll R.remaining reader.old reader.new input
+        × Opening (T.holds tables) T.is_reliable (λ first. ServedBy W.contents first writer.old input writer.new)) }
     ensures flushed { OnOk result (writer.new.flushed ≡ true) }
 
     // Each whole line of what was read was answered.
-    ensures cannot_read { IfErr result (λ fault. fault ≡ Fault.CannotRead → (input : List ℕ) × Consumes (R.remaining reader.old.inner) (R.remaining reader.new.inner) input
-        × Opening (T.holds tables) T.is_reliable (λ first. PausedBy first (W.contents writer.old.inner) input (W.contents writer.new.inner))) }
+    ensures cannot_read { IfErr result (λ fault. fault ≡ Fault.CannotRead → (input : List ℕ)
+        × Reads R.remaining reader.old reader.new input
+        × Opening (T.holds tables) T.is_reliable (λ first. PausedBy W.contents first writer.old input writer.new)) }
 
     // Some first lines of what was read were answered, and a beginning of the answers was written.
-    ensures cannot_write { IfErr result (λ fault. fault ≡ Fault.CannotWrite → (input : List ℕ) × Consumes (R.remaining reader.old.inner) (R.remaining reader.new.inner) input
-        × Opening (T.holds tables) T.is_reliable (λ first. CutBy first (W.contents writer.old.inner) input (W.contents writer.new.inner))) }
+    ensures cannot_write { IfErr result (λ fault. fault ≡ Fault.CannotWrite → (input : List ℕ)
+        × Reads R.remaining reader.old reader.new input
+        × Opening (T.holds tables) T.is_reliable (λ first. CutBy W.contents first writer.old input writer.new)) }
 
     // A fault is told exactly where the reader or the writer failed in the call.
     ensures read_failed { reader.new.failed ≡ is_read_fault result }
     ensures write_failed { writer.new.failed ≡ is_write_fault result }
 
-    ensures refused { IfErr result (λ fault. (why : Refusal) → fault ≡ Refused why → (reader.new ≡ reader.old) × (writer.new ≡ writer.old)) }
+    ensures refused { IfErr result (λ fault. (why : Refusal) → fault ≡ Refused why
+        → (reader.new ≡ reader.old) × (writer.new ≡ writer.old)) }
     ensures cause { IfErr result IsRunFault }
 {
     match Desk::open(alloc, Opened::new(), tables) {
@@ -63,24 +65,27 @@ fn serve<T: Tables + Drop, R: Read, W: Write>(
     requires unbroken_writer { writer.old.failed ≡ false }
 
     // All that was there was read, each line answered, and the answers handed on.
-    ensures ok { OnOk result ((input : List ℕ) × ReadAll (R.remaining reader.old.inner) (R.remaining reader.new.inner) input
-        × ServedBy desk.old (W.contents writer.old.inner) input (W.contents writer.new.inner)) }
+    ensures ok { OnOk result ((input : List ℕ) × ReadsAll R.remaining reader.old reader.new input
+        × ServedBy W.contents desk.old writer.old input writer.new) }
     ensures flushed { OnOk result (writer.new.flushed ≡ true) }
 
     // Each whole line of what was read was answered.
-    ensures cannot_read { IfErr result (λ fault. fault ≡ Fault.CannotRead → (input : List ℕ) × Consumes (R.remaining reader.old.inner) (R.remaining reader.new.inner) input
-        × PausedBy desk.old (W.contents writer.old.inner) input (W.contents writer.new.inner)) }
+    ensures cannot_read { IfErr result (λ fault. fault ≡ Fault.CannotRead → (input : List ℕ)
+        × Reads R.remaining reader.old reader.new input
+        × PausedBy W.contents desk.old writer.old input writer.new) }
 
     // Some first lines of what was read were answered, and a beginning of the answers was written.
-    ensures cannot_write { IfErr result (λ fault. fault ≡ Fault.CannotWrite → (input : List ℕ) × Consumes (R.remaining reader.old.inner) (R.remaining reader.new.inner) input
-        × CutBy desk.old (W.contents writer.old.inner) input (W.contents writer.new.inner)) }
+    ensures cannot_write { IfErr result (λ fault. fault ≡ Fault.CannotWrite → (input : List ℕ)
+        × Reads R.remaining reader.old reader.new input
+        × CutBy W.contents desk.old writer.old input writer.new) }
 
     // A fault is told exactly where the reader or the writer failed in the call.
     ensures read_failed { reader.new.failed ≡ is_read_fault result }
     ensures write_failed { writer.new.failed ≡ is_write_fault result }
 
     // Nothing was read or written, for want of memory.
-    ensures memory { IfErr result (λ fault. (why : Refusal) → fault ≡ Refused why → (why ≡ Refusal.Memory) × (reader.new ≡ reader.old) × (writer.new ≡ writer.old)) }
+    ensures memory { IfErr result (λ fault. (why : Refusal) → fault ≡ Refused why
+        → (why ≡ Refusal.Memory) × (reader.new ≡ reader.old) × (writer.new ≡ writer.old)) }
     ensures cause { IfErr result IsRunFault }
 {
     let mut lent = Lent { alloc, desk };
