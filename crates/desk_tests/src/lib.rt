@@ -1,10 +1,8 @@
-//! Tests of the tables in memory and of the desk over any tables, `tables`, `keeper_core` and `keeper`, by their public calls:
-//! what no run of the program shows.
+//! Tests of the tables in memory and of the desk over any tables, `tables` and `keeper_core`, by their public calls: what no
+//! run of the program shows.
 #![tactic(auto)]
 
 #[cfg(test)]
 mod desk;
 #[cfg(test)]
 mod listed;
-#[cfg(test)]
-mod replies;

@@ -1,8 +1,10 @@
-//! Tests of the words and of the lines that bring them, `names`, `http_api` and `zanz_core`, by their public calls: what no
-//! run of the program shows.
+//! Tests of the words, of the lines that bring them and of replies, `names`, `http_api`, `zanz_core` and `bodies`, by their
+//! public calls: what no run of the program shows.
 #![tactic(auto)]
 
 #[cfg(test)]
 mod lines;
+#[cfg(test)]
+mod replies;
 #[cfg(test)]
 mod words;
