@@ -38,7 +38,7 @@ relation_texts r = record { namespace = string_bytes r.namespace; relation = str
 abbrev pub config_texts : Draft → ConfigTexts
 config_texts d = record { namespaces = map string_bytes d.namespaces.items; relations = map relation_texts d.relations.items }
 
--- The same of each one's parts in turn.
+-- The same of several.
 abbrev pub strings_texts : Vec (String Global) → List (List ℕ)
 strings_texts v = map string_bytes v.items
 

@@ -1,5 +1,5 @@
 //! Rewrites, read from values.
-ghost use Rattle.std.specs.Prelude.{IfOk, Some, map};
+ghost use Rattle.std.specs.Prelude.{IfOk, map};
 ghost use Rattle.serde_json.specs.Find.{as_str};
 ghost use Rattle.serde_json.specs.View.{view, items_view, members_view};
 ghost use Rattle.config_core.specs.Texts.{draft_form, draft_forms, StandsFor};
