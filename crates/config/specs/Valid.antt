@@ -10,11 +10,15 @@ use Rattle.names.specs.declared.cause.Cause.TheVariants.{Limit, DeclaredType, Th
 use Rattle.meaning.specs.Form.{Form, Forms, TupleTo, Union, Intersection, Exclusion, none, more}
 use Rattle.meaning.specs.Form as form
 use Rattle.meaning.specs.Levels.{IsLevel}
-use Rattle.meaning.specs.Config.{Configured, Defined, Step}
+use Rattle.meaning.specs.Config.{Configured, Defined, Step, relation_in}
 use Rattle.meaning.specs.Admits.{is_relation, is_type, has_relation}
 use Rattle.config_core.specs.Canonical.{is_this}
 use Rattle.config_core.specs.Size.{form_nodes, form_depth}
 use Rattle.config_core.specs.Spelling.{AreNamed}
+
+-- so many nodes and so deep a rewrite are allowed
+abbrev pub is_small_form : Form → Bool
+is_small_form w = nat_le (form_nodes w) MAX_REWRITE_NODES && nat_le (form_depth w) MAX_REWRITE_DEPTH
 
 -- so many types, and so many nodes and so deep a rewrite, are allowed
 abbrev pub is_small : Defined → Bool
@@ -30,7 +34,10 @@ has_namespace c n = list_any (pointwise nat_eq n) c.namespaces
 -- the namespace that a type names is there, and so is the relation, where it names one
 abbrev pub has_type : Configured → List ℕ → Option (List ℕ) → Bool
 has_type c n None = has_namespace c n
-has_type c n (Some r) = has_namespace c n && has_relation c (record { namespace = n; relation = r })
+has_type c n (Some r) = has_namespace c n && has_relation c (relation_in n r)
+
+abbrev pub have_types : Configured → List SubjectType → Bool
+have_types c types = list_all (λ t. has_type c t.namespace t.relation) types
 
 -- a type stands twice
 abbrev pub is_twice : List SubjectType → Bool
@@ -39,7 +46,7 @@ is_twice (t ∷ ts) = list_any (is_type t) ts || is_twice ts
 
 -- each type is there, and none stands twice
 abbrev pub types_stand : Configured → Defined → Bool
-types_stand c d = list_all (λ t. has_type c t.namespace t.relation) d.types && not (is_twice d.types)
+types_stand c d = have_types c d.types && not (is_twice d.types)
 
 -- the form has `this` in it
 abbrev mutual
@@ -66,7 +73,7 @@ types_used d = cond (uses_this d.form) (has_types d) (not (has_types d))
 abbrev mutual
   pub form_computes : Configured → List ℕ → Form → Bool
   form_computes c n form.This = true
-  form_computes c n (form.Computed r) = has_relation c (record { namespace = n; relation = r })
+  form_computes c n (form.Computed r) = has_relation c (relation_in n r)
   form_computes c n (TupleTo t r) = true
   form_computes c n (Union ws) = forms_compute c n ws
   form_computes c n (Intersection ws) = forms_compute c n ws
@@ -84,13 +91,17 @@ abbrev pub names_none : Option (List ℕ) → Bool
 names_none None = true
 names_none (Some r) = false
 
+-- some type's namespace has the relation r
+abbrev pub some_has : Configured → List ℕ → List SubjectType → Bool
+some_has c r types = list_any (λ t. has_relation c (relation_in t.namespace r)) types
+
 -- its rewrite is `this`, its types are of objects, and some type's namespace has the relation
 abbrev pub is_parental : Configured → List ℕ → Defined → Bool
-is_parental c r d = is_this d.form && list_all (λ t. names_none t.relation) d.types && list_any (λ t. has_relation c (record { namespace = t.namespace; relation = r })) d.types
+is_parental c r d = is_this d.form && list_all (λ t. names_none t.relation) d.types && some_has c r d.types
 
 -- the relation t of the namespace n is there, and can be the tupleset for r
 abbrev pub is_tupleset : Configured → List ℕ → List ℕ → List ℕ → Bool
-is_tupleset c n t r = list_any (λ d. is_relation (record { namespace = n; relation = t }) d && is_parental c r d) c.relations
+is_tupleset c n t r = list_any (λ d. is_relation (relation_in n t) d && is_parental c r d) c.relations
 
 -- each tupleset of the form can be one
 abbrev mutual
@@ -109,14 +120,18 @@ abbrev mutual
 abbrev pub has_tuplesets : Configured → Defined → Bool
 has_tuplesets c d = tuplesets_fit c d.rel.namespace d.form
 
+-- d is the relation r, and is indexed
+abbrev pub is_indexed_relation : RelationName → Defined → Bool
+is_indexed_relation r d = is_relation r d && d.indexed
+
 abbrev pub is_indexed : Configured → RelationName → Bool
-is_indexed c r = list_any (λ d. is_relation r d && d.indexed) c.relations
+is_indexed c r = list_any (is_indexed_relation r) c.relations
 
 -- of this, computed and union alone, where the computed relations of the namespace n are indexed
 abbrev mutual
   pub form_indexable : Configured → List ℕ → Form → Bool
   form_indexable c n form.This = true
-  form_indexable c n (form.Computed r) = is_indexed c (record { namespace = n; relation = r })
+  form_indexable c n (form.Computed r) = is_indexed c (relation_in n r)
   form_indexable c n (TupleTo t r) = false
   form_indexable c n (Union ws) = forms_indexable c n ws
   form_indexable c n (Intersection ws) = false
@@ -129,11 +144,14 @@ abbrev mutual
 -- the relation that a type names, where it names one, is indexed
 abbrev pub type_indexed : Configured → List ℕ → Option (List ℕ) → Bool
 type_indexed c n None = true
-type_indexed c n (Some r) = is_indexed c (record { namespace = n; relation = r })
+type_indexed c n (Some r) = is_indexed c (relation_in n r)
+
+abbrev pub types_indexed : Configured → List SubjectType → Bool
+types_indexed c types = list_all (λ t. type_indexed c t.namespace t.relation) types
 
 -- where the relation is indexed, so is each that it computes or declares
 abbrev pub is_indexable : Configured → Defined → Bool
-is_indexable c d = not d.indexed || (form_indexable c d.rel.namespace d.form && list_all (λ t. type_indexed c t.namespace t.relation) d.types)
+is_indexable c d = not d.indexed || (form_indexable c d.rel.namespace d.form && types_indexed c d.types)
 
 -- No cause applies: one line for each.
 pub record IsValid (c : Configured) : Type 0 where

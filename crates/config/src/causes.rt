@@ -1,12 +1,13 @@
 //! The tests for the causes for which a configuration is refused.
-ghost use Rattle.std.specs.Prelude.{◌≡◌, ◌&&◌, Option, map, nat_eq};
+ghost use Rattle.std.specs.Prelude.{◌≡◌, Option, map, nat_eq};
 ghost use Rattle.std.specs.List.{list_any, list_all};
 ghost use Rattle.std.specs.Cmp.Lexicographic.{pointwise};
 ghost use Rattle.names.specs.declared.relation.SubjectType.{SubjectType};
-ghost use Rattle.meaning.specs.Admits.{is_relation, is_type, has_relation};
-ghost use Rattle.config_core.specs.Forms.{form_of, forms_of, defined_of};
+ghost use Rattle.meaning.specs.Config.{relation_in};
+ghost use Rattle.meaning.specs.Admits.{is_relation, is_type};
+ghost use Rattle.config_core.specs.Forms.{form_of, rewrite_forms, defined_of};
 ghost use Rattle.config_core.specs.Parts.{configured, parts_of};
-ghost use Rattle.config.specs.Valid.{is_small, is_within, has_namespace, has_type, is_twice, types_stand, uses_this, some_use_this, types_used, is_indexed, form_indexable, forms_indexable, type_indexed, is_indexable, cause_of};
+ghost use Rattle.config.specs.Valid.{is_small, is_within, has_namespace, has_type, have_types, is_twice, types_stand, uses_this, some_use_this, types_used, is_indexed_relation, form_indexable, forms_indexable, types_indexed, is_indexable, cause_of};
 
 use crate::rewrites::{all_compute, all_have_tuplesets};
 use crate::sizes::is_small;
@@ -46,7 +47,7 @@ fn has_namespace(namespaces: &[Name], namespace: &Name) -> bool
 }
 
 pub(crate) fn has_relation(relations: &[Relation], namespace: &Name, relation: &Name) -> bool
-    ensures { result ≡ list_any (is_relation (record { namespace = namespace.now; relation = relation.now })) (map defined_of relations.now) }
+    ensures { result ≡ list_any (is_relation (relation_in namespace.now relation.now)) (map defined_of relations.now) }
 {
     for other in relations {
         if other.name.namespace == *namespace && other.name.relation == *relation {
@@ -57,7 +58,8 @@ pub(crate) fn has_relation(relations: &[Relation], namespace: &Name, relation: &
 }
 
 fn has_type(namespaces: &[Name], relations: &[Relation], declared: &SubjectType) -> bool
-    ensures { result ≡ has_type (configured namespaces.now relations.now) declared.now.namespace declared.now.relation }
+    ensures { result
+        ≡ has_type (configured namespaces.now relations.now) declared.now.namespace declared.now.relation }
 {
     match &declared.relation {
         None => has_namespace(namespaces, &declared.namespace),
@@ -67,7 +69,7 @@ fn has_type(namespaces: &[Name], relations: &[Relation], declared: &SubjectType)
 }
 
 fn have_types(namespaces: &[Name], relations: &[Relation], types: &[SubjectType]) -> bool
-    ensures { result ≡ list_all (λ t. has_type (configured namespaces.now relations.now) t.namespace t.relation) types.now }
+    ensures { result ≡ have_types (configured namespaces.now relations.now) types.now }
 {
     for declared in types {
         if !has_type(namespaces, relations, declared) {
@@ -126,7 +128,7 @@ fn uses_this(rewrite: &Rewrite) -> bool
 
 #[cycle(this)]
 fn some_use_this(parts: &[Rewrite]) -> bool
-    ensures { result ≡ some_use_this (forms_of (map form_of parts.now)) }
+    ensures { result ≡ some_use_this (rewrite_forms parts.now) }
 {
     for part in parts {
         if uses_this(part) {
@@ -149,7 +151,8 @@ fn types_used(relations: &[Relation]) -> bool
 }
 
 fn is_indexed(relations: &[Relation], namespace: &Name, relation: &Name) -> bool
-    ensures { result ≡ list_any (λ d. is_relation (record { namespace = namespace.now; relation = relation.now }) d && d.indexed) (map defined_of relations.now) }
+    ensures { result
+        ≡ list_any (is_indexed_relation (relation_in namespace.now relation.now)) (map defined_of relations.now) }
 {
     for other in relations {
         if other.name.namespace == *namespace && other.name.relation == *relation && other.indexed {
@@ -166,7 +169,8 @@ fn rewrite_is_indexable(
     namespace: &Name,
     rewrite: &Rewrite,
 ) -> bool
-    ensures { result ≡ form_indexable (configured namespaces.now relations.now) namespace.now (form_of rewrite.now) }
+    ensures { result
+        ≡ form_indexable (configured namespaces.now relations.now) namespace.now (form_of rewrite.now) }
 {
     match rewrite {
         Rewrite::This => true,
@@ -185,7 +189,8 @@ fn rewrites_are_indexable(
     namespace: &Name,
     parts: &[Rewrite],
 ) -> bool
-    ensures { result ≡ forms_indexable (configured namespaces.now relations.now) namespace.now (forms_of (map form_of parts.now)) }
+    ensures { result
+        ≡ forms_indexable (configured namespaces.now relations.now) namespace.now (rewrite_forms parts.now) }
 {
     for part in parts {
         if !rewrite_is_indexable(namespaces, relations, namespace, part) {
@@ -196,7 +201,7 @@ fn rewrites_are_indexable(
 }
 
 fn types_indexed(namespaces: &[Name], relations: &[Relation], types: &[SubjectType]) -> bool
-    ensures { result ≡ list_all (λ t. type_indexed (configured namespaces.now relations.now) t.namespace t.relation) types.now }
+    ensures { result ≡ types_indexed (configured namespaces.now relations.now) types.now }
 {
     for declared in types {
         if let Some(relation) = &declared.relation {

@@ -1,12 +1,12 @@
 //! Configurations.
-ghost use Rattle.std.specs.Prelude.{◌≡◌, ◌&&◌, ◌<◌, ◌≤◌, ◌^◌, All, map, IfOk, IfErr, OnOk, IsTrue, true, false, string_bytes, length};
+ghost use Rattle.std.specs.Prelude.{◌≡◌, ◌&&◌, ◌<◌, ◌^◌, All, map, IfOk, IfErr, OnOk, IsTrue, true, string_bytes};
 ghost use Rattle.std.specs.List.{list_any};
-ghost use Rattle.serde_json.specs.Written.{compact_text};
 ghost use Rattle.meaning.specs.Admits.{is_relation, declares};
 ghost use Rattle.meaning.specs.Config.{rel_of};
-ghost use Rattle.config_core.specs.Canonical.{config_data};
+ghost use Rattle.config_core.specs.Canonical.{config_text};
 ghost use Rattle.config_core.specs.Forms.{defined_of};
 ghost use Rattle.config_core.specs.Parts.{configured};
+ghost use Rattle.config.specs.Invariant.{IsShort};
 
 use crate::causes::first_cause;
 use crate::levels::levels_of;
@@ -26,19 +26,18 @@ pub struct Config {
 }
 
 impl Model for Config {
-    ghost use Rattle.std.specs.Prelude.{map};
     ghost use Rattle.meaning.specs.Config.{Configured};
     ghost use Rattle.meaning.specs.inside.Codes.{coded_config};
+    ghost use Rattle.config_core.specs.Parts.{configured};
     ghost use Rattle.config.specs.Invariant.{IsConfig};
-    ghost use Rattle.config_core.specs.Forms.{defined_of};
 
     ghost Value = { Configured };
 
     ghost coded = { coded_config };
 
-    ghost view = { λ c. record { namespaces = c.namespaces.items; relations = map defined_of c.relations.items } };
+    ghost view = { λ c. configured c.namespaces.items c.relations.items };
 
-    ghost invariant = { λ c. IsConfig (record { namespaces = c.namespaces.items; relations = map defined_of c.relations.items }) c.levels.items };
+    ghost invariant = { λ c. IsConfig (configured c.namespaces.items c.relations.items) c.levels.items };
 }
 
 impl Config {
@@ -126,7 +125,7 @@ impl Config {
     /// The canonical text: members in byte order, types in the order given, and no member that says what
     /// holds without it.
     pub fn to_json(&self, alloc: Global) -> Result<String, AllocError>
-        ensures text { IfOk result (λ s. string_bytes s ≡ compact_text (config_data self.now)) }
+        ensures text { IfOk result (λ s. string_bytes s ≡ config_text self.now) }
         ensures read_back { IfOk result (λ s. Accepts (string_bytes s) self.now) }
     {
         text_of(alloc, &self.namespaces, &self.relations)
@@ -149,7 +148,7 @@ impl Config {
 
 /// Whether the canonical text can be read again.
 fn is_short(alloc: Global, namespaces: &[Name], relations: &[Relation]) -> Result<bool, AllocError>
-    ensures { IfOk result (λ short. IsTrue short → length (compact_text (config_data (configured namespaces.now relations.now))) ≤ MAX_CONFIG_LEN) }
+    ensures { IfOk result (λ short. IsTrue short → IsShort (configured namespaces.now relations.now)) }
 {
     let text = text_of(alloc, namespaces, relations)?;
     Ok(text.len() <= MAX_CONFIG_LEN)
@@ -167,7 +166,8 @@ fn has_node(relations: &[Relation], node: &Node) -> bool
 }
 
 fn is_declared(relations: &[Relation], tuple: &Tuple) -> bool
-    ensures { result ≡ list_any (λ d. is_relation (rel_of tuple.now.node) d && declares tuple.now.subject d) (map defined_of relations.now) }
+    ensures { result ≡ list_any (λ d. is_relation (rel_of tuple.now.node) d && declares tuple.now.subject d)
+        (map defined_of relations.now) }
 {
     for relation in relations {
         if relation.is_of(&tuple.node) && relation.declares(&tuple.subject) {

@@ -2,7 +2,7 @@
 ghost use Rattle.std.specs.Prelude.{◌≡◌, ◌<◌, ◌≤◌, ◌↔◌, IsTrue, IfOk, OnOk, length};
 ghost use Rattle.names.specs.declared.limits.TheConstants.{MAX_RELATIONS};
 ghost use Rattle.config_core.specs.Parts.{parts_of};
-ghost use Rattle.config.specs.inside.Graph.{IsStep, Adds, IsGraph};
+ghost use Rattle.config.specs.inside.Graph.{IsStep, IsBetween, Adds, IsGraph};
 
 use crate::steps::steps_to;
 use config_core::Parts;
@@ -36,7 +36,7 @@ fn add_step(parts: &Parts, step: Step, steps: &mut Vec<Step>) -> Result<(), Allo
 fn add_steps(parts: &Parts, from: usize, to: usize, steps: &mut Vec<Step>) -> Result<(), AllocError>
     requires from { from < length parts.now.relations.items }
     requires to { to < length parts.now.relations.items }
-    ensures { OnOk result (Adds (parts_of parts.now) steps.old.items steps.new.items (λ s. (s.from ≡ from) × (s.to ≡ to)) 2) }
+    ensures { OnOk result (Adds (parts_of parts.now) steps.old.items steps.new.items (IsBetween from to) 2) }
 {
     let plain = Step {
         from,

@@ -1,11 +1,12 @@
 //! The tests of what rewrites name.
-ghost use Rattle.std.specs.Prelude.{◌≡◌, ◌&&◌, map};
-ghost use Rattle.std.specs.List.{list_any, list_all};
-ghost use Rattle.meaning.specs.Admits.{is_relation, has_relation};
+ghost use Rattle.std.specs.Prelude.{◌≡◌, map};
+ghost use Rattle.std.specs.List.{list_all};
+ghost use Rattle.meaning.specs.Config.{relation_in};
+ghost use Rattle.meaning.specs.Admits.{is_relation};
 ghost use Rattle.config_core.specs.Canonical.{is_this};
-ghost use Rattle.config_core.specs.Forms.{form_of, forms_of, defined_of};
+ghost use Rattle.config_core.specs.Forms.{form_of, rewrite_forms, defined_of};
 ghost use Rattle.config_core.specs.Parts.{configured};
-ghost use Rattle.config.specs.Valid.{form_computes, forms_compute, computes, names_none, is_parental, is_tupleset, tuplesets_fit, all_tuplesets_fit, has_tuplesets};
+ghost use Rattle.config.specs.Valid.{form_computes, forms_compute, computes, names_none, some_has, is_parental, is_tupleset, tuplesets_fit, all_tuplesets_fit, has_tuplesets};
 
 use crate::causes::has_relation;
 use config_core::{Relation, Rewrite};
@@ -40,7 +41,8 @@ fn rewrites_compute(
     namespace: &Name,
     parts: &[Rewrite],
 ) -> bool
-    ensures { result ≡ forms_compute (configured namespaces.now relations.now) namespace.now (forms_of (map form_of parts.now)) }
+    ensures { result
+        ≡ forms_compute (configured namespaces.now relations.now) namespace.now (rewrite_forms parts.now) }
 {
     for part in parts {
         if !rewrite_computes(namespaces, relations, namespace, part) {
@@ -85,7 +87,7 @@ fn some_has(
     types: &[SubjectType],
     relation: &Name,
 ) -> bool
-    ensures { result ≡ list_any (λ t. has_relation (configured namespaces.now relations.now) (record { namespace = t.namespace; relation = relation.now })) types.now }
+    ensures { result ≡ some_has (configured namespaces.now relations.now) relation.now types.now }
 {
     for declared in types {
         if has_relation(relations, &declared.namespace, relation) {
@@ -101,7 +103,8 @@ fn is_parental(
     relation: &Name,
     tupleset: &Relation,
 ) -> bool
-    ensures { result ≡ is_parental (configured namespaces.now relations.now) relation.now (defined_of tupleset.now) }
+    ensures { result
+        ≡ is_parental (configured namespaces.now relations.now) relation.now (defined_of tupleset.now) }
 {
     is_this(&tupleset.rewrite)
         && are_of_objects(&tupleset.types)
@@ -109,7 +112,7 @@ fn is_parental(
 }
 
 fn is_named(relation: &Relation, namespace: &Name, name: &Name) -> bool
-    ensures { result ≡ is_relation (record { namespace = namespace.now; relation = name.now }) (defined_of relation.now) }
+    ensures { result ≡ is_relation (relation_in namespace.now name.now) (defined_of relation.now) }
 {
     relation.name.namespace == *namespace && relation.name.relation == *name
 }
@@ -121,7 +124,8 @@ fn is_tupleset(
     tupleset: &Name,
     relation: &Name,
 ) -> bool
-    ensures { result ≡ is_tupleset (configured namespaces.now relations.now) namespace.now tupleset.now relation.now }
+    ensures { result
+        ≡ is_tupleset (configured namespaces.now relations.now) namespace.now tupleset.now relation.now }
 {
     for other in relations {
         if is_named(other, namespace, tupleset)
@@ -164,7 +168,8 @@ fn all_tuplesets_fit(
     namespace: &Name,
     parts: &[Rewrite],
 ) -> bool
-    ensures { result ≡ all_tuplesets_fit (configured namespaces.now relations.now) namespace.now (forms_of (map form_of parts.now)) }
+    ensures { result
+        ≡ all_tuplesets_fit (configured namespaces.now relations.now) namespace.now (rewrite_forms parts.now) }
 {
     for part in parts {
         if !tuplesets_fit(namespaces, relations, namespace, part) {

@@ -1,7 +1,8 @@
 //! How large rewrites are.
-ghost use Rattle.std.specs.Prelude.{◌≡◌, ◌+◌, ◌<◌, ◌≤◌, ◌↔◌, ◌&&◌, IsTrue, IfSome, IfNone, map, nat_le};
-ghost use Rattle.config_core.specs.Forms.{form_of, forms_of};
+ghost use Rattle.std.specs.Prelude.{◌≡◌, ◌+◌, ◌<◌, ◌≤◌, ◌↔◌, IsTrue, IfSome, IfNone, nat_le};
+ghost use Rattle.config_core.specs.Forms.{form_of, rewrite_forms};
 ghost use Rattle.config_core.specs.Size.{form_nodes, forms_nodes, form_depth, forms_depth};
+ghost use Rattle.config.specs.Valid.{is_small_form};
 
 use config_core::Rewrite;
 use names::limits::{MAX_REWRITE_DEPTH, MAX_REWRITE_NODES};
@@ -30,8 +31,8 @@ fn nodes_left(rewrite: &Rewrite, nodes: u32) -> Option<u32>
 
 #[cycle(nodes)]
 fn all_nodes_left(parts: &[Rewrite], nodes: u32) -> Option<u32>
-    ensures some { IfSome result (λ left. forms_nodes (forms_of (map form_of parts.now)) + left ≡ nodes) }
-    ensures none { IfNone result (nodes < forms_nodes (forms_of (map form_of parts.now))) }
+    ensures some { IfSome result (λ left. forms_nodes (rewrite_forms parts.now) + left ≡ nodes) }
+    ensures none { IfNone result (nodes < forms_nodes (rewrite_forms parts.now)) }
 {
     let mut left = nodes;
     for part in parts {
@@ -61,7 +62,7 @@ fn is_shallow(rewrite: &Rewrite, depth: u32) -> bool
 
 #[cycle(depth)]
 fn are_shallow(parts: &[Rewrite], depth: u32) -> bool
-    ensures { IsTrue result ↔ (forms_depth (forms_of (map form_of parts.now)) ≤ depth) }
+    ensures { IsTrue result ↔ (forms_depth (rewrite_forms parts.now) ≤ depth) }
 {
     for part in parts {
         if !is_shallow(part, depth) {
@@ -85,7 +86,7 @@ fn is_flat(rewrite: &Rewrite) -> bool
 
 /// Whether the rewrite has as few nodes as are allowed, and is no deeper.
 pub(crate) fn is_small(rewrite: &Rewrite) -> bool
-    ensures { result ≡ (nat_le (form_nodes (form_of rewrite.now)) MAX_REWRITE_NODES && nat_le (form_depth (form_of rewrite.now)) MAX_REWRITE_DEPTH) }
+    ensures { result ≡ is_small_form (form_of rewrite.now) }
 {
     has_few_nodes(rewrite) && is_flat(rewrite)
 }

@@ -1,8 +1,8 @@
 //! How the relations of a configuration depend on each other.
-ghost use Rattle.std.specs.Prelude.{◌≡◌, ◌↔◌, IsTrue, Contains, Some, None, map};
+ghost use Rattle.std.specs.Prelude.{◌≡◌, ◌↔◌, IsTrue, Contains};
 ghost use Rattle.names.specs.declared.relation.RelationName.{RelationName};
-ghost use Rattle.meaning.specs.Config.{Has, Leads, StepsTo, SomeStepsTo};
-ghost use Rattle.config_core.specs.Forms.{form_of, forms_of, defined_of};
+ghost use Rattle.meaning.specs.Config.{Has, Leads, StepsTo, SomeStepsTo, relation_in, object_type, node_type};
+ghost use Rattle.config_core.specs.Forms.{form_of, rewrite_forms, defined_of};
 ghost use Rattle.config_core.specs.Parts.{parts_of};
 
 use config_core::{Parts, Relation, Rewrite};
@@ -10,7 +10,7 @@ use names::{Name, RelationName, SubjectType};
 
 /// Whether the type is that of the relation's nodes.
 fn is_set_type(declared: &SubjectType, name: &RelationName) -> bool
-    ensures { IsTrue result ↔ (declared.now ≡ record { namespace = name.now.namespace; relation = Some name.now.relation }) }
+    ensures { IsTrue result ↔ (declared.now ≡ node_type name.now) }
 {
     match &declared.relation {
         Some(relation) => declared.namespace == name.namespace && *relation == name.relation,
@@ -20,7 +20,7 @@ fn is_set_type(declared: &SubjectType, name: &RelationName) -> bool
 
 /// Whether the type is that of the namespace's objects.
 fn is_object_type(declared: &SubjectType, namespace: &Name) -> bool
-    ensures { IsTrue result ↔ (declared.now ≡ record { namespace = namespace.now; relation = None }) }
+    ensures { IsTrue result ↔ (declared.now ≡ object_type namespace.now) }
 {
     match &declared.relation {
         Some(_) => false,
@@ -29,13 +29,13 @@ fn is_object_type(declared: &SubjectType, namespace: &Name) -> bool
 }
 
 fn declares_set(types: &[SubjectType], name: &RelationName) -> bool
-    ensures { IsTrue result ↔ Contains types.now (record { namespace = name.now.namespace; relation = Some name.now.relation }) }
+    ensures { IsTrue result ↔ Contains types.now (node_type name.now) }
 {
     types.iter().any(|declared| is_set_type(declared, name))
 }
 
 fn declares_objects(types: &[SubjectType], namespace: &Name) -> bool
-    ensures { IsTrue result ↔ Contains types.now (record { namespace = namespace.now; relation = None }) }
+    ensures { IsTrue result ↔ Contains types.now (object_type namespace.now) }
 {
     types
         .iter()
@@ -43,7 +43,7 @@ fn declares_objects(types: &[SubjectType], namespace: &Name) -> bool
 }
 
 fn is_named(name: &RelationName, namespace: &Name, relation: &Name) -> bool
-    ensures { IsTrue result ↔ (name.now ≡ record { namespace = namespace.now; relation = relation.now }) }
+    ensures { IsTrue result ↔ (name.now ≡ relation_in namespace.now relation.now) }
 {
     name.namespace == *namespace && name.relation == *relation
 }
@@ -70,7 +70,8 @@ fn leads_to(
     computed: &Name,
     to: &RelationName,
 ) -> bool
-    ensures { IsTrue result ↔ ((to.now.relation ≡ computed.now) × Leads (parts_of parts.now) (defined_of relation.now) tupleset.now to.now.namespace) }
+    ensures { IsTrue result ↔ ((to.now.relation ≡ computed.now)
+        × Leads (parts_of parts.now) (defined_of relation.now) tupleset.now to.now.namespace) }
 {
     to.relation == *computed && leads(parts, relation, tupleset, &to.namespace)
 }
@@ -85,7 +86,8 @@ pub(crate) fn steps_to(
     to: &RelationName,
 ) -> bool
     requires there { Has (parts_of parts.now) to.now }
-    ensures { IsTrue result ↔ StepsTo (parts_of parts.now) (defined_of relation.now) (form_of rewrite.now) subtracted to.now }
+    ensures { IsTrue result
+        ↔ StepsTo (parts_of parts.now) (defined_of relation.now) (form_of rewrite.now) subtracted to.now }
 {
     match rewrite {
         Rewrite::This => !subtracted && declares_set(&relation.types, to),
@@ -114,7 +116,8 @@ fn some_steps_to(
     to: &RelationName,
 ) -> bool
     requires there { Has (parts_of parts.now) to.now }
-    ensures { IsTrue result ↔ SomeStepsTo (parts_of parts.now) (defined_of relation.now) (forms_of (map form_of rewrites.now)) subtracted to.now }
+    ensures { IsTrue result
+        ↔ SomeStepsTo (parts_of parts.now) (defined_of relation.now) (rewrite_forms rewrites.now) subtracted to.now }
 {
     for rewrite in rewrites {
         if steps_to(parts, relation, rewrite, subtracted, to) {

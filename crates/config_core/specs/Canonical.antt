@@ -2,6 +2,7 @@
 use Rattle.std.specs.Prelude.{ℕ, Bool, true, false, cond, List, [], ◌∷◌, codes, nat_eq}
 use Rattle.std.specs.Cmp.Lexicographic.{pointwise}
 use Rattle.serde_json.specs.Data.{Data, boolean, string, array, object, Items, no_items, item, Members, no_members, member, put}
+use Rattle.serde_json.specs.Written.{compact_text}
 use Rattle.names.specs.Spelling.{type_text}
 use Rattle.names.specs.declared.relation.SubjectType.{SubjectType}
 use Rattle.meaning.specs.Form.{Form, Forms, This, Computed, TupleTo, Union, Intersection, Exclusion, none, more}
@@ -69,3 +70,6 @@ namespaces_into ds ms (n ∷ ns) = namespaces_into ds (put n (object (relations_
 -- The JSON of a configuration; `put` keeps members in byte order.
 abbrev pub config_data : Configured → Data
 config_data c = only (codes "namespaces") (object (namespaces_into c.relations no_members c.namespaces))
+
+abbrev pub config_text : Configured → List ℕ
+config_text c = compact_text (config_data c)

@@ -1,5 +1,5 @@
 -- What a rewrite and a relation of a configuration stand for.
-use Rattle.std.specs.Prelude.{List, [], ◌∷◌}
+use Rattle.std.specs.Prelude.{List, [], ◌∷◌, map}
 use Rattle.config_core.specs.declared.rewrite.Rewrite.{Rewrite, fold-Rewrite}
 use Rattle.config_core.specs.declared.rewrite.Rewrite.TheOpen.{Rewrite-F}
 use Rattle.config_core.specs.declared.relation.Relation.{Relation}
@@ -21,6 +21,9 @@ form_step (Rewrite-F.Exclusion a b) = Exclusion a.value b.value
 -- the form of a rewrite
 abbrev pub form_of : Rewrite → Form
 form_of = fold-Rewrite Form form_step
+
+abbrev pub rewrite_forms : List Rewrite → Forms
+rewrite_forms rewrites = forms_of (map form_of rewrites)
 
 abbrev pub defined_of : Relation → Defined
 defined_of r = record { rel = r.name; types = r.types.items; form = form_of r.rewrite; indexed = r.indexed }

@@ -10,7 +10,7 @@ use Rattle.names.specs.declared.refusal.Refusal.TheVariants.{ConfigRefused, Memo
 use Rattle.meaning.specs.Config.{Configured}
 use Rattle.config_core.specs.Texts.{ConfigTexts}
 use Rattle.config_core.specs.Shape.{config_read}
-use Rattle.config_core.specs.Spelling.{Spells, AreNamed}
+use Rattle.config_core.specs.Spelling.{Spells, SpellsNothing, AreNamed}
 use Rattle.config_core.specs.Order.{IsOrdered}
 use Rattle.config_core.specs.Size.{has_parts, form_depth}
 
@@ -36,7 +36,7 @@ abbrev pub IsReadingCause : List ℕ → Cause → Type 0
 IsReadingCause bytes Size = MAX_CONFIG_LEN < length bytes
 IsReadingCause bytes Json = (length bytes ≤ MAX_CONFIG_LEN) × ((d : Data) → ¬ (Reads bytes d))
 IsReadingCause bytes Shape = (length bytes ≤ MAX_CONFIG_LEN) × ((d : Data) × Reads bytes d × (config_read d ≡ None))
-IsReadingCause bytes Name = (length bytes ≤ MAX_CONFIG_LEN) × ((texts : ConfigTexts) × Says bytes texts × ((c : Configured) → ¬ (Spells texts c)))
+IsReadingCause bytes Name = (length bytes ≤ MAX_CONFIG_LEN) × ((texts : ConfigTexts) × Says bytes texts × SpellsNothing texts)
 IsReadingCause bytes cause = ⊥
 
 abbrev pub ReadingRefused : List ℕ → Refusal → Type 0
@@ -50,3 +50,7 @@ pub record IsWritable (c : Configured) : Type 0 where
   pub ordered : IsOrdered c
   pub parts : All (λ d. IsTrue (has_parts d.form)) c.relations
   pub shallow : All (λ d. form_depth d.form ≤ MAX_REWRITE_DEPTH) c.relations
+
+-- the bytes are of the configuration, if that can be written
+abbrev pub ReadsBack : Configured → List ℕ → Type 0
+ReadsBack c bytes = IsWritable c → Describes bytes c

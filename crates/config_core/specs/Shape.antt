@@ -125,6 +125,10 @@ abbrev pub relations_read : List ℕ → Members → Option (List RelationTexts)
 relations_read n no_members = Some []
 relations_read n (member r d ms) = both (relation_read n r d) (relations_read n ms)
 
+-- the relations of a namespace, which is an object
+abbrev pub namespace_read : List ℕ → Data → Option (List RelationTexts)
+namespace_read n d = option_and_then (relations_read n) (as_object d)
+
 abbrev pub with_namespace : List ℕ → Option (List RelationTexts) → Option ConfigTexts → Option ConfigTexts
 with_namespace n None rest = None
 with_namespace n (Some rs) None = None
@@ -133,7 +137,7 @@ with_namespace n (Some rs) (Some rest) = Some (record { namespaces = n ∷ rest.
 -- the namespaces by their names
 abbrev pub namespaces_read : Members → Option ConfigTexts
 namespaces_read no_members = Some (record { namespaces = []; relations = [] })
-namespaces_read (member n d ms) = with_namespace n (option_and_then (relations_read n) (as_object d)) (namespaces_read ms)
+namespaces_read (member n d ms) = with_namespace n (namespace_read n d) (namespaces_read ms)
 
 -- an object whose one member `namespaces` is an object
 abbrev pub config_read : Data → Option ConfigTexts

@@ -1,6 +1,7 @@
 -- Which configuration the texts of one spell.
 use Rattle.std.specs.Prelude.{◌≡◌, ℕ, ◌&&◌, Bool, true, IsTrue, List, map, All}
 use Rattle.names.specs.Names.{is_name}
+use Rattle.names.specs.declared.relation.SubjectType.{SubjectType}
 use Rattle.names.specs.Spelling.{IsRelationName, IsSubjectType, type_text}
 use Rattle.meaning.specs.Form.{Form, Forms, This, Computed, TupleTo, Union, Intersection, Exclusion, none, more}
 use Rattle.meaning.specs.Config.{Defined, Configured}
@@ -45,3 +46,31 @@ pub record Spells (texts : ConfigTexts) (c : Configured) : Type 0 where
 pub record AreSpelled {A B : Type 0} (text : A → B) (Is : A → Type 0) (texts : List B) (xs : List A) : Type 0 where
   pub named : All Is xs
   pub spelling : map text xs ≡ texts
+
+abbrev pub SpellNames : List (List ℕ) → List (List ℕ) → Type 0
+SpellNames texts ns = AreSpelled (λ n. n) IsName texts ns
+
+abbrev pub SpellTypes : List (List ℕ) → List SubjectType → Type 0
+SpellTypes texts ts = AreSpelled type_text IsSubjectType texts ts
+
+abbrev pub SpellsRelation : RelationTexts → Defined → Type 0
+SpellsRelation texts d = (defined_texts d ≡ texts) × IsNamed d
+
+abbrev pub SpellRelations : List RelationTexts → List Defined → Type 0
+SpellRelations texts ds = AreSpelled defined_texts IsNamed texts ds
+
+-- Texts that spell nothing: one of them, in a name's place, is no name.
+abbrev pub SpellNoNames : List (List ℕ) → Type 0
+SpellNoNames texts = (ns : List (List ℕ)) → ¬ (SpellNames texts ns)
+
+abbrev pub SpellNoTypes : List (List ℕ) → Type 0
+SpellNoTypes texts = (ts : List SubjectType) → ¬ (SpellTypes texts ts)
+
+abbrev pub SpellsNoRelation : RelationTexts → Type 0
+SpellsNoRelation texts = (d : Defined) → defined_texts d ≡ texts → ¬ (IsNamed d)
+
+abbrev pub SpellNoRelations : List RelationTexts → Type 0
+SpellNoRelations texts = (ds : List Defined) → ¬ (SpellRelations texts ds)
+
+abbrev pub SpellsNothing : ConfigTexts → Type 0
+SpellsNothing texts = (c : Configured) → ¬ (Spells texts c)

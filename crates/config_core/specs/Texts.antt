@@ -1,5 +1,6 @@
 -- What a configuration's JSON says, with a text in each name's place.
-use Rattle.std.specs.Prelude.{ℕ, Bool, List, map, string_bytes}
+use Rattle.std.specs.Prelude.{◌≡◌, ℕ, Bool, List, Option, String, map, option_map, string_bytes}
+use Rattle.std.specs.Global.{Global, Vec}
 use Rattle.config_core.specs.declared.draft.Draft.{Draft}
 use Rattle.config_core.specs.declared.draft.DraftRelation.{DraftRelation}
 use Rattle.config_core.specs.declared.draft.DraftRewrite.{DraftRewrite, fold-DraftRewrite}
@@ -36,3 +37,17 @@ relation_texts r = record { namespace = string_bytes r.namespace; relation = str
 
 abbrev pub config_texts : Draft → ConfigTexts
 config_texts d = record { namespaces = map string_bytes d.namespaces.items; relations = map relation_texts d.relations.items }
+
+-- The same of several.
+abbrev pub strings_texts : Vec (String Global) → List (List ℕ)
+strings_texts v = map string_bytes v.items
+
+abbrev pub draft_forms : Vec DraftRewrite → List Form
+draft_forms v = map draft_form v.items
+
+abbrev pub relations_texts : Vec DraftRelation → List RelationTexts
+relations_texts v = map relation_texts v.items
+
+-- what is kept stands for what is said, or there is neither
+abbrev pub StandsFor : {A B : Type 0} → (A → B) → Option B → Option A → Type 0
+StandsFor meaning said kept = option_map meaning kept ≡ said

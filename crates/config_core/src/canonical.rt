@@ -2,11 +2,10 @@
 ghost use Rattle.std.specs.Prelude.{◌≡◌, IfOk, map, string_bytes};
 ghost use Rattle.serde_json.specs.Data.{no_members, put};
 ghost use Rattle.serde_json.specs.View.{view, items_view, members_view};
-ghost use Rattle.serde_json.specs.Written.{compact_text};
-ghost use Rattle.config_core.specs.Forms.{form_of, forms_of, defined_of};
+ghost use Rattle.config_core.specs.Forms.{form_of, rewrite_forms, defined_of};
 ghost use Rattle.config_core.specs.Parts.{configured};
-ghost use Rattle.config_core.specs.Reading.{Describes, IsWritable};
-ghost use Rattle.config_core.specs.Canonical.{form_data, forms_data, types_data, with_types, is_this, with_rewrite, with_indexed, relation_data, relation_into, relations_into, namespaces_into, config_data};
+ghost use Rattle.config_core.specs.Reading.{ReadsBack};
+ghost use Rattle.config_core.specs.Canonical.{form_data, forms_data, types_data, with_types, is_this, with_rewrite, with_indexed, relation_data, relation_into, relations_into, namespaces_into, config_data, config_text};
 
 use crate::relation::Relation;
 use crate::rewrite::Rewrite;
@@ -44,7 +43,7 @@ fn rewrite_value(alloc: Global, rewrite: &Rewrite) -> Result<Value, AllocError>
 
 #[cycle(written)]
 fn rewrite_values(alloc: Global, parts: &[Rewrite]) -> Result<Vec<Value>, AllocError>
-    ensures { IfOk result (λ v. items_view v.items ≡ forms_data (forms_of (map form_of parts.now))) }
+    ensures { IfOk result (λ v. items_view v.items ≡ forms_data (rewrite_forms parts.now)) }
 {
     let mut values = Vec::new(alloc);
     for part in parts {
@@ -71,7 +70,8 @@ fn with(
     value: Value,
     members: Map<String, Value>,
 ) -> Result<Map<String, Value>, AllocError>
-    ensures { IfOk result (λ m. members_view m.entries ≡ put name.now (view value) (members_view members.entries)) }
+    ensures { IfOk result (λ m. members_view m.entries
+        ≡ put name.now (view value) (members_view members.entries)) }
 {
     let mut members = members;
     let name = String::from_str(alloc, name)?;
@@ -111,7 +111,8 @@ fn with_rewrite(
     rewrite: &Rewrite,
     members: Map<String, Value>,
 ) -> Result<Map<String, Value>, AllocError>
-    ensures { IfOk result (λ m. members_view m.entries ≡ with_rewrite (form_of rewrite.now) (members_view members.entries)) }
+    ensures { IfOk result (λ m. members_view m.entries
+        ≡ with_rewrite (form_of rewrite.now) (members_view members.entries)) }
 {
     if is_this(rewrite) {
         return Ok(members);
@@ -148,7 +149,8 @@ fn with_relation(
     relation: &Relation,
     members: Map<String, Value>,
 ) -> Result<Map<String, Value>, AllocError>
-    ensures { IfOk result (λ m. members_view m.entries ≡ relation_into namespace.now (members_view members.entries) (defined_of relation.now)) }
+    ensures { IfOk result (λ m. members_view m.entries
+        ≡ relation_into namespace.now (members_view members.entries) (defined_of relation.now)) }
 {
     if relation.name.namespace != *namespace {
         return Ok(members);
@@ -162,7 +164,8 @@ fn relation_values(
     namespace: &Name,
     relations: &[Relation],
 ) -> Result<Map<String, Value>, AllocError>
-    ensures { IfOk result (λ m. members_view m.entries ≡ relations_into namespace.now no_members (map defined_of relations.now)) }
+    ensures { IfOk result (λ m. members_view m.entries
+        ≡ relations_into namespace.now no_members (map defined_of relations.now)) }
 {
     let mut members = Map::new(alloc);
     for relation in relations {
@@ -176,7 +179,8 @@ fn namespace_values(
     namespaces: &[Name],
     relations: &[Relation],
 ) -> Result<Map<String, Value>, AllocError>
-    ensures { IfOk result (λ m. members_view m.entries ≡ namespaces_into (map defined_of relations.now) no_members namespaces.now) }
+    ensures { IfOk result (λ m. members_view m.entries
+        ≡ namespaces_into (map defined_of relations.now) no_members namespaces.now) }
 {
     let mut members = Map::new(alloc);
     for namespace in namespaces {
@@ -205,8 +209,8 @@ pub fn text_of(
     namespaces: &[Name],
     relations: &[Relation],
 ) -> Result<String, AllocError>
-    ensures text { IfOk result (λ s. string_bytes s ≡ compact_text (config_data (configured namespaces.now relations.now))) }
-    ensures read_back { IfOk result (λ s. IsWritable (configured namespaces.now relations.now) → Describes (string_bytes s) (configured namespaces.now relations.now)) }
+    ensures text { IfOk result (λ s. string_bytes s ≡ config_text (configured namespaces.now relations.now)) }
+    ensures read_back { IfOk result (λ s. ReadsBack (configured namespaces.now relations.now) (string_bytes s)) }
 {
     config_value(alloc, namespaces, relations)?.to_string(alloc)
 }

@@ -1,12 +1,9 @@
 //! The parts of configurations.
-ghost use Rattle.std.specs.Prelude.{◌≡◌, ℕ, List, IsTrue, IfOk, IfErr, map, string_bytes};
+ghost use Rattle.std.specs.Prelude.{IfOk, IfErr, map, string_bytes};
 ghost use Rattle.names.specs.Refusals.{ReadCause};
-ghost use Rattle.names.specs.declared.relation.SubjectType.{SubjectType};
-ghost use Rattle.names.specs.Spelling.{IsSubjectType, type_text};
-ghost use Rattle.meaning.specs.Config.{Configured, Defined};
 ghost use Rattle.config_core.specs.Forms.{defined_of};
 ghost use Rattle.config_core.specs.Parts.{parts_of};
-ghost use Rattle.config_core.specs.Spelling.{IsName, IsNamed, defined_texts, Spells, AreSpelled};
+ghost use Rattle.config_core.specs.Spelling.{Spells, SpellNames, SpellTypes, SpellsRelation, SpellRelations, SpellNoNames, SpellNoTypes, SpellsNoRelation, SpellNoRelations, SpellsNothing};
 ghost use Rattle.config_core.specs.Texts.{relation_texts, config_texts};
 
 use crate::draft::{Draft, DraftRelation};
@@ -23,8 +20,8 @@ pub struct Parts {
 }
 
 fn read_names(alloc: Global, texts: &[String]) -> Result<Vec<Name>, Refusal>
-    ensures ok { IfOk result (λ v. AreSpelled (λ n. n) IsName (map string_bytes texts.now) v.items) }
-    ensures err { IfErr result (λ e. ReadCause ((ns : List (List ℕ)) → ¬ (AreSpelled (λ n. n) IsName (map string_bytes texts.now) ns)) e) }
+    ensures ok { IfOk result (λ v. SpellNames (map string_bytes texts.now) v.items) }
+    ensures err { IfErr result (ReadCause (SpellNoNames (map string_bytes texts.now))) }
 {
     let mut names = Vec::new(alloc);
     for text in texts {
@@ -35,8 +32,8 @@ fn read_names(alloc: Global, texts: &[String]) -> Result<Vec<Name>, Refusal>
 }
 
 fn read_types(alloc: Global, texts: &[String]) -> Result<Vec<SubjectType>, Refusal>
-    ensures ok { IfOk result (λ v. AreSpelled type_text IsSubjectType (map string_bytes texts.now) v.items) }
-    ensures err { IfErr result (λ e. ReadCause ((ts : List SubjectType) → ¬ (AreSpelled type_text IsSubjectType (map string_bytes texts.now) ts)) e) }
+    ensures ok { IfOk result (λ v. SpellTypes (map string_bytes texts.now) v.items) }
+    ensures err { IfErr result (ReadCause (SpellNoTypes (map string_bytes texts.now))) }
 {
     let mut types = Vec::new(alloc);
     for text in texts {
@@ -47,8 +44,8 @@ fn read_types(alloc: Global, texts: &[String]) -> Result<Vec<SubjectType>, Refus
 }
 
 fn read_relation(alloc: Global, draft: &DraftRelation) -> Result<Relation, Refusal>
-    ensures ok { IfOk result (λ r. (defined_texts (defined_of r) ≡ relation_texts draft.now) × IsNamed (defined_of r)) }
-    ensures err { IfErr result (λ e. ReadCause ((d : Defined) → defined_texts d ≡ relation_texts draft.now → ¬ (IsNamed d)) e) }
+    ensures ok { IfOk result (λ r. SpellsRelation (relation_texts draft.now) (defined_of r)) }
+    ensures err { IfErr result (ReadCause (SpellsNoRelation (relation_texts draft.now))) }
 {
     let namespace = Name::parse(alloc, draft.namespace.as_str())?;
     let relation = Name::parse(alloc, draft.relation.as_str())?;
@@ -66,8 +63,8 @@ fn read_relation(alloc: Global, draft: &DraftRelation) -> Result<Relation, Refus
 }
 
 fn read_relations(alloc: Global, drafts: &[DraftRelation]) -> Result<Vec<Relation>, Refusal>
-    ensures ok { IfOk result (λ v. AreSpelled defined_texts IsNamed (map relation_texts drafts.now) (map defined_of v.items)) }
-    ensures err { IfErr result (λ e. ReadCause ((ds : List Defined) → ¬ (AreSpelled defined_texts IsNamed (map relation_texts drafts.now) ds)) e) }
+    ensures ok { IfOk result (λ v. SpellRelations (map relation_texts drafts.now) (map defined_of v.items)) }
+    ensures err { IfErr result (ReadCause (SpellNoRelations (map relation_texts drafts.now))) }
 {
     let mut relations = Vec::new(alloc);
     for draft in drafts {
@@ -81,7 +78,7 @@ fn read_relations(alloc: Global, drafts: &[DraftRelation]) -> Result<Vec<Relatio
 /// name.
 pub fn read_parts(alloc: Global, draft: &Draft) -> Result<Parts, Refusal>
     ensures ok { IfOk result (λ p. Spells (config_texts draft.now) (parts_of p)) }
-    ensures err { IfErr result (λ e. ReadCause ((c : Configured) → ¬ (Spells (config_texts draft.now) c)) e) }
+    ensures err { IfErr result (ReadCause (SpellsNothing (config_texts draft.now))) }
 {
     let namespaces = read_names(alloc, &draft.namespaces)?;
     let relations = read_relations(alloc, &draft.relations)?;

@@ -1,8 +1,8 @@
 //! Rewrites, read from values.
-ghost use Rattle.std.specs.Prelude.{◌≡◌, IfOk, map, option_map};
+ghost use Rattle.std.specs.Prelude.{IfOk, map};
 ghost use Rattle.serde_json.specs.Find.{as_str};
 ghost use Rattle.serde_json.specs.View.{view, items_view, members_view};
-ghost use Rattle.config_core.specs.Texts.{draft_form};
+ghost use Rattle.config_core.specs.Texts.{draft_form, draft_forms, StandsFor};
 ghost use Rattle.config_core.specs.Shape.{this_read, computed_read, tuple_to_read, union_read, intersection_read, exclusion_read, named_read, form_read, member_read, parts_read, forms_read};
 
 use crate::draft::DraftRewrite;
@@ -11,7 +11,7 @@ use serde_json::{Map, Value};
 use std::alloc::{AllocError, Global};
 
 fn this_from(text: &str) -> Option<DraftRewrite>
-    ensures { option_map draft_form result ≡ this_read text.now }
+    ensures { StandsFor draft_form (this_read text.now) result }
 {
     if text == "this" {
         Some(DraftRewrite::This)
@@ -21,7 +21,7 @@ fn this_from(text: &str) -> Option<DraftRewrite>
 }
 
 fn read_computed(alloc: Global, value: &Value) -> Result<Option<DraftRewrite>, AllocError>
-    ensures { IfOk result (λ r. option_map draft_form r ≡ computed_read (as_str (view value.now))) }
+    ensures { IfOk result (StandsFor draft_form (computed_read (as_str (view value.now)))) }
 {
     let Some(relation) = value.as_str() else {
         return Ok(None);
@@ -31,7 +31,7 @@ fn read_computed(alloc: Global, value: &Value) -> Result<Option<DraftRewrite>, A
 }
 
 fn read_tuple_to(alloc: Global, value: &Value) -> Result<Option<DraftRewrite>, AllocError>
-    ensures { IfOk result (λ r. option_map draft_form r ≡ tuple_to_read (view value.now)) }
+    ensures { IfOk result (StandsFor draft_form (tuple_to_read (view value.now))) }
 {
     if !has_only_members(value, ["tupleset", "relation"].as_slice()) {
         return Ok(None);
@@ -48,7 +48,7 @@ fn read_tuple_to(alloc: Global, value: &Value) -> Result<Option<DraftRewrite>, A
 }
 
 fn union_of(parts: Vec<DraftRewrite>) -> Option<DraftRewrite>
-    ensures { option_map draft_form result ≡ union_read (Some (map draft_form parts.items)) }
+    ensures { StandsFor draft_form (union_read (Some (map draft_form parts.items))) result }
 {
     if parts.is_empty() {
         return None;
@@ -57,7 +57,7 @@ fn union_of(parts: Vec<DraftRewrite>) -> Option<DraftRewrite>
 }
 
 fn intersection_of(parts: Vec<DraftRewrite>) -> Option<DraftRewrite>
-    ensures { option_map draft_form result ≡ intersection_read (Some (map draft_form parts.items)) }
+    ensures { StandsFor draft_form (intersection_read (Some (map draft_form parts.items))) result }
 {
     if parts.is_empty() {
         return None;
@@ -66,7 +66,7 @@ fn intersection_of(parts: Vec<DraftRewrite>) -> Option<DraftRewrite>
 }
 
 fn exclusion_of(alloc: Global, parts: Vec<DraftRewrite>) -> Result<Option<DraftRewrite>, AllocError>
-    ensures { IfOk result (λ r. option_map draft_form r ≡ exclusion_read (Some (map draft_form parts.items))) }
+    ensures { IfOk result (StandsFor draft_form (exclusion_read (Some (map draft_form parts.items)))) }
 {
     if parts.len() != 2 {
         return Ok(None);
@@ -86,7 +86,7 @@ fn exclusion_of(alloc: Global, parts: Vec<DraftRewrite>) -> Result<Option<DraftR
 /// The rewrite that a value stands for, or nothing where it has not the form of one.
 #[cycle(read)]
 pub fn read_rewrite(alloc: Global, value: &Value) -> Result<Option<DraftRewrite>, AllocError>
-    ensures { IfOk result (λ r. option_map draft_form r ≡ form_read (view value.now)) }
+    ensures { IfOk result (StandsFor draft_form (form_read (view value.now))) }
 {
     match value {
         Value::String(text) => Ok(this_from(text.as_str())),
@@ -101,7 +101,7 @@ fn read_member(
     alloc: Global,
     members: &Map<String, Value>,
 ) -> Result<Option<DraftRewrite>, AllocError>
-    ensures { IfOk result (λ r. option_map draft_form r ≡ member_read (members_view members.now.entries)) }
+    ensures { IfOk result (StandsFor draft_form (member_read (members_view members.now.entries))) }
 {
     if members.len() != 1 {
         return Ok(None);
@@ -114,7 +114,7 @@ fn read_member(
 
 #[cycle(read)]
 fn read_named(alloc: Global, key: &str, value: &Value) -> Result<Option<DraftRewrite>, AllocError>
-    ensures { IfOk result (λ r. option_map draft_form r ≡ named_read key.now (view value.now) (parts_read (view value.now))) }
+    ensures { IfOk result (StandsFor draft_form (named_read key.now (view value.now) (parts_read (view value.now)))) }
 {
     if key == "computed" {
         return read_computed(alloc, value);
@@ -139,7 +139,7 @@ fn read_named(alloc: Global, key: &str, value: &Value) -> Result<Option<DraftRew
 
 #[cycle(read)]
 fn read_parts(alloc: Global, value: &Value) -> Result<Option<Vec<DraftRewrite>>, AllocError>
-    ensures { IfOk result (λ r. option_map (λ v. map draft_form v.items) r ≡ parts_read (view value.now)) }
+    ensures { IfOk result (StandsFor draft_forms (parts_read (view value.now))) }
 {
     match value {
         Value::Array(items) => read_items(alloc, items),
@@ -149,7 +149,7 @@ fn read_parts(alloc: Global, value: &Value) -> Result<Option<Vec<DraftRewrite>>,
 
 #[cycle(read)]
 fn read_items(alloc: Global, items: &Vec<Value>) -> Result<Option<Vec<DraftRewrite>>, AllocError>
-    ensures { IfOk result (λ r. option_map (λ v. map draft_form v.items) r ≡ forms_read (items_view items.now.items)) }
+    ensures { IfOk result (StandsFor draft_forms (forms_read (items_view items.now.items))) }
 {
     let mut parts = Vec::new(alloc);
     for item in items {

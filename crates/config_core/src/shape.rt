@@ -1,10 +1,10 @@
 //! Drafts of configurations, read from values.
-ghost use Rattle.std.specs.Prelude.{◌≡◌, IfOk, IfSome, map, option_map, option_and_then, string_bytes, codes};
-ghost use Rattle.serde_json.specs.Find.{get, as_object};
+ghost use Rattle.std.specs.Prelude.{◌≡◌, IfOk, IfSome, codes};
+ghost use Rattle.serde_json.specs.Find.{get};
 ghost use Rattle.serde_json.specs.View.{view, items_view, members_view};
 ghost use Rattle.config_core.specs.Keyed.{AreInOrder, IsInOrder, AreOrdered};
-ghost use Rattle.config_core.specs.Texts.{draft_form, relation_texts, config_texts};
-ghost use Rattle.config_core.specs.Shape.{texts_read, types_read, rewrite_read, indexed_read, relation_read, relations_read, namespaces_read, config_read};
+ghost use Rattle.config_core.specs.Texts.{draft_form, strings_texts, relation_texts, relations_texts, config_texts, StandsFor};
+ghost use Rattle.config_core.specs.Shape.{texts_read, types_read, rewrite_read, indexed_read, relation_read, relations_read, namespace_read, namespaces_read, config_read};
 
 use crate::draft::{Draft, DraftRelation, DraftRewrite};
 use crate::members::has_only_members;
@@ -13,7 +13,7 @@ use serde_json::{Map, Value};
 use std::alloc::{AllocError, Global};
 
 fn read_texts(alloc: Global, items: &[Value]) -> Result<Option<Vec<String>>, AllocError>
-    ensures { IfOk result (λ r. option_map (λ v. map string_bytes v.items) r ≡ texts_read (items_view items.now)) }
+    ensures { IfOk result (StandsFor strings_texts (texts_read (items_view items.now))) }
 {
     let mut texts = Vec::new(alloc);
     for item in items {
@@ -26,7 +26,7 @@ fn read_texts(alloc: Global, items: &[Value]) -> Result<Option<Vec<String>>, All
 }
 
 fn read_types(alloc: Global, relation: &Value) -> Result<Option<Vec<String>>, AllocError>
-    ensures { IfOk result (λ r. option_map (λ v. map string_bytes v.items) r ≡ types_read (get (codes "types") (view relation.now))) }
+    ensures { IfOk result (StandsFor strings_texts (types_read (get (codes "types") (view relation.now)))) }
 {
     let Some(types) = relation.get("types") else {
         return Ok(Some(Vec::new(alloc)));
@@ -38,7 +38,7 @@ fn read_types(alloc: Global, relation: &Value) -> Result<Option<Vec<String>>, Al
 }
 
 fn read_rewrite_of(alloc: Global, relation: &Value) -> Result<Option<DraftRewrite>, AllocError>
-    ensures { IfOk result (λ r. option_map draft_form r ≡ rewrite_read (get (codes "rewrite") (view relation.now))) }
+    ensures { IfOk result (StandsFor draft_form (rewrite_read (get (codes "rewrite") (view relation.now)))) }
 {
     let Some(rewrite) = relation.get("rewrite") else {
         return Ok(Some(DraftRewrite::This));
@@ -61,7 +61,7 @@ fn read_relation(
     relation: &str,
     value: &Value,
 ) -> Result<Option<DraftRelation>, AllocError>
-    ensures { IfOk result (λ r. option_map relation_texts r ≡ relation_read namespace.now relation.now (view value.now)) }
+    ensures { IfOk result (StandsFor relation_texts (relation_read namespace.now relation.now (view value.now))) }
 {
     if !has_only_members(value, ["types", "rewrite", "indexed"].as_slice()) {
         return Ok(None);
@@ -91,7 +91,8 @@ fn read_relations(
     namespace: &str,
     members: &Map<String, Value>,
 ) -> Result<Option<Vec<DraftRelation>>, AllocError>
-    ensures ok { IfOk result (λ r. option_map (λ v. map relation_texts v.items) r ≡ relations_read namespace.now (members_view members.now.entries)) }
+    ensures ok { IfOk result
+        (StandsFor relations_texts (relations_read namespace.now (members_view members.now.entries))) }
     ensures ordered { IfOk result (λ _. AreInOrder (members_view members.now.entries)) }
 {
     let mut relations = Vec::new(alloc);
@@ -110,7 +111,7 @@ fn read_namespace(
     value: &Value,
 ) -> Result<Option<Vec<DraftRelation>>, AllocError>
     ensures ordered { IfOk result (λ _. IsInOrder (view value.now)) }
-    ensures ok { IfOk result (λ r. option_map (λ v. map relation_texts v.items) r ≡ option_and_then (relations_read namespace.now) (as_object (view value.now))) }
+    ensures ok { IfOk result (StandsFor relations_texts (namespace_read namespace.now (view value.now))) }
 {
     let Some(members) = value.as_object() else {
         return Ok(None);
@@ -119,7 +120,7 @@ fn read_namespace(
 }
 
 fn read_namespaces(alloc: Global, members: &Map<String, Value>) -> Result<Option<Draft>, AllocError>
-    ensures ok { IfOk result (λ r. option_map config_texts r ≡ namespaces_read (members_view members.now.entries)) }
+    ensures ok { IfOk result (StandsFor config_texts (namespaces_read (members_view members.now.entries))) }
     ensures ordered { IfOk result (λ r. IfSome r (λ d. AreOrdered (config_texts d))) }
 {
     let mut namespaces = Vec::new(alloc);
@@ -139,7 +140,7 @@ fn read_namespaces(alloc: Global, members: &Map<String, Value>) -> Result<Option
 
 /// What a value says as a configuration, or nothing where it has not the form of one.
 pub fn read_config(alloc: Global, value: &Value) -> Result<Option<Draft>, AllocError>
-    ensures ok { IfOk result (λ r. option_map config_texts r ≡ config_read (view value.now)) }
+    ensures ok { IfOk result (StandsFor config_texts (config_read (view value.now))) }
     ensures ordered { IfOk result (λ r. IfSome r (λ d. AreOrdered (config_texts d))) }
 {
     if !has_only_members(value, ["namespaces"].as_slice()) {

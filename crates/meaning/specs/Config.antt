@@ -26,6 +26,17 @@ empty_config = record { namespaces = []; relations = [] }
 abbrev pub rel_of : Node → RelationName
 rel_of n = record { namespace = n.object.namespace; relation = n.relation }
 
+abbrev pub relation_in : (namespace relation : List ℕ) → RelationName
+relation_in namespace relation = record { namespace = namespace; relation = relation }
+
+-- the type of a namespace's objects
+abbrev pub object_type : (namespace : List ℕ) → SubjectType
+object_type namespace = record { namespace = namespace; relation = None }
+
+-- the type of a relation's nodes
+abbrev pub node_type : RelationName → SubjectType
+node_type r = record { namespace = r.namespace; relation = Some r.relation }
+
 -- the configuration defines r as d
 abbrev pub Defines : Configured → RelationName → Defined → Type 0
 Defines config r d = Contains config.relations d × (d.rel ≡ r)
@@ -37,13 +48,13 @@ Has config r = (d : Defined) × Defines config r d
 -- the tupleset relation of d's namespace declares the objects of a namespace
 abbrev pub Leads : Configured → Defined → List ℕ → List ℕ → Type 0
 Leads config d tupleset namespace =
-    (e : Defined) × Defines config (record { namespace = d.rel.namespace; relation = tupleset }) e × Contains e.types (record { namespace = namespace; relation = None })
+    (e : Defined) × Defines config (relation_in d.rel.namespace tupleset) e × Contains e.types (object_type namespace)
 
 -- w, in the definition d, has a step to r, which is subtracted where the sign is true
 abbrev mutual
   pub StepsTo : Configured → Defined → Form → Bool → RelationName → Type 0
-  StepsTo config d This sign r = (sign ≡ false) × Contains d.types (record { namespace = r.namespace; relation = Some r.relation })
-  StepsTo config d (Computed c) sign r = (sign ≡ false) × (r ≡ record { namespace = d.rel.namespace; relation = c })
+  StepsTo config d This sign r = (sign ≡ false) × Contains d.types (node_type r)
+  StepsTo config d (Computed c) sign r = (sign ≡ false) × (r ≡ relation_in d.rel.namespace c)
   StepsTo config d (TupleTo t c) sign r = (sign ≡ false) × (r.relation ≡ c) × Has config r × Leads config d t r.namespace
   StepsTo config d (Union ws) sign r = SomeStepsTo config d ws sign r
   StepsTo config d (Intersection ws) sign r = SomeStepsTo config d ws sign r

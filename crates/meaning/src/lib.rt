@@ -22,5 +22,6 @@ pub fn membership_is_least()
 /// In a valid snapshot a user is a member of a node exactly where the node's rewrite gives the user
 /// from the memberships of the nodes that it looks up.
 pub fn membership_unfolds()
-    ensures { (S : Snap) (u : Object) (n : Node) → IsValid S → IsMember S u n ↔ RelationGives S u n (IsMember S u) (IsMember S u) }
+    ensures { (S : Snap) (u : Object) (n : Node) → IsValid S
+        → IsMember S u n ↔ RelationGives S u n (IsMember S u) (IsMember S u) }
 {}

@@ -1,9 +1,13 @@
 -- Signed graphs, their levels, and cycles that begin with a subtracted step.
-use Rattle.std.specs.Prelude.{◌≡◌, ◌≢◌, ℕ, ◌<◌, List, [], ◌∷◌, Bool, true, cond, Contains, length, slice_index}
+use Rattle.std.specs.Prelude.{◌≡◌, ◌≢◌, ℕ, ◌<◌, List, [], ◌∷◌, Bool, true, cond, All, Contains, length, slice_index}
 use Rattle.strata.specs.declared.graph.Step.{Step}
 use Rattle.strata.specs.declared.graph.Answer.{Answer}
 use Rattle.strata.specs.declared.graph.Answer.TheVariants.{Levels, Cycle}
 use Rattle.meaning.specs.Levels.{IsLevel}
+
+-- each step is from a number below count, and to one
+abbrev pub AreBelow : ℕ → List Step → Type 0
+AreBelow count steps = All (λ s. (s.from < count) × (s.to < count)) steps
 
 -- the steps have one from a to b, with this sign
 abbrev pub HasStep : List Step → ℕ → Bool → ℕ → Type 0

@@ -1,10 +1,10 @@
 //! Cycles with a subtracted step.
-ghost use Rattle.std.specs.Prelude.{◌≡◌, ℕ, ◌<◌, ◌↔◌, true, List, All, Any, IsTrue, IfOk, IfSome, IfNone, length, slice_index_or};
+ghost use Rattle.std.specs.Prelude.{◌≡◌, ◌<◌, ◌↔◌, true, All, Any, IsTrue, IfOk, IfSome, IfNone, length, slice_index_or};
 ghost use Rattle.std.specs.List.Sorted.{IsNonDecreasingBy};
 ghost use Rattle.strata.specs.declared.graph.Step.{Step};
 ghost use Rattle.strata.specs.declared.search.Seen.{Seen};
-ghost use Rattle.strata.specs.Graph.{IsCertificate, NoneBack, NoneBackTo};
-ghost use Rattle.strata.specs.inside.Search.{HasNode, IsTrail, IsWay, IsClosing};
+ghost use Rattle.strata.specs.Graph.{AreBelow, IsCertificate, NoneBack, NoneBackTo};
+ghost use Rattle.strata.specs.inside.Search.{HasNode, AreByEarlier, IsWayTo, IsClosing};
 
 use crate::Step;
 use crate::search::{Seen, reached};
@@ -25,9 +25,9 @@ fn place_of(seen: &[Seen], node: usize) -> usize
 
 /// The steps by which the place was reached.
 fn way_to(alloc: Global, seen: &[Seen], place: usize) -> Result<Vec<Step>, AllocError>
-    requires earlier { (i : ℕ) (d : Seen) → 0 < i → i < length seen.now → (slice_index_or seen.now i d).by < i }
+    requires earlier { AreByEarlier seen.now }
     requires place { place < length seen.now }
-    ensures { IfOk result (λ way. (steps : List Step) (start : ℕ) → IsTrail steps start seen.now → IsWay steps start seen.now 0 place way.items) }
+    ensures { IfOk result (λ way. IsWayTo seen.now place way.items) }
 {
     let mut way = Vec::new(alloc);
     let mut at = place;
@@ -75,7 +75,7 @@ fn cycle_to(
     to: usize,
 ) -> Result<Option<Vec<Step>>, AllocError>
     requires in_order { IsNonDecreasingBy (λ s. s.from) steps.now }
-    requires in_range { All (λ s. (s.from < count) × (s.to < count)) steps.now }
+    requires in_range { AreBelow count steps.now }
     requires to { to < count }
     ensures found { IfOk result (λ r. IfSome r (λ cycle. IsCertificate steps.now cycle.items)) }
     ensures none { IfOk result (λ r. IfNone r (NoneBackTo steps.now to)) }
@@ -100,7 +100,7 @@ pub(crate) fn first_cycle(
     count: usize,
 ) -> Result<Option<Vec<Step>>, AllocError>
     requires in_order { IsNonDecreasingBy (λ s. s.from) steps.now }
-    requires in_range { All (λ s. (s.from < count) × (s.to < count)) steps.now }
+    requires in_range { AreBelow count steps.now }
     ensures found { IfOk result (λ r. IfSome r (λ cycle. IsCertificate steps.now cycle.items)) }
     ensures none { IfOk result (λ r. IfNone r (NoneBack steps.now)) }
 {

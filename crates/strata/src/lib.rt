@@ -3,9 +3,9 @@
 //! such a cycle.
 #![tactic(auto)]
 
-ghost use Rattle.std.specs.Prelude.{ℕ, ◌<◌, List, All, IfOk};
+ghost use Rattle.std.specs.Prelude.{ℕ, List, IfOk};
 ghost use Rattle.strata.specs.declared.graph.Step.{Step};
-ghost use Rattle.strata.specs.Graph.{AreLevels, IsCertificate, IsAnswer};
+ghost use Rattle.strata.specs.Graph.{AreBelow, AreLevels, IsCertificate, IsAnswer};
 
 use std::alloc::{AllocError, Global};
 
@@ -25,7 +25,7 @@ use raise::raised;
 /// It looks for a cycle once from each relation at which a subtracted step ends, over the steps without
 /// their repeats, and then raises the levels in passes over these.
 pub fn levels(alloc: Global, graph: &Graph) -> Result<Answer, AllocError>
-    requires in_range { All (λ s. (s.from < graph.now.count) × (s.to < graph.now.count)) graph.now.steps.items }
+    requires in_range { AreBelow graph.now.count graph.now.steps.items }
     ensures { IfOk result (IsAnswer graph.now.steps.items graph.now.count) }
 {
     let steps = distinct(alloc, &graph.steps)?;
@@ -38,5 +38,6 @@ pub fn levels(alloc: Global, graph: &Graph) -> Result<Answer, AllocError>
 /// A graph with a cycle that begins with a subtracted step has no levels: of the two answers one alone
 /// can be given.
 pub fn never_both()
-    ensures { (steps : List Step) (count : ℕ) (levels : List ℕ) (cycle : List Step) → All (λ s. (s.from < count) × (s.to < count)) steps → AreLevels steps count levels → IsCertificate steps cycle → ⊥ }
+    ensures { (steps : List Step) (count : ℕ) (levels : List ℕ) (cycle : List Step)
+        → AreBelow count steps → AreLevels steps count levels → IsCertificate steps cycle → ⊥ }
 {}

@@ -1,7 +1,7 @@
 //! Levels, where no cycle has a subtracted step.
-ghost use Rattle.std.specs.Prelude.{◌≡◌, ◌<◌, ◌+◌, ◌^◌, All, IfOk, length, replicate, slice_index};
+ghost use Rattle.std.specs.Prelude.{◌≡◌, ◌<◌, ◌+◌, ◌^◌, IfOk, length, replicate, slice_index};
 ghost use Rattle.strata.specs.declared.graph.Step.{Step};
-ghost use Rattle.strata.specs.Graph.{AreLevels, NoneBack, sign_cost};
+ghost use Rattle.strata.specs.Graph.{AreBelow, AreLevels, NoneBack, sign_cost};
 ghost use Rattle.strata.specs.inside.Raise.{IsRaising, IsPass};
 
 use crate::Step;
@@ -25,7 +25,7 @@ fn asked(levels: &[usize], step: Step) -> usize
 
 /// Raises the start of each step to what the step asks for, and says whether a level rose.
 fn pass(steps: &[Step], levels: &mut [usize]) -> bool
-    requires in_range { All (λ s. (s.from < length levels.old) × (s.to < length levels.old)) steps.now }
+    requires in_range { AreBelow (length levels.old) steps.now }
     requires few { length steps.now < 2 ^ 63 }
     requires none { NoneBack steps.now }
     requires raising { IsRaising steps.now (length levels.old) levels.old }
@@ -44,7 +44,7 @@ fn pass(steps: &[Step], levels: &mut [usize]) -> bool
 
 /// The levels, where no subtracted step has a walk back.
 pub(crate) fn raised(alloc: Global, steps: &[Step], count: usize) -> Result<Vec<usize>, AllocError>
-    requires in_range { All (λ s. (s.from < count) × (s.to < count)) steps.now }
+    requires in_range { AreBelow count steps.now }
     requires few { length steps.now < 2 ^ 63 }
     requires none { NoneBack steps.now }
     ensures { IfOk result (λ v. AreLevels steps.now count v.items) }

@@ -3,7 +3,7 @@ ghost use Rattle.std.specs.Prelude.{◌≡◌, ◌<◌, true, false, All, IfOk, 
 ghost use Rattle.std.specs.List.Sorted.{IsNonDecreasingBy};
 ghost use Rattle.strata.specs.declared.graph.Step.{Step};
 ghost use Rattle.strata.specs.declared.search.Seen.{Seen};
-ghost use Rattle.strata.specs.inside.Search.{IsReached, IsMarked, IsSpread, LeaveFrom};
+ghost use Rattle.strata.specs.inside.Search.{IsReached, IsMarked, HasSpread, LeaveFrom};
 
 use crate::Step;
 use crate::order::steps_from;
@@ -31,7 +31,7 @@ impl Search {
         requires in_range { All (λ s. s.to < length self.old.marks.items) steps.now }
         requires marked { IsMarked self.old.marks.items self.old.seen.items }
         requires leave { LeaveFrom self.old.seen.items by steps.now }
-        ensures { OnOk result (IsSpread self.old.seen.items self.old.marks.items self.new.seen.items self.new.marks.items steps.now (length steps.now)) }
+        ensures { OnOk result (HasSpread self.old self.new steps.now) }
     {
         for s in steps {
             if !self.marks[s.to] {

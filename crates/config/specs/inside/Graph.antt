@@ -1,5 +1,5 @@
 -- The graph of a configuration, whose nodes are the places of its relations.
-use Rattle.std.specs.Prelude.{ℕ, ◌<◌, ◌≤◌, ◌+◌, ◌⊎◌, List, [], Contains, false, length, slice_index_or}
+use Rattle.std.specs.Prelude.{◌≡◌, ℕ, ◌<◌, ◌≤◌, ◌+◌, ◌⊎◌, List, [], Contains, false, length, slice_index_or}
 use Rattle.names.specs.declared.relation.RelationName.{RelationName}
 use Rattle.names.specs.declared.refusal.Refusal.{Refusal}
 use Rattle.names.specs.declared.refusal.Refusal.TheVariants.{ConfigRefused, Memory}
@@ -26,6 +26,10 @@ pub record IsStep (c : Configured) (s : Step) : Type 0 where
   pub from : s.from < length c.relations
   pub to : s.to < length c.relations
   pub step : StepsTo c (relation_at c s.from) (relation_at c s.from).form s.subtracted (name_at c s.to)
+
+-- the step is from one place to the other
+abbrev pub IsBetween : (from to : ℕ) → Step → Type 0
+IsBetween from to s = (s.from ≡ from) × (s.to ≡ to)
 
 -- the steps in question were added, at most n, and nothing else
 pub record Adds (c : Configured) (old new : List Step) (InQuestion : Step → Type 0) (n : ℕ) : Type 0 where

@@ -2,17 +2,22 @@
 use Rattle.std.specs.Prelude.{◌≡◌, ◌≢◌, ℕ, ◌<◌, ◌≤◌, ◌+◌, ◌↔◌, List, Bool, false, true, IsTrue, All, Contains, cond, length, slice_index_or, sum_by}
 use Rattle.strata.specs.declared.graph.Step.{Step}
 use Rattle.strata.specs.declared.search.Seen.{Seen}
+use Rattle.strata.specs.declared.search.Search.{Search}
 use Rattle.strata.specs.Graph.{HasStep, IsChain, EndsApart}
 
 -- the node stands in the list
 abbrev pub HasNode : List Seen → ℕ → Type 0
 HasNode seen node = (x : Seen) × Contains seen x × (x.node ≡ node)
 
+-- each but the first was reached from one before it
+abbrev pub AreByEarlier : List Seen → Type 0
+AreByEarlier seen = (i : ℕ) (d : Seen) → 0 < i → i < length seen → (slice_index_or seen i d).by < i
+
 -- what was reached from the start, each by a step from one before it
 pub record IsTrail (steps : List Step) (start : ℕ) (seen : List Seen) : Type 0 where
   pub some : 0 < length seen
   pub first : (d : Seen) → (slice_index_or seen 0 d).node ≡ start
-  pub earlier : (i : ℕ) (d : Seen) → 0 < i → i < length seen → (slice_index_or seen i d).by < i
+  pub earlier : AreByEarlier seen
   pub by_step : (i : ℕ) (d : Seen) → 0 < i → i < length seen → HasStep steps (slice_index_or seen (slice_index_or seen i d).by d).node (slice_index_or seen i d).subtracted (slice_index_or seen i d).node
   pub apart : (i j : ℕ) (d : Seen) → i < j → j < length seen → (slice_index_or seen i d).node ≢ (slice_index_or seen j d).node
 
@@ -43,12 +48,20 @@ pub record IsSpread (seen : List Seen) (marks : List Bool) (seen_now : List Seen
   pub taken : (k : ℕ) (s : Step) → k < n → slice_index_or steps k s ≡ s → HasNode seen_now s.to
   pub trail : (graph : List Step) (start : ℕ) → ((s : Step) → Contains steps s → Contains graph s) → IsTrail graph start seen → IsTrail graph start seen_now
 
+-- all of the steps were taken, from what an earlier search has reached to what a later one has
+abbrev pub HasSpread : Search → Search → List Step → Type 0
+HasSpread old new steps = IsSpread old.seen.items old.marks.items new.seen.items new.marks.items steps (length steps)
+
 -- the steps lead from the place i of a trail to its place p, and end at places after i
 pub record IsWay (steps : List Step) (start : ℕ) (seen : List Seen) (i p : ℕ) (way : List Step) : Type 0 where
   pub chain : (d : Seen) → IsChain (slice_index_or seen i d).node way (slice_index_or seen p d).node
   pub steps_in : (s : Step) → Contains way s → Contains steps s
   pub apart : EndsApart way
   pub ends : (s : Step) → Contains way s → (j : ℕ) × (i < j) × (j < length seen) × ((d : Seen) → (slice_index_or seen j d).node ≡ s.to)
+
+-- on each trail, the steps lead from its start to its place p
+abbrev pub IsWayTo : List Seen → ℕ → List Step → Type 0
+IsWayTo seen p way = (steps : List Step) (start : ℕ) → IsTrail steps start seen → IsWay steps start seen 0 p way
 
 -- a subtracted step to the node from one that is marked
 pub record IsClosing (steps : List Step) (to : ℕ) (marks : List Bool) (s : Step) : Type 0 where
