@@ -1,11 +1,7 @@
 //! Bytes that are fed to a line, and lines that are answered.
-ghost use Rattle.std.specs.Prelude.{ℕ, ◌≡◌, List, [], ◌∷◌, length, nat_le, true, OnOk};
-ghost use Rattle.names.specs.declared.limits.TheConstants.{MAX_BODY_LEN};
-ghost use Rattle.names.specs.Calls.{call_of};
-ghost use Rattle.http_api.specs.Machine.{IsAnswer};
-ghost use Rattle.http_api.specs.Wrote.{Wrote};
-ghost use Rattle.zanz_core.specs.Going.{GoesOn, ServesRest};
-ghost use Rattle.zanz_core.specs.Tracking.{FailsWith};
+ghost use Rattle.std.specs.Prelude.{ℕ, ◌≡◌, List, [], ◌∷◌, true, OnOk};
+ghost use Rattle.zanz_core.specs.Going.{AnswersPending, GoesOn, ServesRest};
+ghost use Rattle.zanz_core.specs.Tracking.{FailsWith, Writes};
 
 use crate::pending::Pending;
 use crate::put::{put, put_reply};
@@ -25,8 +21,8 @@ fn answer_line<W: Write, A: Answers>(
     line: &Pending,
 ) -> io::Result<()>
     ensures answered { (text : List ℕ)
-        × IsAnswer A.step answers.old (nat_le (length line.now.body) MAX_BODY_LEN) (call_of line.now.word) line.now.body text answers.new
-        × Wrote result (W.contents writer.old.inner) (W.contents writer.new.inner) text }
+        × AnswersPending A.step answers.old line.now text answers.new
+        × Writes W.contents result writer.old writer.new text }
     ensures failed { FailsWith result writer.old.failed writer.new.failed }
 {
     if !line.fits() {
@@ -46,7 +42,8 @@ fn feed<W: Write, A: Answers>(
     line: &mut Pending,
     b: u8,
 ) -> io::Result<()>
-    ensures goes_on { GoesOn A.step result line.old line.new answers.old answers.new (W.contents writer.old.inner) (W.contents writer.new.inner) (b ∷ []) }
+    ensures goes_on { GoesOn A.step W.contents result
+        (line.old, answers.old, writer.old) (b ∷ []) (line.new, answers.new, writer.new) }
     ensures failed { FailsWith result writer.old.failed writer.new.failed }
 {
     if b == b'\n' {
@@ -65,7 +62,8 @@ pub fn feed_all<W: Write, A: Answers>(
     line: &mut Pending,
     bytes: &[u8],
 ) -> io::Result<()>
-    ensures goes_on { GoesOn A.step result line.old line.new answers.old answers.new (W.contents writer.old.inner) (W.contents writer.new.inner) bytes.now }
+    ensures goes_on { GoesOn A.step W.contents result
+        (line.old, answers.old, writer.old) bytes.now (line.new, answers.new, writer.new) }
     ensures failed { FailsWith result writer.old.failed writer.new.failed }
 {
     for b in bytes {
@@ -80,7 +78,7 @@ fn answer_rest<W: Write, A: Answers>(
     answers: &mut A,
     line: &Pending,
 ) -> io::Result<()>
-    ensures served { ServesRest A.step result line.now answers.old answers.new (W.contents writer.old.inner) (W.contents writer.new.inner) }
+    ensures served { ServesRest A.step W.contents result (line.now, answers.old, writer.old) (answers.new, writer.new) }
     ensures failed { FailsWith result writer.old.failed writer.new.failed }
 {
     if line.is_empty() {
@@ -95,7 +93,7 @@ pub fn finish<W: Write, A: Answers>(
     answers: &mut A,
     line: &Pending,
 ) -> io::Result<()>
-    ensures served { ServesRest A.step result line.now answers.old answers.new (W.contents writer.old.inner) (W.contents writer.new.inner) }
+    ensures served { ServesRest A.step W.contents result (line.now, answers.old, writer.old) (answers.new, writer.new) }
     ensures failed { FailsWith result writer.old.failed writer.new.failed }
     ensures flushed { OnOk result (writer.new.flushed ≡ true) }
 {

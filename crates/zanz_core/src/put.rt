@@ -3,8 +3,7 @@ ghost use Rattle.std.specs.Prelude.{◌≡◌, true, OnOk, Some};
 ghost use Rattle.std.specs.List.{flat_map};
 ghost use Rattle.names.specs.Calls.{told};
 ghost use Rattle.http_api.specs.Text.{reply_line};
-ghost use Rattle.http_api.specs.Wrote.{Wrote};
-ghost use Rattle.zanz_core.specs.Tracking.{FailsWith};
+ghost use Rattle.zanz_core.specs.Tracking.{FailsWith, Writes};
 
 use crate::tracked_writer::TrackedWriter;
 use itoa::Buffer;
@@ -16,7 +15,7 @@ const NO_MEMORY: &[u8] = b"503 {\"error\":{\"code\":21,\"name\":\"Memory\"}}\n";
 
 /// Writes the bytes. Where the writer fails, it holds a beginning of them.
 pub fn put<W: Write>(writer: &mut TrackedWriter<W>, bytes: &[u8]) -> io::Result<()>
-    ensures wrote { Wrote result (W.contents writer.old.inner) (W.contents writer.new.inner) bytes.now }
+    ensures wrote { Writes W.contents result writer.old writer.new bytes.now }
     ensures failed { FailsWith result writer.old.failed writer.new.failed }
 {
     let mut rest = bytes;
@@ -29,7 +28,7 @@ pub fn put<W: Write>(writer: &mut TrackedWriter<W>, bytes: &[u8]) -> io::Result<
 
 /// Writes the bytes and hands them on. Where the writer fails, it holds a beginning of them.
 pub fn say<W: Write>(writer: &mut TrackedWriter<W>, bytes: &[u8]) -> io::Result<()>
-    ensures wrote { Wrote result (W.contents writer.old.inner) (W.contents writer.new.inner) bytes.now }
+    ensures wrote { Writes W.contents result writer.old writer.new bytes.now }
     ensures failed { FailsWith result writer.old.failed writer.new.failed }
     ensures flushed { OnOk result (writer.new.flushed ≡ true) }
 {
@@ -39,7 +38,7 @@ pub fn say<W: Write>(writer: &mut TrackedWriter<W>, bytes: &[u8]) -> io::Result<
 
 // Writes the parts, one after another.
 fn put_parts<W: Write>(writer: &mut TrackedWriter<W>, parts: &[&[u8]]) -> io::Result<()>
-    ensures wrote { Wrote result (W.contents writer.old.inner) (W.contents writer.new.inner) (flat_map (λ part. part.now) parts.now) }
+    ensures wrote { Writes W.contents result writer.old writer.new (flat_map (λ part. part.now) parts.now) }
     ensures failed { FailsWith result writer.old.failed writer.new.failed }
 {
     for part in parts {
@@ -50,7 +49,7 @@ fn put_parts<W: Write>(writer: &mut TrackedWriter<W>, parts: &[&[u8]]) -> io::Re
 
 /// Writes the line of a reply.
 pub fn put_reply<W: Write>(writer: &mut TrackedWriter<W>, reply: &Reply) -> io::Result<()>
-    ensures wrote { Wrote result (W.contents writer.old.inner) (W.contents writer.new.inner) (reply_line (told reply.now)) }
+    ensures wrote { Writes W.contents result writer.old writer.new (reply_line (told reply.now)) }
     ensures failed { FailsWith result writer.old.failed writer.new.failed }
 {
     match reply {
@@ -60,7 +59,7 @@ pub fn put_reply<W: Write>(writer: &mut TrackedWriter<W>, reply: &Reply) -> io::
 }
 
 fn put_said<W: Write>(writer: &mut TrackedWriter<W>, status: u16, body: &[u8]) -> io::Result<()>
-    ensures wrote { Wrote result (W.contents writer.old.inner) (W.contents writer.new.inner) (reply_line (Some (status, body.now))) }
+    ensures wrote { Writes W.contents result writer.old writer.new (reply_line (Some (status, body.now))) }
     ensures failed { FailsWith result writer.old.failed writer.new.failed }
 {
     let mut buffer = Buffer::new();

@@ -1,8 +1,8 @@
 //! The loop.
 ghost use Rattle.std.specs.Prelude.{ℕ, ◌≡◌, ◌≢◌, List, true, false};
-ghost use Rattle.std.specs.Io.KnownBytes.{Consumes};
-ghost use Rattle.http_api.specs.Served.{ReadAll, Served, Paused, Cut};
+ghost use Rattle.http_api.specs.Served.{Served, Paused, Cut};
 ghost use Rattle.zanz_core.specs.Ends.{is_read_fault, is_write_fault};
+ghost use Rattle.zanz_core.specs.Tracking.{Reads, ReadsAll};
 
 use crate::feed::{feed_all, finish};
 use crate::pending::Pending;
@@ -27,23 +27,24 @@ pub fn lines<R: Read, W: Write, A: Answers>(
     requires unbroken_writer { writer.old.failed ≡ false }
 
     // All that was there was read, each line answered, and the answers handed on.
-    ensures closed { result ≡ End.Closed → (input : List ℕ) × ReadAll (R.remaining reader.old.inner) (R.remaining reader.new.inner) input
+    ensures closed { result ≡ End.Closed → (input : List ℕ) × ReadsAll R.remaining reader.old reader.new input
         × Served A.step answers.old (W.contents writer.old.inner) input answers.new (W.contents writer.new.inner) }
     ensures flushed { result ≡ End.Closed → writer.new.flushed ≡ true }
 
     // Each whole line of what was read was answered.
-    ensures read_fault { result ≡ End.ReadFault → (input : List ℕ) × Consumes (R.remaining reader.old.inner) (R.remaining reader.new.inner) input
+    ensures read_fault { result ≡ End.ReadFault → (input : List ℕ) × Reads R.remaining reader.old reader.new input
         × Paused A.step answers.old (W.contents writer.old.inner) input answers.new (W.contents writer.new.inner) }
 
     // Some first lines of what was read were answered, and a beginning of the answers was written.
-    ensures write_fault { result ≡ End.WriteFault → (input : List ℕ) × Consumes (R.remaining reader.old.inner) (R.remaining reader.new.inner) input
+    ensures write_fault { result ≡ End.WriteFault → (input : List ℕ) × Reads R.remaining reader.old reader.new input
         × Cut A.step answers.old (W.contents writer.old.inner) input answers.new (W.contents writer.new.inner) }
 
     // A fault is told exactly where the reader or the writer failed in the call.
     ensures read_failed { reader.new.failed ≡ is_read_fault result }
     ensures write_failed { writer.new.failed ≡ is_write_fault result }
 
-    ensures memory { result ≡ End.Memory → (reader.new ≡ reader.old) × (writer.new ≡ writer.old) × (answers.new ≡ answers.old) }
+    ensures memory { result ≡ End.Memory → (reader.new ≡ reader.old)
+        × (writer.new ≡ writer.old) × (answers.new ≡ answers.old) }
     ensures never_asked { result ≢ End.Asked }
     ensures never_broken { result ≢ End.Broken }
 {
