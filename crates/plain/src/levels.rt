@@ -4,8 +4,8 @@ ghost use Rattle.std.specs.Bool.{OnTrue};
 ghost use Rattle.names.specs.declared.node.Node.{Node};
 ghost use Rattle.names.specs.declared.object.Object.{Object};
 ghost use Rattle.meaning.specs.Membership.{IsMember};
-ghost use Rattle.plain.specs.inside.Source.{snap_of, IsReady, IsOf};
-ghost use Rattle.plain.specs.inside.Candidates.{GainsNodes, HasNodes};
+ghost use Rattle.plain.specs.inside.Source.{snap_of, node_of, IsReady, IsOf};
+ghost use Rattle.plain.specs.inside.Candidates.{GainsLevel, HasLevel};
 
 use crate::rounds::filled;
 use crate::source::Source;
@@ -45,7 +45,7 @@ fn push_object(objects: &mut Vec<Object>, object: &Object) -> Result<(), AllocEr
 }
 
 fn push_node(nodes: &mut Vec<Node>, object: &Object, relation: &Name) -> Result<(), AllocError>
-    ensures { OnOk result (nodes.new.items ≡ nodes.old.items ++ record { object = object.now; relation = relation.now } ∷ []) }
+    ensures { OnOk result (nodes.new.items ≡ nodes.old.items ++ node_of object.now relation.now ∷ []) }
 {
     let node = Node {
         object: object.clone()?,
@@ -63,7 +63,7 @@ fn push_nodes(
     level: usize,
 ) -> Result<(), AllocError>
     requires { length source.now.relations.now ≡ length source.now.levels.now }
-    ensures { OnOk result (GainsNodes source.now object.now (length source.now.relations.now) level nodes.old.items nodes.new.items) }
+    ensures { OnOk result (GainsLevel source.now object.now level nodes.old.items nodes.new.items) }
 {
     let levels = source.levels;
     for (i, relation) in source.relations.iter().enumerate() {
@@ -84,7 +84,7 @@ fn nodes_at(
     level: usize,
 ) -> Result<Vec<Node>, AllocError>
     requires { length source.now.relations.now ≡ length source.now.levels.now }
-    ensures { IfOk result (λ v. HasNodes source.now objects.now (length objects.now) level v.items) }
+    ensures { IfOk result (λ v. HasLevel source.now objects.now level v.items) }
 {
     let mut nodes = Vec::new(alloc);
     for object in objects {

@@ -1,5 +1,5 @@
 //! Who is a member.
-ghost use Rattle.std.specs.Prelude.{◌≡◌, ◌↔◌, ◌⊎◌, Any, Contains, IfOk, IfErr, IsTrue, OnOk, true};
+ghost use Rattle.std.specs.Prelude.{◌≡◌, ◌↔◌, Any, Contains, IfOk, IfErr, IsTrue, OnOk, true};
 ghost use Rattle.std.specs.List.Sorted.{IsStrictlySortedBy};
 ghost use Rattle.names.specs.Order.{object_cmp};
 ghost use Rattle.names.specs.declared.object.Object.{Object};
@@ -7,6 +7,7 @@ ghost use Rattle.meaning.specs.Admits.{has_relation};
 ghost use Rattle.meaning.specs.Config.{rel_of};
 ghost use Rattle.meaning.specs.Membership.{IsMember};
 ghost use Rattle.plain.specs.Causes.{CheckCause};
+ghost use Rattle.plain.specs.inside.Members.{GainsObject, AreMembersAmong};
 ghost use Rattle.plain.specs.inside.Source.{snap_of, IsReady, Names};
 
 use crate::levels::nodes_of;
@@ -80,7 +81,7 @@ fn users_of(alloc: Global, tuples: &BTreeSet<Tuple>) -> Result<BTreeSet<Object>,
 }
 
 fn add_object(objects: &mut BTreeSet<Object>, object: &Object) -> Result<(), AllocError>
-    ensures { OnOk result ((o : Object) → Contains objects.new.keys o ↔ (Contains objects.old.keys o ⊎ (object.now ≡ o))) }
+    ensures { OnOk result (GainsObject objects.old.keys objects.new.keys object.now) }
 {
     if !objects.contains(object) {
         objects.insert(object.clone()?)?;
@@ -96,7 +97,7 @@ fn members_among(
     users: &BTreeSet<Object>,
 ) -> Result<BTreeSet<Object>, AllocError>
     requires { IsReady source.now }
-    ensures { IfOk result (λ v. (u : Object) → Contains v.keys u ↔ (Contains users.now.keys u × IsMember (snap_of source.now) u node.now)) }
+    ensures { IfOk result (λ v. AreMembersAmong (snap_of source.now) node.now users.now.keys v.keys) }
 {
     let mut members = BTreeSet::new(alloc);
     for user in users {

@@ -1,8 +1,6 @@
 //! What a rewrite gives a node.
-ghost use Rattle.std.specs.Prelude.{◌↔◌, Contains, IsTrue, map};
-ghost use Rattle.meaning.specs.Membership.{Gives, SomeGives, EachGives, RelationGives};
-ghost use Rattle.config.specs.Forms.{form_of, forms_of};
-ghost use Rattle.plain.specs.inside.Source.{snap_of};
+ghost use Rattle.std.specs.Prelude.{◌↔◌, IsTrue};
+ghost use Rattle.plain.specs.inside.Given.{RewriteGives, SomePartGives, EachPartGives, IsGiven};
 
 use crate::source::{Source, holds, is_direct, is_through};
 use config::Rewrite;
@@ -19,7 +17,7 @@ fn gives(
     held: &[Node],
     lower: &[Node],
 ) -> bool
-    ensures { IsTrue result ↔ Gives (snap_of source.now) user.now node.now (form_of rewrite.now) (Contains held.now) (Contains lower.now) }
+    ensures { IsTrue result ↔ RewriteGives source.now user.now node.now rewrite.now held.now lower.now }
 {
     match rewrite {
         Rewrite::This => is_direct(source, node, user, held),
@@ -46,7 +44,7 @@ fn some_gives(
     held: &[Node],
     lower: &[Node],
 ) -> bool
-    ensures { IsTrue result ↔ SomeGives (snap_of source.now) user.now node.now (forms_of (map form_of parts.now)) (Contains held.now) (Contains lower.now) }
+    ensures { IsTrue result ↔ SomePartGives source.now user.now node.now parts.now held.now lower.now }
 {
     for part in parts {
         if gives(source, user, node, part, held, lower) {
@@ -66,7 +64,7 @@ fn each_gives(
     held: &[Node],
     lower: &[Node],
 ) -> bool
-    ensures { IsTrue result ↔ EachGives (snap_of source.now) user.now node.now (forms_of (map form_of parts.now)) (Contains held.now) (Contains lower.now) }
+    ensures { IsTrue result ↔ EachPartGives source.now user.now node.now parts.now held.now lower.now }
 {
     for part in parts {
         if !gives(source, user, node, part, held, lower) {
@@ -84,7 +82,7 @@ pub(crate) fn relation_gives(
     held: &[Node],
     lower: &[Node],
 ) -> bool
-    ensures { IsTrue result ↔ RelationGives (snap_of source.now) user.now node.now (Contains held.now) (Contains lower.now) }
+    ensures { IsTrue result ↔ IsGiven source.now user.now node.now held.now lower.now }
 {
     for relation in source.relations {
         if relation.is_of(node) && gives(source, user, node, &relation.rewrite, held, lower) {

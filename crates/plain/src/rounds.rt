@@ -1,7 +1,7 @@
 //! One level, by rounds.
-ghost use Rattle.std.specs.Prelude.{◌≡◌, ℕ, ◌<◌, ◌≤◌, Contains, IfOk, IfSome, IfNone, length, slice_index_or};
-ghost use Rattle.names.specs.declared.node.Node.{Node};
+ghost use Rattle.std.specs.Prelude.{◌≡◌, IfOk, IfSome, IfNone};
 ghost use Rattle.meaning.specs.Membership.{RelationGives};
+ghost use Rattle.plain.specs.inside.Given.{IsGivenAt, NoneIsGiven};
 ghost use Rattle.plain.specs.inside.Source.{snap_of};
 ghost use Rattle.plain.specs.inside.Rounds.{IsLeastOver};
 
@@ -19,8 +19,8 @@ fn next_given(
     held: &[Node],
     lower: &[Node],
 ) -> Option<usize>
-    ensures found { IfSome result (λ i. (i < length nodes.now) × ((d : Node) → RelationGives (snap_of source.now) user.now (slice_index_or nodes.now i d) (Contains held.now) (Contains lower.now))) }
-    ensures none { IfNone result ((k : ℕ) (m : Node) → from ≤ k → k < length nodes.now → slice_index_or nodes.now k m ≡ m → RelationGives (snap_of source.now) user.now m (Contains held.now) (Contains lower.now) → ⊥) }
+    ensures found { IfSome result (λ i. IsGivenAt source.now user.now nodes.now i held.now lower.now) }
+    ensures none { IfNone result (NoneIsGiven source.now user.now nodes.now from held.now lower.now) }
 {
     for i in from..nodes.len() {
         let node = &nodes[i];

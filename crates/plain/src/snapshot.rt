@@ -85,7 +85,7 @@ impl Snapshot {
 
     /// Puts the tuple, whether it is there or not.
     pub fn insert(&mut self, tuple: Tuple) -> Result<(), AllocError>
-        ensures ok { OnOk result (self.new ≡ record { config = self.old.config; tuples = set.insert self.old.tuples tuple }) }
+        ensures ok { OnOk result (self.new ≡ record self.old { tuples = set.insert self.old.tuples tuple }) }
         ensures err { OnErr result (self.new ≡ self.old) }
     {
         self.tuples.insert(tuple)?;
@@ -94,7 +94,7 @@ impl Snapshot {
 
     /// Takes the tuple away, if it is there. It takes no memory.
     pub fn remove(&mut self, tuple: &Tuple)
-        ensures { self.new ≡ record { config = self.old.config; tuples = set.remove self.old.tuples tuple.now } }
+        ensures { self.new ≡ record self.old { tuples = set.remove self.old.tuples tuple.now } }
     {
         self.tuples.remove(tuple);
     }
@@ -102,7 +102,7 @@ impl Snapshot {
     /// Puts the configuration in the place of the other. It takes no memory, and does not look whether
     /// the tuples are admitted.
     pub fn set_config(&mut self, config: Config)
-        ensures { self.new ≡ record { config = config; tuples = self.old.tuples } }
+        ensures { self.new ≡ record self.old { config = config } }
     {
         self.config = config;
     }

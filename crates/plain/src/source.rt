@@ -1,13 +1,7 @@
 //! What the rounds read.
-ghost use Rattle.std.specs.Prelude.{◌≡◌, ◌↔◌, Any, Contains, IsTrue, map};
-ghost use Rattle.std.specs.List.{list_any};
-ghost use Rattle.names.specs.declared.node.Node.{Node};
-ghost use Rattle.meaning.specs.Admits.{is_relation};
-ghost use Rattle.meaning.specs.Config.{Has};
-ghost use Rattle.meaning.specs.Form.{This, TupleTo};
-ghost use Rattle.meaning.specs.Membership.{Gives};
-ghost use Rattle.config.specs.Forms.{defined_of};
-ghost use Rattle.plain.specs.inside.Source.{snap_of, Grants, LeadsOn};
+ghost use Rattle.std.specs.Prelude.{◌≡◌, ◌↔◌, Contains, IsTrue};
+ghost use Rattle.plain.specs.inside.Given.{TupleGives, TuplesetGives};
+ghost use Rattle.plain.specs.inside.Source.{node_of, defines, Grants, LeadsOn};
 
 use config::Relation;
 use names::{Name, Node, Object, Tuple};
@@ -23,7 +17,7 @@ pub(crate) struct Source<'a> {
 
 /// Whether the namespace has the relation.
 pub(crate) fn has_relation(relations: &[Relation], namespace: &Name, name: &Name) -> bool
-    ensures { result ≡ list_any (is_relation (record { namespace = namespace.now; relation = name.now })) (map defined_of relations.now) }
+    ensures { result ≡ defines relations.now namespace.now name.now }
 {
     for relation in relations {
         if relation.name.namespace == *namespace && relation.name.relation == *name {
@@ -35,7 +29,7 @@ pub(crate) fn has_relation(relations: &[Relation], namespace: &Name, name: &Name
 
 /// Whether the node with these parts is held.
 pub(crate) fn holds(held: &[Node], object: &Object, relation: &Name) -> bool
-    ensures { IsTrue result ↔ Contains held.now (record { object = object.now; relation = relation.now }) }
+    ensures { IsTrue result ↔ Contains held.now (node_of object.now relation.now) }
 {
     held.iter()
         .any(|m| m.object == *object && m.relation == *relation)
@@ -57,7 +51,7 @@ fn grants(tuple: &Tuple, node: &Node, user: &Object, held: &[Node]) -> bool
 
 /// Whether a tuple of the node gives it the user.
 pub(crate) fn is_direct(source: &Source, node: &Node, user: &Object, held: &[Node]) -> bool
-    ensures { IsTrue result ↔ Gives (snap_of source.now) user.now node.now This (Contains held.now) (Contains held.now) }
+    ensures { IsTrue result ↔ TupleGives source.now user.now node.now held.now }
 {
     let tuples = source.tuples;
     tuples.iter().any(|t| grants(t, node, user, held))
@@ -96,7 +90,7 @@ pub(crate) fn is_through(
     relation: &Name,
     held: &[Node],
 ) -> bool
-    ensures { IsTrue result ↔ Gives (snap_of source.now) user.now node.now (TupleTo tupleset.now relation.now) (Contains held.now) (Contains held.now) }
+    ensures { IsTrue result ↔ TuplesetGives source.now user.now node.now tupleset.now relation.now held.now }
 {
     let tuples = source.tuples;
     tuples.iter().any(|t| leads_on(source.relations, t, &node.object, tupleset, relation, held))

@@ -13,7 +13,7 @@ use Rattle.zanz_core.specs.PendingLine.{PendingLine, pending_of, with_byte}
 use Rattle.http_api.specs.Machine.{Step, IsAnswer, Answers, Run, Fed}
 use Rattle.http_api.specs.Wrote.{Wrote, WroteSome}
 use Rattle.http_api.specs.Served.{Served, Cut}
-use Rattle.zanz_core.specs.Going.{Going, CutShort}
+use Rattle.zanz_core.specs.Going.{AnswersPending, Going, CutShort}
 use Rattle.zanz_core.proofs.Keeping.{pending_more, fits_pending, whole_when_fits, call_pending, empty_from_pending}
 use Rattle.zanz_core.proofs.Feeding.{run_more, fed_none, fed_byte, fed_line, lines_of_fed, lines_of_rest}
 use Rattle.zanz_core.proofs.Writing.{appends_none, appends_both, appends_kept, some_after}
@@ -25,7 +25,7 @@ answer_by step t false call b1 b2 text u e h = h
 
 -- what is kept of a line decides its answer
 pub answer_kept : {S : Type 0} (step : Step S) (t : S) (line text : List ℕ) (u : S)
-    → IsAnswer step t (nat_le (length (pending_of line).body) MAX_BODY_LEN) (call_of (pending_of line).word) (pending_of line).body text u → Answers step t line text u
+    → AnswersPending step t (pending_of line) text u → Answers step t line text u
 answer_kept step t line text u h =
     let P : Bool → Type 0 = λ b. IsAnswer step t b (call_of (pending_of line).word) (pending_of line).body text u in
     let one : IsAnswer step t (nat_le (length (body_of line)) MAX_BODY_LEN) (call_of (pending_of line).word) (pending_of line).body text u = subst P (fits_pending MAX_BODY_LEN (body_of line)) h in
@@ -61,10 +61,10 @@ answered_by step (Err e) s held input rest text holds after u more a f w = short
 
 -- the line ends, and is answered
 pub going_line : {S E : Type 0} (step : Step S) (r : Result (Unit {0}) E) (s : S) (held : Option (List ℕ)) (input : List ℕ) (line : PendingLine) (t : S) (holds after : Option (List ℕ)) (text : List ℕ) (u : S) (line_after : PendingLine)
-    → Going step s held input line t holds → IsAnswer step t (nat_le (length line.body) MAX_BODY_LEN) (call_of line.word) line.body text u → Wrote r holds after text → line_after ≡ pending_of []
+    → Going step s held input line t holds → AnswersPending step t line text u → Wrote r holds after text → line_after ≡ pending_of []
     → MatchResult r (λ _. Going step s held (input ++ 10 ∷ []) line_after u after) (λ _. CutShort step s held (input ++ 10 ∷ []) u after)
 going_line step r s held input line t holds after text u line_after g h w e =
-    let P : PendingLine → Type 0 = λ k. IsAnswer step t (nat_le (length k.body) MAX_BODY_LEN) (call_of k.word) k.body text u in
+    let P : PendingLine → Type 0 = λ k. AnswersPending step t k text u in
     let a = answer_kept step t g.paused.rest text u (subst P g.pending_is h) in
     let f = fed_line step s input g.paused.rest g.paused.text t text u g.paused.fed a in
     let Q : PendingLine → Type 0 = λ k. MatchResult r (λ _. Going step s held (input ++ 10 ∷ []) k u after) (λ _. CutShort step s held (input ++ 10 ∷ []) u after) in
@@ -134,11 +134,11 @@ ended_by step (Err x) s held input lines text holds after more u e ran a w =
 -- the last line has no end, and is answered
 pub served_last : {S E : Type 0} (step : Step S) (r : Result (Unit {0}) E) (s : S) (held : Option (List ℕ)) (input : List ℕ) (line : PendingLine) (t : S) (holds after : Option (List ℕ)) (text : List ℕ) (u : S)
     → Going step s held input line t holds → (not line.spaced && length line.word == 0) ≡ false
-    → IsAnswer step t (nat_le (length line.body) MAX_BODY_LEN) (call_of line.word) line.body text u → Wrote r holds after text
+    → AnswersPending step t line text u → Wrote r holds after text
     → MatchResult r (λ _. Served step s held input u after) (λ _. Cut step s held input u after)
 served_last {S} {E} step r s held input line t holds after text u g e h w =
     let P : PendingLine → Type 0 = λ k. (not k.spaced && length k.word == 0) ≡ false in
-    let Q : PendingLine → Type 0 = λ k. IsAnswer step t (nat_le (length k.body) MAX_BODY_LEN) (call_of k.word) k.body text u in
+    let Q : PendingLine → Type 0 = λ k. AnswersPending step t k text u in
     let f = g.paused.fed in
     let one : lines_of g.paused.rest ≡ g.paused.rest ∷ [] = last_line g.paused.rest f.partial (subst P g.pending_is e) in
     let all : lines_of input ≡ f.lines ++ g.paused.rest ∷ [] = lines_of_input step s input g.paused.rest g.paused.text t f ∙ ap (λ z. f.lines ++ z) one in

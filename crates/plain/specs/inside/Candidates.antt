@@ -16,7 +16,15 @@ pub record GainsNodes (s : Source) (object : Object) (i k : ℕ) (old new : List
   pub gained : (m : Node) → m.object ≡ object → IsPlaced s i k m → Contains new m
   pub only : (m : Node) → Contains new m → Contains old m ⊎ ((m.object ≡ object) × IsPlaced s i k m)
 
+-- the list has gained the nodes of the object whose relations have level k
+abbrev pub GainsLevel : Source → Object → ℕ → List Node → List Node → Type 0
+GainsLevel s object k old new = GainsNodes s object (length s.relations.now) k old new
+
 -- the list has the nodes of the objects before i whose relations have level k
 pub record HasNodes (s : Source) (objects : List Object) (i k : ℕ) (nodes : List Node) : Type 0 where
   pub all : (o : Object) (j : ℕ) (m : Node) → j < i → slice_index_or objects j o ≡ o → m.object ≡ o → IsPlaced s (length s.relations.now) k m → Contains nodes m
   pub only : (m : Node) → Contains nodes m → Contains objects m.object × IsPlaced s (length s.relations.now) k m
+
+-- the list has the nodes of the objects whose relations have level k
+abbrev pub HasLevel : Source → List Object → ℕ → List Node → Type 0
+HasLevel s objects k nodes = HasNodes s objects (length objects) k nodes

@@ -1,9 +1,11 @@
 -- What the rounds read, and what a tuple does.
-use Rattle.std.specs.Prelude.{◌≡◌, ℕ, ◌<◌, ◌^◌, List, [], Option, Some, None, All, Contains, map}
+use Rattle.std.specs.Prelude.{◌≡◌, ℕ, ◌<◌, ◌^◌, List, [], Bool, Option, Some, None, All, Contains, map}
+use Rattle.std.specs.List.{list_any}
 use Rattle.names.specs.declared.object.Object.{Object}
 use Rattle.names.specs.declared.node.Node.{Node}
 use Rattle.names.specs.declared.tuple.Tuple.{Tuple}
 use Rattle.meaning.specs.TupleSet as set
+use Rattle.meaning.specs.Admits.{is_relation}
 use Rattle.meaning.specs.Config.{Configured, Defined, Has, IsWhole}
 use Rattle.meaning.specs.Snap.{Snap, one}
 use Rattle.config_core.specs.declared.relation.Relation.{Relation}
@@ -14,6 +16,10 @@ use Rattle.plain.specs.declared.source.Source.{Source}
 -- the relations, as a configuration; no membership depends on its namespaces
 abbrev pub config_of : List Relation → Configured
 config_of relations = record { namespaces = []; relations = map defined_of relations }
+
+-- whether one of the relations is the namespace's of that name
+abbrev pub defines : List Relation → List ℕ → List ℕ → Bool
+defines relations namespace name = list_any (is_relation (record { namespace = namespace; relation = name })) (map defined_of relations)
 
 -- the snapshot that is read
 abbrev pub snap_of : Source → Snap
@@ -30,6 +36,10 @@ pub record IsSourceOf (S : Snap) (s : Source) : Type 0 where
   pub relations : map defined_of s.relations.now ≡ S.config.relations
   pub tuples : set.from_list s.tuples.now.keys ≡ S.tuples
   pub ready : IsReady s
+
+-- the node of the object and the relation
+abbrev pub node_of : Object → List ℕ → Node
+node_of o relation = record { object = o; relation = relation }
 
 -- the tuple is of a node of the object
 abbrev pub IsOf : Object → Tuple → Type 0
