@@ -922,7 +922,9 @@ def main():
     parser.add_argument("crates", nargs="*", metavar="CRATE")
     given = parser.parse_args()
     os.chdir(ROOT)
-    with tempfile.TemporaryDirectory(prefix="wrong-bodies-") as room:
+    # (what it started ends with it, and its folder is removed)
+    signal.signal(signal.SIGTERM, signal.default_int_handler)
+    with tempfile.TemporaryDirectory(prefix="wrong-bodies-", ignore_cleanup_errors=True) as room:
         passed, failed = (follow if given.follow else try_all)(given, since, room)
     for it in failed:
         say(it)
