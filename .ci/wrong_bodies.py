@@ -1,7 +1,8 @@
 #!/usr/bin/env python3
 """Sees that the prover refuses wrong bodies: for each, a function that it changes must fail its own proof.
 
-usage: .ci/wrong_bodies.py [--all] [--show] [--since SECONDS] [CRATE ..]
+usage: .ci/wrong_bodies.py [--all] [--show] [CRATE ..]
+       rt ci 2>&1 | .ci/wrong_bodies.py --follow [--all] [--show] [CRATE ..]
 
 A wrong body is an edit of a crate, a file crates/CRATE/wrong/NAME.edit: a line 'file: src/x.rt', and then pairs of
 lines 'old: TEXT' and 'new: TEXT', where each old TEXT stands in that file exactly once. Each edit gets a verdict:
@@ -19,10 +20,18 @@ is not proved. An edit stands in a copy of its own where it changes more than bo
 the check's name of its function is not certain or the prover could not tell, and where it makes a copy unreadable or
 breaks a function that no edit changes. What changes no body at all is judged by the verdict on the whole crate.
 
-What they are tried over. Each crate's libraries must be proved and be those of the files that stand here. With
---since, the time at which rt ci began, the libraries and the crates that this very rt ci proved are taken as they
-are. Any other library is built where it is not up to date, and a crate is first checked with no edit, both over what
-earlier checks here have kept, as under rt check.
+What they are tried over. Each crate's libraries must be proved and be those of the files that stand here. By hand, a
+library is built where it is not up to date, and a crate is first checked with no edit, both over what earlier checks
+here have kept, as under rt check; no other rt changes the libraries meanwhile, since their locks are held.
+
+With --follow they are tried beside rt ci, whose output is the input: each line of it is printed at once as it is, and
+what is said here comes after its end. Where rt ci says that it proved a library, and that is of this run and of the
+files that stand here, a copy of it is taken into a folder of this run, so no lock is needed: nothing else writes there,
+and these libraries are all from one rt ci. A crate's edits begin once all libraries below it are taken. Their verdicts
+stand only if rt ci proves the crate itself, and its files have not been written to since; else each is a BAD EDIT.
+
+How many at a time. Each check takes processors from one pool, and waits for memory: first those of the crate with the
+most to do. While rt ci runs, the pool has half of them, at a lower priority than its own; then it has all.
 
 What is known. .ci/refused.txt has a line for each crate whose edits were all refused: a checksum over all that their
 verdicts depend on. Where it still holds they are not tried again, unless --all is given. A crate whose edits are all
@@ -32,11 +41,13 @@ refused gets its line, and one where they are not loses it.
 and how many were not, or are other faults of a folder wrong/. The status is 0 only where all were refused.
 """
 import argparse
+import contextlib
 import copy
 import functools
 import hashlib
 import importlib.machinery
 import importlib.util
+import itertools
 import json
 import os
 import re
@@ -47,6 +58,7 @@ import sys
 import tempfile
 import threading
 import time
+import traceback
 import typing
 
 sys.dont_write_bytecode = True
@@ -59,10 +71,16 @@ EDIT_NAME = re.compile(r"[A-Za-z0-9_-][A-Za-z0-9_.-]*\.edit")
 THROUGH = re.compile(r"(it|a call of) .*which (is|are) not proved")
 # What it says in a proof file of a theorem that failed elsewhere.
 CITES = re.compile(r"was not admitted|is not admitted")
+# What it says first of a function that fails by one that shares its proof.
+IN_A_CYCLE = re.compile(r"in `[^`]*`, of this cycle of calls")
 # A place in src/ where it could not read the text.
 ERROR = re.compile(r"(?m)^(?:\./)?(src/\S+\.rt):(\d+):\d+: error")
 # The files of proofs/ that belong to one function. The others may be cited by the crates above.
 OF_A_FUNCTION = re.compile(r"proofs/.+/(Answers|Invariants|Proof)\.antt")
+# What rt ci says of a crate, but for its tests.
+OF_A_CRATE = re.compile(rb"rt: (\w+) (proved|NOT PROVED.*)\n?")
+# The memory that is left to others, and how many seconds a check may take to fill most of its own.
+RESERVE, FILLING = 4_000_000_000, 60
 
 
 def load_rt():
@@ -78,8 +96,31 @@ rt = load_rt()
 rtlib = rt.rtlib
 
 
-def say(text):
-    print(f"wrong bodies: {text}", flush=True)
+class Voice:
+    """Prints what is said here, or keeps it till rt ci has ended."""
+
+    def __init__(self):
+        self.kept, self.speaking = None, threading.Lock()
+
+    def say(self, text):
+        with self.speaking:
+            if self.kept is None:
+                print(f"wrong bodies: {text}", flush=True)
+            else:
+                self.kept.append(text)
+
+    def wait(self):
+        self.kept = []
+
+    def go_on(self):
+        with self.speaking:
+            kept, self.kept = self.kept or [], None
+        for it in kept:
+            self.say(it)
+
+
+voice = Voice()
+say = voice.say
 
 
 def text_of(file):
@@ -395,7 +436,7 @@ class Said(typing.NamedTuple):
         """Returns whether an obligation of its own was not proved, and not only one of what it calls."""
         if self.words.startswith(("proved", "assumed")):
             return False
-        reasons = re.split(r"; |: ", self.words)[1:]
+        reasons = [it for it in re.split(r"; |: ", self.words)[1:] if not IN_A_CYCLE.fullmatch(it)]
         return bool(self.error) or not reasons or not all(THROUGH.match(it) for it in reasons)
 
     def is_unsure(self):
@@ -437,8 +478,8 @@ def unreadable(output, status, texts):
 class Trial:
     """Judges the edits of one crate. What its checks prove is kept in a folder of this run."""
 
-    def __init__(self, crate, edits, jobs, kept):
-        self.crate, self.jobs, self.kept = crate, jobs, kept
+    def __init__(self, crate, edits, lend, kept):
+        self.crate, self.lend, self.kept = crate, lend, kept
         self.edits = [Edit(crate, it) for it in edits]
         paths = {path for it in self.edits for path in it.texts or () if path.startswith("src/")}
         self.sources = {it: Source(it, text_of(f"{crate.folder}/{it}")) for it in sorted(paths)}
@@ -448,11 +489,12 @@ class Trial:
 
     def check(self, texts, only=()):
         """Checks a copy of the crate with these texts in place of its own. Returns what was said, and the status."""
-        flags = ["--jobs", str(self.jobs), *(word for it in sorted(set(only)) for word in ("--only", it))]
-        ran = rt.checked(self.crate, texts, flags, self.kept)
-        if ran.returncode == -signal.SIGKILL:
-            # most likely for memory
-            ran = rt.checked(self.crate, texts, flags, self.kept)
+        words = [word for it in sorted(set(only)) for word in ("--only", it)]
+        with self.lend() as jobs:
+            ran = rt.checked(self.crate, texts, ["--jobs", str(jobs), *words], self.kept)
+            if ran.returncode == -signal.SIGKILL:
+                # most likely for memory
+                ran = rt.checked(self.crate, texts, ["--jobs", "1", *words], self.kept)
         return ran.stdout, ran.returncode
 
     def run(self, is_proved):
@@ -546,8 +588,22 @@ class Trial:
             edit.judge("NOT REFUSED", f"{', '.join(own)}: proved")
         return True
 
+    def is_refused_by_its_own(self, edit):
+        """Judges an edit of bodies alone by a check of its functions with nothing else changed, where that refuses it."""
+        if not edit.bodies or edit.is_wider:
+            return False
+        output, status = self.check(edit.texts, [path_of(it) for it in edit.bodies])
+        said = {} if unreadable(output, status, edit.texts) else said_in(output)
+        names = [name for it in edit.bodies for name in likely_names_of(it, said)]
+        failing = [name for name in names if said[name].fails_itself() and not said[name].is_unsure()]
+        if failing:
+            edit.judge("refused", f"alone; {said[failing[0]].text()}")
+        return bool(failing)
+
     def judge_alone(self, edit):
         """Judges an edit by a check of the whole crate with nothing else changed."""
+        if self.is_refused_by_its_own(edit):
+            return
         output, status = self.check(edit.texts)
         wrong = unreadable(output, status, edit.texts)
         said = said_in(output)
@@ -564,7 +620,7 @@ class Trial:
             edit.judge("REFUSED ELSEWHERE", f"only {', '.join(failing) or 'no function'} is not proved: {first}")
 
 
-# -- all crates
+# -- the folders wrong/
 
 
 def edits_of(crate):
@@ -585,113 +641,291 @@ def strays(every):
     return [f"crates/{it}/wrong: crates.txt has no line for this crate" for it in found if it not in names]
 
 
-def is_made_since(crate, since):
-    """Returns whether rt ci, begun at that time, proved the crate as it stands here and left what it made."""
-    made = f"{crate.folder}/out/{crate.name}" if crate.is_program else f"{crate.rlib}/format"
-    # rt ci writes no stamp: with one, the library is from a developer's own check
-    if since is None or not os.path.isfile(made) or os.path.exists(f"{crate.folder}/out/rlib/stamp"):
-        return False
+# -- processors, and what is proved
+
+
+class Aside(threading.Thread):
+    """A call beside the others, which ends with this run."""
+
+    def __init__(self, call, *words):
+        super().__init__(daemon=True)
+        self.call, self.words, self.given, self.error = call, words, None, None
+        self.start()
+
+    def run(self):
+        try:
+            self.given = self.call(*self.words)
+        except BaseException as error:
+            self.error = error
+
+    def result(self):
+        self.join()
+        if self.error:
+            raise self.error
+        return self.given
+
+
+class Lanes:
+    """Lends processors to checks where memory is free, first to the crate with the most to do."""
+
+    def __init__(self, is_beside_rt_ci):
+        fixed = os.environ.get("RT_JOBS", "")
+        self.number = int(fixed) if fixed.isdigit() and int(fixed) else rt.processors()
+        self.is_beside, self.changed, self.counted = is_beside_rt_ci, threading.Condition(), itertools.count()
+        # a check is its work turned round, its number and its memory; one that runs has its processors and its beginning
+        self.waiting, self.running = [], {}
+
+    @contextlib.contextmanager
+    def lent(self, work, need):
+        """Waits for a processor and for memory, and gives how many processors the check may use."""
+        mine = (-work, next(self.counted), need)
+        with self.changed:
+            self.waiting.append(mine)
+            while self.first() != mine:
+                # (nothing tells when others free memory)
+                self.changed.wait(5)
+            jobs = self.share(need)
+            self.waiting.remove(mine)
+            self.running[mine] = jobs, time.monotonic()
+            self.changed.notify_all()
+        try:
+            yield jobs
+        finally:
+            with self.changed:
+                del self.running[mine]
+                self.changed.notify_all()
+
+    def take_all(self):
+        """Lends all processors from now on, and not half of them."""
+        with self.changed:
+            self.is_beside = False
+            self.changed.notify_all()
+
+    def idle(self):
+        number = max(self.number // 2, 1) if self.is_beside else self.number
+        return number - sum(jobs for jobs, _ in self.running.values())
+
+    def room(self):
+        """Returns the memory that is free, but for a reserve and for what checks that have just begun will take."""
+        filling = [(need, jobs) for (_, _, need), (jobs, began) in self.running.items() if time.monotonic() - began < FILLING]
+        return rt.free() - RESERVE - sum(need * (1 + 0.6 * (jobs - 1)) for need, jobs in filling)
+
+    def first(self):
+        """Returns the first of those waiting that may begin, or None."""
+        if self.idle() < 1:
+            return None
+        room = self.room() if self.running or self.is_beside else float("inf")
+        return next((it for it in sorted(self.waiting) if it[2] <= room), None)
+
+    def share(self, need):
+        """Returns how many processors a check may take: those that no other waits for, where their memory is free."""
+        return max(1, min(4, self.idle() // len(self.waiting), 1 + int((self.room() / need - 1) / 0.6)))
+
+
+class Proved:
+    """Which crates are proved, as far as it is known."""
+
+    def __init__(self):
+        self.changed, self.known = threading.Condition(), {}
+
+    def tell(self, name, is_proved):
+        with self.changed:
+            self.known[name] = is_proved and self.known.get(name, True)
+            self.changed.notify_all()
+
+    def is_refuted(self, crate):
+        return not self.known.get(crate.name, True)
+
+    def lacking(self, crates):
+        """Waits till all of these are known to be proved, or one is known not to be. Returns those that are not."""
+        with self.changed:
+            refuted = lambda: [it.name for it in crates if self.is_refuted(it)]
+            self.changed.wait_for(lambda: refuted() or all(it.name in self.known for it in crates))
+            return refuted()
+
+
+# -- rt ci, beside which they are tried
+
+
+def is_untouched(crate, since):
+    """Returns whether nothing has written to the crate's files since then."""
     read = [f"{ROOT}/crates.txt", *rtlib.files_of(crate.folder)]
     read += [at for part in rtlib.PARTS for at, _, _ in os.walk(f"{crate.folder}/{part}")]
     # (unlike the time of the last write, that of the last change cannot be set)
-    return os.stat(made).st_mtime >= since and all(os.stat(it).st_ctime < since for it in read)
+    return all(os.stat(it).st_ctime < since for it in read)
 
 
-def build(crate, given, jobs):
-    """Builds a library where it is not up to date, and returns whether it is proved."""
-    if not all(given[it.name, "library"] for it in crate.below()):
-        return False
-    if crate.is_built():
-        return True
-    crate = copy.copy(crate)
-    with tempfile.TemporaryFile("w+", errors="replace") as crate.out:
-        started, status = time.monotonic(), crate.build_rlib(["--jobs", str(jobs)], anew=False)
-        crate.out.seek(0)
-        last = crate.out.read().rstrip().rpartition("\n")[2]
-    say(f"{crate.name}: its library was {'NOT ' if status else ''}built, in {time.monotonic() - started:.0f} s: {last}")
-    return not status
+def is_made_since(crate, since):
+    """Returns whether rt ci, begun at that time, proved the crate as it stands here and left what it made."""
+    made = f"{crate.folder}/out/" + (crate.name if crate.is_program else f"rlib/{crate.name}.rlib/format")
+    # rt ci writes no stamp: with one, the library is from a developer's own check
+    is_own = os.path.isfile(made) and not os.path.exists(f"{crate.folder}/out/rlib/stamp")
+    return is_own and os.stat(made).st_mtime >= since and is_untouched(crate, since)
 
 
-def try_crate(crate, files, is_proved, given, jobs):
-    """Tries a crate's edits and returns them, each with a verdict."""
-    lacking = [it.name for it in crate.below() if not given.get((it.name, "library"), True)]
-    with tempfile.TemporaryDirectory(prefix="wrong-bodies-") as kept:
-        own = f"{crate.folder}/{rtlib.KEPT[1]}"
-        if not is_proved and os.path.isdir(own):
-            # the crate's proof with no edit may rest on what a developer's checks kept, as rt check does
-            shutil.copytree(own, kept, dirs_exist_ok=True)
-        trial = Trial(crate, files, jobs, kept)
-        if not lacking:
-            trial.run(is_proved)
-    for it in trial.edits:
-        if not it.verdict:
-            it.judge("BAD EDIT", f"the library {lacking[0]} is not proved" if lacking else "no check judged it")
-    return trial.edits
+def take(crate, since):
+    """Takes a copy of the library that rt ci says it proved. Returns whether it is of this run."""
+    is_made = is_made_since(crate, since)
+    if is_made and not crate.is_program:
+        shutil.copytree(f"{crate.folder}/out/rlib", os.path.dirname(crate.rlib))
+    return is_made
 
 
-def tasks_for(tried, since, refused):
-    """Returns the tasks for rt's lanes. tried: each crate with the files of its edits and its checksum."""
-    below = {it.name: it for crate, _, _ in tried for it in crate.below()}
-    # a library of rt ci's fits only those that it was built over, so these are taken all or none
-    takes_all = all(is_made_since(it, since) for it in below.values())
-    tasks = {}
-    for crate in [] if takes_all else sorted(below.values(), key=lambda it: len(it.below())):
-        work = 1 if crate.is_built() else crate.count(rb"\n")
-        tasks[crate.name, "library"] = [(it.name, "library") for it in crate.below()], work, rt.need(crate), (
-            lambda given, jobs, crate=crate: build(crate, given, jobs)
-        )
-    for crate, files, sum in tried:
-        waits = [] if takes_all else [(it.name, "library") for it in crate.below()]
-
-        def call(given, jobs, crate=crate, files=files, sum=sum):
-            edits = try_crate(crate, files, takes_all and is_made_since(crate, since), given, jobs)
-            is_well = all(it.verdict == "refused" for it in edits) and checksum(crate, files, {}) == sum
-            refused.note(crate, sum if is_well else None)
-            return edits
-
-        # (a check loads the libraries, and proves what was edited)
-        tasks[crate.name, "edits"] = waits, crate.count(rb"\n") + 200 * len(files), rt.need(crate), call
-    return tasks
+def echo(line):
+    sys.stdout.buffer.write(line)
+    sys.stdout.buffer.flush()
 
 
-def try_all(given):
-    """Tries what is to be tried. Returns how many edits were refused, and what failed."""
-    every = rtlib.crates_below(ROOT)
-    # (held till the end, so that no other rt changes the libraries)
-    held = rtlib.lock(every)
-    # (the first call sets a signal's handler, which only the main thread may)
-    rtlib.guarded()
-    unknown = {*given.crates} - {it.name for it in every}
-    if unknown:
-        sys.exit(f"wrong_bodies: there is no crate {', '.join(sorted(unknown))}")
-    passed, failed, tried, seen, refused = 0, strays(every), [], {}, Refused({it.name for it in every})
-    for crate in every:
-        files, faults = edits_of(crate) if not given.crates or crate.name in given.crates else ([], [])
-        failed += faults
-        sum = checksum(crate, files, seen) if files else None
-        if files and not given.all and refused.sums.get(crate.name) == sum:
-            say(f"{crate.name}: {len(files)} edits are known to be refused, and nothing that they rest on has changed")
-            passed += len(files)
-        elif files:
-            tried.append((crate, files, sum))
-    for edits in (it for it in rt.in_lanes(tasks_for(tried, given.since, refused)).values() if isinstance(it, list)):
-        for edit in edits:
+def listen(every, since, proved):
+    """Prints what rt ci says till it ends, and takes what it proves."""
+    crates = {it.name.encode(): it for it in every}
+    for line in sys.stdin.buffer:
+        echo(line)
+        said = OF_A_CRATE.fullmatch(line)
+        if said and said[1] in crates:
+            crate = crates[said[1]]
+            proved.tell(crate.name, said[2] == b"proved" and (crate.name in proved.known or take(crate, since)))
+    for it in every:
+        proved.tell(it.name, it.name in proved.known)
+
+
+# -- all crates together
+
+
+class Unproved(Exception):
+    """Further checks of a crate's edits would show nothing."""
+
+
+class Run:
+    """What the trials of all crates share. since: the time from which rt ci is followed, or None. room: this run's folder."""
+
+    def __init__(self, since, room, refused):
+        self.since, self.room, self.refused = since, room, refused
+        self.lanes, self.proved = Lanes(since is not None), Proved()
+
+    def build(self, crate):
+        """Builds a library where it is not up to date, and tells whether it is proved."""
+        is_proved = not self.proved.lacking(crate.below())
+        if is_proved and not crate.is_built():
+            made = copy.copy(crate)
+            # (the edits of several crates wait for it)
+            with self.lanes.lent(float("inf"), rt.need(crate)) as jobs, tempfile.TemporaryFile("w+", errors="replace") as made.out:
+                started, is_proved = time.monotonic(), not made.build_rlib(["--jobs", str(jobs)], anew=False)
+                made.out.seek(0)
+                last = made.out.read().rstrip().rpartition("\n")[2]
+            say(f"{crate.name}: its library was {'' if is_proved else 'NOT '}built, in {time.monotonic() - started:.0f} s: {last}")
+        self.proved.tell(crate.name, is_proved)
+
+    def try_crate(self, crate, files, sum):
+        """Tries a crate's edits and returns them, each with a verdict."""
+        lacking = self.proved.lacking(crate.below())
+        with tempfile.TemporaryDirectory(prefix="kept-", dir=self.room) as kept:
+            own = f"{crate.folder}/{rtlib.KEPT[1]}"
+            if self.since is None and os.path.isdir(own):
+                # the crate's proof with no edit may rest on what a developer's checks kept, as rt check does
+                shutil.copytree(own, kept, dirs_exist_ok=True)
+            trial = Trial(crate, files, lambda: self.lend(crate, len(files)), kept)
+            with contextlib.suppress(Unproved):
+                if not lacking:
+                    trial.run(self.since is not None)
+        why = f"the library {lacking[0]} is not proved" if lacking else self.is_unfit(crate)
+        for it in trial.edits:
+            if why or not it.verdict:
+                it.judge("BAD EDIT", why or "no check judged it")
+        is_well = all(it.verdict == "refused" for it in trial.edits) and checksum(crate, files, {}) == sum
+        self.refused.note(crate, sum if is_well else None)
+        return trial.edits
+
+    @contextlib.contextmanager
+    def lend(self, crate, edits):
+        with self.lanes.lent(edits * crate.count(rb"\n"), rt.need(crate)) as jobs:
+            if self.since is not None and self.proved.is_refuted(crate):
+                raise Unproved
+            yield jobs
+
+    def is_unfit(self, crate):
+        """Waits till rt ci has proved the crate itself, where it is followed. Returns why the verdicts do not stand, or ""."""
+        if self.since is None:
+            return ""
+        if self.proved.lacking([crate]):
+            return "the crate itself is not proved"
+        return "" if is_untouched(crate, self.since) else "the crate was changed while it was tried"
+
+    def try_each(self, given, every):
+        """Tries what is to be tried. Returns how many edits were refused, and what failed."""
+        passed, failed, tried, seen = 0, strays(every), [], {}
+        for crate in every:
+            files, faults = edits_of(crate) if not given.crates or crate.name in given.crates else ([], [])
+            failed += faults
+            sum = checksum(crate, files, seen) if files else None
+            if files and not given.all and self.refused.sums.get(crate.name) == sum:
+                say(f"{crate.name}: {len(files)} edits are known to be refused, and nothing that they rest on has changed")
+                passed += len(files)
+            elif files:
+                tried.append((crate, files, sum))
+        below = {it.name: it for crate, _, _ in tried for it in crate.below()} if self.since is None else {}
+        built = [Aside(self.build, it) for it in sorted(below.values(), key=lambda it: len(it.below()))]
+        trials = [Aside(self.try_crate, *it) for it in tried]
+        for it in built:
+            it.result()
+        for edit in (edit for it in trials for edit in it.result()):
             is_refused = edit.verdict == "refused"
             passed, failed = passed + is_refused, failed + [f"{edit.label}: {edit.verdict}: {edit.why[:500]}"] * (not is_refused)
             if given.show and is_refused:
                 say(f"{edit.label}: refused: {edit.why[:300]}")
+        return passed, failed
+
+
+def try_all(given, since, room):
+    """Tries what is to be tried, beside rt ci where it is followed."""
+    every = rtlib.crates_below(ROOT)
+    unknown = {*given.crates} - {it.name for it in every}
+    if unknown:
+        sys.exit(f"wrong_bodies: there is no crate {', '.join(sorted(unknown))}")
+    # (held till the end, so that no other rt changes the libraries; rt ci holds them where it is followed)
+    held = None if given.follow else rtlib.lock(every)
+    # (the first call sets a signal's handler, which only the main thread may)
+    rtlib.guarded()
+    for it in every if given.follow else []:
+        it.rlib = f"{room}/{it.name}/{it.name}.rlib"
+    run = Run(since if given.follow else None, room, Refused({it.name for it in every}))
+    trials = Aside(run.try_each, given, every)
+    if given.follow:
+        listen(every, since, run.proved)
+        run.lanes.take_all()
+        voice.go_on()
+    found = trials.result()
     del held
-    return passed, failed
+    return found
+
+
+def follow(given, since, room):
+    """Tries all beside rt ci. Whatever happens, what rt ci says is printed to its end."""
+    os.nice(10)
+    voice.wait()
+    try:
+        return try_all(given, since, room)
+    except (Exception, SystemExit):
+        for line in sys.stdin.buffer:
+            echo(line)
+        voice.go_on()
+        traceback.print_exc()
+        sys.exit(1)
 
 
 def main():
+    since = time.time()
     parser = argparse.ArgumentParser(description=__doc__, formatter_class=argparse.RawDescriptionHelpFormatter)
+    parser.add_argument("--follow", action="store_true", help="try them beside rt ci, whose output is the input")
     parser.add_argument("--all", action="store_true", help="try also what is known to be refused")
     parser.add_argument("--show", action="store_true", help="print what the check said of each edit")
-    parser.add_argument("--since", type=float, metavar="SECONDS", help="when rt ci began, in seconds since 1970")
     parser.add_argument("crates", nargs="*", metavar="CRATE")
+    given = parser.parse_args()
     os.chdir(ROOT)
-    passed, failed = try_all(parser.parse_args())
+    # (what it started ends with it, and its folder is removed)
+    signal.signal(signal.SIGTERM, signal.default_int_handler)
+    with tempfile.TemporaryDirectory(prefix="wrong-bodies-", ignore_cleanup_errors=True) as room:
+        passed, failed = (follow if given.follow else try_all)(given, since, room)
     for it in failed:
         say(it)
     print(f"{passed} passed, {len(failed)} failed")
