@@ -81,6 +81,8 @@ OF_A_FUNCTION = re.compile(r"proofs/.+/(Answers|Invariants|Proof)\.antt")
 OF_A_CRATE = re.compile(rb"rt: (\w+) (proved|NOT PROVED.*)\n?")
 # The memory that is left to others, and how many seconds a check may take to fill most of its own.
 RESERVE, FILLING = 4_000_000_000, 60
+# More jobs seldom make a check faster.
+MOST_JOBS = 4
 
 
 def load_rt():
@@ -490,7 +492,8 @@ class Trial:
     def check(self, texts, only=()):
         """Checks a copy of the crate with these texts in place of its own. Returns what was said, and the status."""
         words = [word for it in sorted(set(only)) for word in ("--only", it)]
-        with self.lend() as jobs:
+        # (one function has one job's work)
+        with self.lend(len(set(only)) or MOST_JOBS) as jobs:
             ran = rt.checked(self.crate, texts, ["--jobs", str(jobs), *words], self.kept)
             if ran.returncode == -signal.SIGKILL:
                 # most likely for memory
@@ -676,7 +679,7 @@ class Lanes:
         self.waiting, self.running = [], {}
 
     @contextlib.contextmanager
-    def lent(self, work, need):
+    def lent(self, work, need, most=MOST_JOBS):
         """Waits for a processor and for memory, and gives how many processors the check may use."""
         mine = (-work, next(self.counted), need)
         with self.changed:
@@ -684,7 +687,7 @@ class Lanes:
             while self.first() != mine:
                 # (nothing tells when others free memory)
                 self.changed.wait(5)
-            jobs = self.share(need)
+            jobs = self.share(need, most)
             self.waiting.remove(mine)
             self.running[mine] = jobs, time.monotonic()
             self.changed.notify_all()
@@ -717,9 +720,9 @@ class Lanes:
         room = self.room() if self.running or self.is_beside else float("inf")
         return next((it for it in sorted(self.waiting) if it[2] <= room), None)
 
-    def share(self, need):
+    def share(self, need, most):
         """Returns how many processors a check may take: those that no other waits for, where their memory is free."""
-        return max(1, min(4, self.idle() // len(self.waiting), 1 + int((self.room() / need - 1) / 0.6)))
+        return max(1, min(most, self.idle() // len(self.waiting), 1 + int((self.room() / need - 1) / 0.6)))
 
 
 class Proved:
@@ -824,7 +827,7 @@ class Run:
             if self.since is None and os.path.isdir(own):
                 # the crate's proof with no edit may rest on what a developer's checks kept, as rt check does
                 shutil.copytree(own, kept, dirs_exist_ok=True)
-            trial = Trial(crate, files, lambda: self.lend(crate, len(files)), kept)
+            trial = Trial(crate, files, lambda most: self.lend(crate, len(files), most), kept)
             with contextlib.suppress(Unproved):
                 if not lacking:
                     trial.run(self.since is not None)
@@ -837,8 +840,9 @@ class Run:
         return trial.edits
 
     @contextlib.contextmanager
-    def lend(self, crate, edits):
-        with self.lanes.lent(edits * crate.count(rb"\n"), rt.need(crate)) as jobs:
+    def lend(self, crate, edits, most):
+        """Gives one of the checks of a crate's edits its processors, unless it is known by then that the crate is not proved."""
+        with self.lanes.lent(edits * crate.count(rb"\n"), rt.need(crate), most) as jobs:
             if self.since is not None and self.proved.is_refuted(crate):
                 raise Unproved
             yield jobs
