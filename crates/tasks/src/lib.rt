@@ -1,15 +1,13 @@
-//! What a command line asks for, and what is done for it without a desk: a file is read, the tables of a file are
-//! made or opened, a configuration is reported. What can go wrong is one fault, with its line and exit status.
+//! What a command line asks for, and what is done for it without a desk: a file is read, a configuration is reported.
+//! What can go wrong is one fault, with its line and exit status.
 #![tactic(auto)]
 
 mod fault;
 mod file;
-mod place;
 mod report;
 mod words;
 
 pub use fault::Fault;
 pub use file::read_file;
-pub use place::{create, open};
 pub use report::{Report, report_of};
 pub use words::{Place, Task, task_of};

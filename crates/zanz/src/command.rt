@@ -3,12 +3,13 @@ ghost use Rattle.std.specs.Prelude.{◌≡◌, ◌≢◌, ◌≤◌, ◌⊎◌, 
 ghost use Rattle.tasks.specs.Faults.{fault_status, IsRunFault};
 ghost use Rattle.zanz.specs.Runs.{AreWhole, Ran, RanFrom, Reported};
 
+use crate::place::{create, open};
 use crate::run::run;
 use std::alloc::Global;
 use std::io::{Read, Write};
 use std::rt::Files;
 use tables::Listed;
-use tasks::{Fault, Place, Task, create, open, read_file, report_of, task_of};
+use tasks::{Fault, Place, Task, read_file, report_of, task_of};
 use zanz_core::{TrackedReader, TrackedWriter, say};
 
 // Prints what there is to say of a file's configuration, and answers the status that the process ends with.

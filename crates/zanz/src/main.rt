@@ -5,6 +5,7 @@
 
 mod command;
 mod lent;
+mod place;
 mod run;
 
 use command::{command, tell};

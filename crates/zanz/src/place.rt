@@ -2,13 +2,13 @@
 ghost use Rattle.std.specs.Prelude.{◌≡◌, false, IfOk, IfErr};
 ghost use Rattle.tasks.specs.Faults.{IsRunFault};
 
-use crate::fault::Fault;
 use names::Refusal;
 use sqlite::{Connection, Error, ErrorCode, File, FileStore};
 use std::fs;
 use std::io::ErrorKind;
 use store::Store;
 use tables::TablesError;
+use tasks::Fault;
 
 /// Makes the tables of a new store in a file. A file that has tables already is refused.
 pub fn create(rt: &HostRuntime, file: &str, store: u64) -> Result<Store<FileStore<File>>, Fault>
