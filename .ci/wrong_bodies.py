@@ -896,6 +896,7 @@ def try_all(given, since, room):
     trials = Aside(run.try_each, given, every)
     if given.follow:
         listen(every, since, run.proved)
+        say(f"rt ci ended after {time.time() - since:.0f} s")
         run.lanes.take_all()
         voice.go_on()
     found = trials.result()
