@@ -46,7 +46,7 @@ impl<W> TrackedWriter<W> {
         self.failed
     }
 
-    /// The writer that is tracked_reader.
+    /// The writer that is tracked.
     pub fn inner(&self) -> &W
         ensures { result.now ≡ self.now.inner }
     {
