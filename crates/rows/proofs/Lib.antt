@@ -8,3 +8,4 @@ pub mod Fullness
 pub mod Admission
 pub mod Written
 pub mod Trimming
+pub mod Naming

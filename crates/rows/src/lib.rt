@@ -7,6 +7,7 @@ mod config_at;
 mod events;
 mod law;
 mod loaded;
+mod named;
 mod refusing;
 mod rows;
 mod verdict;

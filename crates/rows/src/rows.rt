@@ -5,6 +5,7 @@ ghost use Rattle.names.specs.declared.limits.TheConstants.{MAX_REV, MAX_ROWS};
 ghost use Rattle.names.specs.declared.tuple.Tuple.{Tuple};
 ghost use Rattle.meaning.specs.TupleSet as set;
 ghost use Rattle.rows.specs.Retained.{newest, empty_store, IsRetained, snap_at, spans_of, newest_of, with_commit, without_newest, after_trim, HasRoom, commits_between, is_touched_after, last_config};
+ghost use Rattle.rows_core.specs.Named.{user_tuple};
 ghost use Rattle.rows_core.specs.Versions.{is_of, refuses};
 ghost use Rattle.rows.specs.Loads.{retained_of, loaded_to, IsWithin};
 
@@ -15,7 +16,7 @@ use crate::config_at::{ConfigAt, config_up_to, drop_config, push_config, settle_
 use crate::loaded::{Counts, Loaded};
 use crate::view::View;
 use config::Config;
-use names::{Commit, Event, Node, Tuple};
+use names::{Commit, Event, Node, Object, Tuple};
 use rows_core::{KeptCommit, VersionMap};
 use std::alloc::{AllocError, Global};
 use std::marker::Model;
@@ -149,6 +150,14 @@ impl Rows {
         ensures { result ≡ set.contains (snap_at self.now rev).tuples tuple.now }
     {
         self.tuples.stands_at(tuple, rev)
+    }
+
+    /// Whether the user has the node by a tuple of its own at a revision.
+    pub(crate) fn has_user(&self, rev: u64, node: &Node, user: &Object) -> bool
+        requires { IsRetained self.now rev }
+        ensures { result ≡ set.contains (snap_at self.now rev).tuples (user_tuple node.now user.now) }
+    {
+        self.tuples.has_user(node, user, rev)
     }
 
     /// The tuples at a revision.

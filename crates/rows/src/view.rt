@@ -1,12 +1,15 @@
 //! Views.
-ghost use Rattle.std.specs.Prelude.{◌≡◌, filter, IfOk};
+ghost use Rattle.std.specs.Prelude.{◌≡◌, ◌↔◌, filter, IfOk, IsTrue, Contains};
+ghost use Rattle.meaning.specs.Config.{Has, rel_of};
+ghost use Rattle.meaning.specs.Membership.{HasOne, HasSet};
 ghost use Rattle.meaning.specs.TupleSet as set;
 ghost use Rattle.rows_core.specs.Versions.{is_of};
 ghost use Rattle.rows.specs.Retained.{IsRetained, snap_at};
 
+use crate::named::{nodes_in, objects_in};
 use crate::rows::Rows;
 use config::Config;
-use names::{Node, Tuple};
+use names::{Node, Object, Tuple};
 use std::alloc::{AllocError, Global};
 use std::marker::Model;
 
@@ -63,5 +66,30 @@ impl<'a> View<'a> {
         ensures { IfOk result (λ v. v.items ≡ filter (is_of node.now) (set.items self.now.tuples)) }
     {
         self.rows.tuples_of(alloc, self.rev, node)
+    }
+
+    /// Whether the user has the node by a tuple of its own. It takes no memory.
+    pub fn has(&self, node: &Node, user: &Object) -> bool
+        ensures { IsTrue result ↔ HasOne self.now node.now user.now }
+    {
+        self.rows.has_user(self.rev, node, user)
+    }
+
+    /// The nodes whose members the node's tuples name, as far as the configuration has their relations. No
+    /// order is promised.
+    pub fn usersets_of(&self, alloc: Global, node: &Node) -> Result<Vec<Node>, AllocError>
+        ensures only { IfOk result (λ v. (m : Node) → Contains v.items m → HasSet self.now node.now m) }
+        ensures all { IfOk result (λ v. (m : Node) → HasSet self.now node.now m → Has self.now.config (rel_of m) → Contains v.items m) }
+    {
+        let tuples = self.tuples_of(alloc, node)?;
+        nodes_in(alloc, &tuples)
+    }
+
+    /// The objects that the node's tuples name. No order is promised.
+    pub fn objects_of(&self, alloc: Global, node: &Node) -> Result<Vec<Object>, AllocError>
+        ensures { IfOk result (λ v. (p : Object) → Contains v.items p ↔ HasOne self.now node.now p) }
+    {
+        let tuples = self.tuples_of(alloc, node)?;
+        objects_in(alloc, &tuples)
     }
 }

@@ -2,3 +2,4 @@ pub mod Contents
 pub mod Spelled
 pub mod Versions
 pub mod Texts
+pub mod Named

@@ -5,6 +5,7 @@ ghost use Rattle.std.specs.Arc.{arc_str_bytes};
 ghost use Rattle.arrayvec.specs.ArrayString.{array_string_len};
 ghost use Rattle.names.specs.Names.{is_name, is_id};
 ghost use Rattle.names.specs.Spelling.{IsNode, IsObject, IsSubject};
+ghost use Rattle.rows_core.specs.Named.{user_tuple};
 ghost use Rattle.rows_core.specs.Spelled.{spelled, spelled_node, spelled_subject, before_space, after_space, last_part, subject_in, tuple_of, IsSpelling};
 
 use arrayvec::ArrayString;
@@ -157,6 +158,16 @@ impl Scratch {
         let mut text = ArrayString::new();
         push_node(&mut text, &tuple.node);
         push_subject(&mut text, &tuple.subject);
+        Scratch { text }
+    }
+
+    /// The text of the tuple that names the user.
+    pub(crate) fn of_user(node: &Node, user: &Object) -> Scratch
+        ensures { result ≡ user_tuple node.now user.now }
+    {
+        let mut text = ArrayString::new();
+        push_node(&mut text, node);
+        push_object(&mut text, user);
         Scratch { text }
     }
 

@@ -1,13 +1,14 @@
 //! The versions of every tuple.
 ghost use Rattle.std.specs.Prelude.{◌≡◌, true, [], OnOk, OnErr, IfOk};
 ghost use Rattle.rows_core.specs.Versions.{versions_at, is_there, is_based, last_rev, stands, with_version, drop_last, after_settle, base_versions, HasSame, ChangesAt};
+ghost use Rattle.rows_core.specs.Named.{user_tuple};
 ghost use Rattle.rows_core.specs.Texts.{entries_of, AreSpelled};
 
 use crate::kept::{KeptCommit, KeptEvent};
 use crate::places::{Texts, pop_version, push_version, put_base, settle_version, versions_of};
 use crate::tuple_ref::{Scratch, TupleRef};
 use crate::version::Version;
-use names::{Commit, Event, Tuple};
+use names::{Commit, Event, Node, Object, Tuple};
 use std::alloc::{AllocError, Global};
 use std::collections::BTreeMap;
 use std::marker::Model;
@@ -53,6 +54,17 @@ impl VersionMap {
         ensures { result ≡ stands (versions_at self.now tuple.now) rev }
     {
         let scratch = Scratch::of(tuple);
+        match versions_of(self.texts(), &scratch.tuple_ref()) {
+            Some(versions) => versions.stands_at(rev),
+            None => false,
+        }
+    }
+
+    /// The same of the tuple that names the user. It takes no memory.
+    pub fn has_user(&self, node: &Node, user: &Object, rev: u64) -> bool
+        ensures { result ≡ stands (versions_at self.now (user_tuple node.now user.now)) rev }
+    {
+        let scratch = Scratch::of_user(node, user);
         match versions_of(self.texts(), &scratch.tuple_ref()) {
             Some(versions) => versions.stands_at(rev),
             None => false,

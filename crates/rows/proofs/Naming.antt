@@ -1,0 +1,132 @@
+-- What the tuples of a set name.
+use Rattle.std.proofs.Common.{◌≡◌, ℕ, suc, ◌+◌, ◌<◌, ◌++◌, length, take, get_or, arith, List, [], ◌∷◌, Bool, true, false, Option, Some, None, refl, ap, sym, subst, ◌∙◌, inl, inr, ⊎_elim, true≢false}
+use Rattle.std.specs.Prelude.{◌↔◌, ◌⊎◌, cond, filter, Contains}
+use Rattle.std.specs.List.{filter_map, cons_option}
+use Rattle.std.specs.Option.{option_map, option_to_list}
+use Rattle.std.proofs.Math.Seq.{take-suc}
+use Rattle.std.proofs.lemmas.List.Elements.{filter_map-append}
+use Rattle.std.specs.Cmp.{eq_by_cmp_equiv}
+use Rattle.std.specs.Ordering.{eq_by_cmp}
+use Rattle.std.proofs.lemmas.Map.Views.{tells_apart}
+use Rattle.names.specs.Order.{node_cmp}
+use Rattle.names.specs.declared.object.Object.{Object}
+use Rattle.names.specs.declared.node.Node.{Node}
+use Rattle.names.specs.declared.subject.Subject.{Subject}
+use Rattle.names.specs.declared.tuple.Tuple.{Tuple}
+use Rattle.meaning.specs.Snap.{one, set_of}
+use Rattle.meaning.proofs.Lists.{contains_here, contains_there, contains_cases, contains_none}
+use Rattle.meaning.proofs.TupleSets.{exact_nodes, nodes_total}
+use Rattle.rows_core.specs.Versions.{is_of}
+use Rattle.rows_core.specs.Named.{user_tuple, without, object_in, node_in, objects_in, nodes_in}
+
+-- ---- what passes a test
+
+kept_cases : {A : Type 0} (test : A → Bool) (x : A) (xs : List A) (y : A) (b : Bool) → test x ≡ b → (Contains (filter test xs) y → Contains xs y × (test y ≡ true)) → Contains (cond b (x ∷ filter test xs) (filter test xs)) y
+    → Contains (x ∷ xs) y × (test y ≡ true)
+kept_cases test x xs y true is rest c =
+    ⊎_elim (λ e. (subst (λ z. Contains (x ∷ xs) z) e (contains_here x xs), ap test (sym e) ∙ is)) (λ d. let r = rest d in (contains_there x y xs r.0, r.1)) (contains_cases x y (filter test xs) c)
+kept_cases test x xs y false is rest c = let r = rest c in (contains_there x y xs r.0, r.1)
+
+pub contains_kept : {A : Type 0} (test : A → Bool) (xs : List A) (y : A) → Contains (filter test xs) y → Contains xs y × (test y ≡ true)
+contains_kept test [] y c = absurd (contains_none y c)
+contains_kept test (x ∷ xs) y c = kept_cases test x xs y (test x) refl (contains_kept test xs y) c
+
+keeps_first : {A : Type 0} (x : A) (xs : List A) (y : A) (b : Bool) → b ≡ true → x ≡ y → Contains (cond b (x ∷ xs) xs) y
+keeps_first x xs y true is e = subst (λ z. Contains (x ∷ xs) z) e (contains_here x xs)
+keeps_first x xs y false is e = absurd (true≢false (sym is))
+
+keeps_later : {A : Type 0} (x : A) (xs : List A) (y : A) (b : Bool) → Contains xs y → Contains (cond b (x ∷ xs) xs) y
+keeps_later x xs y true c = contains_there x y xs c
+keeps_later x xs y false c = c
+
+pub kept_contains : {A : Type 0} (test : A → Bool) (xs : List A) (y : A) → Contains xs y → test y ≡ true → Contains (filter test xs) y
+kept_contains test [] y c passes = absurd (contains_none y c)
+kept_contains test (x ∷ xs) y c passes =
+    ⊎_elim (λ e. keeps_first x (filter test xs) y (test x) (ap test e ∙ passes) e) (λ d. keeps_later x (filter test xs) y (test x) (kept_contains test xs y d passes)) (contains_cases x y xs c)
+
+-- ---- what is given of some
+
+given_cases : {A B : Type 0} (h : A → Option B) (x : A) (xs : List A) (y : B) (o : Option B) → h x ≡ o → (Contains (filter_map h xs) y → (z : A) × Contains xs z × (h z ≡ Some y)) → Contains (cons_option o (filter_map h xs)) y
+    → (z : A) × Contains (x ∷ xs) z × (h z ≡ Some y)
+given_cases h x xs y (Some b) is rest c =
+    ⊎_elim (λ e. (x, contains_here x xs, is ∙ ap Some e)) (λ d. let r = rest d in (r.0, contains_there x r.0 xs r.1, r.2)) (contains_cases b y (filter_map h xs) c)
+given_cases h x xs y None is rest c = let r = rest c in (r.0, contains_there x r.0 xs r.1, r.2)
+
+pub contains_given : {A B : Type 0} (h : A → Option B) (xs : List A) (y : B) → Contains (filter_map h xs) y → (z : A) × Contains xs z × (h z ≡ Some y)
+contains_given h [] y c = absurd (contains_none y c)
+contains_given h (x ∷ xs) y c = given_cases h x xs y (h x) refl (contains_given h xs y) c
+
+gives_first : {B : Type 0} (o : Option B) (ys : List B) (y : B) → o ≡ Some y → Contains (cons_option o ys) y
+gives_first o ys y is = subst (λ p. Contains (cons_option p ys) y) (sym is) (contains_here y ys)
+
+gives_later : {B : Type 0} (o : Option B) (ys : List B) (y : B) → Contains ys y → Contains (cons_option o ys) y
+gives_later (Some b) ys y c = contains_there b y ys c
+gives_later None ys y c = c
+
+pub given_contains : {A B : Type 0} (h : A → Option B) (xs : List A) (x : A) (y : B) → Contains xs x → h x ≡ Some y → Contains (filter_map h xs) y
+given_contains h [] x y c is = absurd (contains_none x c)
+given_contains h (z ∷ zs) x y c is =
+    ⊎_elim (λ e. gives_first (h z) (filter_map h zs) y (ap h e ∙ is)) (λ d. gives_later (h z) (filter_map h zs) y (given_contains h zs x y d is)) (contains_cases z x zs c)
+
+single : {B : Type 0} (o : Option B) → cons_option o [] ≡ option_to_list o
+single (Some b) = refl
+single None = refl
+
+-- one more
+pub given_more : {A B : Type 0} (h : A → Option B) (xs : List A) (i : ℕ) (x : A) → i < length xs → x ≡ get_or xs i x → filter_map h (take i xs) ++ option_to_list (h x) ≡ filter_map h (take (i + 1) xs)
+given_more {A} {B} h xs i x small is =
+    let next : suc i ≡ i + 1 = omega arith in
+    ap (λ (ys : List B). filter_map h (take i xs) ++ ys) (sym (single (h x)))
+    ∙ sym (filter_map-append h (take i xs) (x ∷ []))
+    ∙ ap (λ (z : A). filter_map h (take i xs ++ z ∷ [])) is
+    ∙ ap (filter_map h) (sym (take-suc xs i x small))
+    ∙ ap (λ (n : ℕ). filter_map h (take n xs)) next
+
+-- ---- what a tuple names
+
+pub of_node : (n : Node) (t : Tuple) → is_of n t ≡ true → t.node ≡ n
+of_node n t e = tells_apart exact_nodes t.node n e
+
+pub is_of_itself : (n : Node) (s : Subject) → is_of n (record { node = n; subject = s }) ≡ true
+is_of_itself n s = (eq_by_cmp_equiv nodes_total).refl n
+
+object_is : (o : Object) (r : Option (List ℕ)) (u : Object) → without o r ≡ Some u → record { object = o; relation = r } ≡ one u
+object_is o None u e = ap (λ (p : Option Object). one (or_first o p)) e
+  where
+    or_first : Object → Option Object → Object
+    or_first d None = d
+    or_first d (Some x) = x
+object_is o (Some r) u e = cc
+
+node_is : (o : Object) (r : Option (List ℕ)) (m : Node) → option_map (λ relation. record { object = o; relation = relation }) r ≡ Some m → record { object = o; relation = r } ≡ set_of m
+node_is o None m e = cc
+node_is o (Some r) m e = ap (λ (p : Option Node). set_of (or_first (record { object = o; relation = r }) p)) e
+  where
+    or_first : Node → Option Node → Node
+    or_first d None = d
+    or_first d (Some x) = x
+
+-- where the test passes the tuples of one node alone
+module _ (n : Node) (test : Tuple → Bool) (ts : List Tuple) where
+  pub named_object : ((t : Tuple) → test t ≡ true → t.node ≡ n) → (u : Object) → Contains (objects_in (filter test ts)) u → Contains ts (user_tuple n u)
+  named_object one_node u c =
+      let g = contains_given (λ (t : Tuple). object_in t.subject) (filter test ts) u c in
+      let k = contains_kept test ts g.0 g.1 in
+      let node : g.0.node ≡ n = one_node g.0 k.1 in
+      let subject : g.0.subject ≡ one u = object_is g.0.subject.object g.0.subject.relation u g.2 in
+      subst (λ t. Contains ts t) (λ i. record { node = node i; subject = subject i }) k.0
+
+  pub object_named : (u : Object) → test (user_tuple n u) ≡ true → Contains ts (user_tuple n u) → Contains (objects_in (filter test ts)) u
+  object_named u passes c = given_contains (λ (t : Tuple). object_in t.subject) (filter test ts) (user_tuple n u) u (kept_contains test ts (user_tuple n u) c passes) refl
+
+  pub named_node : ((t : Tuple) → test t ≡ true → t.node ≡ n) → (m : Node) → Contains (nodes_in (filter test ts)) m → Contains ts (record { node = n; subject = set_of m })
+  named_node one_node m c =
+      let g = contains_given (λ (t : Tuple). node_in t.subject) (filter test ts) m c in
+      let k = contains_kept test ts g.0 g.1 in
+      let node : g.0.node ≡ n = one_node g.0 k.1 in
+      let subject : g.0.subject ≡ set_of m = node_is g.0.subject.object g.0.subject.relation m g.2 in
+      subst (λ t. Contains ts t) (λ i. record { node = node i; subject = subject i }) k.0
+
+  pub node_named : (m : Node) → test (record { node = n; subject = set_of m }) ≡ true → Contains ts (record { node = n; subject = set_of m }) → Contains (nodes_in (filter test ts)) m
+  node_named m passes c =
+      given_contains (λ (t : Tuple). node_in t.subject) (filter test ts) (record { node = n; subject = set_of m }) m (kept_contains test ts (record { node = n; subject = set_of m }) c passes) refl
