@@ -2,3 +2,5 @@
 pub mod Under
 pub mod Searches
 pub mod Running
+pub mod Asked
+pub mod Given

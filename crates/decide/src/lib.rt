@@ -1,7 +1,15 @@
-//! x
+//! Whether a user is a member of a node, at the cost of what the question reaches: a local least fixed
+//! point (Liu and Smolka, "Simple linear-time algorithms for minimal fixed points", ICALP 1998), level by
+//! level. A node is opened once, waits for nodes that are open, and is looked at again when one of them has
+//! the user.
 #![tactic(auto)]
 
+mod asking;
+mod deciding;
 mod oracle;
+mod rewrites;
 mod search;
+mod source;
 
+pub use deciding::check_at;
 pub use oracle::{Nothing, Oracle};

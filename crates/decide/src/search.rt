@@ -245,10 +245,11 @@ impl Search {
             → IsRunning S u self.old None → (n < length self.new.opened.items) × IsRunning S u self.new (Some n)) }
     {
         loop {
-            let Some(frame) = self.frames.last() else {
+            let frames = self.frames.len();
+            if frames == 0 {
                 return self.pop_below(self.stacks.len());
-            };
-            let level = frame.level;
+            }
+            let level = self.frames[frames - 1].level;
             if let Some(number) = self.pop_below(level) {
                 return Some(number);
             }

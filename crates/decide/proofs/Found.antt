@@ -1,0 +1,177 @@
+-- What is found of nodes and of parts.
+use Rattle.std.proofs.Common.{◌≡◌, ℕ, suc, ◌<◌, ◌≤◌, ◌+◌, List, Bool, true, false, length, get_or, drop, cond, ap, ◌∙◌, sym, subst, refl, inl, inr, ⊎_elim, arith}
+use Rattle.std.specs.Prelude.{◌⊎◌, ◌↔◌, Option, Some, Contains}
+use Rattle.names.specs.declared.object.Object.{Object}
+use Rattle.names.specs.declared.node.Node.{Node}
+use Rattle.meaning.specs.Snap.{Snap}
+use Rattle.meaning.specs.Config.{IsAt, Has, rel_of}
+use Rattle.meaning.specs.Form.{Form, This, Computed, TupleTo, Union, Intersection, Exclusion}
+use Rattle.config_core.specs.declared.rewrite.Rewrite.{Rewrite}
+use Rattle.config_core.specs.declared.relation.Relation.{Relation}
+use Rattle.meaning.specs.Admits.{is_relation}
+use Rattle.config_core.specs.Forms.{form_of, rewrite_forms, defined_of}
+use Rattle.decide.proofs.Parts.{some_at, each_at, some_left, each_left, some_none, each_none}
+use Rattle.meaning.specs.Membership.{HasOne, HasSet, Gives, SomeGives, EachGives, RelationGives}
+use Rattle.meaning.proofs.GivesLemmas.{gives_grows, some_grows, each_grows, relation_grows}
+use Rattle.meaning.proofs.ReadsLemmas.{below_level}
+use Rattle.decide.specs.declared.search.Search.{Search}
+use Rattle.decide.specs.declared.search.Opened.{Opened}
+use Rattle.decide.specs.declared.asking.Asking.{Asking}
+use Rattle.decide.specs.inside.Under.{Under}
+use Rattle.decide.specs.inside.Searches.{Stands, IsStacked, Waits, Grew, IsNumberOf}
+use Rattle.decide.specs.inside.Running.{IsRunning, IsStuck}
+use Rattle.std.proofs.lemmas.Bool.{cases_lt, false≢true}
+use Rattle.std.proofs.lemmas.List.{get_or_default}
+use Rattle.decide.specs.declared.asking.Found.{Found}
+use Rattle.decide.specs.declared.asking.Found.TheVariants as found
+use Rattle.decide.specs.inside.Given.{Gave, HasNode, HasSome, no_or_later, opposite}
+use Rattle.decide.specs.inside.Asked.{high, Counts, IsLeft, IsAsking, GoesOn, AreNodesOf}
+use Rattle.decide.proofs.SearchLemmas.{grew_refl, grew_trans, grew_waits, grew_number}
+use Rattle.decide.proofs.Settling.{under_up, under_own, same_opened, settled}
+
+module _ (S : Snap) (u : Object) (a : Asking) where
+  pub goes_refl : (s : Search) → IsAsking S u s a → GoesOn S u s s a
+  goes_refl s h = record { asking = h; grew = grew_refl s }
+
+  pub goes_trans : (s t v : Search) → GoesOn S u s t a → GoesOn S u t v a → GoesOn S u s v a
+  goes_trans s t v g h = record { asking = h.asking; grew = grew_trans s t v g.grew h.grew }
+
+  pub goes_on : (s t : Search) → IsAsking S u s a → Grew s t → IsRunning S u t (Some a.number) → GoesOn S u s t a
+  goes_on s t h g run = record { asking = record { running = run; number = grew_number s t a.number a.level a.node.now g h.number }; grew = g }
+
+  pub left_before : (s t : Search) (m : Node) → Grew s t → IsLeft S u t a m → IsLeft S u s a m
+  left_before s t m g (under, h) = (under, λ p w. h p (grew_waits s t m a.number g w))
+
+  pub asker_there : (s : Search) → IsAsking S u s a → (a.level < length s.stacks.items) × (a.number < length s.opened.items)
+  asker_there s h =
+      let e = h.number in
+      (subst (λ k. k < length s.stacks.items) e.3 (h.running.stack_there a.number e.0 e.1), e.1.0)
+
+  -- nodes that do not count
+  pub no_relation : (s : Search) (m : Node) → (Has S.config (rel_of m) → ⊥) → IsLeft S u s a m → ⊥
+  no_relation s m none x = none (below_level S u (high a) m x.0).1.0
+
+  pub too_high : (s : Search) (m : Node) (l : ℕ) → IsAt S.config m l → high a ≤ l → IsLeft S u s a m → ⊥
+  too_high s m l at h x = let own = under_own S u (high a) l m at x.0 in omega (arith, own.1, h)
+
+  -- a node that is known to have the user
+  pub sure_counts : (s : Search) (but : Option ℕ) (i l : ℕ) (m : Node) → IsRunning S u s but → IsNumberOf s i m l → ((e : Opened) → Stands s i e → e.sure ≡ true) → l < high a → Counts S u a m
+  sure_counts s but i l m run (e, st, node, level) sure h =
+      under_up S u (suc l) (high a) m (omega (arith, h))
+      (subst (λ k. Under S u (suc k) m) level (subst (λ x. Under S u (suc e.level) x) node (run.right i e st (sure e st))))
+
+  -- a node that the asker waits for
+  pub not_left : (s : Search) (i l : ℕ) (m : Node) (t : Search) → a.plain ≡ true → IsNumberOf s i m l → ((e : Opened) → Stands s i e → e.sure ≡ false) → ((e : Opened) → Stands s i e → e.sure ≡ false → Waits t e.node a.number) → IsLeft S u t a m → ⊥
+  not_left s i l m t plain (e, st, node, level) unsure waits x = x.1 plain (subst (λ y. Waits t y a.number) node (waits e st (unsure e st)))
+
+  -- a node of a lower level, where nothing of its level is left to look at
+  pub settled_no : (s : Search) (i l : ℕ) (m : Node) → IsAsking S u s a → a.plain ≡ false → IsAt S.config m l → l < high a → IsNumberOf s i m l → ((e : Opened) → Stands s i e → e.sure ≡ false) → ((k j : ℕ) → k ≤ l → IsStacked s k j → ⊥) → IsLeft S u s a m → ⊥
+  settled_no s i l m h subtracted at low (e, st, node, level) unsure empty x =
+      let below : high a ≡ a.level = ap (λ b. cond b (suc a.level) a.level) subtracted in
+      settled S u s (Some a.number) h.running l
+      (λ j f there in_reach is.
+      let same : f ≡ h.number.0 = same_opened s j f h.number.0 there (subst (λ y. Stands s y h.number.0) (number_is j is) h.number.1) in
+      let its : f.level ≡ a.level = ap (λ (y : Opened). y.level) same ∙ h.number.3 in
+      omega (arith, its, in_reach, low, below))
+      empty (suc l) (omega arith) m (under_own S u (high a) l m at x.0).0 i e st node (unsure e st)
+    where
+      number_is : (j : ℕ) → Some a.number ≡ Some j → a.number ≡ j
+      number_is j is = cc
+
+module _ (S : Snap) (u : Object) (a : Asking) where
+  -- no node before a place is left
+  abbrev pub IsNoneBefore : Search → List Node → ℕ → Type 0
+  IsNoneBefore s nodes k = (j : ℕ) (m : Node) → j < k → get_or nodes j m ≡ m → IsLeft S u s a m → ⊥
+
+  pub none_more : (s t : Search) (nodes : List Node) (k : ℕ) (m : Node) → Grew s t → IsNoneBefore s nodes k → k < length nodes → m ≡ get_or nodes k m → (IsLeft S u t a m → ⊥) → IsNoneBefore t nodes (k + 1)
+  none_more s t nodes k m g before lt at none j x low is left = ⊎_elim
+      (λ less. before j x less is (left_before S u a s t x g left))
+      (λ above.
+      let here : j ≡ k = omega (arith, above, low) in
+      let same : x ≡ m = sym is ∙ ap (λ i. get_or nodes i x) here ∙ get_or_default nodes k x m lt ∙ sym at in
+      none (subst (IsLeft S u t a) same left))
+      (cases_lt j k)
+
+  pub none_of : (s : Search) (nodes : List Node) → IsNoneBefore s nodes (length nodes) → (m : Node) → Contains nodes m → IsLeft S u s a m → ⊥
+  none_of s nodes none m (j, lt, at) left = none j m lt at left
+
+  pub some_found : (s : Search) (nodes : List Node) (later : Bool) (k : ℕ) → length nodes ≤ k → (later ≡ false → IsNoneBefore s nodes k) → HasSome S u s a nodes (no_or_later later)
+  some_found s nodes true k end none = tt
+  some_found s nodes false k end none = none_of s nodes (λ j m lt at left. none refl j m (omega (arith, lt, end)) at left)
+
+  pub computed_gave : (s : Search) (c : List ℕ) (m : Node) (f : Found) → m ≡ record { object = a.node.now.object; relation = c } → HasNode S u s a m f → Gave S u s a (Computed c) f
+  computed_gave s c m found.Yes e h = subst (Counts S u a) e h
+  computed_gave s c m found.No e h = λ g. h (subst (IsLeft S u s a) (sym e) g)
+  computed_gave s c m found.Later e h = tt
+
+  counts_has : (m : Node) → Under S u (high a) m → Has S.config (rel_of m)
+  counts_has m x = (below_level S u (high a) m x).1.0
+
+  pub this_gave : (s : Search) (sets : List Node) (f : Found) → (HasOne S a.node.now u → ⊥) → ((m : Node) → Contains sets m → HasSet S a.node.now m) → ((m : Node) → HasSet S a.node.now m → Has S.config (rel_of m) → Contains sets m) → HasSome S u s a sets f → Gave S u s a This f
+  this_gave s sets found.Yes direct only all (m, c, counts) = inr (m, only m c, counts)
+  this_gave s sets found.No direct only all none = λ g. ⊎_elim direct (λ (m, set, left). none m (all m set (counts_has m left.0)) left) g
+  this_gave s sets found.Later direct only all h = tt
+
+  pub through_gave : (s : Search) (t c : List ℕ) (nodes : List Node) (f : Found) → AreNodesOf S a.node.now t c nodes → HasSome S u s a nodes f → Gave S u s a (TupleTo t c) f
+  through_gave s t c nodes found.Yes are (m, x, counts) =
+      let p = (are m).0 x in
+      let here : Under S u (high a) (record { object = p.0; relation = c }) = subst (Counts S u a) (sym p.2) counts in
+      (p.0, p.1, counts_has (record { object = p.0; relation = c }) here, here)
+  through_gave s t c nodes found.No are none = λ (p, one, has, left). none (record { object = p; relation = c }) ((are (record { object = p; relation = c })).1 (p, one, refl)) left
+  through_gave s t c nodes found.Later are h = tt
+
+  pub goes_more : (s t v : Search) → Grew s t → GoesOn S u t v a → GoesOn S u s v a
+  goes_more s t v g h = record { asking = h.asking; grew = grew_trans s t v g h.grew }
+
+  pub left_grows : (s t : Search) (w : Form) → Grew s t → Gives S u a.node.now w (IsLeft S u t a) (Under S u a.level) → Gives S u a.node.now w (IsLeft S u s a) (Under S u a.level)
+  left_grows s t w g h = gives_grows S u a.node.now w (IsLeft S u t a) (IsLeft S u s a) (Under S u a.level) (Under S u a.level) (λ m x. left_before S u a s t m g x) (λ m. (λ x. x, λ x. x)) h
+
+  -- one part more was asked: none is left before the next
+  pub some_more : (s t : Search) (parts : List Rewrite) (k : ℕ) (p : Rewrite) → Grew s t → k < length parts → p ≡ get_or parts k p
+      → ((w : Search) → Grew s w → SomeGives S u a.node.now (rewrite_forms parts) (IsLeft S u w a) (Under S u a.level) → SomeGives S u a.node.now (rewrite_forms (drop k parts)) (IsLeft S u w a) (Under S u a.level))
+      → (Gives S u a.node.now (form_of p) (IsLeft S u t a) (Under S u a.level) → ⊥)
+      → (w : Search) → Grew t w → SomeGives S u a.node.now (rewrite_forms parts) (IsLeft S u w a) (Under S u a.level) → SomeGives S u a.node.now (rewrite_forms (drop (k + 1) parts)) (IsLeft S u w a) (Under S u a.level)
+  some_more s t parts k p g lt at before none w h all = ⊎_elim
+      (λ here. absurd (none (left_grows t w (form_of p) h here)))
+      (λ rest. rest)
+      (some_left S u a.node.now (IsLeft S u w a) (Under S u a.level) parts k p lt (sym at) (before w (grew_trans s t w g h) all))
+
+  pub union_found : (s : Search) (parts : List Rewrite) (later : Bool) (k : ℕ) → length parts ≤ k
+      → (later ≡ false → (w : Search) → Grew s w → SomeGives S u a.node.now (rewrite_forms parts) (IsLeft S u w a) (Under S u a.level) → SomeGives S u a.node.now (rewrite_forms (drop k parts)) (IsLeft S u w a) (Under S u a.level))
+      → Gave S u s a (Union (rewrite_forms parts)) (no_or_later later)
+  union_found s parts true k end left = tt
+  union_found s parts false k end left = λ g. some_none S u a.node.now (IsLeft S u s a) (Under S u a.level) parts k end (left refl s (grew_refl s) g)
+
+  pub asking_subtracted : (s : Search) (b : Asking) → b ≡ record a { plain = false } → IsAsking S u s a → IsAsking S u s b
+  asking_subtracted s b e h = subst (IsAsking S u s) (sym e) (record { running = h.running; number = h.number })
+
+  pub asking_back : (s : Search) (b : Asking) → b ≡ record a { plain = false } → IsAsking S u s b → IsAsking S u s a
+  asking_back s b e h = let d : IsAsking S u s (record a { plain = false }) = subst (IsAsking S u s) e h in record { running = d.running; number = d.number }
+
+  exclusion_of : (s : Search) (v w : Form) (f : Found) → Gives S u a.node.now v (Counts S u a) (Under S u a.level) → Gave S u s (record a { plain = false }) w f → Gave S u s a (Exclusion v w) (opposite f)
+  exclusion_of s v w found.Yes base less = λ g. g.1 less
+  exclusion_of s v w found.No base less = (
+    base,
+    λ g. less (gives_grows S u a.node.now w (Under S u a.level) (IsLeft S u s (record a { plain = false })) (Under S u a.level) (Under S u a.level) (λ m x. (x, λ p. absurd (false≢true p))) (λ m. (λ x. x, λ x. x)) g),
+  )
+  exclusion_of s v w found.Later base less = tt
+
+  pub exclusion_gave : (s : Search) (v w : Form) (f : Found) (b : Asking) → b ≡ record a { plain = false } → Gives S u a.node.now v (Counts S u a) (Under S u a.level) → Gave S u s b w f → Gave S u s a (Exclusion v w) (opposite f)
+  exclusion_gave s v w f b e base less = exclusion_of s v w f base (subst (λ x. Gave S u s x w f) e less)
+
+  -- no relation of the asker's name before a place gives it the user
+  abbrev pub IsNoneOf : Search → List Relation → ℕ → Type 0
+  IsNoneOf s rs k = (j : ℕ) (x : Relation) → j < k → get_or rs j x ≡ x → is_relation (rel_of a.node.now) (defined_of x) ≡ true → Gives S u a.node.now (form_of x.rewrite) (IsLeft S u s a) (Under S u a.level) → ⊥
+
+  -- one relation more was asked, or is of another name
+  pub relation_more : (s t : Search) (rs : List Relation) (k : ℕ) (r : Relation) → Grew s t → k < length rs → r ≡ get_or rs k r
+      → ((j : ℕ) (x : Relation) → j < k → get_or rs j x ≡ x → is_relation (rel_of a.node.now) (defined_of x) ≡ true → Gives S u a.node.now (form_of x.rewrite) (IsLeft S u s a) (Under S u a.level) → ⊥)
+      → (is_relation (rel_of a.node.now) (defined_of r) ≡ true → Gives S u a.node.now (form_of r.rewrite) (IsLeft S u t a) (Under S u a.level) → ⊥)
+      → (j : ℕ) (x : Relation) → j < k + 1 → get_or rs j x ≡ x → is_relation (rel_of a.node.now) (defined_of x) ≡ true → Gives S u a.node.now (form_of x.rewrite) (IsLeft S u t a) (Under S u a.level) → ⊥
+  relation_more s t rs k r g lt at before none j x low is named gives = ⊎_elim
+      (λ less. before j x less is named (left_grows s t (form_of x.rewrite) g gives))
+      (λ above.
+      let here : j ≡ k = omega (arith, above, low) in
+      let same : x ≡ r = sym is ∙ ap (λ i. get_or rs i x) here ∙ get_or_default rs k x r lt ∙ sym at in
+      none (subst (λ y. is_relation (rel_of a.node.now) (defined_of y) ≡ true) same named) (subst (λ (y : Relation). Gives S u a.node.now (form_of y.rewrite) (IsLeft S u t a) (Under S u a.level)) same gives))
+      (cases_lt j k)

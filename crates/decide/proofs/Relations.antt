@@ -1,0 +1,116 @@
+-- The relations of a configuration, found by their names.
+use Rattle.std.proofs.Common.{◌≡◌, ℕ, zero, suc, ◌<◌, ◌^◌, List, [], ◌∷◌, Bool, true, false, length, get_or, refl, ap, ◌∙◌, sym, subst, inl, inr, ⊎_elim, arith}
+use Rattle.std.specs.Prelude.{◌↔◌, ◌&&◌, ◌||◌, Contains, All, map, nat_eq}
+use Rattle.std.specs.List.{list_any}
+use Rattle.std.specs.Cmp.Lexicographic.{same_text, pointwise, bytes_decides}
+use Rattle.std.proofs.lemmas.Bool.{false≢true}
+use Rattle.std.proofs.lemmas.List.{length-map}
+use Rattle.names.specs.declared.node.Node.{Node}
+use Rattle.names.specs.declared.relation.RelationName.{RelationName}
+use Rattle.meaning.specs.Config.{Configured, Defined, Has, IsAt, Step, rel_of}
+use Rattle.meaning.specs.Levels.{IsLevel}
+use Rattle.meaning.specs.Admits.{is_relation, has_relation}
+use Rattle.meaning.specs.Membership.{Gives, RelationGives, HasOne}
+use Rattle.names.specs.declared.object.Object.{Object}
+use Rattle.meaning.proofs.Lists.{contains_map, contains_map_back, contains_here, contains_there, contains_cases, contains_none}
+use Rattle.config_core.specs.declared.relation.Relation.{Relation}
+use Rattle.config_core.specs.Forms.{defined_of, form_of}
+use Rattle.decide.specs.declared.source.Source.{Source}
+use Rattle.decide.specs.inside.Asked.{IsSource, AreNodesOf, node_with}
+use Rattle.meaning.specs.Snap.{Snap}
+
+both_true : (a b : Bool) → (a && b) ≡ true → (a ≡ true) × (b ≡ true)
+both_true true b e = (refl, e)
+both_true false b e = cc
+
+pub relation_is : (r : RelationName) (d : Defined) → is_relation r d ≡ true → d.rel ≡ r
+relation_is r d e =
+    let b = both_true (pointwise nat_eq d.rel.namespace r.namespace) (pointwise nat_eq d.rel.relation r.relation) e in
+    let space = same_text d.rel.namespace r.namespace (sym b.0) in
+    let name = same_text d.rel.relation r.relation (sym b.1) in
+    ap (λ x. record { namespace = x; relation = d.rel.relation }) space ∙ ap (λ x. record { namespace = r.namespace; relation = x }) name
+
+pub is_itself : (r : RelationName) (d : Defined) → d.rel ≡ r → is_relation r d ≡ true
+is_itself r d e =
+    ap (λ b. b && pointwise nat_eq d.rel.relation r.relation) ((bytes_decides d.rel.namespace r.namespace).1 (ap (λ q. q.namespace) e))
+    ∙ (bytes_decides d.rel.relation r.relation).1 (ap (λ q. q.relation) e)
+
+or_true : (a : Bool) → (a || true) ≡ true
+or_true true = refl
+or_true false = refl
+
+found_test : {A : Type 0} (p : A → Bool) (xs : List A) (x : A) → Contains xs x → p x ≡ true → list_any p xs ≡ true
+found_test p [] x c e = absurd (contains_none x c)
+found_test p (y ∷ ys) x c e = ⊎_elim
+    (λ same. ap (λ b. b || list_any p ys) (ap p same ∙ e))
+    (λ there. ap (λ b. p y || b) (found_test p ys x there e) ∙ or_true (p y))
+    (contains_cases y x ys c)
+
+test_found : {A : Type 0} (p : A → Bool) (xs : List A) → list_any p xs ≡ true → (x : A) × Contains xs x × (p x ≡ true)
+test_found p [] e = cc
+test_found {A} p (x ∷ xs) e =
+    elim (p x) as (λ b. p x ≡ b → (b || list_any p xs) ≡ true → (y : A) × Contains (x ∷ xs) y × (p y ≡ true)) [
+      | true ↦ λ here _. (x, contains_here x xs, here)
+      | false ↦ λ _ there. let r = test_found p xs there in (r.0, contains_there x r.0 xs r.1, r.2)
+    ] refl e
+
+pub has_known : (config : Configured) (r : RelationName) → Has config r → has_relation config r ≡ true
+has_known config r (d, (c, e)) = found_test (is_relation r) config.relations d c (is_itself r d e)
+
+pub known_has : (config : Configured) (r : RelationName) → has_relation config r ≡ true → Has config r
+known_has config r e = let f = test_found (is_relation r) config.relations e in (f.0, (f.1, relation_is r f.0 f.2))
+
+pub not_known : (config : Configured) (r : RelationName) → (Has config r → ⊥) → has_relation config r ≡ false
+not_known config r none =
+    elim (has_relation config r) as (λ b. has_relation config r ≡ b → b ≡ false) [
+      | true ↦ λ e. absurd (none (known_has config r e))
+      | false ↦ λ e. refl
+    ] refl
+
+map_at : {A B : Type 0} (f : A → B) (xs : List A) (i : ℕ) (x : A) → i < length xs → get_or xs i x ≡ x → get_or (map f xs) i (f x) ≡ f x
+map_at f [] i x lt e = absurd (omega (arith, lt))
+map_at f (y ∷ ys) zero x lt e = ap f e
+map_at f (y ∷ ys) (suc i) x lt e = map_at f ys i x (omega arith) e
+
+level_found : (s : Source) → IsSource s → (i : ℕ) (r : Relation) (m : Node) (k : ℕ) → i < length s.relations.now → r ≡ get_or s.relations.now i r → r.name ≡ rel_of m → get_or s.levels.now i 0 ≡ k → IsAt s.view.now.config m k
+level_found s source i r m k lt e named level =
+    let at = map_at defined_of s.relations.now i r lt (sym e) in
+    let here = subst (λ xs. (i < length xs) × (get_or xs i (defined_of r) ≡ defined_of r)) source.relations (omega (arith, lt, length-map s.relations.now defined_of), at) in (
+      (defined_of r, ((i, here.0, here.1), named)),
+      subst (λ x. IsLevel (Step s.view.now.config) (rel_of m) x) level (subst (λ x. IsLevel (Step s.view.now.config) x (get_or s.levels.now i 0)) named (source.levels.each i (defined_of r) here.0 here.1)),
+    )
+
+element : {A : Type 0} (xs : List A) (i : ℕ) → i < length xs → (x : A) × (get_or xs i x ≡ x)
+element [] i l = absurd (omega (arith, l))
+element (y ∷ ys) zero l = (y, refl)
+element (y ∷ ys) (suc i) l = element ys i (omega (arith, l))
+
+pub level_stands : (s : Source) → IsSource s → (i : ℕ) (m : Node) → i < length s.relations.now → ((d : Relation) → is_relation (rel_of m) (defined_of (get_or s.relations.now i d)) ≡ true) → IsAt s.view.now.config m (get_or s.levels.now i 0)
+level_stands s source i m lt test =
+    let r = element s.relations.now i lt in
+    level_found s source i r.0 m (get_or s.levels.now i 0) lt (sym r.1) (relation_is (rel_of m) (defined_of r.0) (ap (λ x. is_relation (rel_of m) (defined_of x)) (sym r.1) ∙ test r.0)) refl
+
+pub level_missing : (s : Source) → IsSource s → (m : Node) → ((k : ℕ) (d : Relation) → k < length s.relations.now → is_relation (rel_of m) (defined_of (get_or s.relations.now k d)) ≡ false) → Has s.view.now.config (rel_of m) → ⊥
+level_missing s source m test (d, (c, e)) =
+    let r = contains_map_back defined_of s.relations.now d (subst (λ xs. Contains xs d) (sym source.relations) c) in
+    let named = is_itself (rel_of m) (defined_of r.0) (ap (λ (x : Defined). x.rel) r.2 ∙ e) in
+    false≢true (sym (test r.1.0 r.0 r.1.1) ∙ ap (λ x. is_relation (rel_of m) (defined_of x)) r.1.2 ∙ named)
+
+module _ (s : Source) (source : IsSource s) (u : Object) (n : Node) (X L : Node → Type 0) where
+  pub relation_found : (k : ℕ) (x : Relation) → k < length s.relations.now → get_or s.relations.now k x ≡ x → is_relation (rel_of n) (defined_of x) ≡ true → Gives s.view.now u n (form_of x.rewrite) X L → RelationGives s.view.now u n X L
+  relation_found k x h e p g = (defined_of x, (subst (λ ds. Contains ds (defined_of x)) source.relations (contains_map defined_of s.relations.now x (k, h, e)), relation_is (rel_of n) (defined_of x) p), g)
+
+  pub relation_none : ((k : ℕ) (x : Relation) → k < length s.relations.now → get_or s.relations.now k x ≡ x → is_relation (rel_of n) (defined_of x) ≡ true → Gives s.view.now u n (form_of x.rewrite) X L → ⊥) → RelationGives s.view.now u n X L → ⊥
+  relation_none none (d, (c, e), g) =
+      let r = contains_map_back defined_of s.relations.now d (subst (λ ds. Contains ds d) (sym source.relations) c) in
+      none r.1.0 r.0 r.1.1 r.1.2 (is_itself (rel_of n) (defined_of r.0) (ap (λ (x : Defined). x.rel) r.2 ∙ e)) (subst (λ w. Gives s.view.now u n w X L) (sym (ap (λ (x : Defined). x.form) r.2)) g)
+
+pub nodes_are : (S : Snap) (n from : Node) (t c : List ℕ) (objects : List Object) (nodes : List Node) → from ≡ node_with t n.object → ((p : Object) → Contains objects p ↔ HasOne S from p) → nodes ≡ map (node_with c) objects → AreNodesOf S n t c nodes
+nodes_are S n from t c objects nodes e are all m = (
+  λ x.
+      let b = contains_map_back (node_with c) objects m (subst (λ ns. Contains ns m) all x) in
+      (b.0, subst (λ f. HasOne S f b.0) e ((are b.0).0 b.1), b.2),
+  λ (p, one, is).
+      subst (λ ns. Contains ns m) (sym all)
+      (subst (Contains (map (node_with c) objects)) is (contains_map (node_with c) objects p ((are p).1 (subst (λ f. HasOne S f p) (sym e) one)))),
+)

@@ -1,0 +1,79 @@
+use Rattle.std.proofs.Common.{◌≡◌, ◌∙◌, sym, subst, ap, false, true, arith, rules, inl, drop}
+use Rattle.std.specs.Prelude.{IfOk}
+use Rattle.config_core.specs.Forms.{form_of, rewrite_forms}
+use Rattle.meaning.specs.Form.{Union, Intersection, Exclusion}
+use Rattle.decide.specs.inside.Under.{Under}
+use Rattle.decide.specs.inside.Asked.{Counts, IsLeft}
+use Rattle.decide.specs.inside.Given.{Gave, opposite}
+use Rattle.decide.specs.declared.asking.Found.TheVariants as found
+use Rattle.decide.proofs.SearchLemmas.{grew_refl, grew_trans}
+use Rattle.decide.proofs.Parts.{some_at, each_at, each_left, each_none}
+use Rattle.decide.proofs.Found.{goes_more, some_more, union_found, asking_subtracted, asking_back, exclusion_gave}
+use Rattle.decide.proofs.rewrites.+gives.Goals.{some_gives-in-No, some_gives-in-Later}
+use Rattle.decide.proofs.rewrites.+gives.Goals as goal
+
+pub each_gives-loop-part-init : goal.each_gives-loop-part-init
+each_gives-loop-part-init t c = (c.requires.asking, grew_refl c.args.search.now, λ g. g)
+
+pub each_gives-returns-in-No-clause-goes_on : goal.each_gives-returns-in-No-clause-goes_on
+each_gives-returns-in-No-clause-goes_on t c = goes_more c.args.source.now.view.now c.args.source.now.user.now c.args.asking.now c.args.search.now c.loop-part.search c.gives.new.search c.loop-part.invariant.1 c.in_ok-gives.ensures.goes_on
+
+pub each_gives-returns-in-No-clause-found : goal.each_gives-returns-in-No-clause-found
+each_gives-returns-in-No-clause-found t c = λ all.
+    subst (Gave c.args.source.now.view.now c.args.source.now.user.now c.gives.new.search c.args.asking.now (form_of c.part-item.result)) c.in-No.is c.in_ok-gives.ensures.found
+    (each_at c.args.source.now.view.now c.args.source.now.user.now c.args.asking.now.node.now (IsLeft c.args.source.now.view.now c.args.source.now.user.now c.gives.new.search c.args.asking.now) (Under c.args.source.now.view.now c.args.source.now.user.now c.args.asking.now.level)
+    c.args.parts.now c.loop-part.part-index c.part-item.result c.loop-part-test.true (sym c.part-item.is) all)
+
+pub each_gives-returns-in-Later-clause-goes_on : goal.each_gives-returns-in-Later-clause-goes_on
+each_gives-returns-in-Later-clause-goes_on t c = goes_more c.args.source.now.view.now c.args.source.now.user.now c.args.asking.now c.args.search.now c.loop-part.search c.gives.new.search c.loop-part.invariant.1 c.in_ok-gives.ensures.goes_on
+
+pub each_gives-loop-part-preserved : goal.each_gives-loop-part-preserved
+each_gives-loop-part-preserved t c = (
+  c.in_ok-gives.ensures.goes_on.asking,
+  grew_trans c.args.search.now c.loop-part.search c.gives.new.search c.loop-part.invariant.1 c.in_ok-gives.ensures.goes_on.grew,
+  λ rest. c.loop-part.invariant.2
+  (each_left c.args.source.now.view.now c.args.source.now.user.now c.args.asking.now.node.now (Counts c.args.source.now.view.now c.args.source.now.user.now c.args.asking.now) (Under c.args.source.now.view.now c.args.source.now.user.now c.args.asking.now.level)
+  c.args.parts.now c.loop-part.part-index c.part-item.result c.loop-part-test.true (sym c.part-item.is)
+  (subst (Gave c.args.source.now.view.now c.args.source.now.user.now c.gives.new.search c.args.asking.now (form_of c.part-item.result)) c.in-Yes.is c.in_ok-gives.ensures.found)
+  rest),
+)
+
+pub each_gives-returns-clause-goes_on : goal.each_gives-returns-clause-goes_on
+each_gives-returns-clause-goes_on t c = record { asking = c.loop-part.invariant.0; grew = c.loop-part.invariant.1 }
+
+pub each_gives-returns-clause-found : goal.each_gives-returns-clause-found
+each_gives-returns-clause-found t c = c.loop-part.invariant.2
+    (each_none c.args.source.now.view.now c.args.source.now.user.now c.args.asking.now.node.now (Counts c.args.source.now.view.now c.args.source.now.user.now c.args.asking.now) (Under c.args.source.now.view.now c.args.source.now.user.now c.args.asking.now.level)
+    c.args.parts.now c.loop-part.part-index (omega (arith, c.loop-part-test.false)))
+
+pub some_gives-loop-part-init : goal.some_gives-loop-part-init
+some_gives-loop-part-init t c = (c.requires.asking, grew_refl c.args.search.now, λ e w g h. h)
+
+pub some_gives-returns-in-Yes-clause-goes_on : goal.some_gives-returns-in-Yes-clause-goes_on
+some_gives-returns-in-Yes-clause-goes_on t c = goes_more c.args.source.now.view.now c.args.source.now.user.now c.args.asking.now c.args.search.now c.loop-part.search c.gives.new.search c.loop-part.invariant.1 c.in_ok-gives.ensures.goes_on
+
+pub some_gives-returns-in-Yes-clause-found : goal.some_gives-returns-in-Yes-clause-found
+some_gives-returns-in-Yes-clause-found t c =
+    some_at c.args.source.now.view.now c.args.source.now.user.now c.args.asking.now.node.now (Counts c.args.source.now.view.now c.args.source.now.user.now c.args.asking.now) (Under c.args.source.now.view.now c.args.source.now.user.now c.args.asking.now.level)
+    c.args.parts.now c.loop-part.part-index c.part-item.result c.loop-part-test.true (sym c.part-item.is)
+    (subst (Gave c.args.source.now.view.now c.args.source.now.user.now c.gives.new.search c.args.asking.now (form_of c.part-item.result)) c.in-Yes.is c.in_ok-gives.ensures.found)
+
+pub some_gives-loop-part-preserved : goal.some_gives-loop-part-preserved
+some_gives-loop-part-preserved t c = (
+  c.in_ok-gives.ensures.goes_on.asking,
+  grew_trans c.args.search.now c.loop-part.search c.gives.new.search c.loop-part.invariant.1 c.in_ok-gives.ensures.goes_on.grew,
+  elim c.match-branch-2.branch [
+    | some_gives-in-No w ↦ λ e. some_more c.args.source.now.view.now c.args.source.now.user.now c.args.asking.now c.loop-part.search c.gives.new.search c.args.parts.now c.loop-part.part-index c.part-item.result
+        c.in_ok-gives.ensures.goes_on.grew c.loop-part-test.true c.part-item.is (c.loop-part.invariant.2 (sym w.later-is ∙ e))
+        (subst (Gave c.args.source.now.view.now c.args.source.now.user.now c.gives.new.search c.args.asking.now (form_of c.part-item.result)) w.in-No.is c.in_ok-gives.ensures.found)
+    | some_gives-in-Later w ↦ λ e. cc
+  ],
+)
+
+pub some_gives-returns-clause-goes_on : goal.some_gives-returns-clause-goes_on
+some_gives-returns-clause-goes_on t c = record { asking = c.loop-part.invariant.0; grew = c.loop-part.invariant.1 }
+
+pub some_gives-returns-clause-found : goal.some_gives-returns-clause-found
+some_gives-returns-clause-found t c =
+    subst (Gave c.args.source.now.view.now c.args.source.now.user.now c.loop-part.search c.args.asking.now (Union (rewrite_forms c.args.parts.now))) (sym c.no_or_later.ensures)
+    (union_found c.args.source.now.view.now c.args.source.now.user.now c.args.asking.now c.loop-part.search c.args.parts.now c.loop-part.later c.loop-part.part-index (omega (arith, c.loop-part-test.false)) c.loop-part.invariant.2)

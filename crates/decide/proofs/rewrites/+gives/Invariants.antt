@@ -1,0 +1,24 @@
+use Rattle.std.proofs.Common.{◌≡◌, false, drop}
+use Rattle.meaning.specs.Membership.{SomeGives, EachGives}
+use Rattle.config_core.specs.Forms.{rewrite_forms}
+use Rattle.decide.specs.inside.Under.{Under}
+use Rattle.decide.specs.declared.search.Search.{Search}
+use Rattle.decide.specs.inside.Searches.{Grew}
+use Rattle.decide.specs.inside.Asked.{IsAsking, Counts, IsLeft}
+use Rattle.decide.proofs.rewrites.+gives.Given as goal
+
+-- what is left of the parts decides
+abbrev pub invariant-each_gives-loop-part : goal.invariant-each_gives-loop-part
+invariant-each_gives-loop-part l =
+    IsAsking l.source.view.now l.source.user.now l.search l.asking
+    × Grew l.fn.search l.search
+    × (EachGives l.source.view.now l.source.user.now l.asking.node.now (rewrite_forms (drop l.part-index l.parts)) (Counts l.source.view.now l.source.user.now l.asking) (Under l.source.view.now l.source.user.now l.asking.level)
+      → EachGives l.source.view.now l.source.user.now l.asking.node.now (rewrite_forms l.parts) (Counts l.source.view.now l.source.user.now l.asking) (Under l.source.view.now l.source.user.now l.asking.level))
+
+abbrev pub invariant-some_gives-loop-part : goal.invariant-some_gives-loop-part
+invariant-some_gives-loop-part l =
+    IsAsking l.source.view.now l.source.user.now l.search l.asking
+    × Grew l.fn.search l.search
+    × (l.later ≡ false → (w : Search) → Grew l.search w
+      → SomeGives l.source.view.now l.source.user.now l.asking.node.now (rewrite_forms l.parts) (IsLeft l.source.view.now l.source.user.now w l.asking) (Under l.source.view.now l.source.user.now l.asking.level)
+      → SomeGives l.source.view.now l.source.user.now l.asking.node.now (rewrite_forms (drop l.part-index l.parts)) (IsLeft l.source.view.now l.source.user.now w l.asking) (Under l.source.view.now l.source.user.now l.asking.level))

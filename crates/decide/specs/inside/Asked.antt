@@ -1,0 +1,53 @@
+-- What is read of a snapshot, and who asks.
+use Rattle.std.specs.Prelude.{◌≡◌, ◌<◌, ◌^◌, ◌↔◌, ℕ, List, Contains, All, map, cond, true, Some}
+use Rattle.std.proofs.Common.{suc}
+use Rattle.meaning.specs.Snap.{Snap}
+use Rattle.names.specs.declared.object.Object.{Object}
+use Rattle.names.specs.declared.node.Node.{Node}
+use Rattle.config.specs.Levels.{AreLevels}
+use Rattle.config_core.specs.Forms.{defined_of}
+use Rattle.meaning.specs.Membership.{HasOne}
+use Rattle.decide.specs.declared.source.Source.{Source}
+use Rattle.decide.specs.declared.asking.Asking.{Asking}
+use Rattle.decide.specs.declared.search.Search.{Search}
+use Rattle.decide.specs.inside.Under.{Under}
+use Rattle.decide.specs.inside.Searches.{Waits, Grew, IsNumberOf}
+use Rattle.decide.specs.inside.Running.{IsRunning}
+
+-- the relations and the levels are those of the view
+pub record IsSource (s : Source) : Type 0 where
+  pub relations : map defined_of s.relations.now ≡ s.view.now.config.relations
+  pub levels : AreLevels s.view.now.config s.levels.now
+  pub small : All (λ l. l < 2 ^ 32) s.levels.now
+
+-- Nodes below this level count: a part that is not subtracted looks up the node's own level, a subtracted one only those below it.
+abbrev pub high : Asking → ℕ
+high a = cond a.plain (suc a.level) a.level
+
+-- a node that counts has the user
+abbrev pub Counts : Snap → Object → Asking → Node → Type 0
+Counts S u a m = Under S u (high a) m
+
+-- the same, where the asker does not wait for it
+abbrev pub IsLeft : Snap → Object → Search → Asking → Node → Type 0
+IsLeft S u s a m = Under S u (high a) m × (a.plain ≡ true → Waits s m a.number → ⊥)
+
+-- the asker is being looked at
+pub record IsAsking (S : Snap) (u : Object) (s : Search) (a : Asking) : Type 0 where
+  pub running : IsRunning S u s (Some a.number)
+  pub number : IsNumberOf s a.number a.node.now a.level
+
+-- the asker goes on, in a search that grew
+pub record GoesOn (S : Snap) (u : Object) (s t : Search) (a : Asking) : Type 0 where
+  pub asking : IsAsking S u t a
+  pub grew : Grew s t
+
+-- the object's node of the relation
+abbrev pub node_with : List ℕ → Object → Node
+node_with relation o = record { object = o; relation = relation }
+
+-- the nodes of the relation, of the objects that the tupleset's tuples name
+abbrev pub AreNodesOf : Snap → Node → List ℕ → List ℕ → List Node → Type 0
+AreNodesOf S n tupleset relation nodes =
+    (m : Node) → Contains nodes m
+    ↔ ((p : Object) × HasOne S (node_with tupleset n.object) p × (node_with relation p ≡ m))

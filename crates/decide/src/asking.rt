@@ -1,0 +1,52 @@
+//! Who asks, and what is found.
+ghost use Rattle.std.specs.Prelude.{◌≡◌, ◌<◌, ◌^◌, false};
+ghost use Rattle.decide.specs.inside.Asked.{high};
+
+use names::Node;
+
+/// The node that is looked at, with its number and level, and whether the part of its rewrite is not
+/// subtracted.
+#[derive(Clone, Copy)]
+pub(crate) struct Asking<'a> {
+    pub(crate) number: usize,
+    pub(crate) node: &'a Node,
+    pub(crate) level: usize,
+    pub(crate) plain: bool,
+}
+
+impl<'a> Asking<'a> {
+    /// Nodes below this level count.
+    pub(crate) fn high(&self) -> usize
+        requires { self.now.level < 2 ^ 32 }
+        ensures { result ≡ high self.now }
+    {
+        if self.plain {
+            self.level + 1
+        } else {
+            self.level
+        }
+    }
+
+    /// The same for a subtracted part.
+    pub(crate) fn subtracted(&self) -> Asking<'a>
+        ensures { result ≡ record self.now { plain = false } }
+    {
+        Asking {
+            number: self.number,
+            node: self.node,
+            level: self.level,
+            plain: false,
+        }
+    }
+}
+
+/// What is found of a part of a rewrite.
+#[derive(Clone, Copy)]
+pub(crate) enum Found {
+    /// It gives the user.
+    Yes,
+    /// It does not, unless a node that the asker waits for has the user.
+    No,
+    /// Lower levels are to be finished first.
+    Later,
+}

@@ -1,0 +1,127 @@
+//! The question.
+ghost use Rattle.std.specs.Prelude.{◌≡◌, ◌<◌, ◌^◌, ◌↔◌, ℕ, IfOk, IfErr, OnOk, IsTrue, length, true, Some, None};
+ghost use Rattle.std.proofs.Common.{suc};
+ghost use Rattle.meaning.specs.Admits.{has_relation};
+ghost use Rattle.meaning.specs.Config.{IsAt, rel_of};
+ghost use Rattle.meaning.specs.Membership.{IsMember};
+ghost use Rattle.names.specs.declared.node.Node.{Node as NodeValue};
+ghost use Rattle.decide.specs.Causes.{CheckCause};
+ghost use Rattle.decide.specs.inside.Under.{Under};
+ghost use Rattle.decide.specs.inside.Searches.{IsNumberOf};
+ghost use Rattle.decide.specs.inside.Running.{IsRunning};
+ghost use Rattle.decide.specs.inside.Asked.{IsSource, IsAsking};
+
+use crate::asking::{Asking, Found};
+use crate::oracle::Oracle;
+use crate::rewrites::relation_gives;
+use crate::search::Search;
+use crate::source::Source;
+use names::{Node, Object, Refusal};
+use rows::View;
+use std::alloc::{AllocError, Global};
+
+/// Whether the user is a member of the node. It is refused where the relation is not there, and where there
+/// is no memory.
+pub fn check_at<O: Oracle>(
+    alloc: Global,
+    view: &View,
+    oracle: &mut O,
+    node: &Node,
+    user: &Object,
+) -> Result<bool, Refusal>
+    requires { O.tells oracle.old view.now }
+    ensures ok { IfOk result (λ answer. IsTrue answer ↔ IsMember view.now user.now node.now) }
+    ensures known { OnOk result (has_relation view.now.config (rel_of node.now) ≡ true) }
+    ensures err { IfErr result (CheckCause view.now node.now) }
+{
+    let config = view.config();
+    let source = Source {
+        alloc,
+        view,
+        user,
+        relations: config.relations(),
+        levels: config.levels(),
+    };
+    match source.level_of(node) {
+        None => Err(Refusal::UnknownRelation),
+        Some(level) => Ok(is_member(&source, oracle, node, level)?),
+    }
+}
+
+/// Whether the user is a member of a node of the level. Each turn looks at one node; there are no more turns
+/// than nodes and waits for them, so the bound is never met.
+fn is_member<O: Oracle>(
+    source: &Source,
+    oracle: &mut O,
+    node: &Node,
+    level: usize,
+) -> Result<bool, AllocError>
+    requires source { IsSource source.now }
+    requires tells { O.tells oracle.old source.now.view.now }
+    requires at { IsAt source.now.view.now.config node.now level }
+    requires small { level < 2 ^ 32 }
+    ensures { IfOk result (λ b. IsTrue b ↔ IsMember source.now.view.now source.now.user.now node.now) }
+{
+    let mut search = Search::new(source.alloc, level)?;
+    let root = search.number_of(node, level)?;
+    for _ in 0..u64::MAX {
+        if search.is_sure(root) {
+            return Ok(true);
+        }
+        match search.next() {
+            None => return Ok(search.is_sure(root)),
+            Some(number) => look(source, oracle, &mut search, number)?,
+        }
+    }
+    Err(AllocError)
+}
+
+/// Looks at a node: the oracle is asked first.
+fn look<O: Oracle>(
+    source: &Source,
+    oracle: &mut O,
+    search: &mut Search,
+    number: usize,
+) -> Result<(), AllocError>
+    requires source { IsSource source.now }
+    requires tells { O.tells oracle.old source.now.view.now }
+    requires number { number < length search.old.opened.items }
+    requires running { IsRunning source.now.view.now source.now.user.now search.old (Some number) }
+    ensures running { OnOk result (IsRunning source.now.view.now source.now.user.now search.new None) }
+    ensures numbers { OnOk result ((i k : ℕ) (n : NodeValue) → IsNumberOf search.old i n k → IsNumberOf search.new i n k) }
+    ensures tells { O.tells oracle.new source.now.view.now }
+{
+    if search.is_sure(number) {
+        return Ok(());
+    }
+    let node = search.node_of(number)?;
+    let level = search.level_of(number);
+    match oracle.knows(&node, source.user) {
+        Some(true) => search.give(number),
+        Some(false) => Ok(()),
+        None => {
+            let asking = Asking {
+                number,
+                node: &node,
+                level,
+                plain: true,
+            };
+            step(source, search, &asking)
+        }
+    }
+}
+
+/// Looks at what the node's rewrite gives.
+fn step(source: &Source, search: &mut Search, asking: &Asking) -> Result<(), AllocError>
+    requires source { IsSource source.now }
+    requires asking { IsAsking source.now.view.now source.now.user.now search.old asking.now }
+    requires plain { asking.now.plain ≡ true }
+    ensures running { OnOk result (IsRunning source.now.view.now source.now.user.now search.new None) }
+    ensures numbers { OnOk result ((i k : ℕ) (n : NodeValue) → IsNumberOf search.old i n k → IsNumberOf search.new i n k) }
+{
+    match relation_gives(source, search, asking)? {
+        Found::Yes => search.give(asking.number),
+        Found::No => Ok(()),
+        Found::Later => search.put_back(asking.number, asking.level),
+    }
+}

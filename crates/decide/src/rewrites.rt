@@ -1,0 +1,258 @@
+//! What a rewrite gives the node that asks.
+ghost use Rattle.std.specs.Prelude.{◌≡◌, Contains, IfOk, OnOk, map};
+ghost use Rattle.meaning.specs.Form.{This, Computed, TupleTo, Union, Intersection, Exclusion};
+ghost use Rattle.config_core.specs.Forms.{form_of, rewrite_forms};
+ghost use Rattle.decide.specs.inside.Asked.{IsSource, IsAsking, GoesOn};
+ghost use Rattle.decide.specs.inside.Given.{Gave, HasNode, HasSome, RelationGave, opposite, no_or_later};
+
+use crate::asking::{Asking, Found};
+use crate::search::Search;
+use crate::source::{Source, node_of};
+use config_core::Rewrite;
+use names::{Name, Node};
+use std::alloc::AllocError;
+
+/// Whether the node counts and has the user. Where that is not known, the asker waits for it.
+fn asked(
+    source: &Source,
+    search: &mut Search,
+    asking: &Asking,
+    node: &Node,
+) -> Result<Found, AllocError>
+    requires source { IsSource source.now }
+    requires asking { IsAsking source.now.view.now source.now.user.now search.old asking.now }
+    ensures goes_on { OnOk result (GoesOn source.now.view.now source.now.user.now search.old search.new asking.now) }
+    ensures found { IfOk result (HasNode source.now.view.now source.now.user.now search.new asking.now node.now) }
+{
+    let Some(level) = source.level_of(node) else {
+        return Ok(Found::No);
+    };
+    if level >= asking.high() {
+        return Ok(Found::No);
+    }
+    let number = search.number_of(node, level)?;
+    if search.is_sure(number) {
+        return Ok(Found::Yes);
+    }
+    if asking.plain {
+        search.wait(number, asking.number)?;
+        return Ok(Found::No);
+    }
+    if search.is_settled(level) {
+        return Ok(Found::No);
+    }
+    search.wait(number, asking.number)?;
+    Ok(Found::Later)
+}
+
+/// Whether one of the nodes counts and has the user.
+fn some_asked(
+    source: &Source,
+    search: &mut Search,
+    asking: &Asking,
+    nodes: &[Node],
+) -> Result<Found, AllocError>
+    requires source { IsSource source.now }
+    requires asking { IsAsking source.now.view.now source.now.user.now search.old asking.now }
+    ensures goes_on { OnOk result (GoesOn source.now.view.now source.now.user.now search.old search.new asking.now) }
+    ensures found { IfOk result (HasSome source.now.view.now source.now.user.now search.new asking.now nodes.now) }
+{
+    let mut later = false;
+    for node in nodes {
+        match asked(source, search, asking, node)? {
+            Found::Yes => return Ok(Found::Yes),
+            Found::No => {}
+            Found::Later => later = true,
+        }
+    }
+    Ok(no_or_later(later))
+}
+
+/// What is found where nothing gave the user.
+fn no_or_later(later: bool) -> Found
+    ensures { result ≡ no_or_later later }
+{
+    if later { Found::Later } else { Found::No }
+}
+
+/// The node's own tuples.
+fn this(source: &Source, search: &mut Search, asking: &Asking) -> Result<Found, AllocError>
+    requires source { IsSource source.now }
+    requires asking { IsAsking source.now.view.now source.now.user.now search.old asking.now }
+    ensures goes_on { OnOk result (GoesOn source.now.view.now source.now.user.now search.old search.new asking.now) }
+    ensures found { IfOk result (Gave source.now.view.now source.now.user.now search.new asking.now This) }
+{
+    if source.view.has(asking.node, source.user) {
+        return Ok(Found::Yes);
+    }
+    let sets = source.view.usersets_of(source.alloc, asking.node)?;
+    let found = some_asked(source, search, asking, &sets)?;
+    Ok(found)
+}
+
+/// Another relation of the same object.
+fn computed(
+    source: &Source,
+    search: &mut Search,
+    asking: &Asking,
+    relation: &Name,
+) -> Result<Found, AllocError>
+    requires source { IsSource source.now }
+    requires asking { IsAsking source.now.view.now source.now.user.now search.old asking.now }
+    ensures goes_on { OnOk result (GoesOn source.now.view.now source.now.user.now search.old search.new asking.now) }
+    ensures found { IfOk result (Gave source.now.view.now source.now.user.now search.new asking.now (Computed relation.now)) }
+{
+    let other = node_of(&asking.node.object, relation)?;
+    let found = asked(source, search, asking, &other)?;
+    Ok(found)
+}
+
+/// A relation of the objects that the tupleset's tuples name.
+fn through(
+    source: &Source,
+    search: &mut Search,
+    asking: &Asking,
+    tupleset: &Name,
+    relation: &Name,
+) -> Result<Found, AllocError>
+    requires source { IsSource source.now }
+    requires asking { IsAsking source.now.view.now source.now.user.now search.old asking.now }
+    ensures goes_on { OnOk result (GoesOn source.now.view.now source.now.user.now search.old search.new asking.now) }
+    ensures found { IfOk result (Gave source.now.view.now source.now.user.now search.new asking.now
+        (TupleTo tupleset.now relation.now)) }
+{
+    let parents = source.parents_of(asking.node, tupleset, relation)?;
+    let found = some_asked(source, search, asking, &parents)?;
+    Ok(found)
+}
+
+/// Whether the rewrite gives the user to the node that asks.
+#[cycle(gives)]
+fn gives(
+    source: &Source,
+    search: &mut Search,
+    asking: &Asking,
+    rewrite: &Rewrite,
+) -> Result<Found, AllocError>
+    requires source { IsSource source.now }
+    requires asking { IsAsking source.now.view.now source.now.user.now search.old asking.now }
+    ensures goes_on { OnOk result (GoesOn source.now.view.now source.now.user.now search.old search.new asking.now) }
+    ensures found { IfOk result (Gave source.now.view.now source.now.user.now search.new asking.now (form_of rewrite.now)) }
+{
+    match rewrite {
+        Rewrite::This => this(source, search, asking),
+        Rewrite::Computed(relation) => computed(source, search, asking, relation),
+        Rewrite::TupleTo { tupleset, relation } => {
+            through(source, search, asking, tupleset, relation)
+        }
+        Rewrite::Union(parts) => some_gives(source, search, asking, parts),
+        Rewrite::Intersection(parts) => each_gives(source, search, asking, parts),
+        Rewrite::Exclusion(base, less) => without(source, search, asking, base, less),
+    }
+}
+
+/// The first part, and not the second, which is asked only where the first gives the user.
+#[cycle(gives)]
+fn without(
+    source: &Source,
+    search: &mut Search,
+    asking: &Asking,
+    base: &Rewrite,
+    less: &Rewrite,
+) -> Result<Found, AllocError>
+    requires source { IsSource source.now }
+    requires asking { IsAsking source.now.view.now source.now.user.now search.old asking.now }
+    ensures goes_on { OnOk result (GoesOn source.now.view.now source.now.user.now search.old search.new asking.now) }
+    ensures found { IfOk result (Gave source.now.view.now source.now.user.now search.new asking.now
+        (Exclusion (form_of base.now) (form_of less.now))) }
+{
+    match gives(source, search, asking, base)? {
+        Found::Yes => {
+            let subtracted = asking.subtracted();
+            let lacked = gives(source, search, &subtracted, less)?;
+            Ok(opposite(lacked))
+        }
+        Found::No => Ok(Found::No),
+        Found::Later => Ok(Found::Later),
+    }
+}
+
+fn opposite(found: Found) -> Found
+    ensures { result ≡ opposite found }
+{
+    match found {
+        Found::Yes => Found::No,
+        Found::No => Found::Yes,
+        Found::Later => Found::Later,
+    }
+}
+
+/// Whether some part gives the user.
+#[cycle(gives)]
+fn some_gives(
+    source: &Source,
+    search: &mut Search,
+    asking: &Asking,
+    parts: &[Rewrite],
+) -> Result<Found, AllocError>
+    requires source { IsSource source.now }
+    requires asking { IsAsking source.now.view.now source.now.user.now search.old asking.now }
+    ensures goes_on { OnOk result (GoesOn source.now.view.now source.now.user.now search.old search.new asking.now) }
+    ensures found { IfOk result (Gave source.now.view.now source.now.user.now search.new asking.now (Union (rewrite_forms parts.now))) }
+{
+    let mut later = false;
+    for part in parts {
+        match gives(source, search, asking, part)? {
+            Found::Yes => return Ok(Found::Yes),
+            Found::No => {}
+            Found::Later => later = true,
+        }
+    }
+    Ok(no_or_later(later))
+}
+
+/// Whether each part gives the user. The first that does not ends it.
+#[cycle(gives)]
+fn each_gives(
+    source: &Source,
+    search: &mut Search,
+    asking: &Asking,
+    parts: &[Rewrite],
+) -> Result<Found, AllocError>
+    requires source { IsSource source.now }
+    requires asking { IsAsking source.now.view.now source.now.user.now search.old asking.now }
+    ensures goes_on { OnOk result (GoesOn source.now.view.now source.now.user.now search.old search.new asking.now) }
+    ensures found { IfOk result (Gave source.now.view.now source.now.user.now search.new asking.now (Intersection (rewrite_forms parts.now))) }
+{
+    for part in parts {
+        match gives(source, search, asking, part)? {
+            Found::Yes => {}
+            Found::No => return Ok(Found::No),
+            Found::Later => return Ok(Found::Later),
+        }
+    }
+    Ok(Found::Yes)
+}
+
+/// Whether the rewrite of the node's own relation gives it the user.
+pub(crate) fn relation_gives(
+    source: &Source,
+    search: &mut Search,
+    asking: &Asking,
+) -> Result<Found, AllocError>
+    requires source { IsSource source.now }
+    requires asking { IsAsking source.now.view.now source.now.user.now search.old asking.now }
+    ensures goes_on { OnOk result (GoesOn source.now.view.now source.now.user.now search.old search.new asking.now) }
+    ensures found { IfOk result (RelationGave source.now.view.now source.now.user.now search.new asking.now) }
+{
+    for relation in source.relations {
+        if relation.is_of(asking.node) {
+            match gives(source, search, asking, &relation.rewrite)? {
+                Found::Yes => return Ok(Found::Yes),
+                Found::No => {}
+                Found::Later => return Ok(Found::Later),
+            }
+        }
+    }
+    Ok(Found::No)
+}

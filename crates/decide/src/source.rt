@@ -1,0 +1,91 @@
+//! What a question reads.
+ghost use Rattle.std.specs.Prelude.{◌≡◌, ℕ, ◌<◌, ◌^◌, ◌∷◌, ◌++◌, [], Contains, IfOk, OnOk, IfSome, IfNone, length, map, slice_index_or, true, false};
+ghost use Rattle.meaning.specs.Config.{IsAt, Has, rel_of};
+ghost use Rattle.meaning.specs.Membership.{HasOne};
+ghost use Rattle.meaning.specs.Admits.{is_relation};
+ghost use Rattle.config_core.specs.Forms.{defined_of};
+ghost use Rattle.config_core.specs.declared.relation.Relation.{Relation};
+ghost use Rattle.names.specs.declared.object.Object.{Object};
+ghost use Rattle.names.specs.declared.node.Node.{Node};
+ghost use Rattle.decide.specs.inside.Asked.{IsSource, AreNodesOf, node_with};
+
+use config_core::Relation;
+use names::{Name, Node, Object};
+use rows::View;
+use std::alloc::{AllocError, Global};
+
+/// A view with its relations and their levels, and the user.
+#[derive(Clone, Copy)]
+pub(crate) struct Source<'a> {
+    pub(crate) alloc: Global,
+    pub(crate) view: &'a View<'a>,
+    pub(crate) user: &'a Object,
+    pub(crate) relations: &'a [Relation],
+    pub(crate) levels: &'a [usize],
+}
+
+impl<'a> Source<'a> {
+    /// The level of a node's relation, where it is there.
+    pub(crate) fn level_of(&self, node: &Node) -> Option<usize>
+        requires { IsSource self.now }
+        ensures some { IfSome result (λ k. IsAt self.now.view.now.config node.now k) }
+        ensures small { IfSome result (λ k. k < 2 ^ 32) }
+        ensures none { IfNone result (Has self.now.view.now.config (rel_of node.now) → ⊥) }
+    {
+        match position_of(self.relations, node) {
+            None => None,
+            Some(i) => Some(self.levels[i]),
+        }
+    }
+
+    /// The nodes of the relation of the objects that the tupleset's tuples name.
+    pub(crate) fn parents_of(
+        &self,
+        node: &Node,
+        tupleset: &Name,
+        relation: &Name,
+    ) -> Result<Vec<Node>, AllocError>
+        ensures { IfOk result (λ v. AreNodesOf self.now.view.now node.now tupleset.now relation.now v.items) }
+    {
+        let from = node_of(&node.object, tupleset)?;
+        let objects = self.view.objects_of(self.alloc, &from)?;
+        let nodes = nodes_of(self.alloc, &objects, relation)?;
+        Ok(nodes)
+    }
+}
+
+/// The nodes of the relation of the objects.
+fn nodes_of(alloc: Global, objects: &[Object], relation: &Name) -> Result<Vec<Node>, AllocError>
+    ensures { IfOk result (λ v. v.items ≡ map (node_with relation.now) objects.now) }
+{
+    let mut nodes = Vec::new(alloc);
+    for object in objects {
+        nodes.push(node_of(object, relation)?)?;
+    }
+    Ok(nodes)
+}
+
+pub(crate) fn node_of(object: &Object, relation: &Name) -> Result<Node, AllocError>
+    ensures { IfOk result (λ n. n ≡ node_with relation.now object.now) }
+{
+    Ok(Node {
+        object: object.clone()?,
+        relation: relation.clone()?,
+    })
+}
+
+/// Where the node's relation stands.
+fn position_of(relations: &[Relation], node: &Node) -> Option<usize>
+    ensures found { IfSome result (λ i. (i < length relations.now)
+        × ((d : Relation) → is_relation (rel_of node.now) (defined_of (slice_index_or relations.now i d)) ≡ true)) }
+    ensures none { IfNone result ((k : ℕ) (d : Relation) → k < length relations.now
+        → is_relation (rel_of node.now) (defined_of (slice_index_or relations.now k d)) ≡ false) }
+{
+    for i in 0..relations.len() {
+        let relation = &relations[i];
+        if relation.is_of(node) {
+            return Some(i);
+        }
+    }
+    None
+}
