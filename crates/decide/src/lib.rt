@@ -1,0 +1,7 @@
+//! x
+#![tactic(auto)]
+
+mod oracle;
+mod search;
+
+pub use oracle::{Nothing, Oracle};

@@ -1,0 +1,283 @@
+//! The nodes that a question has reached.
+ghost use Rattle.std.specs.Prelude.{◌≡◌, ◌≤◌, ◌<◌, ◌+◌, ◌^◌, ◌⊎◌, [], ◌∷◌, ◌++◌, ℕ, true, false, Contains, Option, Some, None, IfOk, IfSome, IfNone, IsTrue, OnOk, length, slice_index_or};
+ghost use Rattle.std.proofs.Common.{suc};
+ghost use Rattle.meaning.specs.Config.{IsAt};
+ghost use Rattle.meaning.specs.Snap.{Snap};
+ghost use Rattle.names.specs.declared.object.Object.{Object};
+ghost use Rattle.names.specs.declared.node.Node.{Node as NodeValue};
+ghost use Rattle.decide.specs.declared.search.Opened.{Opened};
+ghost use Rattle.decide.specs.inside.Under.{Under};
+ghost use Rattle.decide.specs.inside.Searches.{Stands, IsStacked, Waits, Grew, IsNumberOf, Opens, Pushes, IsThere, Wakes};
+ghost use Rattle.decide.specs.inside.Running.{IsRunning};
+
+use names::Node;
+use std::alloc::{AllocError, Global};
+use std::collections::BTreeMap;
+use std::mem::replace;
+
+/// A node that was opened: its relation's level, whether it is known to have the user, and the numbers of
+/// the nodes that wait for it.
+#[derive(Drop)]
+pub(crate) struct Opened {
+    node: Node,
+    level: usize,
+    sure: bool,
+    waiting: Vec<usize>,
+}
+
+/// While it stands, only nodes of lower levels are looked at, until the asker is woken.
+#[derive(Clone, Copy, Drop)]
+struct Frame {
+    level: usize,
+    asker: usize,
+}
+
+/// The nodes that were opened, in the order of their numbers, and for each level those to be looked at.
+#[derive(Drop)]
+pub(crate) struct Search {
+    alloc: Global,
+    opened: Vec<Opened>,
+    numbers: BTreeMap<Node, usize>,
+    stacks: Vec<Vec<usize>>,
+    frames: Vec<Frame>,
+}
+
+impl Search {
+    /// No node, of levels up to the greatest.
+    pub(crate) fn new(alloc: Global, level: usize) -> Result<Search, AllocError>
+        requires { level < 2 ^ 32 }
+        ensures opened { IfOk result (λ s. s.opened.items ≡ []) }
+        ensures long { IfOk result (λ s. length s.stacks.items ≡ level + 1) }
+        ensures stacked { IfOk result (λ s. (l i : ℕ) → IsStacked s l i → ⊥) }
+    {
+        Ok(Search {
+            alloc,
+            opened: Vec::new(alloc),
+            numbers: BTreeMap::new(alloc),
+            stacks: empty_stacks(alloc, level)?,
+            frames: Vec::new(alloc),
+        })
+    }
+
+    /// The number of a node that was opened.
+    fn seen(&self, node: &Node, level: usize) -> Option<usize>
+        ensures { IfSome result (λ i. IsNumberOf self.now i node.now level) }
+    {
+        let Some(number) = self.numbers.get(node) else {
+            return None;
+        };
+        let number = *number;
+        if number < self.opened.len() {
+            let opened = &self.opened[number];
+            if opened.node == *node && opened.level == level {
+                return Some(number);
+            }
+        }
+        None
+    }
+
+    /// Opens the node, which is to be looked at.
+    fn open(&mut self, node: &Node, level: usize) -> Result<usize, AllocError>
+        requires { level < length self.old.stacks.items }
+        ensures { IfOk result (λ i. Opens self.old self.new node.now level i) }
+    {
+        let number = self.opened.len();
+        self.opened.push(Opened {
+            node: node.clone()?,
+            level,
+            sure: false,
+            waiting: Vec::new(self.alloc),
+        })?;
+        self.numbers.insert(node.clone()?, number)?;
+        self.stacks[level].push(number)?;
+        Ok(number)
+    }
+
+    /// The number of the node, which is opened if it was not.
+    pub(crate) fn number_of(&mut self, node: &Node, level: usize) -> Result<usize, AllocError>
+        requires { level < length self.old.stacks.items }
+        ensures grew { OnOk result (Grew self.old self.new) }
+        ensures number { IfOk result (λ i. IsNumberOf self.new i node.now level) }
+        ensures running { OnOk result ((S : Snap) (u : Object) (but : Option ℕ) → IsAt S.config node.now level
+            → IsRunning S u self.old but → IsRunning S u self.new but) }
+    {
+        if let Some(number) = self.seen(node, level) {
+            return Ok(number);
+        }
+        let number = self.open(node, level)?;
+        Ok(number)
+    }
+
+    /// Whether the node is known to have the user.
+    pub(crate) fn is_sure(&self, number: usize) -> bool
+        requires { number < length self.now.opened.items }
+        ensures { (e : Opened) → Stands self.now number e → e.sure ≡ result }
+    {
+        self.opened[number].sure
+    }
+
+    pub(crate) fn node_of(&self, number: usize) -> Result<Node, AllocError>
+        requires { number < length self.now.opened.items }
+        ensures { IfOk result (λ n. (e : Opened) → Stands self.now number e → e.node ≡ n) }
+    {
+        self.opened[number].node.clone()
+    }
+
+    pub(crate) fn level_of(&self, number: usize) -> usize
+        requires { number < length self.now.opened.items }
+        ensures { (e : Opened) → Stands self.now number e → e.level ≡ result }
+    {
+        self.opened[number].level
+    }
+
+    /// Lets the asker wait for a node.
+    pub(crate) fn wait(&mut self, number: usize, asker: usize) -> Result<(), AllocError>
+        requires { number < length self.old.opened.items }
+        ensures grew { OnOk result (Grew self.old self.new) }
+        ensures waits { OnOk result ((e : Opened) → Stands self.old number e → e.sure ≡ false
+            → Waits self.new e.node asker) }
+        ensures running { OnOk result ((S : Snap) (u : Object) (but : Option ℕ) → asker < length self.old.opened.items
+            → IsRunning S u self.old but → IsRunning S u self.new but) }
+    {
+        self.opened[number].waiting.push(asker)?;
+        Ok(())
+    }
+
+    /// The node is to be looked at.
+    fn stack(&mut self, number: usize) -> Result<(), AllocError>
+        requires number { number < length self.old.opened.items }
+        requires there { IsThere self.old number }
+        ensures opened { OnOk result (self.new.opened.items ≡ self.old.opened.items) }
+        ensures stacked { OnOk result ((e : Opened) → Stands self.old number e
+            → Pushes self.old.stacks.items self.new.stacks.items e.level number) }
+    {
+        let level = self.opened[number].level;
+        self.stacks[level].push(number)?;
+        Ok(())
+    }
+
+    /// The node is to be looked at now: where it waited for lower levels, it need not any more.
+    fn wake(&mut self, number: usize) -> Result<(), AllocError>
+        requires number { number < length self.old.opened.items }
+        requires there { IsThere self.old number }
+        ensures opened { OnOk result (self.new.opened.items ≡ self.old.opened.items) }
+        ensures stacked { OnOk result ((e : Opened) → Stands self.old number e
+            → Pushes self.old.stacks.items self.new.stacks.items e.level number) }
+    {
+        self.stack(number)?;
+        if let Some(frame) = self.frames.last() {
+            if frame.asker == number {
+                let _ = self.frames.pop();
+            }
+        }
+        Ok(())
+    }
+
+    fn wake_all(&mut self, waiting: &[usize]) -> Result<(), AllocError>
+        requires { (w : ℕ) → Contains waiting.now w → (w < length self.old.opened.items) × IsThere self.old w }
+        ensures opened { OnOk result (self.new.opened.items ≡ self.old.opened.items) }
+        ensures wakes { OnOk result (Wakes self.old self.new waiting.now) }
+    {
+        for asker in waiting {
+            self.wake(*asker)?;
+        }
+        Ok(())
+    }
+
+    /// The node has the user: the nodes that wait for it are to be looked at again.
+    pub(crate) fn give(&mut self, number: usize) -> Result<(), AllocError>
+        requires number { number < length self.old.opened.items }
+        requires there { (w i : ℕ) (e : Opened) → Stands self.old i e → Contains e.waiting.items w
+            → (w < length self.old.opened.items) × IsThere self.old w }
+        ensures numbers { OnOk result ((i k : ℕ) (n : NodeValue) → IsNumberOf self.old i n k → IsNumberOf self.new i n k) }
+        ensures running { OnOk result ((S : Snap) (u : Object)
+            → ((e : Opened) → Stands self.old number e → Under S u (suc e.level) e.node)
+            → IsRunning S u self.old (Some number) → IsRunning S u self.new None) }
+    {
+        let waiting = replace(&mut self.opened[number].waiting, Vec::new(self.alloc));
+        self.wake_all(&waiting)?;
+        self.opened[number].sure = true;
+        Ok(())
+    }
+
+    /// The node is to be looked at again when the lower levels are finished.
+    pub(crate) fn put_back(&mut self, number: usize, level: usize) -> Result<(), AllocError>
+        requires number { number < length self.old.opened.items }
+        requires there { IsThere self.old number }
+        ensures numbers { OnOk result ((i k : ℕ) (n : NodeValue) → IsNumberOf self.old i n k → IsNumberOf self.new i n k) }
+        ensures running { OnOk result ((S : Snap) (u : Object)
+            → IsRunning S u self.old (Some number) → IsRunning S u self.new None) }
+    {
+        self.stack(number)?;
+        self.frames.push(Frame {
+            level,
+            asker: number,
+        })?;
+        Ok(())
+    }
+
+    /// Takes a number off the highest stack below the level.
+    fn pop_below(&mut self, level: usize) -> Option<usize>
+        ensures opened { self.new.opened.items ≡ self.old.opened.items }
+        ensures long { length self.new.stacks.items ≡ length self.old.stacks.items }
+        ensures stacked { (l i : ℕ) → IsStacked self.new l i → IsStacked self.old l i }
+        ensures none { IfNone result (self.new.stacks.items ≡ self.old.stacks.items) }
+        ensures empty { IfNone result ((l i : ℕ) → l < level → IsStacked self.old l i → ⊥) }
+        ensures some { IfSome result (λ n. ((l : ℕ) × IsStacked self.old l n)
+            × ((l i : ℕ) → IsStacked self.old l i → (i ≡ n) ⊎ IsStacked self.new l i)) }
+    {
+        let mut left = level.min(self.stacks.len());
+        while left > 0 {
+            left -= 1;
+            if let Some(number) = self.stacks[left].pop() {
+                return Some(number);
+            }
+        }
+        None
+    }
+
+    /// The next number to look at.
+    pub(crate) fn next(&mut self) -> Option<usize>
+        ensures numbers { (i k : ℕ) (n : NodeValue) → IsNumberOf self.old i n k → IsNumberOf self.new i n k }
+        ensures none { IfNone result ((l i : ℕ) → IsStacked self.new l i → ⊥) }
+        ensures same { IfNone result ((S : Snap) (u : Object) → IsRunning S u self.old None → IsRunning S u self.new None) }
+        ensures some { IfSome result (λ n. (S : Snap) (u : Object)
+            → IsRunning S u self.old None → (n < length self.new.opened.items) × IsRunning S u self.new (Some n)) }
+    {
+        loop {
+            let Some(frame) = self.frames.last() else {
+                return self.pop_below(self.stacks.len());
+            };
+            let level = frame.level;
+            if let Some(number) = self.pop_below(level) {
+                return Some(number);
+            }
+            let _ = self.frames.pop();
+        }
+    }
+
+    /// Whether no node up to the level is to be looked at.
+    pub(crate) fn is_settled(&self, level: usize) -> bool
+        requires { level < length self.now.stacks.items }
+        ensures { IsTrue result → (l i : ℕ) → l ≤ level → IsStacked self.now l i → ⊥ }
+    {
+        for stack in &self.stacks[..level + 1] {
+            if !stack.is_empty() {
+                return false;
+            }
+        }
+        true
+    }
+}
+
+fn empty_stacks(alloc: Global, level: usize) -> Result<Vec<Vec<usize>>, AllocError>
+    requires { level < 2 ^ 32 }
+    ensures long { IfOk result (λ v. length v.items ≡ level + 1) }
+    ensures empty { IfOk result (λ v. (w : _) → Contains v.items w → w.items ≡ []) }
+{
+    let mut stacks = Vec::with_capacity(alloc, level + 1)?;
+    for _ in 0..level + 1 {
+        stacks.push(Vec::new(alloc))?;
+    }
+    Ok(stacks)
+}
