@@ -1,0 +1,5 @@
+pub mod Elements
+pub mod Nodes
+pub mod SearchLemmas
+pub mod Pushing
+pub mod Opening

@@ -244,16 +244,14 @@ impl Search {
         ensures some { IfSome result (λ n. (S : Snap) (u : Object)
             → IsRunning S u self.old None → (n < length self.new.opened.items) × IsRunning S u self.new (Some n)) }
     {
-        loop {
-            let Some(frame) = self.frames.last() else {
-                return self.pop_below(self.stacks.len());
-            };
-            let level = frame.level;
+        while !self.frames.is_empty() {
+            let level = self.frames[self.frames.len() - 1].level;
             if let Some(number) = self.pop_below(level) {
                 return Some(number);
             }
             let _ = self.frames.pop();
         }
+        self.pop_below(self.stacks.len())
     }
 
     /// Whether no node up to the level is to be looked at.
