@@ -70,3 +70,7 @@ contains_or_not (x ∷ xs) n =
     (λ no. inr (λ c. ⊎_elim other no (contains_cases x n xs c)))
     (contains_or_not xs n))
     (cases_eq x n)
+
+pub holds_some : {A : Type 0} (xs : List A) (i : ℕ) → i < length xs → (x : A) × Holds xs i x
+holds_some [] i lt = absurd (omega (arith, lt))
+holds_some (x ∷ xs) i lt = (get_or (x ∷ xs) i x, holds_read (x ∷ xs) i x lt)

@@ -3,3 +3,4 @@ pub mod Nodes
 pub mod SearchLemmas
 pub mod Pushing
 pub mod Opening
+pub mod Replacing
