@@ -4,3 +4,4 @@ pub mod SearchLemmas
 pub mod Pushing
 pub mod Opening
 pub mod Replacing
+pub mod Giving

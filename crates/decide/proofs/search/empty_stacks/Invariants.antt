@@ -1,13 +1,9 @@
-use Rattle.std.proofs.Common.{◌≡◌, ◌≤◌, ◌<◌, ◌+◌, ◌^◌, ◌⊎◌, [], ◌∷◌, ◌++◌, ℕ, true, false, Contains, Option, Some, None, IfOk, IfSome, IfNone, IsTrue, OnOk, length, slice_index_or, suc, ◌-◌, ◌*◌}
-use Rattle.meaning.specs.Config.{IsAt}
-use Rattle.meaning.specs.Snap.{Snap}
-use Rattle.names.specs.declared.object.Object.{Object}
-use Rattle.names.specs.declared.node.Node.{Node as NodeValue}
-use Rattle.decide.specs.declared.search.Opened.{Opened}
-use Rattle.decide.specs.inside.Under.{Under}
-use Rattle.decide.specs.inside.Searches.{Stands, IsStacked, Waits, Grew, IsNumberOf, Opens, Pushes, IsThere, Wakes}
-use Rattle.decide.specs.inside.Running.{IsRunning}
+use Rattle.std.proofs.Common.{◌≡◌, [], length}
+use Rattle.std.specs.Prelude.{Contains}
 use Rattle.decide.proofs.search.empty_stacks.Given as goal
 
 abbrev pub invariant-loop : goal.invariant-loop
-invariant-loop l = ?
+invariant-loop l = record {
+  long : length l.stacks.items ≡ l.counter;
+  empty : (w : _) → Contains l.stacks.items w → w.items ≡ [];
+}

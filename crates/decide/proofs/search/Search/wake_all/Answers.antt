@@ -1,34 +1,40 @@
-use Rattle.std.proofs.Common.{rules, ◌≡◌, ◌≤◌, ◌<◌, ◌+◌, ◌^◌, ◌⊎◌, [], ◌∷◌, ◌++◌, ℕ, true, false, Contains, Option, Some, None, IfOk, IfSome, IfNone, IsTrue, OnOk, length, slice_index_or, suc, ◌-◌, ◌*◌, ◌/◌, ◌%◌, Bool, nat_eq, nat_lt, List, slice_set, bit_and, bit_or, Fits, w8, w32, w64, Bor, MutBor}
-use Rattle.meaning.specs.Config.{IsAt}
-use Rattle.meaning.specs.Snap.{Snap}
-use Rattle.names.specs.declared.object.Object.{Object}
-use Rattle.names.specs.declared.node.Node.{Node as NodeValue}
-use Rattle.decide.specs.declared.search.Opened.{Opened}
-use Rattle.decide.specs.inside.Under.{Under}
-use Rattle.decide.specs.inside.Searches.{Stands, IsStacked, Waits, Grew, IsNumberOf, Opens, Pushes, IsThere, Wakes}
-use Rattle.decide.specs.inside.Running.{IsRunning}
+use Rattle.std.proofs.Common.{rules, ◌≡◌, ◌<◌, ◌+◌, ◌∷◌, ◌++◌, [], ℕ, List, length, get_or, take, suc, refl, ap, ◌∙◌, sym, subst, arith}
+use Rattle.std.specs.Prelude.{Contains}
+use Rattle.std.proofs.Math.Seq.{take-suc}
+use Rattle.std.proofs.lemmas.List.Elements.{Contains-get_or}
+use Rattle.decide.specs.inside.Searches.{Wakes}
+use Rattle.decide.proofs.Elements.{Holds, holds_some}
+use Rattle.decide.proofs.Giving.{wakes_none, wakes_one}
 use Rattle.decide.proofs.search.Search.wake_all.Goals as goal
 
--- src/search.rt:181:9
 pub loop-asker-init : goal.loop-asker-init
-loop-asker-init c = ?
+loop-asker-init c = record { opened = refl; wakes = wakes_none c.args.self.now }
 
--- src/search.rt:182:13
 pub wake-requires-clause-number : goal.wake-requires-clause-number
-wake-requires-clause-number c = ?
+wake-requires-clause-number c =
+    let asked = c.requires (get_or c.args.waiting.now c.loop-asker.asker-index 0) (Contains-get_or c.args.waiting.now c.loop-asker.asker-index 0 c.loop-asker-test.true) in
+    let lt = asked.0 in
+    let same = ap length c.loop-asker.invariant.opened in
+    omega (arith, lt, same)
 
--- src/search.rt:182:13
 pub wake-requires-clause-there : goal.wake-requires-clause-there
-wake-requires-clause-there c = ?
+wake-requires-clause-there c e at =
+    let asked = c.requires (get_or c.args.waiting.now c.loop-asker.asker-index 0) (Contains-get_or c.args.waiting.now c.loop-asker.asker-index 0 c.loop-asker-test.true) in
+    let lt = asked.1 e (subst (λ xs. Holds xs (get_or c.args.waiting.now c.loop-asker.asker-index 0) e) c.loop-asker.invariant.opened at) in
+    omega (arith, lt, c.loop-asker.invariant.wakes.long)
 
--- src/search.rt:181:9
 pub loop-asker-preserved : goal.loop-asker-preserved
-loop-asker-preserved c = ?
+loop-asker-preserved c =
+    let number = get_or c.args.waiting.now c.loop-asker.asker-index 0 in
+    let asked = c.requires number (Contains-get_or c.args.waiting.now c.loop-asker.asker-index 0 c.loop-asker-test.true) in
+    let (e, at) = holds_some c.args.self.now.opened.items number asked.0 in
+    let now : Holds c.loop-asker.self.opened.items number e = subst (λ xs. Holds xs number e) (sym c.loop-asker.invariant.opened) at in
+    let lt = asked.1 e at in
+    let one = wakes_one c.args.self.now c.loop-asker.self c.wake.new.self (take c.loop-asker.asker-index c.args.waiting.now) number e c.loop-asker.invariant.wakes at (omega (arith, lt, c.loop-asker.invariant.wakes.long)) (c.in_ok-wake.ensures.stacked e now) in
+    record {
+      opened = c.in_ok-wake.ensures.opened ∙ c.loop-asker.invariant.opened;
+      wakes = subst (Wakes c.args.self.now c.wake.new.self) (sym (take-suc c.args.waiting.now c.loop-asker.asker-index 0 c.loop-asker-test.true)) one;
+    }
 
--- src/search.rt:176:5
-pub returns-clause-opened : goal.returns-clause-opened
-returns-clause-opened c = ?
-
--- src/search.rt:176:5
 pub returns-clause-wakes : goal.returns-clause-wakes
 returns-clause-wakes c = ?

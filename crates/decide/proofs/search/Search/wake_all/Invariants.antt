@@ -1,13 +1,9 @@
-use Rattle.std.proofs.Common.{◌≡◌, ◌≤◌, ◌<◌, ◌+◌, ◌^◌, ◌⊎◌, [], ◌∷◌, ◌++◌, ℕ, true, false, Contains, Option, Some, None, IfOk, IfSome, IfNone, IsTrue, OnOk, length, slice_index_or, suc, ◌-◌, ◌*◌}
-use Rattle.meaning.specs.Config.{IsAt}
-use Rattle.meaning.specs.Snap.{Snap}
-use Rattle.names.specs.declared.object.Object.{Object}
-use Rattle.names.specs.declared.node.Node.{Node as NodeValue}
-use Rattle.decide.specs.declared.search.Opened.{Opened}
-use Rattle.decide.specs.inside.Under.{Under}
-use Rattle.decide.specs.inside.Searches.{Stands, IsStacked, Waits, Grew, IsNumberOf, Opens, Pushes, IsThere, Wakes}
-use Rattle.decide.specs.inside.Running.{IsRunning}
+use Rattle.std.proofs.Common.{◌≡◌, take}
+use Rattle.decide.specs.inside.Searches.{Wakes}
 use Rattle.decide.proofs.search.Search.wake_all.Given as goal
 
 abbrev pub invariant-loop-asker : goal.invariant-loop-asker
-invariant-loop-asker l = ?
+invariant-loop-asker l = record {
+  opened : l.self.opened.items ≡ l.initial.self.opened.items;
+  wakes : Wakes l.initial.self l.self (take l.asker-index l.waiting);
+}
