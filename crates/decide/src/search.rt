@@ -229,8 +229,8 @@ impl Search {
         let mut left = level.min(self.stacks.len());
         while left > 0 {
             left -= 1;
-            if let Some(number) = self.stacks[left].pop() {
-                return Some(number);
+            if !self.stacks[left].is_empty() {
+                return self.stacks[left].pop();
             }
         }
         None
