@@ -37,7 +37,7 @@ module _ (S : Snap) (u : Object) (a : Asking) where
   goes_trans s t v g h = record { asking = h.asking; grew = grew_trans s t v g.grew h.grew }
 
   pub goes_on : (s t : Search) → IsAsking S u s a → Grew s t → IsRunning S u t (Some a.number) → GoesOn S u s t a
-  goes_on s t h g run = record { asking = record { running = run; number = grew_number s t a.number a.level a.node.now g h.number }; grew = g }
+  goes_on s t h g run = record { asking = record { running = run; number = grew_number s t a.number a.node.now a.level g h.number }; grew = g }
 
   pub left_before : (s t : Search) (m : Node) → Grew s t → IsLeft S u t a m → IsLeft S u s a m
   left_before s t m g (under, h) = (under, λ p w. h p (grew_waits s t m a.number g w))

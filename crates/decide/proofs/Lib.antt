@@ -1,4 +1,10 @@
+pub mod Elements
+pub mod Nodes
 pub mod SearchLemmas
+pub mod Pushing
+pub mod Opening
+pub mod Replacing
+pub mod Giving
 pub mod Settling
 pub mod Parts
 pub mod Found

@@ -229,8 +229,8 @@ impl Search {
         let mut left = level.min(self.stacks.len());
         while left > 0 {
             left -= 1;
-            if let Some(number) = self.stacks[left].pop() {
-                return Some(number);
+            if !self.stacks[left].is_empty() {
+                return self.stacks[left].pop();
             }
         }
         None
@@ -244,17 +244,14 @@ impl Search {
         ensures some { IfSome result (λ n. (S : Snap) (u : Object)
             → IsRunning S u self.old None → (n < length self.new.opened.items) × IsRunning S u self.new (Some n)) }
     {
-        loop {
-            let frames = self.frames.len();
-            if frames == 0 {
-                return self.pop_below(self.stacks.len());
-            }
-            let level = self.frames[frames - 1].level;
+        while !self.frames.is_empty() {
+            let level = self.frames[self.frames.len() - 1].level;
             if let Some(number) = self.pop_below(level) {
                 return Some(number);
             }
             let _ = self.frames.pop();
         }
+        self.pop_below(self.stacks.len())
     }
 
     /// Whether no node up to the level is to be looked at.

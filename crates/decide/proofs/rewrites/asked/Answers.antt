@@ -30,7 +30,7 @@ returns-then-asking-clause-goes_on c =
     goes_on c.args.source.now.view.now c.args.source.now.user.now c.args.asking.now c.args.search.now c.wait.new.self c.requires.asking
     (grew_trans c.args.search.now c.number_of.new.self c.wait.new.self c.in_ok-number.ensures.grew c.in_ok-wait.ensures.grew)
     (c.in_ok-wait.ensures.running c.args.source.now.view.now c.args.source.now.user.now (Some c.args.asking.now.number)
-    (grew_number c.args.search.now c.number_of.new.self c.args.asking.now.number c.args.asking.now.level c.args.asking.now.node.now c.in_ok-number.ensures.grew c.requires.asking.number).1.0
+    (grew_number c.args.search.now c.number_of.new.self c.args.asking.now.number c.args.asking.now.node.now c.args.asking.now.level c.in_ok-number.ensures.grew c.requires.asking.number).1.0
     (c.in_ok-number.ensures.running c.args.source.now.view.now c.args.source.now.user.now (Some c.args.asking.now.number) c.in-Some.ensures.some c.requires.asking.running))
 
 pub returns-then-asking-clause-found : goal.returns-then-asking-clause-found
@@ -61,5 +61,5 @@ returns-clause-goes_on c =
     goes_on c.args.source.now.view.now c.args.source.now.user.now c.args.asking.now c.args.search.now c.wait-2.new.self c.requires.asking
     (grew_trans c.args.search.now c.number_of.new.self c.wait-2.new.self c.in_ok-number.ensures.grew c.in_ok-wait-2.ensures.grew)
     (c.in_ok-wait-2.ensures.running c.args.source.now.view.now c.args.source.now.user.now (Some c.args.asking.now.number)
-    (grew_number c.args.search.now c.number_of.new.self c.args.asking.now.number c.args.asking.now.level c.args.asking.now.node.now c.in_ok-number.ensures.grew c.requires.asking.number).1.0
+    (grew_number c.args.search.now c.number_of.new.self c.args.asking.now.number c.args.asking.now.node.now c.args.asking.now.level c.in_ok-number.ensures.grew c.requires.asking.number).1.0
     (c.in_ok-number.ensures.running c.args.source.now.view.now c.args.source.now.user.now (Some c.args.asking.now.number) c.in-Some.ensures.some c.requires.asking.running))

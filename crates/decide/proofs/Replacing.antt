@@ -1,0 +1,124 @@
+-- A search that keeps what its nodes are: what is to be looked at is covered still.
+use Rattle.std.proofs.Common.{◌≡◌, ℕ, suc, ◌<◌, List, [], ◌∷◌, ◌++◌, Bool, true, false, length, set, refl, ap, ◌∙◌, sym, subst, inl, inr, ⊎_elim, arith}
+use Rattle.std.specs.Prelude.{◌⊎◌, Contains, Option, Some, None}
+use Rattle.std.proofs.lemmas.Bool.{cases_eq}
+use Rattle.std.proofs.lemmas.List.{length-set}
+use Rattle.std.proofs.lemmas.List.Elements.{Contains-append_left, Contains-push_cases}
+use Rattle.names.specs.declared.object.Object.{Object}
+use Rattle.names.specs.declared.node.Node.{Node}
+use Rattle.meaning.specs.Snap.{Snap}
+use Rattle.meaning.specs.Config.{IsAt}
+use Rattle.decide.specs.declared.search.Search.{Search}
+use Rattle.decide.specs.declared.search.Opened.{Opened}
+use Rattle.decide.specs.inside.Under.{Under}
+use Rattle.decide.specs.inside.Searches.{Stands, IsStacked, Grew, IsMore, Pushes}
+use Rattle.decide.specs.inside.Running.{IsRunning}
+use Rattle.decide.proofs.Elements.{Holds, holds_same, holds_set, holds_stored, holds_set_back}
+use Rattle.decide.proofs.Pushing.{IsOn, pushed_long, pushed_stays, pushed_here, pushed_back}
+use Rattle.decide.proofs.SearchLemmas.{more_refl, grew_stuck}
+
+module _ (S : Snap) (u : Object) (s t : Search) (but except : Option ℕ) (grew : Grew s t)
+         (back : (j : ℕ) (g : Opened) → Stands t j g → (h : Opened) × Stands s j h × IsMore h g)
+         (waiting : (j w : ℕ) (g : Opened) → Stands t j g → Contains g.waiting.items w → w < length t.opened.items)
+         (stacked : (l j : ℕ) → IsStacked t l j → j < length t.opened.items)
+         (cover : (j : ℕ) (g : Opened) → Stands t j g → (except ≡ Some j → ⊥) → (but ≡ Some j → ⊥) ⊎ IsStacked t g.level j) where
+  pub grew_running : IsRunning S u s but → IsRunning S u t except
+  grew_running r = record {
+    at = λ j g at.
+        let (h, old, more) = back j g at in
+        let named : IsAt S.config g.node h.level = subst (λ m. IsAt S.config m h.level) (sym more.node) (r.at j h old) in
+        subst (IsAt S.config g.node) (sym more.level) named;
+    stack_there = λ j g at.
+        let (h, old, more) = back j g at in
+        let lt = r.stack_there j h old in
+        let same = more.level in
+        omega (arith, lt, same, grew.long);
+    waiting_there = waiting;
+    stacked_there = stacked;
+    right = λ j g at sure.
+        let (h, old, more) = back j g at in
+        let named : Under S u (suc h.level) g.node = subst (Under S u (suc h.level)) (sym more.node) (r.right j h old (sym more.sure ∙ sure)) in
+        subst (λ k. Under S u (suc k) g.node) (sym more.level) named;
+    covered = λ j g at no other.
+        let (h, old, more) = back j g at in
+        ⊎_elim
+        (λ free. ⊎_elim
+        (λ on. inl (subst (λ k. IsStacked t k j) (sym more.level) (grew.stacked h.level j on)))
+        (λ stuck. inr (grew_stuck S u s t j h g grew old at more stuck))
+        (r.covered j h old (sym more.sure ∙ no) free))
+        inl
+        (cover j g at other);
+  }
+
+-- one node was replaced by one for which more wait
+module _ (s t : Search) (i : ℕ) (e f : Opened) (at : Stands s i e) (more : IsMore e f)
+         (opened : t.opened.items ≡ set s.opened.items i f) (stacks : t.stacks.items ≡ s.stacks.items) where
+  pub replaced_grew : Grew s t
+  replaced_grew = record {
+    stands = λ j g old. ⊎_elim
+        (λ same.
+        let here : e ≡ g = holds_same s.opened.items j e g (subst (λ q. Holds s.opened.items q e) (sym same) at) old in
+        let stored : Holds (set s.opened.items i f) j f = subst (λ q. Holds (set s.opened.items i f) q f) (sym same) (holds_stored s.opened.items i f at.0) in
+        (f, subst (λ xs. Holds xs j f) (sym opened) stored, subst (λ x. IsMore x f) here more))
+        (λ other. (g, subst (λ xs. Holds xs j g) (sym opened) (holds_set s.opened.items i f j g other old), more_refl g))
+        (cases_eq j i);
+    stacked = λ l j on. subst (λ xs. IsOn xs l j) (sym stacks) on;
+    long = ap length stacks;
+  }
+
+  pub replaced_back : (j : ℕ) (g : Opened) → Stands t j g → (h : Opened) × Stands s j h × IsMore h g
+  replaced_back j g new = ⊎_elim
+      (λ (same, here). (e, subst (λ q. Holds s.opened.items q e) (sym same) at, subst (IsMore e) (sym here) more))
+      (λ (_, old). (g, old, more_refl g))
+      (holds_set_back s.opened.items i f j g (subst (λ xs. Holds xs j g) opened new))
+
+  module _ (asker : ℕ) (last : f.waiting.items ≡ e.waiting.items ++ asker ∷ []) (there : asker < length s.opened.items) (S : Snap) (u : Object) (but : Option ℕ) where
+    pub waiting_running : IsRunning S u s but → IsRunning S u t but
+    waiting_running r =
+        let long : length t.opened.items ≡ length s.opened.items = ap length opened ∙ length-set s.opened.items i f in
+        grew_running S u s t but but replaced_grew replaced_back
+        (λ j w g new c. ⊎_elim
+        (λ (_, here).
+        let pushed : Contains (e.waiting.items ++ asker ∷ []) w = subst (λ xs. Contains xs w) (ap (λ (x : Opened). x.waiting.items) here ∙ last) c in
+        ⊎_elim
+        (λ before. let lt = r.waiting_there i w e at before in omega (arith, lt, long))
+        (λ same. omega (arith, same, there, long))
+        (Contains-push_cases e.waiting.items asker w pushed))
+        (λ (_, old). let lt = r.waiting_there j w g old c in omega (arith, lt, long))
+        (holds_set_back s.opened.items i f j g (subst (λ xs. Holds xs j g) opened new)))
+        (λ l j on. let lt = r.stacked_there l j (subst (λ xs. IsOn xs l j) stacks on) in omega (arith, lt, long))
+        (λ j g new free. inl free)
+        r
+
+-- one number was stacked at its level
+module _ (s t : Search) (i : ℕ) (e : Opened) (at : Stands s i e) (opened : t.opened.items ≡ s.opened.items)
+         (pushes : Pushes s.stacks.items t.stacks.items e.level i) where
+  pub stacked_grew : Grew s t
+  stacked_grew = record {
+    stands = λ j g old. (g, subst (λ xs. Holds xs j g) (sym opened) old, more_refl g);
+    stacked = pushed_stays s.stacks.items t.stacks.items e.level i pushes;
+    long = pushed_long s.stacks.items t.stacks.items e.level i pushes;
+  }
+
+  pub stacked_running : (S : Snap) (u : Object) → IsRunning S u s (Some i) → IsRunning S u t None
+  stacked_running S u r =
+      let old : (j : ℕ) (g : Opened) → Stands t j g → Stands s j g = λ j g new. subst (λ xs. Holds xs j g) opened new in
+      let long : length t.opened.items ≡ length s.opened.items = ap length opened in
+      grew_running S u s t (Some i) None stacked_grew
+      (λ j g new. (g, old j g new, more_refl g))
+      (λ j w g new c. let lt = r.waiting_there j w g (old j g new) c in omega (arith, lt, long))
+      (λ l j on. ⊎_elim
+      (λ before. let lt = r.stacked_there l j before in omega (arith, lt, long))
+      (λ same. let lt = at.0 in omega (arith, same, lt, long))
+      (pushed_back s.stacks.items t.stacks.items e.level i pushes l j on))
+      (λ j g new _. ⊎_elim
+      (λ same.
+      let here : e ≡ g = holds_same s.opened.items j e g (subst (λ q. Holds s.opened.items q e) (sym same) at) (old j g new) in
+      let on = pushed_here s.stacks.items t.stacks.items e.level i pushes (r.stack_there i e at) in
+      inr (subst (λ (x : Opened). IsStacked t x.level j) here (subst (IsStacked t e.level) (sym same) on)))
+      (λ other. inl (λ equal. other (sym (some_same equal))))
+      (cases_eq j i))
+      r
+    where
+      some_same : {j : ℕ} → Some i ≡ Some j → i ≡ j
+      some_same equal = cc

@@ -1,0 +1,12 @@
+use Rattle.std.proofs.Common.{◌≡◌, ◌≤◌, ◌<◌, ℕ, length}
+use Rattle.decide.specs.inside.Searches.{IsStacked}
+use Rattle.decide.proofs.search.Search.pop_below.Given as goal
+
+abbrev pub invariant-loop-left : goal.invariant-loop-left
+invariant-loop-left l = record {
+  there : l.left ≤ length l.self.stacks.items;
+  empty : (k i : ℕ) → l.left ≤ k → k < l.level → IsStacked l.self k i → ⊥;
+}
+
+abbrev pub decreases-loop-left : goal.decreases-loop-left
+decreases-loop-left l = l.left

@@ -1,0 +1,49 @@
+use Rattle.std.proofs.Common.{◌≡◌, ◌++◌, ◌∷◌, [], ap, refl, sym, ◌∙◌, subst}
+use Rattle.std.proofs.lemmas.List.Elements.{Contains-append_left, Contains-push}
+use Rattle.std.specs.Prelude.{Contains}
+use Rattle.decide.specs.declared.search.Opened.{Opened}
+use Rattle.decide.specs.inside.Searches.{Stands, IsMore}
+use Rattle.decide.proofs.Elements.{Holds, holds_same, holds_stored}
+use Rattle.decide.proofs.Replacing.{replaced_grew, waiting_running}
+use Rattle.decide.proofs.search.Search.wait.Goals as goal
+use Rattle.decide.proofs.search.Search.wait.Goals.{In_ok-push}
+
+abbrev before : In_ok-push → Opened
+before c = c.index_mut.result.now
+
+abbrev after : In_ok-push → Opened
+after c = record { node = (before c).node; level = (before c).level; sure = (before c).sure; waiting = c.push.new.self }
+
+stood : (c : In_ok-push) → Holds c.args.self.now.opened.items c.args.number (before c)
+stood c = (c.requires, sym c.index_mut.ensures.value)
+
+pushed : (c : In_ok-push) → (after c).waiting.items ≡ (before c).waiting.items ++ c.args.asker ∷ []
+pushed c = c.in_ok-push.ensures.items
+
+more : (c : In_ok-push) → IsMore (before c) (after c)
+more c = record {
+  node = refl;
+  level = refl;
+  sure = refl;
+  waiting = λ i w. subst (λ xs. Contains xs i) (sym (pushed c)) (Contains-append_left (before c).waiting.items (c.args.asker ∷ []) i w);
+}
+
+pub returns-clause-grew : goal.returns-clause-grew
+returns-clause-grew c = replaced_grew c.args.self.now _ c.args.number (before c) (after c) (stood c) (more c) refl refl
+
+pub returns-clause-waits : goal.returns-clause-waits
+returns-clause-waits c e at unsure =
+    let same : e ≡ before c = holds_same c.args.self.now.opened.items c.args.number e (before c) at (stood c) in
+    let here = holds_stored c.args.self.now.opened.items c.args.number (after c) c.requires in
+    let last = Contains-push (before c).waiting.items c.args.asker in (
+      c.args.number,
+      after c,
+      here,
+      sym (ap (λ (x : Opened). x.node) same),
+      sym (ap (λ (x : Opened). x.sure) same) ∙ unsure,
+      subst (λ xs. Contains xs c.args.asker) (sym (pushed c)) last,
+    )
+
+pub returns-clause-running : goal.returns-clause-running
+returns-clause-running c S u but there =
+    waiting_running c.args.self.now _ c.args.number (before c) (after c) (stood c) (more c) refl refl c.args.asker (pushed c) there S u but
