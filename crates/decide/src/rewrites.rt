@@ -1,9 +1,9 @@
 //! What a rewrite gives the node that asks.
 ghost use Rattle.std.specs.Prelude.{◌≡◌, Contains, IfOk, OnOk, map};
-ghost use Rattle.meaning.specs.Form.{This, Computed, TupleTo, Union, Intersection, Exclusion};
+ghost use Rattle.meaning.specs.Form.{This, Computed, TupleTo, Union, Intersection};
 ghost use Rattle.config_core.specs.Forms.{form_of, rewrite_forms};
 ghost use Rattle.decide.specs.inside.Asked.{IsSource, IsAsking, GoesOn};
-ghost use Rattle.decide.specs.inside.Given.{Gave, HasNode, HasSome, RelationGave, opposite, no_or_later};
+ghost use Rattle.decide.specs.inside.Given.{Gave, LessGave, HasNode, HasSome, RelationGave, opposite, no_or_later};
 
 use crate::asking::{Asking, Found};
 use crate::search::Search;
@@ -147,33 +147,37 @@ fn gives(
         }
         Rewrite::Union(parts) => some_gives(source, search, asking, parts),
         Rewrite::Intersection(parts) => each_gives(source, search, asking, parts),
-        Rewrite::Exclusion(base, less) => without(source, search, asking, base, less),
+        Rewrite::Exclusion(base, _) => match gives(source, search, asking, base)? {
+            Found::Yes => {
+                let less = less_gives(source, search, asking, rewrite)?;
+                Ok(opposite(less))
+            }
+            Found::No => Ok(Found::No),
+            Found::Later => Ok(Found::Later),
+        },
     }
 }
 
-/// The first part, and not the second, which is asked only where the first gives the user.
+/// Whether the subtracted part of an exclusion gives the user.
 #[cycle(gives)]
-fn without(
+fn less_gives(
     source: &Source,
     search: &mut Search,
     asking: &Asking,
-    base: &Rewrite,
-    less: &Rewrite,
+    rewrite: &Rewrite,
 ) -> Result<Found, AllocError>
     requires source { IsSource source.now }
     requires asking { IsAsking source.now.view.now source.now.user.now search.old asking.now }
     ensures goes_on { OnOk result (GoesOn source.now.view.now source.now.user.now search.old search.new asking.now) }
-    ensures found { IfOk result (Gave source.now.view.now source.now.user.now search.new asking.now
-        (Exclusion (form_of base.now) (form_of less.now))) }
+    ensures found { IfOk result (LessGave source.now.view.now source.now.user.now search.new asking.now (form_of rewrite.now)) }
 {
-    match gives(source, search, asking, base)? {
-        Found::Yes => {
+    match rewrite {
+        Rewrite::Exclusion(_, less) => {
             let subtracted = asking.subtracted();
-            let lacked = gives(source, search, &subtracted, less)?;
-            Ok(opposite(lacked))
+            let found = gives(source, search, &subtracted, less)?;
+            Ok(found)
         }
-        Found::No => Ok(Found::No),
-        Found::Later => Ok(Found::Later),
+        _ => Ok(Found::No),
     }
 }
 

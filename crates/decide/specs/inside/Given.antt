@@ -3,7 +3,7 @@ use Rattle.std.specs.Prelude.{List, Bool, true, false, Contains}
 use Rattle.names.specs.declared.object.Object.{Object}
 use Rattle.names.specs.declared.node.Node.{Node}
 use Rattle.meaning.specs.Snap.{Snap}
-use Rattle.meaning.specs.Form.{Form}
+use Rattle.meaning.specs.Form.{Form, Exclusion}
 use Rattle.meaning.specs.Membership.{Gives, RelationGives}
 use Rattle.decide.specs.declared.asking.Asking.{Asking}
 use Rattle.decide.specs.declared.asking.Found.{Found}
@@ -17,6 +17,11 @@ abbrev pub Gave : Snap → Object → Search → Asking → Form → Found → T
 Gave S u s a w found.Yes = Gives S u a.node.now w (Counts S u a) (Under S u a.level)
 Gave S u s a w found.No = Gives S u a.node.now w (IsLeft S u s a) (Under S u a.level) → ⊥
 Gave S u s a w found.Later = Unit {0}
+
+-- the same of the subtracted part of an exclusion
+abbrev pub LessGave : Snap → Object → Search → Asking → Form → Found → Type 0
+LessGave S u s a (Exclusion v w) f = Gave S u s (record a { plain = false }) w f
+LessGave S u s a w f = Unit {0}
 
 -- the same of the node's own relation
 abbrev pub RelationGave : Snap → Object → Search → Asking → Found → Type 0

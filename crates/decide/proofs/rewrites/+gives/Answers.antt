@@ -78,24 +78,3 @@ some_gives-returns-clause-found t c =
     subst (Gave c.args.source.now.view.now c.args.source.now.user.now c.loop-part.search c.args.asking.now (Union (rewrite_forms c.args.parts.now))) (sym c.no_or_later.ensures)
     (union_found c.args.source.now.view.now c.args.source.now.user.now c.args.asking.now c.loop-part.search c.args.parts.now c.loop-part.later c.loop-part.part-index (omega (arith, c.loop-part-test.false)) c.loop-part.invariant.2)
 
-pub without-gives-requires-in-Yes : goal.without-gives-requires-in-Yes
-without-gives-requires-in-Yes t c = (
-  search rules,
-  (
-    c.requires.source,
-    asking_subtracted c.args.source.now.view.now c.args.source.now.user.now c.args.asking.now c.gives.new.search c.subtracted-subtracted.result c.subtracted-subtracted.ensures c.in_ok-gives.ensures.goes_on.asking,
-  ),
-)
-
-pub without-returns-in_ok-lacked-in-Yes-clause-goes_on : goal.without-returns-in_ok-lacked-in-Yes-clause-goes_on
-without-returns-in_ok-lacked-in-Yes-clause-goes_on t c = record {
-  asking = asking_back c.args.source.now.view.now c.args.source.now.user.now c.args.asking.now c.gives-in-Yes.new.search c.subtracted-subtracted.result c.subtracted-subtracted.ensures c.in_ok-lacked-in-Yes.ensures.goes_on.asking;
-  grew = grew_trans c.args.search.now c.gives.new.search c.gives-in-Yes.new.search c.in_ok-gives.ensures.goes_on.grew c.in_ok-lacked-in-Yes.ensures.goes_on.grew;
-}
-
-pub without-returns-in_ok-lacked-in-Yes-clause-found : goal.without-returns-in_ok-lacked-in-Yes-clause-found
-without-returns-in_ok-lacked-in-Yes-clause-found t c =
-    subst (Gave c.args.source.now.view.now c.args.source.now.user.now c.gives-in-Yes.new.search c.args.asking.now (Exclusion (form_of c.args.base.now) (form_of c.args.less.now))) (sym c.opposite.ensures)
-    (exclusion_gave c.args.source.now.view.now c.args.source.now.user.now c.args.asking.now c.gives-in-Yes.new.search (form_of c.args.base.now) (form_of c.args.less.now) c.in_ok-lacked-in-Yes.lacked c.subtracted-subtracted.result c.subtracted-subtracted.ensures
-    (subst (Gave c.args.source.now.view.now c.args.source.now.user.now c.gives.new.search c.args.asking.now (form_of c.args.base.now)) c.in-Yes.is c.in_ok-gives.ensures.found)
-    c.in_ok-lacked-in-Yes.ensures.found)
