@@ -5,3 +5,4 @@ pub mod Pushing
 pub mod Opening
 pub mod Replacing
 pub mod Giving
+pub mod Popping
