@@ -1,4 +1,4 @@
-use Rattle.std.proofs.Common.{rules, ◌≡◌, ◌<◌, ◌-◌, ◌++◌, ℕ, List, length, get_or, set, refl, ap, ◌∙◌, sym, subst, ⊎_elim, arith, inl, inr}
+use Rattle.std.proofs.Common.{rules, ◌≡◌, ◌<◌, ◌≤◌, ◌-◌, ◌++◌, ℕ, List, length, get_or, set, refl, ap, ◌∙◌, sym, subst, ⊎_elim, arith, inl, inr}
 use Rattle.std.specs.Prelude.{Vec, Some, Contains}
 use Rattle.std.specs.Option.{option_to_list}
 use Rattle.std.specs.Global.{Global}
@@ -8,12 +8,12 @@ use Rattle.decide.proofs.Elements.{Holds, holds_same}
 use Rattle.decide.proofs.Pushing.{IsOn}
 use Rattle.decide.proofs.Popping.{popped_before, popped_here, popped_rest, if_some}
 use Rattle.decide.proofs.search.Search.pop_below.Goals as goal
-use Rattle.decide.proofs.search.Search.pop_below.Goals.{Then-not-is_empty}
 
-stood : (c : Then-not-is_empty) → Holds c.args.self.now.stacks.items (c.loop-left.left - 1) c.index_mut.result.now
-stood c =
-    let lt : c.loop-left.left - 1 < length c.args.self.now.stacks.items = omega (arith, c.loop-left.invariant.there, c.loop-left-test.true) in
-    (lt, sym (c.index_mut.ensures.value ∙ ap (λ xs. get_or xs (c.loop-left.left - 1) c.index_mut.result.now) c.loop-left.invariant.stacks))
+stood : (xs ys : List (Vec ℕ Global)) (left : ℕ) (v : Vec ℕ Global) → left ≤ length ys → 0 < left
+  → v ≡ get_or xs (left - 1) v → xs ≡ ys → Holds ys (left - 1) v
+stood xs ys left v there some read same =
+    let lt : left - 1 < length ys = omega (arith, there, some) in
+    (lt, sym (read ∙ ap (λ zs. get_or zs (left - 1) v) same))
 
 pub returns-then-not-is_empty-clause-long : goal.returns-then-not-is_empty-clause-long
 returns-then-not-is_empty-clause-long c =
@@ -21,17 +21,17 @@ returns-then-not-is_empty-clause-long c =
 
 pub returns-then-not-is_empty-clause-stacked : goal.returns-then-not-is_empty-clause-stacked
 returns-then-not-is_empty-clause-stacked c l i on =
-    popped_before c.args.self.now.stacks.items (c.loop-left.left - 1) c.index_mut.result.now c.pop.new.self (option_to_list c.pop.result) (stood c) c.pop.ensures.items l i
+    popped_before c.args.self.now.stacks.items (c.loop-left.left - 1) c.index_mut.result.now c.pop.new.self (option_to_list c.pop.result) (stood c.loop-left.self.stacks.items c.args.self.now.stacks.items c.loop-left.left c.index_mut.result.now c.loop-left.invariant.there c.loop-left-test.true c.index_mut.ensures.value c.loop-left.invariant.stacks) c.pop.ensures.items l i
     (subst (λ xs. IsOn (set xs (c.loop-left.left - 1) c.pop.new.self) l i) c.loop-left.invariant.stacks on)
 
 pub returns-then-not-is_empty-clause-some : goal.returns-then-not-is_empty-clause-some
 returns-then-not-is_empty-clause-some c = if_some c.pop.result _ (λ n is.
     let old = c.args.self.now.stacks.items in
     let one = ap option_to_list is in (
-      (c.loop-left.left - 1, popped_here old (c.loop-left.left - 1) c.index_mut.result.now c.pop.new.self (option_to_list c.pop.result) (stood c) c.pop.ensures.items n one),
+      (c.loop-left.left - 1, popped_here old (c.loop-left.left - 1) c.index_mut.result.now c.pop.new.self (option_to_list c.pop.result) (stood c.loop-left.self.stacks.items c.args.self.now.stacks.items c.loop-left.left c.index_mut.result.now c.loop-left.invariant.there c.loop-left-test.true c.index_mut.ensures.value c.loop-left.invariant.stacks) c.pop.ensures.items n one),
       λ l i on. ⊎_elim inl
           (λ left. inr (subst (λ xs. IsOn (set xs (c.loop-left.left - 1) c.pop.new.self) l i) (sym c.loop-left.invariant.stacks) left))
-          (popped_rest old (c.loop-left.left - 1) c.index_mut.result.now c.pop.new.self (option_to_list c.pop.result) (stood c) c.pop.ensures.items n one l i on),
+          (popped_rest old (c.loop-left.left - 1) c.index_mut.result.now c.pop.new.self (option_to_list c.pop.result) (stood c.loop-left.self.stacks.items c.args.self.now.stacks.items c.loop-left.left c.index_mut.result.now c.loop-left.invariant.there c.loop-left-test.true c.index_mut.ensures.value c.loop-left.invariant.stacks) c.pop.ensures.items n one l i on),
     ))
 
 nothing_in : (xs : List ℕ) (i : ℕ) → length xs ≡ 0 → Contains xs i → ⊥
