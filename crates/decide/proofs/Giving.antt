@@ -141,3 +141,19 @@ module _ (s t : Search) (i : ℕ) (e f : Opened) (gave : Gave s t i e f) where
       where
         some_same : {j : ℕ} → Some i ≡ Some j → i ≡ j
         some_same equal = cc
+
+-- a store of a node at the same level moves no other
+module _ (xs : List Opened) (i : ℕ) (e b : Opened) (at : Holds xs i e) (level : b.level ≡ e.level) where
+  pub stored_before : (w : ℕ) (h : Opened) → Holds (set xs i b) w h → (g : Opened) × Holds xs w g × (h.level ≡ g.level)
+  stored_before w h standing = ⊎_elim
+      (λ (same, here). (e, subst (λ q. Holds xs q e) (sym same) at, ap (λ (x : Opened). x.level) here ∙ level))
+      (λ (_, old). (h, old, refl))
+      (holds_set_back xs i b w h standing)
+
+  pub stored_after : (w : ℕ) (g : Opened) → Holds xs w g → (h : Opened) × Holds (set xs i b) w h × (h.level ≡ g.level)
+  stored_after w g standing = ⊎_elim
+      (λ same.
+      let here : e ≡ g = holds_same xs w e g (subst (λ q. Holds xs q e) (sym same) at) standing in
+      (b, subst (λ q. Holds (set xs i b) q b) (sym same) (holds_stored xs i b at.0), level ∙ ap (λ (x : Opened). x.level) here))
+      (λ other. (g, holds_set xs i b w g other standing, refl))
+      (cases_eq w i)

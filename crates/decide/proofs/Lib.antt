@@ -10,3 +10,4 @@ pub mod Parts
 pub mod Found
 pub mod Relations
 pub mod Turns
+pub mod Popping

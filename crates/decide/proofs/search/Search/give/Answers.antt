@@ -1,22 +1,84 @@
-use Rattle.std.proofs.Common.{rules, ◌≡◌, ◌≤◌, ◌<◌, ◌+◌, ◌^◌, ◌⊎◌, [], ◌∷◌, ◌++◌, ℕ, true, false, Contains, Option, Some, None, IfOk, IfSome, IfNone, IsTrue, OnOk, length, slice_index_or, suc, ◌-◌, ◌*◌, ◌/◌, ◌%◌, Bool, nat_eq, nat_lt, List, slice_set, bit_and, bit_or, Fits, w8, w32, w64, Bor, MutBor}
-use Rattle.meaning.specs.Config.{IsAt}
-use Rattle.meaning.specs.Snap.{Snap}
-use Rattle.names.specs.declared.object.Object.{Object}
-use Rattle.names.specs.declared.node.Node.{Node as NodeValue}
+use Rattle.std.proofs.Common.{◌≡◌, ◌<◌, ◌++◌, true, ℕ, List, length, set, refl, ap, ◌∙◌, sym, subst, ⊎_elim, arith, inl, inr}
+use Rattle.std.specs.Prelude.{Vec, Contains}
+use Rattle.std.specs.Global.{Global}
+use Rattle.std.proofs.lemmas.List.{length-set, set-set}
 use Rattle.decide.specs.declared.search.Opened.{Opened}
-use Rattle.decide.specs.inside.Under.{Under}
-use Rattle.decide.specs.inside.Searches.{Stands, IsStacked, Waits, Grew, IsNumberOf, Opens, Pushes, IsThere, Wakes}
-use Rattle.decide.specs.inside.Running.{IsRunning}
+use Rattle.decide.specs.declared.search.Search.{Search}
+use Rattle.decide.specs.inside.Searches.{IsStacked}
+use Rattle.decide.proofs.Elements.{Holds, holds_same, holds_stored}
+use Rattle.decide.proofs.Giving.{Gave, gave_numbers, gave_running, stored_before, stored_after}
 use Rattle.decide.proofs.search.Search.give.Goals as goal
+use Rattle.decide.proofs.search.Search.give.Goals.{After-deref, After-drop-waiting-2}
 
--- src/search.rt:198:9
 pub wake_all-requires : goal.wake_all-requires
-wake_all-requires c = ?
+wake_all-requires c w asked =
+    let xs = c.args.self.now.opened.items in
+    let number = c.args.number in
+    let e = c.index_mut.result.now in
+    let b : Opened = record { node = e.node; level = e.level; sure = e.sure; waiting = c.replace-waiting.new.dest } in
+    let stood : Holds xs number e = (c.requires.number, sym c.index_mut.ensures.value) in
+    let waits : Contains e.waiting.items w = subst (λ ys. Contains ys w) (c.deref.ensures.value ∙ ap (λ (x : Vec ℕ Global). x.items) c.replace-waiting.ensures.value) asked in
+    let there = c.requires.there w number e stood waits in
+    let lt = there.0 in (
+      omega (arith, lt, length-set xs number b),
+      λ h standing.
+          let (g, old, level) = stored_before xs number e b stood refl w h standing in
+          let less = there.1 g old in
+          omega (arith, less, level),
+    )
 
--- src/search.rt:188:5
+abbrev before : After-drop-waiting-2 → Opened
+before c = c.index_mut.result.now
+
+abbrev emptied : After-drop-waiting-2 → Opened
+emptied c = record { node = (before c).node; level = (before c).level; sure = (before c).sure; waiting = c.replace-waiting.new.dest }
+
+abbrev after : After-drop-waiting-2 → Opened
+after c = record { node = c.index_mut-2.result.now.node; level = c.index_mut-2.result.now.level; sure = true; waiting = c.index_mut-2.result.now.waiting }
+
+abbrev given : After-drop-waiting-2 → Search
+given c = record {
+  alloc = c.wake_all.new.self.alloc;
+  opened = Rattle.std.specs.Vec.with_item c.wake_all.new.self.opened c.args.number (after c);
+  numbers = c.wake_all.new.self.numbers;
+  stacks = c.wake_all.new.self.stacks;
+  frames = c.wake_all.new.self.frames;
+}
+
+stood : (c : After-drop-waiting-2) → Holds c.args.self.now.opened.items c.args.number (before c)
+stood c = (c.requires.number, sym c.index_mut.ensures.value)
+
+same : (c : After-drop-waiting-2) → c.index_mut-2.result.now ≡ emptied c
+same c =
+    let xs = c.args.self.now.opened.items in
+    let stored = holds_stored xs c.args.number (emptied c) c.requires.number in
+    let now : Holds c.wake_all.new.self.opened.items c.args.number (emptied c) = subst (λ ys. Holds ys c.args.number (emptied c)) (sym c.in_ok-wake_all.ensures.opened) stored in
+    holds_same c.wake_all.new.self.opened.items c.args.number c.index_mut-2.result.now (emptied c) (now.0, sym c.index_mut-2.ensures.value) now
+
+waited : (c : After-drop-waiting-2) → c.deref.result.now ≡ (before c).waiting.items
+waited c = c.deref.ensures.value ∙ ap (λ (x : Vec ℕ Global). x.items) c.replace-waiting.ensures.value
+
+gave : (c : After-drop-waiting-2) → Gave c.args.self.now (given c) c.args.number (before c) (after c)
+gave c =
+    let xs = c.args.self.now.opened.items in
+    let wakes = c.in_ok-wake_all.ensures.wakes in
+    record {
+      at = stood c;
+      opened = ap (λ ys. set ys c.args.number (after c)) c.in_ok-wake_all.ensures.opened ∙ set-set xs c.args.number (emptied c) (after c);
+      node = ap (λ (x : Opened). x.node) (same c);
+      level = ap (λ (x : Opened). x.level) (same c);
+      sure = refl;
+      alone = ap (λ (x : Opened). x.waiting.items) (same c) ∙ ap (λ (x : Vec ℕ Global). x.items) c.replace-waiting.ensures.after ∙ c.new.ensures.items;
+      long = wakes.long;
+      stays = wakes.stays;
+      woken = λ w g waits standing.
+          let (h, now, level) = stored_after xs c.args.number (before c) (emptied c) (stood c) refl w g standing in
+          subst (λ k. IsStacked (given c) k w) level (wakes.woken w h (subst (λ ys. Contains ys w) (sym (waited c)) waits) now);
+      only = λ l j on. ⊎_elim inl (λ woken. inr (subst (λ ys. Contains ys j) (waited c) woken)) (wakes.only l j on);
+    }
+
 pub returns-clause-numbers : goal.returns-clause-numbers
-returns-clause-numbers c = ?
+returns-clause-numbers c i k n = gave_numbers c.args.self.now (given c) c.args.number (before c) (after c) (gave c) i k n
 
--- src/search.rt:188:5
 pub returns-clause-running : goal.returns-clause-running
-returns-clause-running c = ?
+returns-clause-running c S u has = gave_running c.args.self.now (given c) c.args.number (before c) (after c) (gave c) S u (has (before c) (stood c))
