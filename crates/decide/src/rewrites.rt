@@ -3,7 +3,7 @@ ghost use Rattle.std.specs.Prelude.{◌≡◌, Contains, IfOk, OnOk, map};
 ghost use Rattle.meaning.specs.Form.{This, Computed, TupleTo, Union, Intersection};
 ghost use Rattle.config_core.specs.Forms.{form_of, rewrite_forms};
 ghost use Rattle.decide.specs.inside.Asked.{IsSource, IsAsking, GoesOn};
-ghost use Rattle.decide.specs.inside.Given.{Gave, LessGave, HasNode, HasSome, RelationGave, opposite, no_or_later};
+ghost use Rattle.decide.specs.inside.Given.{Gave, BaseGives, HasNode, HasSome, RelationGave, opposite, no_or_later};
 
 use crate::asking::{Asking, Found};
 use crate::search::Search;
@@ -149,8 +149,8 @@ fn gives(
         Rewrite::Intersection(parts) => each_gives(source, search, asking, parts),
         Rewrite::Exclusion(base, _) => match gives(source, search, asking, base)? {
             Found::Yes => {
-                let less = less_gives(source, search, asking, rewrite)?;
-                Ok(opposite(less))
+                let found = without(source, search, asking, rewrite)?;
+                Ok(found)
             }
             Found::No => Ok(Found::No),
             Found::Later => Ok(Found::Later),
@@ -158,9 +158,9 @@ fn gives(
     }
 }
 
-/// Whether the subtracted part of an exclusion gives the user.
+/// Whether an exclusion gives the user, where its first part does: its second part is asked now.
 #[cycle(gives)]
-fn less_gives(
+fn without(
     source: &Source,
     search: &mut Search,
     asking: &Asking,
@@ -168,16 +168,17 @@ fn less_gives(
 ) -> Result<Found, AllocError>
     requires source { IsSource source.now }
     requires asking { IsAsking source.now.view.now source.now.user.now search.old asking.now }
+    requires base { BaseGives source.now.view.now source.now.user.now asking.now (form_of rewrite.now) }
     ensures goes_on { OnOk result (GoesOn source.now.view.now source.now.user.now search.old search.new asking.now) }
-    ensures found { IfOk result (LessGave source.now.view.now source.now.user.now search.new asking.now (form_of rewrite.now)) }
+    ensures found { IfOk result (Gave source.now.view.now source.now.user.now search.new asking.now (form_of rewrite.now)) }
 {
     match rewrite {
         Rewrite::Exclusion(_, less) => {
             let subtracted = asking.subtracted();
             let found = gives(source, search, &subtracted, less)?;
-            Ok(found)
+            Ok(opposite(found))
         }
-        _ => Ok(Found::No),
+        _ => Ok(Found::Later),
     }
 }
 

@@ -18,10 +18,10 @@ Gave S u s a w found.Yes = Gives S u a.node.now w (Counts S u a) (Under S u a.le
 Gave S u s a w found.No = Gives S u a.node.now w (IsLeft S u s a) (Under S u a.level) → ⊥
 Gave S u s a w found.Later = Unit {0}
 
--- the same of the subtracted part of an exclusion
-abbrev pub LessGave : Snap → Object → Search → Asking → Form → Found → Type 0
-LessGave S u s a (Exclusion v w) f = Gave S u s (record a { plain = false }) w f
-LessGave S u s a w f = Unit {0}
+-- the first part of an exclusion gives the user
+abbrev pub BaseGives : Snap → Object → Asking → Form → Type 0
+BaseGives S u a (Exclusion v w) = Gives S u a.node.now v (Counts S u a) (Under S u a.level)
+BaseGives S u a _ = Unit {0}
 
 -- the same of the node's own relation
 abbrev pub RelationGave : Snap → Object → Search → Asking → Found → Type 0

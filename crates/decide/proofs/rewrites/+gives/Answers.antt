@@ -1,5 +1,6 @@
 use Rattle.std.proofs.Common.{◌≡◌, ◌∙◌, sym, subst, ap, false, true, arith, rules, inl, drop}
 use Rattle.std.specs.Prelude.{IfOk}
+use Rattle.std.proofs.lemmas.Grind.{common_steps}
 use Rattle.config_core.specs.Forms.{form_of, rewrite_forms}
 use Rattle.meaning.specs.Form.{Union, Intersection, Exclusion}
 use Rattle.decide.specs.inside.Under.{Under}
@@ -78,3 +79,24 @@ some_gives-returns-clause-found t c =
     subst (Gave c.args.source.now.view.now c.args.source.now.user.now c.loop-part.search c.args.asking.now (Union (rewrite_forms c.args.parts.now))) (sym c.no_or_later.ensures)
     (union_found c.args.source.now.view.now c.args.source.now.user.now c.args.asking.now c.loop-part.search c.args.parts.now c.loop-part.later c.loop-part.part-index (omega (arith, c.loop-part-test.false)) c.loop-part.invariant.2)
 
+
+pub gives-returns-in_ok-found-in-Yes-clause-goes_on : goal.gives-returns-in_ok-found-in-Yes-clause-goes_on
+gives-returns-in_ok-found-in-Yes-clause-goes_on t c = goes_more c.args.source.now.view.now c.args.source.now.user.now c.args.asking.now c.args.search.now c.gives.new.search c.without.new.search c.in_ok-gives-in-Exclusion.ensures.goes_on.grew c.in_ok-found-in-Yes.ensures.goes_on
+
+pub without-gives-requires : goal.without-gives-requires
+without-gives-requires t c = (
+  grind (arith, common_steps),
+  (
+    c.requires.source,
+    asking_subtracted c.args.source.now.view.now c.args.source.now.user.now c.args.asking.now c.args.search.now c.subtracted-subtracted.result c.subtracted-subtracted.ensures c.requires.asking,
+  ),
+)
+
+pub without-returns-in_ok-found-in-Exclusion-clause-goes_on : goal.without-returns-in_ok-found-in-Exclusion-clause-goes_on
+without-returns-in_ok-found-in-Exclusion-clause-goes_on t c = record {
+  asking = asking_back c.args.source.now.view.now c.args.source.now.user.now c.args.asking.now c.gives.new.search c.subtracted-subtracted.result c.subtracted-subtracted.ensures c.in_ok-found-in-Exclusion.ensures.goes_on.asking;
+  grew = c.in_ok-found-in-Exclusion.ensures.goes_on.grew;
+}
+
+pub without-returns-in_ok-found-in-Exclusion-clause-found : goal.without-returns-in_ok-found-in-Exclusion-clause-found
+without-returns-in_ok-found-in-Exclusion-clause-found t c = ?
