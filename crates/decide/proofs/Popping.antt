@@ -1,6 +1,6 @@
 -- Stacks after a pop from one of them, and a search from which a number was taken.
 use Rattle.std.proofs.Common.{◌≡◌, ℕ, ◌<◌, List, [], ◌∷◌, ◌++◌, length, set, refl, ap, ◌∙◌, sym, subst, inl, inr, ⊎_elim, arith}
-use Rattle.std.specs.Prelude.{◌⊎◌, Contains, Vec, Option, Some, None, IfSome}
+use Rattle.std.specs.Prelude.{◌⊎◌, Contains, Vec, Option, Some, None, IfSome, IfNone}
 use Rattle.std.specs.Global.{Global}
 use Rattle.std.proofs.lemmas.Bool.{cases_eq}
 use Rattle.std.proofs.lemmas.List.Elements.{Contains-append_left, Contains-push, Contains-push_cases}
@@ -9,7 +9,7 @@ use Rattle.names.specs.declared.node.Node.{Node}
 use Rattle.meaning.specs.Snap.{Snap}
 use Rattle.decide.specs.declared.search.Search.{Search}
 use Rattle.decide.specs.declared.search.Opened.{Opened}
-use Rattle.decide.specs.inside.Searches.{Stands, IsStacked, Waits, Grew}
+use Rattle.decide.specs.inside.Searches.{Stands, IsStacked, Waits, IsNumberOf}
 use Rattle.decide.specs.inside.Running.{IsRunning}
 use Rattle.decide.proofs.Elements.{Holds, holds_same, holds_set, holds_stored, holds_set_back}
 use Rattle.decide.proofs.Pushing.{IsOn}
@@ -88,3 +88,27 @@ same_running S u s t opened stacks =
     None None
     (λ l j _ on. subst (λ xs. IsOn xs l j) (sym stacks) on)
     (λ j other. other)
+
+pub some_mapped : (r : Option ℕ) (P Q : ℕ → Type 0) → ((n : ℕ) → P n → Q n) → IfSome r P → IfSome r Q
+some_mapped (Some n) P Q f h = f n h
+some_mapped None P Q f h = tt
+
+pub none_mapped : (r : Option ℕ) (P Q : Type 0) → (P → Q) → IfNone r P → IfNone r Q
+none_mapped (Some n) P Q f h = tt
+none_mapped None P Q f h = f h
+
+-- one number was taken from a search that stood as another does
+module _ (r s t : Search) (opened_before : s.opened.items ≡ r.opened.items) (stacks_before : s.stacks.items ≡ r.stacks.items)
+         (opened : t.opened.items ≡ s.opened.items) where
+  pub taken_running : (S : Snap) (u : Object) (n : ℕ) → length t.stacks.items ≡ length s.stacks.items
+    → ((l j : ℕ) → IsStacked t l j → IsStacked s l j)
+    → ((l : ℕ) × IsStacked s l n) × ((l j : ℕ) → IsStacked s l j → (j ≡ n) ⊎ IsStacked t l j)
+    → IsRunning S u r None → (n < length t.opened.items) × IsRunning S u t (Some n)
+  taken_running S u n long fewer took running =
+      let now = same_running S u r s opened_before stacks_before running in
+      let lt = now.stacked_there took.0.0 n took.0.1 in
+      let same = ap length opened in
+      (omega (arith, lt, same), popped_running S u s t opened long fewer n took.1 now)
+
+  pub taken_numbers : (i k : ℕ) (n : Node) → IsNumberOf r i n k → IsNumberOf t i n k
+  taken_numbers i k n (e, at, node, level) = (e, subst (λ xs. Holds xs i e) (sym (opened ∙ opened_before)) at, node, level)

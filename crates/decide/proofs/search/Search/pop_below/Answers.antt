@@ -40,6 +40,7 @@ nothing_in xs i none (k, lt, e) = absurd (omega (arith, none, lt))
 pub loop-left-preserved : goal.loop-left-preserved
 loop-left-preserved c = record {
   opened = c.loop-left.invariant.opened;
+  frames = c.loop-left.invariant.frames;
   stacks = c.loop-left.invariant.stacks;
   there = omega (arith, c.loop-left.invariant.there);
   empty = λ k i above below on. ⊎_elim
