@@ -1,6 +1,6 @@
 -- A node has the user, and all that waited for it are to be looked at.
-use Rattle.std.proofs.Common.{◌≡◌, ℕ, suc, ◌<◌, List, [], ◌∷◌, ◌++◌, Bool, true, false, length, set, refl, ap, ◌∙◌, sym, subst, inl, inr, ⊎_elim, arith}
-use Rattle.std.specs.Prelude.{◌⊎◌, Contains, Option, Some, None}
+use Rattle.std.proofs.Common.{◌≡◌, ℕ, suc, ◌<◌, List, [], ◌∷◌, ◌++◌, true, length, set, refl, ap, ◌∙◌, sym, subst, inl, inr, ⊎_elim, arith}
+use Rattle.std.specs.Prelude.{◌⊎◌, Contains, Some, None}
 use Rattle.std.proofs.lemmas.Bool.{cases_eq, false≢true}
 use Rattle.std.proofs.lemmas.List.{length-set}
 use Rattle.std.proofs.lemmas.List.Elements.{Contains-append_left, Contains-push, Contains-push_cases}
@@ -15,7 +15,7 @@ use Rattle.decide.specs.inside.Under.{Under}
 use Rattle.decide.specs.inside.Searches.{Stands, IsStacked, Waits, IsNumberOf, Pushes, Wakes}
 use Rattle.decide.specs.inside.Running.{IsRunning}
 use Rattle.decide.proofs.Elements.{Holds, holds_same, holds_set, holds_stored, holds_set_back, contains_or_not}
-use Rattle.decide.proofs.Pushing.{IsOn, pushed_long, pushed_stays, pushed_here, pushed_back}
+use Rattle.decide.proofs.Pushing.{pushed_long, pushed_stays, pushed_here, pushed_back}
 use Rattle.decide.proofs.SearchLemmas.{waits_stuck}
 
 pub wakes_none : (s : Search) → Wakes s s []

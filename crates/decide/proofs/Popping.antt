@@ -13,7 +13,7 @@ use Rattle.decide.specs.inside.Searches.{Stands, IsStacked, Waits, IsNumberOf}
 use Rattle.decide.specs.inside.Running.{IsRunning}
 use Rattle.decide.proofs.Elements.{Holds, holds_same, holds_set, holds_stored, holds_set_back}
 use Rattle.decide.proofs.Pushing.{IsOn}
-use Rattle.decide.proofs.SearchLemmas.{more_refl, waits_stuck}
+use Rattle.decide.proofs.SearchLemmas.{waits_stuck}
 
 -- a list was taken off the end of one stack
 module _ (xs : List (Vec ℕ Global)) (k : ℕ) (v w : Vec ℕ Global) (is : List ℕ) (at : Holds xs k v) (items : v.items ≡ w.items ++ is) where

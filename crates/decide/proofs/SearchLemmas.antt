@@ -1,7 +1,5 @@
 -- A search that grew: what held of it holds still.
-use Rattle.std.proofs.Common.{◌≡◌, ℕ, suc, ◌<◌, List, [], ◌∷◌, ◌++◌, Bool, true, false, length, get_or, set, refl, ap, ◌∙◌, sym, subst, inl, inr, ⊎_elim, arith, length-append}
-use Rattle.std.specs.Prelude.{◌⊎◌, Contains, Vec, Option, Some, None}
-use Rattle.std.specs.Global.{Global}
+use Rattle.std.proofs.Common.{◌≡◌, ℕ, refl, ◌∙◌, subst}
 use Rattle.names.specs.declared.object.Object.{Object}
 use Rattle.names.specs.declared.node.Node.{Node}
 use Rattle.meaning.specs.Snap.{Snap}
@@ -10,7 +8,7 @@ use Rattle.meaning.proofs.GivesLemmas.{relation_grows}
 use Rattle.decide.specs.declared.search.Search.{Search}
 use Rattle.decide.specs.declared.search.Opened.{Opened}
 use Rattle.decide.specs.inside.Under.{Under}
-use Rattle.decide.specs.inside.Searches.{Stands, IsStacked, Waits, IsMore, Grew, IsNumberOf}
+use Rattle.decide.specs.inside.Searches.{Stands, Waits, IsMore, Grew, IsNumberOf}
 use Rattle.decide.specs.inside.Running.{IsHope, IsStuck}
 
 pub more_refl : (e : Opened) → IsMore e e

@@ -1,5 +1,5 @@
-use Rattle.std.proofs.Common.{rules, ◌≡◌, ◌<◌, ◌≤◌, ◌+◌, ℕ, List, length, get_or, take, ap, ◌∙◌, sym, subst, ⊎_elim, arith, length-take}
-use Rattle.std.specs.Prelude.{Contains, Vec, min}
+use Rattle.std.proofs.Common.{rules, ◌≡◌, ◌<◌, ◌+◌, ℕ, List, length, get_or, ap, ◌∙◌, sym, subst, ⊎_elim, arith, length-take}
+use Rattle.std.specs.Prelude.{Contains, Vec}
 use Rattle.std.specs.Global.{Global}
 use Rattle.std.proofs.lemmas.Bool.{cases_lt}
 use Rattle.std.proofs.lemmas.List.{get_or-take}

@@ -1,4 +1,4 @@
-use Rattle.std.proofs.Common.{◌≡◌, ◌<◌, ◌∙◌, ℕ, length, arith}
+use Rattle.std.proofs.Common.{◌<◌, ◌∙◌, arith}
 use Rattle.decide.proofs.Popping.{taken_running, taken_numbers, same_running, some_mapped, none_mapped}
 use Rattle.decide.proofs.search.Search.next.Goals as goal
 

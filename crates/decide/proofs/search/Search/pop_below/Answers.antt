@@ -1,5 +1,5 @@
-use Rattle.std.proofs.Common.{rules, ◌≡◌, ◌<◌, ◌≤◌, ◌-◌, ◌++◌, ℕ, List, length, get_or, set, refl, ap, ◌∙◌, sym, subst, ⊎_elim, arith, inl, inr}
-use Rattle.std.specs.Prelude.{Vec, Some, Contains}
+use Rattle.std.proofs.Common.{rules, ◌≡◌, ◌<◌, ◌≤◌, ◌-◌, ℕ, List, length, get_or, set, ap, ◌∙◌, sym, subst, ⊎_elim, arith, inl, inr}
+use Rattle.std.specs.Prelude.{Vec, Contains}
 use Rattle.std.specs.Option.{option_to_list}
 use Rattle.std.specs.Global.{Global}
 use Rattle.std.proofs.lemmas.Bool.{cases_lt}
