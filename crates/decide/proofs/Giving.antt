@@ -27,7 +27,7 @@ wakes_none s = record {
 }
 
 pub wakes_one : (r s t : Search) (xs : List ℕ) (w : ℕ) (e : Opened) → Wakes r s xs → Stands r w e
-  → e.level < length s.stacks.items → Pushes s.stacks.items t.stacks.items e.level w → Wakes r t (xs ++ w ∷ [])
+    → e.level < length s.stacks.items → Pushes s.stacks.items t.stacks.items e.level w → Wakes r t (xs ++ w ∷ [])
 wakes_one r s t xs w e wakes at there pushes = record {
   long = pushed_long s.stacks.items t.stacks.items e.level w pushes ∙ wakes.long;
   stays = λ l i on. pushed_stays s.stacks.items t.stacks.items e.level w pushes l i (wakes.stays l i on);
