@@ -1,5 +1,5 @@
 -- What stands at an index of a list, after a push and after a store.
-use Rattle.std.proofs.Common.{◌≡◌, ℕ, ◌<◌, List, [], ◌∷◌, ◌++◌, length, get_or, set, refl, ap, ◌∙◌, sym, subst, inl, inr, ⊎_elim, arith, length-append}
+use Rattle.std.proofs.Common.{◌≡◌, ℕ, ◌<◌, List, [], ◌∷◌, ◌++◌, length, get_or, set, ap, ◌∙◌, sym, subst, inl, inr, ⊎_elim, arith, length-append}
 use Rattle.std.specs.Prelude.{◌⊎◌, Contains}
 use Rattle.std.proofs.lemmas.Bool.{cases_eq, cases_lt}
 use Rattle.std.proofs.lemmas.List.{length-set, get_or-set_same, get_or-set_other, get_or_append_left, get_or_default}
@@ -22,7 +22,7 @@ pub holds_last : {A : Type 0} (xs : List A) (y : A) → Holds (xs ++ y ∷ []) (
 holds_last xs y = (omega (arith, length-append xs (y ∷ [])), get_or-append_seam xs y [] y)
 
 pub holds_back : {A : Type 0} (xs : List A) (y : A) (i : ℕ) (x : A) → Holds (xs ++ y ∷ []) i x
-  → Holds xs i x ⊎ ((i ≡ length xs) × (x ≡ y))
+    → Holds xs i x ⊎ ((i ≡ length xs) × (x ≡ y))
 holds_back xs y i x h =
     let lt = h.0 in
     ⊎_elim
@@ -33,7 +33,7 @@ holds_back xs y i x h =
     (cases_lt i (length xs))
 
 pub holds_set : {A : Type 0} (xs : List A) (i : ℕ) (y : A) (j : ℕ) (x : A) → (j ≡ i → ⊥) → Holds xs j x
-  → Holds (set xs i y) j x
+    → Holds (set xs i y) j x
 holds_set xs i y j x other h =
     let lt = h.0 in
     (omega (arith, lt, length-set xs i y), get_or-set_other xs i j y x other ∙ h.1)
@@ -42,7 +42,7 @@ pub holds_stored : {A : Type 0} (xs : List A) (i : ℕ) (y : A) → i < length x
 holds_stored xs i y lt = (omega (arith, lt, length-set xs i y), get_or-set_same xs i y y lt)
 
 pub holds_set_back : {A : Type 0} (xs : List A) (i : ℕ) (y : A) (j : ℕ) (x : A) → Holds (set xs i y) j x
-  → ((j ≡ i) × (x ≡ y)) ⊎ ((j ≡ i → ⊥) × Holds xs j x)
+    → ((j ≡ i) × (x ≡ y)) ⊎ ((j ≡ i → ⊥) × Holds xs j x)
 holds_set_back xs i y j x h =
     let lt = h.0 in
     let within : j < length xs = omega (arith, lt, length-set xs i y) in
@@ -74,3 +74,6 @@ contains_or_not (x ∷ xs) n =
 pub holds_some : {A : Type 0} (xs : List A) (i : ℕ) → i < length xs → (x : A) × Holds xs i x
 holds_some [] i lt = absurd (omega (arith, lt))
 holds_some (x ∷ xs) i lt = (get_or (x ∷ xs) i x, holds_read (x ∷ xs) i x lt)
+
+pub nothing_in : (xs : List ℕ) (i : ℕ) → length xs ≡ 0 → Contains xs i → ⊥
+nothing_in xs i none (k, lt, e) = absurd (omega (arith, none, lt))

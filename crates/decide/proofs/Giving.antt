@@ -1,6 +1,6 @@
 -- A node has the user, and all that waited for it are to be looked at.
-use Rattle.std.proofs.Common.{◌≡◌, ℕ, suc, ◌<◌, List, [], ◌∷◌, ◌++◌, Bool, true, false, length, set, refl, ap, ◌∙◌, sym, subst, inl, inr, ⊎_elim, arith}
-use Rattle.std.specs.Prelude.{◌⊎◌, Contains, Option, Some, None}
+use Rattle.std.proofs.Common.{◌≡◌, ℕ, suc, ◌<◌, List, [], ◌∷◌, ◌++◌, true, length, set, refl, ap, ◌∙◌, sym, subst, inl, inr, ⊎_elim, arith}
+use Rattle.std.specs.Prelude.{◌⊎◌, Contains, Some, None}
 use Rattle.std.proofs.lemmas.Bool.{cases_eq, false≢true}
 use Rattle.std.proofs.lemmas.List.{length-set}
 use Rattle.std.proofs.lemmas.List.Elements.{Contains-append_left, Contains-push, Contains-push_cases}
@@ -15,7 +15,7 @@ use Rattle.decide.specs.inside.Under.{Under}
 use Rattle.decide.specs.inside.Searches.{Stands, IsStacked, Waits, IsNumberOf, Pushes, Wakes}
 use Rattle.decide.specs.inside.Running.{IsRunning}
 use Rattle.decide.proofs.Elements.{Holds, holds_same, holds_set, holds_stored, holds_set_back, contains_or_not}
-use Rattle.decide.proofs.Pushing.{IsOn, pushed_long, pushed_stays, pushed_here, pushed_back}
+use Rattle.decide.proofs.Pushing.{pushed_long, pushed_stays, pushed_here, pushed_back}
 use Rattle.decide.proofs.SearchLemmas.{waits_stuck}
 
 pub wakes_none : (s : Search) → Wakes s s []
@@ -27,7 +27,7 @@ wakes_none s = record {
 }
 
 pub wakes_one : (r s t : Search) (xs : List ℕ) (w : ℕ) (e : Opened) → Wakes r s xs → Stands r w e
-  → e.level < length s.stacks.items → Pushes s.stacks.items t.stacks.items e.level w → Wakes r t (xs ++ w ∷ [])
+    → e.level < length s.stacks.items → Pushes s.stacks.items t.stacks.items e.level w → Wakes r t (xs ++ w ∷ [])
 wakes_one r s t xs w e wakes at there pushes = record {
   long = pushed_long s.stacks.items t.stacks.items e.level w pushes ∙ wakes.long;
   stays = λ l i on. pushed_stays s.stacks.items t.stacks.items e.level w pushes l i (wakes.stays l i on);

@@ -1,6 +1,6 @@
 -- Stacks after a pop from one of them, and a search from which a number was taken.
 use Rattle.std.proofs.Common.{◌≡◌, ℕ, ◌<◌, List, [], ◌∷◌, ◌++◌, length, set, refl, ap, ◌∙◌, sym, subst, inl, inr, ⊎_elim, arith}
-use Rattle.std.specs.Prelude.{◌⊎◌, Contains, Vec, Option, Some, None, IfSome}
+use Rattle.std.specs.Prelude.{◌⊎◌, Contains, Vec, Option, Some, None, IfSome, IfNone}
 use Rattle.std.specs.Global.{Global}
 use Rattle.std.proofs.lemmas.Bool.{cases_eq}
 use Rattle.std.proofs.lemmas.List.Elements.{Contains-append_left, Contains-push, Contains-push_cases}
@@ -9,11 +9,11 @@ use Rattle.names.specs.declared.node.Node.{Node}
 use Rattle.meaning.specs.Snap.{Snap}
 use Rattle.decide.specs.declared.search.Search.{Search}
 use Rattle.decide.specs.declared.search.Opened.{Opened}
-use Rattle.decide.specs.inside.Searches.{Stands, IsStacked, Waits, Grew}
+use Rattle.decide.specs.inside.Searches.{Stands, IsStacked, Waits, IsNumberOf}
 use Rattle.decide.specs.inside.Running.{IsRunning}
 use Rattle.decide.proofs.Elements.{Holds, holds_same, holds_set, holds_stored, holds_set_back}
 use Rattle.decide.proofs.Pushing.{IsOn}
-use Rattle.decide.proofs.SearchLemmas.{more_refl, waits_stuck}
+use Rattle.decide.proofs.SearchLemmas.{waits_stuck}
 
 -- a list was taken off the end of one stack
 module _ (xs : List (Vec ℕ Global)) (k : ℕ) (v w : Vec ℕ Global) (is : List ℕ) (at : Holds xs k v) (items : v.items ≡ w.items ++ is) where
@@ -52,10 +52,10 @@ if_some (Some n) P f = f n refl
 if_some None P f = tt
 
 module _ (S : Snap) (u : Object) (s t : Search) (opened : t.opened.items ≡ s.opened.items) (long : length t.stacks.items ≡ length s.stacks.items)
-         (fewer : (l j : ℕ) → IsStacked t l j → IsStacked s l j) where
+    (fewer : (l j : ℕ) → IsStacked t l j → IsStacked s l j) where
   module _ (but except : Option ℕ)
-           (rest : (l j : ℕ) → (except ≡ Some j → ⊥) → IsStacked s l j → IsStacked t l j)
-           (apart : (j : ℕ) → (except ≡ Some j → ⊥) → but ≡ Some j → ⊥) where
+      (rest : (l j : ℕ) → (except ≡ Some j → ⊥) → IsStacked s l j → IsStacked t l j)
+      (apart : (j : ℕ) → (except ≡ Some j → ⊥) → but ≡ Some j → ⊥) where
     pub fewer_running : IsRunning S u s but → IsRunning S u t except
     fewer_running r =
         let old : (j : ℕ) (g : Opened) → Stands t j g → Stands s j g = λ j g at. subst (λ xs. Holds xs j g) opened at in
@@ -76,15 +76,39 @@ module _ (S : Snap) (u : Object) (s t : Search) (opened : t.opened.items ≡ s.o
         still j m (k, g, at, node, unsure, c) = (k, g, subst (λ xs. Holds xs k g) (sym opened) at, node, unsure, c)
 
   pub popped_running : (i : ℕ) → ((l j : ℕ) → IsStacked s l j → (j ≡ i) ⊎ IsStacked t l j)
-    → IsRunning S u s None → IsRunning S u t (Some i)
+      → IsRunning S u s None → IsRunning S u t (Some i)
   popped_running i rest = fewer_running None (Some i)
       (λ l j other on. ⊎_elim (λ same. absurd (other (ap (λ n. Some n) (sym same)))) (λ left. left) (rest l j on))
       (λ j _ equal. cc)
 
 pub same_running : (S : Snap) (u : Object) (s t : Search) → t.opened.items ≡ s.opened.items → t.stacks.items ≡ s.stacks.items
-  → IsRunning S u s None → IsRunning S u t None
+    → IsRunning S u s None → IsRunning S u t None
 same_running S u s t opened stacks =
     fewer_running S u s t opened (ap length stacks) (λ l j on. subst (λ xs. IsOn xs l j) stacks on)
     None None
     (λ l j _ on. subst (λ xs. IsOn xs l j) (sym stacks) on)
     (λ j other. other)
+
+pub some_mapped : (r : Option ℕ) (P Q : ℕ → Type 0) → ((n : ℕ) → P n → Q n) → IfSome r P → IfSome r Q
+some_mapped (Some n) P Q f h = f n h
+some_mapped None P Q f h = tt
+
+pub none_mapped : (r : Option ℕ) (P Q : Type 0) → (P → Q) → IfNone r P → IfNone r Q
+none_mapped (Some n) P Q f h = tt
+none_mapped None P Q f h = f h
+
+-- one number was taken from a search that stood as another does
+module _ (r s t : Search) (opened_before : s.opened.items ≡ r.opened.items) (stacks_before : s.stacks.items ≡ r.stacks.items)
+    (opened : t.opened.items ≡ s.opened.items) where
+  pub taken_running : (S : Snap) (u : Object) (n : ℕ) → length t.stacks.items ≡ length s.stacks.items
+      → ((l j : ℕ) → IsStacked t l j → IsStacked s l j)
+      → ((l : ℕ) × IsStacked s l n) × ((l j : ℕ) → IsStacked s l j → (j ≡ n) ⊎ IsStacked t l j)
+      → IsRunning S u r None → (n < length t.opened.items) × IsRunning S u t (Some n)
+  taken_running S u n long fewer took running =
+      let now = same_running S u r s opened_before stacks_before running in
+      let lt = now.stacked_there took.0.0 n took.0.1 in
+      let same = ap length opened in
+      (omega (arith, lt, same), popped_running S u s t opened long fewer n took.1 now)
+
+  pub taken_numbers : (i k : ℕ) (n : Node) → IsNumberOf r i n k → IsNumberOf t i n k
+  taken_numbers i k n (e, at, node, level) = (e, subst (λ xs. Holds xs i e) (sym (opened ∙ opened_before)) at, node, level)

@@ -1,11 +1,10 @@
 -- A search that keeps what its nodes are: what is to be looked at is covered still.
-use Rattle.std.proofs.Common.{◌≡◌, ℕ, suc, ◌<◌, List, [], ◌∷◌, ◌++◌, Bool, true, false, length, set, refl, ap, ◌∙◌, sym, subst, inl, inr, ⊎_elim, arith}
+use Rattle.std.proofs.Common.{◌≡◌, ℕ, suc, ◌<◌, [], ◌∷◌, ◌++◌, length, set, ap, ◌∙◌, sym, subst, inl, inr, ⊎_elim, arith}
 use Rattle.std.specs.Prelude.{◌⊎◌, Contains, Option, Some, None}
 use Rattle.std.proofs.lemmas.Bool.{cases_eq}
 use Rattle.std.proofs.lemmas.List.{length-set}
-use Rattle.std.proofs.lemmas.List.Elements.{Contains-append_left, Contains-push_cases}
+use Rattle.std.proofs.lemmas.List.Elements.{Contains-push_cases}
 use Rattle.names.specs.declared.object.Object.{Object}
-use Rattle.names.specs.declared.node.Node.{Node}
 use Rattle.meaning.specs.Snap.{Snap}
 use Rattle.meaning.specs.Config.{IsAt}
 use Rattle.decide.specs.declared.search.Search.{Search}
@@ -18,10 +17,10 @@ use Rattle.decide.proofs.Pushing.{IsOn, pushed_long, pushed_stays, pushed_here, 
 use Rattle.decide.proofs.SearchLemmas.{more_refl, grew_stuck}
 
 module _ (S : Snap) (u : Object) (s t : Search) (but except : Option ℕ) (grew : Grew s t)
-         (back : (j : ℕ) (g : Opened) → Stands t j g → (h : Opened) × Stands s j h × IsMore h g)
-         (waiting : (j w : ℕ) (g : Opened) → Stands t j g → Contains g.waiting.items w → w < length t.opened.items)
-         (stacked : (l j : ℕ) → IsStacked t l j → j < length t.opened.items)
-         (cover : (j : ℕ) (g : Opened) → Stands t j g → (except ≡ Some j → ⊥) → (but ≡ Some j → ⊥) ⊎ IsStacked t g.level j) where
+    (back : (j : ℕ) (g : Opened) → Stands t j g → (h : Opened) × Stands s j h × IsMore h g)
+    (waiting : (j w : ℕ) (g : Opened) → Stands t j g → Contains g.waiting.items w → w < length t.opened.items)
+    (stacked : (l j : ℕ) → IsStacked t l j → j < length t.opened.items)
+    (cover : (j : ℕ) (g : Opened) → Stands t j g → (except ≡ Some j → ⊥) → (but ≡ Some j → ⊥) ⊎ IsStacked t g.level j) where
   pub grew_running : IsRunning S u s but → IsRunning S u t except
   grew_running r = record {
     at = λ j g at.
@@ -52,7 +51,7 @@ module _ (S : Snap) (u : Object) (s t : Search) (but except : Option ℕ) (grew 
 
 -- one node was replaced by one for which more wait
 module _ (s t : Search) (i : ℕ) (e f : Opened) (at : Stands s i e) (more : IsMore e f)
-         (opened : t.opened.items ≡ set s.opened.items i f) (stacks : t.stacks.items ≡ s.stacks.items) where
+    (opened : t.opened.items ≡ set s.opened.items i f) (stacks : t.stacks.items ≡ s.stacks.items) where
   pub replaced_grew : Grew s t
   replaced_grew = record {
     stands = λ j g old. ⊎_elim
@@ -92,7 +91,7 @@ module _ (s t : Search) (i : ℕ) (e f : Opened) (at : Stands s i e) (more : IsM
 
 -- one number was stacked at its level
 module _ (s t : Search) (i : ℕ) (e : Opened) (at : Stands s i e) (opened : t.opened.items ≡ s.opened.items)
-         (pushes : Pushes s.stacks.items t.stacks.items e.level i) where
+    (pushes : Pushes s.stacks.items t.stacks.items e.level i) where
   pub stacked_grew : Grew s t
   stacked_grew = record {
     stands = λ j g old. (g, subst (λ xs. Holds xs j g) (sym opened) old, more_refl g);

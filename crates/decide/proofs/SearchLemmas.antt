@@ -1,7 +1,5 @@
 -- A search that grew: what held of it holds still.
-use Rattle.std.proofs.Common.{◌≡◌, ℕ, suc, ◌<◌, List, [], ◌∷◌, ◌++◌, Bool, true, false, length, get_or, set, refl, ap, ◌∙◌, sym, subst, inl, inr, ⊎_elim, arith, length-append}
-use Rattle.std.specs.Prelude.{◌⊎◌, Contains, Vec, Option, Some, None}
-use Rattle.std.specs.Global.{Global}
+use Rattle.std.proofs.Common.{◌≡◌, ℕ, refl, ◌∙◌, subst}
 use Rattle.names.specs.declared.object.Object.{Object}
 use Rattle.names.specs.declared.node.Node.{Node}
 use Rattle.meaning.specs.Snap.{Snap}
@@ -10,7 +8,7 @@ use Rattle.meaning.proofs.GivesLemmas.{relation_grows}
 use Rattle.decide.specs.declared.search.Search.{Search}
 use Rattle.decide.specs.declared.search.Opened.{Opened}
 use Rattle.decide.specs.inside.Under.{Under}
-use Rattle.decide.specs.inside.Searches.{Stands, IsStacked, Waits, IsMore, Grew, IsNumberOf}
+use Rattle.decide.specs.inside.Searches.{Stands, Waits, IsMore, Grew, IsNumberOf}
 use Rattle.decide.specs.inside.Running.{IsHope, IsStuck}
 
 pub more_refl : (e : Opened) → IsMore e e
@@ -49,18 +47,18 @@ grew_number s t i n k grew (e, at, node, level) =
 
 -- where all that waited waits, fewer are hopes
 pub waits_stuck : (S : Snap) (u : Object) (s t : Search) (i : ℕ) (e f : Opened)
-  → ((m : Node) → Waits s m i → Waits t m i) → f.node ≡ e.node → f.level ≡ e.level
-  → IsStuck S u s i e → IsStuck S u t i f
+    → ((m : Node) → Waits s m i → Waits t m i) → f.node ≡ e.node → f.level ≡ e.level
+    → IsStuck S u s i e → IsStuck S u t i f
 waits_stuck S u s t i e f waits node level stuck gives =
     let at_node : RelationGives S u e.node (IsHope S u t i f.level) (Under S u f.level) =
-        subst (λ n. RelationGives S u n (IsHope S u t i f.level) (Under S u f.level)) node gives in
+    subst (λ n. RelationGives S u n (IsHope S u t i f.level) (Under S u f.level)) node gives in
     let at_level : RelationGives S u e.node (IsHope S u t i e.level) (Under S u e.level) =
-        subst (λ k. RelationGives S u e.node (IsHope S u t i k) (Under S u k)) level at_node in
+    subst (λ k. RelationGives S u e.node (IsHope S u t i k) (Under S u k)) level at_node in
     stuck (relation_grows S u e.node (IsHope S u t i e.level) (IsHope S u s i e.level)
     (Under S u e.level) (Under S u e.level)
     (λ m hope. (hope.0, λ w. hope.1 (waits m w))) (λ m. (λ a. a, λ a. a)) at_level)
 
 pub grew_stuck : (S : Snap) (u : Object) (s t : Search) (i : ℕ) (e f : Opened) → Grew s t
-  → Stands s i e → Stands t i f → IsMore e f → IsStuck S u s i e → IsStuck S u t i f
+    → Stands s i e → Stands t i f → IsMore e f → IsStuck S u s i e → IsStuck S u t i f
 grew_stuck S u s t i e f grew _ _ more stuck =
     waits_stuck S u s t i e f (λ m w. grew_waits s t m i grew w) more.node more.level stuck

@@ -219,6 +219,7 @@ impl Search {
     /// Takes a number off the highest stack below the level.
     fn pop_below(&mut self, level: usize) -> Option<usize>
         ensures opened { self.new.opened.items ≡ self.old.opened.items }
+        ensures frames { self.new.frames.items ≡ self.old.frames.items }
         ensures long { length self.new.stacks.items ≡ length self.old.stacks.items }
         ensures stacked { (l i : ℕ) → IsStacked self.new l i → IsStacked self.old l i }
         ensures none { IfNone result (self.new.stacks.items ≡ self.old.stacks.items) }
@@ -251,7 +252,8 @@ impl Search {
             }
             let _ = self.frames.pop();
         }
-        self.pop_below(self.stacks.len())
+        let levels = self.stacks.len();
+        self.pop_below(levels)
     }
 
     /// Whether no node up to the level is to be looked at.

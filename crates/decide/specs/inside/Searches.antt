@@ -1,5 +1,5 @@
 -- What stands in a search: the nodes that were opened, who waits for them, and which are to be looked at.
-use Rattle.std.specs.Prelude.{◌≡◌, ◌<◌, ◌⊎◌, ◌++◌, ◌∷◌, [], ℕ, List, Bool, true, false, Contains, Vec, length, slice_index_or, slice_set}
+use Rattle.std.specs.Prelude.{◌≡◌, ◌<◌, ◌⊎◌, ◌++◌, ◌∷◌, [], ℕ, List, false, Contains, Vec, length, slice_index_or, slice_set}
 use Rattle.std.specs.Global.{Global}
 use Rattle.names.specs.declared.node.Node.{Node}
 use Rattle.decide.specs.declared.search.Search.{Search}

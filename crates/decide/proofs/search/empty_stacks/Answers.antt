@@ -1,4 +1,4 @@
-use Rattle.std.proofs.Common.{◌≡◌, ◌+◌, ◌∷◌, ◌++◌, [], List, ℕ, length, ap, ◌∙◌, sym, subst, ⊎_elim, arith, length-append}
+use Rattle.std.proofs.Common.{◌+◌, ◌∷◌, [], ℕ, length, ap, ◌∙◌, sym, subst, ⊎_elim, length-append}
 use Rattle.std.specs.Prelude.{Contains, Vec}
 use Rattle.std.specs.Global.{Global}
 use Rattle.std.proofs.lemmas.List.Elements.{Contains-push_cases}

@@ -1,4 +1,4 @@
-use Rattle.std.proofs.Common.{◌≡◌, ◌<◌, ◌++◌, true, ℕ, List, length, set, refl, ap, ◌∙◌, sym, subst, ⊎_elim, arith, inl, inr}
+use Rattle.std.proofs.Common.{◌≡◌, true, ℕ, set, refl, ap, ◌∙◌, sym, subst, ⊎_elim, arith, inl, inr}
 use Rattle.std.specs.Prelude.{Vec, Contains}
 use Rattle.std.specs.Global.{Global}
 use Rattle.std.proofs.lemmas.List.{length-set, set-set}

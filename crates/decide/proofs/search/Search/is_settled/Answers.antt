@@ -1,13 +1,10 @@
-use Rattle.std.proofs.Common.{rules, ◌≡◌, ◌<◌, ◌≤◌, ◌+◌, ℕ, List, length, get_or, take, ap, ◌∙◌, sym, subst, ⊎_elim, arith, length-take}
-use Rattle.std.specs.Prelude.{Contains, Vec, min}
+use Rattle.std.proofs.Common.{rules, ◌≡◌, ◌<◌, ◌+◌, ℕ, length, get_or, ap, ◌∙◌, sym, subst, ⊎_elim, arith, length-take}
+use Rattle.std.specs.Prelude.{Contains, Vec}
 use Rattle.std.specs.Global.{Global}
 use Rattle.std.proofs.lemmas.Bool.{cases_lt}
 use Rattle.std.proofs.lemmas.List.{get_or-take}
-use Rattle.decide.proofs.Elements.{holds_same}
+use Rattle.decide.proofs.Elements.{holds_same, nothing_in}
 use Rattle.decide.proofs.search.Search.is_settled.Goals as goal
-
-nothing_in : (xs : List ℕ) (i : ℕ) → length xs ≡ 0 → Contains xs i → ⊥
-nothing_in xs i none (k, lt, e) = absurd (omega (arith, none, lt))
 
 pub loop-stack-preserved : goal.loop-stack-preserved
 loop-stack-preserved c k i below on = ⊎_elim
@@ -18,11 +15,11 @@ loop-stack-preserved c k i below on = ⊎_elim
     let here : c.loop-stack.stack-index ≡ k = omega (arith, above, below) in
     let within : c.loop-stack.stack-index < length stacks = omega (arith, here, lt) in
     let item : c.stack-item.result ≡ get_or stacks c.loop-stack.stack-index c.stack-item.result =
-        c.stack-item.is
-        ∙ get_or-take (c.args.level + 1) c.deref.result.now c.loop-stack.stack-index c.stack-item.result (omega (arith, length-take (c.args.level + 1) c.deref.result.now))
-        ∙ ap (λ xs. get_or xs c.loop-stack.stack-index c.stack-item.result) c.deref.ensures.value in
+    c.stack-item.is
+    ∙ get_or-take (c.args.level + 1) c.deref.result.now c.loop-stack.stack-index c.stack-item.result (omega (arith, length-take (c.args.level + 1) c.deref.result.now))
+    ∙ ap (λ xs. get_or xs c.loop-stack.stack-index c.stack-item.result) c.deref.ensures.value in
     let same : c.stack-item.result ≡ v =
-        holds_same stacks c.loop-stack.stack-index c.stack-item.result v (within, sym item) (within, ap (λ q. get_or stacks q v) here ∙ read) in
+    holds_same stacks c.loop-stack.stack-index c.stack-item.result v (within, sym item) (within, ap (λ q. get_or stacks q v) here ∙ read) in
     let empty : length c.stack-item.result.items ≡ 0 = search rules in
     nothing_in c.stack-item.result.items i empty (subst (λ (x : Vec ℕ Global). Contains x.items i) (sym same) at))
     (cases_lt k c.loop-stack.stack-index)

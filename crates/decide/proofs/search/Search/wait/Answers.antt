@@ -2,7 +2,7 @@ use Rattle.std.proofs.Common.{◌≡◌, ◌++◌, ◌∷◌, [], ap, refl, sym,
 use Rattle.std.proofs.lemmas.List.Elements.{Contains-append_left, Contains-push}
 use Rattle.std.specs.Prelude.{Contains}
 use Rattle.decide.specs.declared.search.Opened.{Opened}
-use Rattle.decide.specs.inside.Searches.{Stands, IsMore}
+use Rattle.decide.specs.inside.Searches.{IsMore}
 use Rattle.decide.proofs.Elements.{Holds, holds_same, holds_stored}
 use Rattle.decide.proofs.Replacing.{replaced_grew, waiting_running}
 use Rattle.decide.proofs.search.Search.wait.Goals as goal
