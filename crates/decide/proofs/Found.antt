@@ -24,7 +24,7 @@ use Rattle.std.proofs.lemmas.Bool.{cases_lt, false≢true}
 use Rattle.std.proofs.lemmas.List.{get_or_default}
 use Rattle.decide.specs.declared.asking.Found.{Found}
 use Rattle.decide.specs.declared.asking.Found.TheVariants as found
-use Rattle.decide.specs.inside.Given.{Gave, HasNode, HasSome, no_or_later, opposite}
+use Rattle.decide.specs.inside.Given.{Gave, HasNode, HasSome, no_or_later, opposite, BaseGives}
 use Rattle.decide.specs.inside.Asked.{high, Counts, IsLeft, IsAsking, GoesOn, AreNodesOf}
 use Rattle.decide.proofs.SearchLemmas.{grew_refl, grew_trans, grew_waits, grew_number}
 use Rattle.decide.proofs.Settling.{under_up, under_own, same_opened, settled}
@@ -158,6 +158,9 @@ module _ (S : Snap) (u : Object) (a : Asking) where
 
   pub exclusion_gave : (s : Search) (v w : Form) (f : Found) (b : Asking) → b ≡ record a { plain = false } → Gives S u a.node.now v (Counts S u a) (Under S u a.level) → Gave S u s b w f → Gave S u s a (Exclusion v w) (opposite f)
   exclusion_gave s v w f b e base less = exclusion_of s v w f base (subst (λ x. Gave S u s x w f) e less)
+
+  pub without_gave : (s : Search) (r v w : Form) (f : Found) (b : Asking) → r ≡ Exclusion v w → b ≡ record a { plain = false } → BaseGives S u a r → Gave S u s b w f → Gave S u s a r (opposite f)
+  without_gave s r v w f b is e base less = subst (λ x. Gave S u s a x (opposite f)) (sym is) (exclusion_gave s v w f b e (subst (BaseGives S u a) is base) less)
 
   -- no relation of the asker's name before a place gives it the user
   abbrev pub IsNoneOf : Search → List Relation → ℕ → Type 0

@@ -1,6 +1,6 @@
 use Rattle.std.proofs.Common.{◌≡◌, ◌∙◌, sym, subst, ap, false, true, arith, rules, inl, drop}
 use Rattle.std.specs.Prelude.{IfOk}
-use Rattle.std.proofs.lemmas.Grind.{common_steps}
+use Rattle.config_core.specs.declared.rewrite.Rewrite.{the_lemmas}
 use Rattle.config_core.specs.Forms.{form_of, rewrite_forms}
 use Rattle.meaning.specs.Form.{Union, Intersection, Exclusion}
 use Rattle.decide.specs.inside.Under.{Under}
@@ -9,7 +9,7 @@ use Rattle.decide.specs.inside.Given.{Gave, opposite}
 use Rattle.decide.specs.declared.asking.Found.TheVariants as found
 use Rattle.decide.proofs.SearchLemmas.{grew_refl, grew_trans}
 use Rattle.decide.proofs.Parts.{some_at, each_at, each_left, each_none}
-use Rattle.decide.proofs.Found.{goes_more, some_more, union_found, asking_subtracted, asking_back, exclusion_gave}
+use Rattle.decide.proofs.Found.{goes_more, some_more, union_found, asking_subtracted, asking_back, without_gave}
 use Rattle.decide.proofs.rewrites.+gives.Goals.{some_gives-in-No, some_gives-in-Later}
 use Rattle.decide.proofs.rewrites.+gives.Goals as goal
 
@@ -85,7 +85,7 @@ gives-returns-in_ok-found-in-Yes-clause-goes_on t c = goes_more c.args.source.no
 
 pub without-gives-requires : goal.without-gives-requires
 without-gives-requires t c = (
-  grind (arith, common_steps),
+  search (rules, the_lemmas),
   (
     c.requires.source,
     asking_subtracted c.args.source.now.view.now c.args.source.now.user.now c.args.asking.now c.args.search.now c.subtracted-subtracted.result c.subtracted-subtracted.ensures c.requires.asking,
@@ -99,4 +99,8 @@ without-returns-in_ok-found-in-Exclusion-clause-goes_on t c = record {
 }
 
 pub without-returns-in_ok-found-in-Exclusion-clause-found : goal.without-returns-in_ok-found-in-Exclusion-clause-found
-without-returns-in_ok-found-in-Exclusion-clause-found t c = ?
+without-returns-in_ok-found-in-Exclusion-clause-found t c =
+    let form : form_of c.args.rewrite.now ≡ Exclusion (form_of c.in-Exclusion.field-0.value) (form_of c.deref.result.now) = search (rules, the_lemmas) in
+    subst (Gave c.args.source.now.view.now c.args.source.now.user.now c.gives.new.search c.args.asking.now (form_of c.args.rewrite.now)) (sym c.opposite.ensures)
+    (without_gave c.args.source.now.view.now c.args.source.now.user.now c.args.asking.now c.gives.new.search (form_of c.args.rewrite.now) (form_of c.in-Exclusion.field-0.value) (form_of c.deref.result.now) c.in_ok-found-in-Exclusion.found c.subtracted-subtracted.result
+    form c.subtracted-subtracted.ensures c.requires.base c.in_ok-found-in-Exclusion.ensures.found)
