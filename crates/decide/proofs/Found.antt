@@ -1,25 +1,25 @@
 -- What is found of nodes and of parts.
-use Rattle.std.proofs.Common.{◌≡◌, ℕ, suc, ◌<◌, ◌≤◌, ◌+◌, List, Bool, true, false, length, get_or, drop, cond, ap, ◌∙◌, sym, subst, refl, inl, inr, ⊎_elim, arith}
-use Rattle.std.specs.Prelude.{◌⊎◌, ◌↔◌, Option, Some, Contains}
+use Rattle.std.proofs.Common.{◌≡◌, ℕ, suc, ◌<◌, ◌≤◌, ◌+◌, List, Bool, true, false, length, get_or, drop, cond, ap, ◌∙◌, sym, subst, refl, inr, ⊎_elim, arith}
+use Rattle.std.specs.Prelude.{Option, Some, Contains}
 use Rattle.names.specs.declared.object.Object.{Object}
 use Rattle.names.specs.declared.node.Node.{Node}
 use Rattle.meaning.specs.Snap.{Snap}
 use Rattle.meaning.specs.Config.{IsAt, Has, rel_of}
-use Rattle.meaning.specs.Form.{Form, This, Computed, TupleTo, Union, Intersection, Exclusion}
+use Rattle.meaning.specs.Form.{Form, This, Computed, TupleTo, Union, Exclusion}
 use Rattle.config_core.specs.declared.rewrite.Rewrite.{Rewrite}
 use Rattle.config_core.specs.declared.relation.Relation.{Relation}
 use Rattle.meaning.specs.Admits.{is_relation}
 use Rattle.config_core.specs.Forms.{form_of, rewrite_forms, defined_of}
-use Rattle.decide.proofs.Parts.{some_at, each_at, some_left, each_left, some_none, each_none}
-use Rattle.meaning.specs.Membership.{HasOne, HasSet, Gives, SomeGives, EachGives, RelationGives}
-use Rattle.meaning.proofs.GivesLemmas.{gives_grows, some_grows, each_grows, relation_grows}
+use Rattle.decide.proofs.Parts.{some_left, some_none}
+use Rattle.meaning.specs.Membership.{HasOne, HasSet, Gives, SomeGives}
+use Rattle.meaning.proofs.GivesLemmas.{gives_grows}
 use Rattle.meaning.proofs.ReadsLemmas.{below_level}
 use Rattle.decide.specs.declared.search.Search.{Search}
 use Rattle.decide.specs.declared.search.Opened.{Opened}
 use Rattle.decide.specs.declared.asking.Asking.{Asking}
 use Rattle.decide.specs.inside.Under.{Under}
 use Rattle.decide.specs.inside.Searches.{Stands, IsStacked, Waits, Grew, IsNumberOf}
-use Rattle.decide.specs.inside.Running.{IsRunning, IsStuck}
+use Rattle.decide.specs.inside.Running.{IsRunning}
 use Rattle.std.proofs.lemmas.Bool.{cases_lt, false≢true}
 use Rattle.std.proofs.lemmas.List.{get_or_default}
 use Rattle.decide.specs.declared.asking.Found.{Found}

@@ -1,6 +1,6 @@
 -- The relations of a configuration, found by their names.
-use Rattle.std.proofs.Common.{◌≡◌, ℕ, zero, suc, ◌<◌, ◌^◌, List, [], ◌∷◌, Bool, true, false, length, get_or, refl, ap, ◌∙◌, sym, subst, inl, inr, ⊎_elim, arith}
-use Rattle.std.specs.Prelude.{◌↔◌, ◌&&◌, ◌||◌, Contains, All, map, nat_eq}
+use Rattle.std.proofs.Common.{◌≡◌, ℕ, zero, suc, ◌<◌, List, [], ◌∷◌, Bool, true, false, length, get_or, refl, ap, ◌∙◌, sym, subst, ⊎_elim, arith}
+use Rattle.std.specs.Prelude.{◌↔◌, ◌&&◌, ◌||◌, Contains, map, nat_eq}
 use Rattle.std.specs.List.{list_any}
 use Rattle.std.specs.Cmp.Lexicographic.{same_text, pointwise, bytes_decides}
 use Rattle.std.proofs.lemmas.Bool.{false≢true}
@@ -80,7 +80,7 @@ level_found s source i r m k lt e named level =
       subst (λ x. IsLevel (Step s.view.now.config) (rel_of m) x) level (subst (λ x. IsLevel (Step s.view.now.config) x (get_or s.levels.now i 0)) named (source.levels.each i (defined_of r) here.0 here.1)),
     )
 
-element : {A : Type 0} (xs : List A) (i : ℕ) → i < length xs → (x : A) × (get_or xs i x ≡ x)
+pub element : {A : Type 0} (xs : List A) (i : ℕ) → i < length xs → (x : A) × (get_or xs i x ≡ x)
 element [] i l = absurd (omega (arith, l))
 element (y ∷ ys) zero l = (y, refl)
 element (y ∷ ys) (suc i) l = element ys i (omega (arith, l))

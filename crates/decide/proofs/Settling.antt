@@ -1,12 +1,12 @@
 -- Why the search is right: what is settled is no member.
-use Rattle.std.proofs.Common.{◌≡◌, ℕ, zero, suc, ◌<◌, ◌≤◌, true, false, length, get_or, ap, ◌∙◌, sym, subst, refl, inl, inr, ⊎_elim, arith}
-use Rattle.std.specs.Prelude.{◌⊎◌, Option, Some}
+use Rattle.std.proofs.Common.{◌≡◌, ℕ, zero, suc, ◌<◌, ◌≤◌, false, ◌∙◌, sym, subst, ⊎_elim, arith}
+use Rattle.std.specs.Prelude.{Option, Some}
 use Rattle.std.proofs.lemmas.List.{get_or_default}
 use Rattle.names.specs.declared.object.Object.{Object}
 use Rattle.names.specs.declared.node.Node.{Node}
 use Rattle.meaning.specs.Snap.{Snap}
 use Rattle.meaning.specs.Config.{IsAt, Step, rel_of}
-use Rattle.meaning.specs.Membership.{RelationGives, IsMember}
+use Rattle.meaning.specs.Membership.{RelationGives}
 use Rattle.meaning.proofs.GivesLemmas.{relation_grows, relation_finitary}
 use Rattle.meaning.proofs.LeastLemmas.{from_given, least_of, up_to}
 use Rattle.meaning.proofs.LevelLemmas.{one_level}
@@ -14,8 +14,8 @@ use Rattle.meaning.proofs.ReadsLemmas.{at_level, below_level}
 use Rattle.decide.specs.declared.search.Search.{Search}
 use Rattle.decide.specs.declared.search.Opened.{Opened}
 use Rattle.decide.specs.inside.Under.{Under}
-use Rattle.decide.specs.inside.Searches.{Stands, IsStacked, Waits, IsNumberOf}
-use Rattle.decide.specs.inside.Running.{IsRunning, IsHope, IsStuck}
+use Rattle.decide.specs.inside.Searches.{Stands, IsStacked, Waits}
+use Rattle.decide.specs.inside.Running.{IsRunning, IsStuck}
 
 -- one level
 pub level_is : (S : Snap) (m : Node) (j k : ℕ) → IsAt S.config m j → IsAt S.config m k → j ≡ k
@@ -47,7 +47,6 @@ IsClear s m = (i : ℕ) (e : Opened) → Stands s i e → e.node ≡ m → e.sur
 module _ (S : Snap) (u : Object) (s : Search) (but : Option ℕ) (run : IsRunning S u s but) (l : ℕ)
     (above : (i : ℕ) (e : Opened) → Stands s i e → e.level ≤ l → but ≡ Some i → ⊥)
     (empty : (k i : ℕ) → k ≤ l → IsStacked s k i → ⊥) where
-
   stuck_at : (n : Node) (k i : ℕ) (e : Opened) → e.node ≡ n → e.level ≡ k → IsStuck S u s i e → RelationGives S u n (λ m. Under S u (suc k) m × (Waits s m i → ⊥)) (Under S u k) → ⊥
   stuck_at n k i e node level stuck g =
       stuck
@@ -62,9 +61,9 @@ module _ (S : Snap) (u : Object) (s : Search) (but : Option ℕ) (run : IsRunnin
         ⊎_elim
         (λ stacked. empty e.level i (omega (arith, low, here)) stacked)
         (λ stuck. stuck_at n k i e node here stuck
-            (relation_grows S u n (λ m. Under S u (suc k) m × IsClear s m) (λ m. Under S u (suc k) m × (Waits s m i → ⊥)) (Under S u k) (Under S u k)
-            (λ m x. (x.0, λ (j, f, there, same, no_more, c). x.1 j f there same no_more))
-            (λ m. (λ a. a, λ a. a)) g))
+        (relation_grows S u n (λ m. Under S u (suc k) m × IsClear s m) (λ m. Under S u (suc k) m × (Waits s m i → ⊥)) (Under S u k) (Under S u k)
+        (λ m x. (x.0, λ (j, f, there, same, no_more, c). x.1 j f there same no_more))
+        (λ m. (λ a. a, λ a. a)) g))
         (run.covered i e st unsure (above i e st (omega (arith, low, here)))),
   )
 

@@ -1,6 +1,6 @@
 -- What each turn keeps, and what is known at the end.
-use Rattle.std.proofs.Common.{◌≡◌, ℕ, suc, ◌<◌, ◌≤◌, Bool, true, false, length, get_or, cond, ap, ◌∙◌, sym, subst, refl, inl, inr, ⊎_elim, arith, [], List, rules}
-use Rattle.std.specs.Prelude.{◌⊎◌, ◌↔◌, Option, Some, None, IsTrue}
+use Rattle.std.proofs.Common.{◌≡◌, ℕ, suc, ◌<◌, Bool, true, false, length, cond, ap, ◌∙◌, sym, subst, refl, inr, ⊎_elim, arith, [], List, rules}
+use Rattle.std.specs.Prelude.{◌↔◌, Option, Some, None, IsTrue, Contains}
 use Rattle.std.proofs.lemmas.Bool.{cases_eq, false≢true}
 use Rattle.names.specs.declared.object.Object.{Object}
 use Rattle.names.specs.declared.node.Node.{Node}
@@ -12,10 +12,11 @@ use Rattle.decide.specs.declared.search.Search.{Search}
 use Rattle.decide.specs.declared.search.Opened.{Opened}
 use Rattle.decide.specs.declared.asking.Asking.{Asking}
 use Rattle.decide.specs.inside.Under.{Under}
-use Rattle.decide.specs.inside.Searches.{Stands, IsStacked, Waits, IsNumberOf}
+use Rattle.decide.specs.inside.Searches.{Stands, IsStacked, IsThere, IsNumberOf}
 use Rattle.decide.specs.inside.Running.{IsRunning, IsHope, IsStuck}
 use Rattle.decide.specs.inside.Asked.{high, Counts, IsLeft, IsAsking}
-use Rattle.decide.proofs.Settling.{under_up, under_own, under_given, same_opened, settled}
+use Rattle.decide.proofs.Relations.{element}
+use Rattle.decide.proofs.Settling.{under_own, under_given, same_opened, settled}
 
 module _ (S : Snap) (u : Object) where
   same : (L : Node → Type 0) (m : Node) → L m ↔ L m
@@ -27,6 +28,9 @@ module _ (S : Snap) (u : Object) where
 
   pub under_member : (n : Node) (k : ℕ) → Under S u k n → IsMember S u n
   under_member n k b = (k, b)
+
+  pub waiting_all_there : (s : Search) (but : Option ℕ) → IsRunning S u s but → (w i : ℕ) (e : Opened) → Stands s i e → Contains e.waiting.items w → (w < length s.opened.items) × IsThere s w
+  waiting_all_there s but run w i e st c = (run.waiting_there i w e st c, λ f there. run.stack_there w f there)
 
   -- the one number that was excepted is covered too
   pub covered_too : (s : Search) (number : ℕ) → IsRunning S u s (Some number) → ((e : Opened) → Stands s number e → e.sure ≡ false → IsStuck S u s number e) → IsRunning S u s None
@@ -92,6 +96,11 @@ module _ (S : Snap) (u : Object) where
         (subst (λ k. RelationGives S u a.node.now (IsHope S u s a.number k) (Under S u k)) i.1
         (subst (λ x. RelationGives S u x (IsHope S u s a.number e.level) (Under S u e.level)) i.0 g))))
 
+  pub number_here : (s : Search) (number k : ℕ) (n : Node) → number < length s.opened.items → ((e : Opened) → Stands s number e → e.node ≡ n) → ((e : Opened) → Stands s number e → e.level ≡ k) → IsNumberOf s number n k
+  number_here s number k n lt node level =
+      let e = element s.opened.items number lt in
+      (e.0, (lt, e.1), node e.0 (lt, e.1), level e.0 (lt, e.1))
+
   -- before the first turn
   pub running_new : (s : Search) → s.opened.items ≡ [] → ((l i : ℕ) → IsStacked s l i → ⊥) → IsRunning S u s None
   running_new s none empty = record {
@@ -123,4 +132,4 @@ module _ (S : Snap) (u : Object) where
       none_some j is = cc
 
   pub root_sure : (s : Search) (root k : ℕ) (n : Node) (b : Bool) → b ≡ true → IsRunning S u s None → IsNumberOf s root n k → ((e : Opened) → Stands s root e → e.sure ≡ b) → IsMember S u n
-  root_sure s root k n b yes run (e, st, node, level) sure = subst (IsMember S u) node (under_member e.node (suc e.level) (run.right root e st (sure e st ∙ yes)))
+  root_sure s root k n b is run (e, st, node, level) sure = subst (IsMember S u) node (under_member e.node (suc e.level) (run.right root e st (sure e st ∙ is)))

@@ -64,7 +64,7 @@ fn is_member<O: Oracle>(
 {
     let mut search = Search::new(source.alloc, level)?;
     let root = search.number_of(node, level)?;
-    for _ in 0..u64::MAX {
+    'turns: for _ in 0..u64::MAX {
         if search.is_sure(root) {
             return Ok(true);
         }
@@ -97,7 +97,10 @@ fn look<O: Oracle>(
     let node = search.node_of(number)?;
     let level = search.level_of(number);
     match oracle.knows(&node, source.user) {
-        Some(true) => search.give(number),
+        Some(true) => {
+            search.give(number)?;
+            Ok(())
+        }
         Some(false) => Ok(()),
         None => {
             let asking = Asking {
@@ -106,7 +109,8 @@ fn look<O: Oracle>(
                 level,
                 plain: true,
             };
-            step(source, search, &asking)
+            step(source, search, &asking)?;
+            Ok(())
         }
     }
 }
@@ -120,8 +124,14 @@ fn step(source: &Source, search: &mut Search, asking: &Asking) -> Result<(), All
     ensures numbers { OnOk result ((i k : ℕ) (n : NodeValue) → IsNumberOf search.old i n k → IsNumberOf search.new i n k) }
 {
     match relation_gives(source, search, asking)? {
-        Found::Yes => search.give(asking.number),
+        Found::Yes => {
+            search.give(asking.number)?;
+            Ok(())
+        }
         Found::No => Ok(()),
-        Found::Later => search.put_back(asking.number, asking.level),
+        Found::Later => {
+            search.put_back(asking.number, asking.level)?;
+            Ok(())
+        }
     }
 }

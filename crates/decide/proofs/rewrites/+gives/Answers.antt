@@ -1,12 +1,10 @@
-use Rattle.std.proofs.Common.{◌≡◌, ◌∙◌, sym, subst, ap, false, true, arith, rules, inl, drop}
-use Rattle.std.specs.Prelude.{IfOk}
+use Rattle.std.proofs.Common.{◌≡◌, ◌∙◌, sym, subst, arith, rules}
 use Rattle.config_core.specs.declared.rewrite.Rewrite.{the_lemmas}
 use Rattle.config_core.specs.Forms.{form_of, rewrite_forms}
-use Rattle.meaning.specs.Form.{Union, Intersection, Exclusion}
+use Rattle.meaning.specs.Form.{Union, Exclusion}
 use Rattle.decide.specs.inside.Under.{Under}
 use Rattle.decide.specs.inside.Asked.{Counts, IsLeft}
-use Rattle.decide.specs.inside.Given.{Gave, opposite}
-use Rattle.decide.specs.declared.asking.Found.TheVariants as found
+use Rattle.decide.specs.inside.Given.{Gave}
 use Rattle.decide.proofs.SearchLemmas.{grew_refl, grew_trans}
 use Rattle.decide.proofs.Parts.{some_at, each_at, each_left, each_none}
 use Rattle.decide.proofs.Found.{goes_more, some_more, union_found, asking_subtracted, asking_back, without_gave}
@@ -33,10 +31,10 @@ each_gives-loop-part-preserved t c = (
   c.in_ok-gives.ensures.goes_on.asking,
   grew_trans c.args.search.now c.loop-part.search c.gives.new.search c.loop-part.invariant.1 c.in_ok-gives.ensures.goes_on.grew,
   λ rest. c.loop-part.invariant.2
-  (each_left c.args.source.now.view.now c.args.source.now.user.now c.args.asking.now.node.now (Counts c.args.source.now.view.now c.args.source.now.user.now c.args.asking.now) (Under c.args.source.now.view.now c.args.source.now.user.now c.args.asking.now.level)
-  c.args.parts.now c.loop-part.part-index c.part-item.result c.loop-part-test.true (sym c.part-item.is)
-  (subst (Gave c.args.source.now.view.now c.args.source.now.user.now c.gives.new.search c.args.asking.now (form_of c.part-item.result)) c.in-Yes.is c.in_ok-gives.ensures.found)
-  rest),
+      (each_left c.args.source.now.view.now c.args.source.now.user.now c.args.asking.now.node.now (Counts c.args.source.now.view.now c.args.source.now.user.now c.args.asking.now) (Under c.args.source.now.view.now c.args.source.now.user.now c.args.asking.now.level)
+      c.args.parts.now c.loop-part.part-index c.part-item.result c.loop-part-test.true (sym c.part-item.is)
+      (subst (Gave c.args.source.now.view.now c.args.source.now.user.now c.gives.new.search c.args.asking.now (form_of c.part-item.result)) c.in-Yes.is c.in_ok-gives.ensures.found)
+      rest),
 )
 
 pub each_gives-returns-clause-goes_on : goal.each_gives-returns-clause-goes_on
@@ -78,7 +76,6 @@ pub some_gives-returns-clause-found : goal.some_gives-returns-clause-found
 some_gives-returns-clause-found t c =
     subst (Gave c.args.source.now.view.now c.args.source.now.user.now c.loop-part.search c.args.asking.now (Union (rewrite_forms c.args.parts.now))) (sym c.no_or_later.ensures)
     (union_found c.args.source.now.view.now c.args.source.now.user.now c.args.asking.now c.loop-part.search c.args.parts.now c.loop-part.later c.loop-part.part-index (omega (arith, c.loop-part-test.false)) c.loop-part.invariant.2)
-
 
 pub gives-returns-in_ok-found-in-Yes-clause-goes_on : goal.gives-returns-in_ok-found-in-Yes-clause-goes_on
 gives-returns-in_ok-found-in-Yes-clause-goes_on t c = goes_more c.args.source.now.view.now c.args.source.now.user.now c.args.asking.now c.args.search.now c.gives.new.search c.without.new.search c.in_ok-gives-in-Exclusion.ensures.goes_on.grew c.in_ok-found-in-Yes.ensures.goes_on

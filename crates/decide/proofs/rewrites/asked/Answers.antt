@@ -1,6 +1,6 @@
 use Rattle.std.proofs.Common.{◌∙◌, ◌<◌, ◌≤◌, subst}
 use Rattle.std.specs.Prelude.{Some}
-use Rattle.decide.proofs.Found.{goes_on, goes_trans, asker_there, no_relation, too_high, sure_counts, not_left, settled_no}
+use Rattle.decide.proofs.Found.{goes_on, no_relation, too_high, sure_counts, not_left, settled_no}
 use Rattle.decide.proofs.SearchLemmas.{grew_trans, grew_number}
 use Rattle.decide.proofs.rewrites.asked.Goals as goal
 

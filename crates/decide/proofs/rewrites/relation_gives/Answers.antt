@@ -1,8 +1,6 @@
-use Rattle.std.proofs.Common.{◌≡◌, ◌∙◌, ◌+◌, ℕ, ◌<◌, ◌≤◌, sym, subst, ap, false, true, get_or, arith, ⊎_elim}
+use Rattle.std.proofs.Common.{◌∙◌, ◌+◌, sym, subst, arith}
 use Rattle.std.proofs.lemmas.Bool.{false≢true}
-use Rattle.meaning.specs.Admits.{is_relation}
-use Rattle.meaning.specs.Config.{rel_of}
-use Rattle.config_core.specs.Forms.{defined_of, form_of}
+use Rattle.config_core.specs.Forms.{form_of}
 use Rattle.decide.specs.inside.Under.{Under}
 use Rattle.decide.specs.inside.Asked.{IsAsking, Counts, IsLeft}
 use Rattle.decide.specs.inside.Searches.{Grew}

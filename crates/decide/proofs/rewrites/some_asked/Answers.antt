@@ -1,4 +1,4 @@
-use Rattle.std.proofs.Common.{◌≡◌, ◌∙◌, sym, subst, false, true, arith}
+use Rattle.std.proofs.Common.{◌∙◌, sym, subst, arith}
 use Rattle.decide.specs.inside.Given.{HasNode, HasSome}
 use Rattle.decide.proofs.SearchLemmas.{grew_refl, grew_trans}
 use Rattle.decide.proofs.Found.{goes_more, none_more, some_found}

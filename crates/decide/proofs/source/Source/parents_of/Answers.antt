@@ -1,5 +1,4 @@
-use Rattle.std.proofs.Common.{subst, ap, ◌∙◌, List, map}
-use Rattle.names.specs.declared.object.Object.{Object}
+use Rattle.std.proofs.Common.{ap, ◌∙◌, map}
 use Rattle.decide.specs.inside.Asked.{node_with}
 use Rattle.decide.proofs.Relations.{nodes_are}
 use Rattle.decide.proofs.source.Source.parents_of.Goals as goal

@@ -1,0 +1,35 @@
+use Rattle.std.proofs.Common.{None, refl}
+use Rattle.decide.proofs.Turns.{running_new, root_answer, root_sure}
+use Rattle.decide.proofs.deciding.is_member.Goals as goal
+
+pub turns-init : goal.turns-init
+turns-init g c = (
+  c.in_ok-root.ensures.running c.args.source.now.view.now c.args.source.now.user.now None c.requires.at
+      (running_new c.args.source.now.view.now c.args.source.now.user.now c.in_ok-search.search c.in_ok-search.ensures.opened c.in_ok-search.ensures.stacked),
+  c.in_ok-root.ensures.number,
+  c.requires.tells,
+)
+
+pub returns-then-is_sure : goal.returns-then-is_sure
+returns-then-is_sure g c = (
+  λ t. root_sure c.args.source.now.view.now c.args.source.now.user.now c.turns.search c.in_ok-root.root c.args.level c.args.node.now c.is_sure.result c.if-is_sure.true c.turns.invariant.0 c.turns.invariant.1 c.is_sure.ensures,
+  λ m. refl,
+)
+
+pub is_sure-requires-in-None : goal.is_sure-requires-in-None
+is_sure-requires-in-None g c = (c.in-None.ensures.numbers c.in_ok-root.root c.args.level c.args.node.now c.turns.invariant.1).1.0
+
+pub returns-in-None : goal.returns-in-None
+returns-in-None g c =
+    root_answer c.args.source.now.view.now c.args.source.now.user.now c.next.new.self c.in_ok-root.root c.args.level c.args.node.now c.is_sure-in-None.result
+    (c.in-None.ensures.same c.args.source.now.view.now c.args.source.now.user.now c.turns.invariant.0)
+    (c.in-None.ensures.numbers c.in_ok-root.root c.args.level c.args.node.now c.turns.invariant.1)
+    c.in-None.ensures.none
+    c.is_sure-in-None.ensures
+
+pub turns-preserved : goal.turns-preserved
+turns-preserved g c = (
+  c.in_ok-look-in-Some.ensures.running,
+  c.in_ok-look-in-Some.ensures.numbers c.in_ok-root.root c.args.level c.args.node.now (c.in-Some.ensures.numbers c.in_ok-root.root c.args.level c.args.node.now c.turns.invariant.1),
+  c.in_ok-look-in-Some.ensures.tells,
+)

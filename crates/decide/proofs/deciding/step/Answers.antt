@@ -1,0 +1,29 @@
+use Rattle.std.proofs.Common.{Some, subst}
+use Rattle.decide.specs.inside.Given.{RelationGave}
+use Rattle.decide.proofs.SearchLemmas.{grew_number}
+use Rattle.decide.proofs.Turns.{relation_given, relation_stuck, waiting_all_there}
+use Rattle.decide.proofs.deciding.step.Goals as goal
+
+pub give-requires-clause-there : goal.give-requires-clause-there
+give-requires-clause-there c = waiting_all_there c.args.source.now.view.now c.args.source.now.user.now c.relation_gives.new.search (Some c.args.asking.now.number) c.in_ok-relation_gives.ensures.goes_on.asking.running
+
+pub returns-in_ok-give-in-Yes-clause-running : goal.returns-in_ok-give-in-Yes-clause-running
+returns-in_ok-give-in-Yes-clause-running c =
+    c.in_ok-give-in-Yes.ensures.running c.args.source.now.view.now c.args.source.now.user.now
+    (relation_given c.args.source.now.view.now c.args.source.now.user.now c.relation_gives.new.search c.args.asking.now c.in_ok-relation_gives.ensures.goes_on.asking c.requires.plain
+    (subst (RelationGave c.args.source.now.view.now c.args.source.now.user.now c.relation_gives.new.search c.args.asking.now) c.in-Yes.is c.in_ok-relation_gives.ensures.found))
+    c.in_ok-relation_gives.ensures.goes_on.asking.running
+
+pub returns-in_ok-give-in-Yes-clause-numbers : goal.returns-in_ok-give-in-Yes-clause-numbers
+returns-in_ok-give-in-Yes-clause-numbers c = λ i k n x. c.in_ok-give-in-Yes.ensures.numbers i k n (grew_number c.args.search.now c.relation_gives.new.search i n k c.in_ok-relation_gives.ensures.goes_on.grew x)
+
+pub returns-in-No-clause-running : goal.returns-in-No-clause-running
+returns-in-No-clause-running c =
+    relation_stuck c.args.source.now.view.now c.args.source.now.user.now c.relation_gives.new.search c.args.asking.now c.in_ok-relation_gives.ensures.goes_on.asking c.requires.plain
+    (subst (RelationGave c.args.source.now.view.now c.args.source.now.user.now c.relation_gives.new.search c.args.asking.now) c.in-No.is c.in_ok-relation_gives.ensures.found)
+
+pub returns-in-No-clause-numbers : goal.returns-in-No-clause-numbers
+returns-in-No-clause-numbers c = λ i k n x. grew_number c.args.search.now c.relation_gives.new.search i n k c.in_ok-relation_gives.ensures.goes_on.grew x
+
+pub returns-in_ok-put_back-in-Later-clause-numbers : goal.returns-in_ok-put_back-in-Later-clause-numbers
+returns-in_ok-put_back-in-Later-clause-numbers c = λ i k n x. c.in_ok-put_back-in-Later.ensures.numbers i k n (grew_number c.args.search.now c.relation_gives.new.search i n k c.in_ok-relation_gives.ensures.goes_on.grew x)
