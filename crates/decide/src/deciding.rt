@@ -1,10 +1,10 @@
 //! The question.
-ghost use Rattle.std.specs.Prelude.{◌≡◌, ◌<◌, ◌^◌, ◌↔◌, ℕ, IfOk, IfErr, OnOk, IsTrue, length, true, Some, None};
+ghost use Rattle.std.specs.Prelude.{◌≡◌, ◌<◌, ◌^◌, ℕ, IfOk, IfErr, OnOk, length, true, Some, None};
 ghost use Rattle.std.proofs.Common.{suc};
 ghost use Rattle.meaning.specs.Admits.{has_relation};
 ghost use Rattle.meaning.specs.Config.{IsAt, rel_of};
-ghost use Rattle.meaning.specs.Membership.{IsMember};
 ghost use Rattle.names.specs.declared.node.Node.{Node as NodeValue};
+ghost use Rattle.decide.specs.Answers.{IsAnswer};
 ghost use Rattle.decide.specs.Causes.{CheckCause};
 ghost use Rattle.decide.specs.inside.Under.{Under};
 ghost use Rattle.decide.specs.inside.Searches.{IsNumberOf};
@@ -30,7 +30,7 @@ pub fn check_at<O: Oracle>(
     user: &Object,
 ) -> Result<bool, Refusal>
     requires { O.tells oracle.old view.now }
-    ensures ok { IfOk result (λ answer. IsTrue answer ↔ IsMember view.now user.now node.now) }
+    ensures ok { IfOk result (IsAnswer view.now user.now node.now) }
     ensures known { OnOk result (has_relation view.now.config (rel_of node.now) ≡ true) }
     ensures err { IfErr result (CheckCause view.now node.now) }
 {
@@ -60,7 +60,7 @@ fn is_member<O: Oracle>(
     requires tells { O.tells oracle.old source.now.view.now }
     requires at { IsAt source.now.view.now.config node.now level }
     requires small { level < 2 ^ 32 }
-    ensures { IfOk result (λ b. IsTrue b ↔ IsMember source.now.view.now source.now.user.now node.now) }
+    ensures { IfOk result (IsAnswer source.now.view.now source.now.user.now node.now) }
 {
     let mut search = Search::new(source.alloc, level)?;
     let root = search.number_of(node, level)?;

@@ -6,10 +6,12 @@
 
 mod asking;
 mod deciding;
+mod law;
 mod oracle;
 mod rewrites;
 mod search;
 mod source;
 
 pub use deciding::check_at;
+pub use law::there_is_one_answer;
 pub use oracle::{Nothing, Oracle};
