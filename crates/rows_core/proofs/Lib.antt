@@ -13,3 +13,5 @@ pub mod Placing
 pub mod Settling
 pub mod Steps
 pub mod Together
+pub mod Prefixes
+pub mod Going
