@@ -15,3 +15,4 @@ pub mod Steps
 pub mod Together
 pub mod Prefixes
 pub mod Going
+pub mod Rising

@@ -6,7 +6,7 @@ ghost use Rattle.names.specs.Order.{tuple_cmp};
 ghost use Rattle.names.specs.Spelling.{IsSubject};
 ghost use Rattle.rows_core.specs.Named.{object_in, node_in, objects_in, nodes_in, is_within, subject_from};
 ghost use Rattle.rows_core.specs.Spelled.{subject_in};
-ghost use Rattle.rows_core.specs.Versions.{keys, is_of, tuples_at};
+ghost use Rattle.rows_core.specs.Versions.{AreRising, keys, is_of, tuples_at};
 
 use crate::tuple_ref::{after, cut, cut_last, name_of, namespace_text, node_text, object_of};
 use crate::version_map::VersionMap;
@@ -21,6 +21,7 @@ impl VersionMap {
         rev: u64,
         node: &Node,
     ) -> Result<Vec<Object>, AllocError>
+        requires { AreRising self.now }
         ensures found { IfOk result (λ v. v.items ≡ objects_in (filter (is_of node.now) (tuples_at self.now rev))) }
         ensures ordered { IfOk result (λ v. IsStrictlySortedBy tuple_cmp (keys self.now)) }
     {
@@ -48,6 +49,7 @@ impl VersionMap {
         namespace: &Name,
         nodes: &mut Vec<Node>,
     ) -> Result<(), AllocError>
+        requires { AreRising self.now }
         ensures found { OnOk result (nodes.new.items ≡ nodes.old.items ++ nodes_in (filter (is_within node.now namespace.now) (tuples_at self.now rev))) }
         ensures ordered { OnOk result (IsStrictlySortedBy tuple_cmp (keys self.now)) }
     {

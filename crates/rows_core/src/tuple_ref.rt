@@ -167,10 +167,10 @@ impl Scratch {
     pub(crate) fn of_user(node: &Node, user: &Object) -> Scratch
         ensures { result ≡ user_tuple node.now user.now }
     {
-        let mut text = ArrayString::new();
-        push_node(&mut text, node);
-        push_object(&mut text, user);
-        Scratch { text }
+        let mut parts = ArrayString::new();
+        push_node(&mut parts, node);
+        push_object(&mut parts, user);
+        Scratch { text: parts }
     }
 
     pub(crate) fn tuple_ref(&self) -> TupleRef<'_>
@@ -273,11 +273,11 @@ pub(crate) fn namespace_text(
     ensures is { IfOk result (λ b. IsNode node.now) }
     ensures name { IfOk result (λ b. IsTrue (is_name namespace.now)) }
 {
-    let mut text = ArrayString::new();
-    push_node(&mut text, node);
-    push_name(&mut text, namespace);
-    text.push_str(" ");
-    BoxedStr::from_str(alloc, text.as_str())
+    let mut parts = ArrayString::new();
+    push_node(&mut parts, node);
+    push_name(&mut parts, namespace);
+    parts.push_str(" ");
+    BoxedStr::from_str(alloc, parts.as_str())
 }
 
 /// What is after the first text, where the second begins with it.

@@ -7,8 +7,13 @@ use Rattle.rows_core.specs.Named.{nodes_in, is_within}
 use Rattle.rows_core.proofs.Listing.{items_by, on_ok}
 use Rattle.rows.specs.Retained.{Retained, snap_at}
 use Rattle.rows.specs.Representation.{as_retained}
-use Rattle.rows.proofs.Retaining.{stands_at}
+use Rattle.rows.proofs.Retaining.{stands_at, rising}
 use Rattle.rows.proofs.rows.Rows.usersets_in.Goals as goal
+
+pub usersets_in-requires : goal.usersets_in-requires
+usersets_in-requires c =
+    let s = c.self.inside in
+    rising (as_retained s.number s.floor s.config s.tuples s.commits.items) s.tuples c.self.invariant.versions
 
 pub returns : goal.returns
 returns c =

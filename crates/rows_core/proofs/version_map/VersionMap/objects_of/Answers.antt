@@ -17,7 +17,7 @@ use Rattle.rows_core.specs.Named.{object_in}
 use Rattle.rows_core.specs.Texts.{AreSpelled}
 use Rattle.rows_core.proofs.Decoding.{sorted_view}
 use Rattle.rows_core.proofs.Prefixes.{node_begins, subject_after}
-use Rattle.rows_core.proofs.Going.{Left, left_first, left_none, left_past, left_more, left_late}
+use Rattle.rows_core.proofs.Going.{Left, left_first, left_none, left_past, left_more, left_late, first_rises, joined_starts}
 use Rattle.rows_core.proofs.version_map.VersionMap.objects_of.Goals as goal
 
 pub loop-text-init : goal.loop-text-init
@@ -26,7 +26,7 @@ loop-text-init c =
     let h : Tuple → Option Object = λ t. object_in t.subject in
     let p : List ℕ = spelled_node node in
     subst (λ (os : List Object). Left h p (is_of node) c.args.rev c.args.self.now [] os c.into_iter-text-iterator.result) (sym c.new-objects.ensures.items)
-    (left_first h p (is_of node) (node_begins node c.in_ok-least.ensures.is) c.args.rev c.in_ok-least.least c.in_ok-least.ensures.text c.texts-texts.result.now.entries c.texts-texts.ensures.spelled c.range-text-items.ensures.ordered c.args.self.now c.texts-texts.ensures.entries c.into_iter-text-iterator.result (sym (c.into_iter-text-iterator.ensures.into_iter_gives ∙ c.range-text-items.ensures.between tt)) [])
+    (left_first h p (is_of node) (node_begins node c.in_ok-least.ensures.is) c.args.rev c.in_ok-least.least c.in_ok-least.ensures.text c.texts-texts.result.now.entries c.texts-texts.ensures.spelled c.range-text-items.ensures.ordered c.args.self.now c.texts-texts.ensures.entries c.requires c.into_iter-text-iterator.result (sym (c.into_iter-text-iterator.ensures.into_iter_gives ∙ c.range-text-items.ensures.between tt)) [])
 
 pub returns-in_default-clause-ordered : goal.returns-in_default-clause-ordered
 returns-in_default-clause-ordered c = sorted_view c.texts-texts.result.now.entries c.args.self.now c.texts-texts.ensures.entries c.texts-texts.ensures.spelled c.range-text-items.ensures.ordered
@@ -41,6 +41,14 @@ returns-in_default-clause-found c =
     sym (ap (λ (s : List ℕ). starts_with eqb s c.as_str.result.now) c.as_str-in-loop-text.ensures.value ∙ ap (starts_with eqb (boxed_str_bytes e.0)) (c.as_str.ensures.value ∙ c.in_ok-least.ensures.text)) ∙ c.in_default.ensures.none in
     left_past h p (is_of node) (node_begins node c.in_ok-least.ensures.is) c.args.rev c.args.self.now [] c.loop-text.objects.items c.loop-text.text-iterator c.loop-text.invariant e c.next.new.self c.in-Some.ensures.steps past
     (sorted_view c.texts-texts.result.now.entries c.args.self.now c.texts-texts.ensures.entries c.texts-texts.ensures.spelled c.range-text-items.ensures.ordered)
+
+pub stands_at-requires : goal.stands_at-requires
+stands_at-requires c =
+    let node = c.args.node.now in
+    let h : Tuple → Option Object = λ t. object_in t.subject in
+    let p : List ℕ = spelled_node node in
+    let e : BoxedStr Global × List Version = (c.in-Some.text.now, c.in-Some.versions.now) in
+    first_rises h p (is_of node) (node_begins node c.in_ok-least.ensures.is) c.args.rev c.args.self.now [] c.loop-text.objects.items c.loop-text.text-iterator c.loop-text.invariant e c.next.new.self c.in-Some.ensures.steps
 
 pub push_object-requires : goal.push_object-requires
 push_object-requires c =
@@ -58,7 +66,7 @@ loop-text-preserved-in-Continue-branch-2 c =
     let p : List ℕ = spelled_node node in
     let e : BoxedStr Global × List Version = (c.in-Some.text.now, c.in-Some.versions.now) in
     let reads : boxed_str_bytes e.0 ≡ p ++ c.in-Some-after.subject.now = sym c.as_str-in-loop-text.ensures.value ∙ c.in-Some-after.ensures.some ∙ ap (λ (l : List ℕ). l ++ c.in-Some-after.subject.now) (c.as_str.ensures.value ∙ c.in_ok-least.ensures.text) in
-    left_more h p (is_of node) (node_begins node c.in_ok-least.ensures.is) c.args.rev c.args.self.now [] c.loop-text.objects.items c.loop-text.text-iterator c.loop-text.invariant e c.next.new.self c.in-Some.ensures.steps c.in-Some-after.subject.now reads (sym c.stands_at.ensures ∙ c.if-stands_at.true) c.push_object.new.objects.items
+    left_more h p (is_of node) (node_begins node c.in_ok-least.ensures.is) c.args.rev c.args.self.now [] c.loop-text.objects.items c.loop-text.text-iterator c.loop-text.invariant e c.next.new.self c.in-Some.ensures.steps (joined_starts (boxed_str_bytes e.0) p c.in-Some-after.subject.now reads) (sym c.stands_at.ensures ∙ c.if-stands_at.true) c.push_object.new.objects.items
     (c.in_ok-push_object.ensures ∙ ap (λ (s : Subject). c.loop-text.objects.items ++ option_to_list (object_in s)) (sym (subject_after node c.in_ok-least.ensures.is (boxed_str_bytes e.0) c.in-Some-after.subject.now (reads))))
 
 pub loop-text-preserved : goal.loop-text-preserved

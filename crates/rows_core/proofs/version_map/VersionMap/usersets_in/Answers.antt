@@ -17,7 +17,7 @@ use Rattle.rows_core.specs.Named.{node_in, is_within}
 use Rattle.rows_core.specs.Texts.{AreSpelled}
 use Rattle.rows_core.proofs.Decoding.{sorted_view}
 use Rattle.rows_core.proofs.Prefixes.{namespace_begins, subject_within}
-use Rattle.rows_core.proofs.Going.{Left, left_first, left_none, left_past, left_more, left_late}
+use Rattle.rows_core.proofs.Going.{Left, left_first, left_none, left_past, left_more, left_late, first_rises, joined_starts}
 use Rattle.rows_core.proofs.version_map.VersionMap.usersets_in.Goals as goal
 
 pub loop-text-init : goal.loop-text-init
@@ -25,7 +25,7 @@ loop-text-init c =
     let node = c.args.node.now in
     let h : Tuple → Option Node = λ t. node_in t.subject in
     let p : List ℕ = spelled_node node ++ (c.args.namespace.now ++ 32 ∷ []) in
-    left_first h p (is_within node c.args.namespace.now) (namespace_begins node c.in_ok-least.ensures.is c.args.namespace.now c.in_ok-least.ensures.name) c.args.rev c.in_ok-least.least c.in_ok-least.ensures.text c.texts-texts.result.now.entries c.texts-texts.ensures.spelled c.range-text-items.ensures.ordered c.args.self.now c.texts-texts.ensures.entries c.into_iter-text-iterator.result (sym (c.into_iter-text-iterator.ensures.into_iter_gives ∙ c.range-text-items.ensures.between tt)) c.args.nodes.now.items
+    left_first h p (is_within node c.args.namespace.now) (namespace_begins node c.in_ok-least.ensures.is c.args.namespace.now c.in_ok-least.ensures.name) c.args.rev c.in_ok-least.least c.in_ok-least.ensures.text c.texts-texts.result.now.entries c.texts-texts.ensures.spelled c.range-text-items.ensures.ordered c.args.self.now c.texts-texts.ensures.entries c.requires c.into_iter-text-iterator.result (sym (c.into_iter-text-iterator.ensures.into_iter_gives ∙ c.range-text-items.ensures.between tt)) c.args.nodes.now.items
 
 pub returns-in_default-clause-ordered : goal.returns-in_default-clause-ordered
 returns-in_default-clause-ordered c = sorted_view c.texts-texts.result.now.entries c.args.self.now c.texts-texts.ensures.entries c.texts-texts.ensures.spelled c.range-text-items.ensures.ordered
@@ -40,6 +40,14 @@ returns-in_default-clause-found c =
     sym (ap (λ (s : List ℕ). starts_with eqb s c.as_str.result.now) c.as_str-in-loop-text.ensures.value ∙ ap (starts_with eqb (boxed_str_bytes e.0)) (c.as_str.ensures.value ∙ c.in_ok-least.ensures.text)) ∙ c.in_default.ensures.none in
     left_past h p (is_within node c.args.namespace.now) (namespace_begins node c.in_ok-least.ensures.is c.args.namespace.now c.in_ok-least.ensures.name) c.args.rev c.args.self.now c.args.nodes.now.items c.loop-text.nodes.items c.loop-text.text-iterator c.loop-text.invariant e c.next.new.self c.in-Some.ensures.steps past
     (sorted_view c.texts-texts.result.now.entries c.args.self.now c.texts-texts.ensures.entries c.texts-texts.ensures.spelled c.range-text-items.ensures.ordered)
+
+pub stands_at-requires : goal.stands_at-requires
+stands_at-requires c =
+    let node = c.args.node.now in
+    let h : Tuple → Option Node = λ t. node_in t.subject in
+    let p : List ℕ = spelled_node node ++ (c.args.namespace.now ++ 32 ∷ []) in
+    let e : BoxedStr Global × List Version = (c.in-Some.text.now, c.in-Some.versions.now) in
+    first_rises h p (is_within node c.args.namespace.now) (namespace_begins node c.in_ok-least.ensures.is c.args.namespace.now c.in_ok-least.ensures.name) c.args.rev c.args.self.now c.args.nodes.now.items c.loop-text.nodes.items c.loop-text.text-iterator c.loop-text.invariant e c.next.new.self c.in-Some.ensures.steps
 
 pub push_node-requires : goal.push_node-requires
 push_node-requires c =
@@ -57,7 +65,7 @@ loop-text-preserved-in-Continue-branch-2 c =
     let p : List ℕ = spelled_node node ++ (c.args.namespace.now ++ 32 ∷ []) in
     let e : BoxedStr Global × List Version = (c.in-Some.text.now, c.in-Some.versions.now) in
     let reads : boxed_str_bytes e.0 ≡ p ++ c.in-Some-after.parts.now = sym c.as_str-in-loop-text.ensures.value ∙ c.in-Some-after.ensures.some ∙ ap (λ (l : List ℕ). l ++ c.in-Some-after.parts.now) (c.as_str.ensures.value ∙ c.in_ok-least.ensures.text) in
-    left_more h p (is_within node c.args.namespace.now) (namespace_begins node c.in_ok-least.ensures.is c.args.namespace.now c.in_ok-least.ensures.name) c.args.rev c.args.self.now c.args.nodes.now.items c.loop-text.nodes.items c.loop-text.text-iterator c.loop-text.invariant e c.next.new.self c.in-Some.ensures.steps c.in-Some-after.parts.now reads (sym c.stands_at.ensures ∙ c.if-stands_at.true) c.push_node.new.nodes.items
+    left_more h p (is_within node c.args.namespace.now) (namespace_begins node c.in_ok-least.ensures.is c.args.namespace.now c.in_ok-least.ensures.name) c.args.rev c.args.self.now c.args.nodes.now.items c.loop-text.nodes.items c.loop-text.text-iterator c.loop-text.invariant e c.next.new.self c.in-Some.ensures.steps (joined_starts (boxed_str_bytes e.0) p c.in-Some-after.parts.now reads) (sym c.stands_at.ensures ∙ c.if-stands_at.true) c.push_node.new.nodes.items
     (c.in_ok-push_node.ensures ∙ ap (λ (s : Subject). c.loop-text.nodes.items ++ option_to_list (node_in s)) (sym (subject_within node c.in_ok-least.ensures.is c.args.namespace.now c.in_ok-least.ensures.name (boxed_str_bytes e.0) c.in-Some-after.parts.now (reads))))
 
 pub loop-text-preserved : goal.loop-text-preserved
