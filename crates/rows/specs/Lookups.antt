@@ -1,5 +1,5 @@
 -- The namespaces of a configuration's relations.
-use Rattle.std.specs.Prelude.{◌≡◌, ℕ, ◌+◌, ◌<◌, List, slice_index_or}
+use Rattle.std.specs.Prelude.{◌≡◌, ℕ, ◌+◌, List, slice_index_or}
 use Rattle.config_core.specs.declared.relation.Relation.{Relation}
 
 -- the relation before the one at this place is of its namespace

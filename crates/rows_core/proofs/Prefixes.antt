@@ -1,6 +1,6 @@
 -- What the texts of a node's tuples begin with, and those of them whose subjects are of one namespace. What is after it.
-use Rattle.std.proofs.Common.{◌≡◌, ℕ, ◌++◌, Bool, true, false, List, [], ◌∷◌, length, drop, refl, sym, ap, ◌∙◌, append_assoc, IsTrue}
-use Rattle.std.specs.Prelude.{◌&&◌, nat_eq, Option, Some, None, MatchOption}
+use Rattle.std.proofs.Common.{◌≡◌, ℕ, ◌++◌, Bool, true, false, List, [], ◌∷◌, refl, sym, ap, ◌∙◌, append_assoc, IsTrue}
+use Rattle.std.specs.Prelude.{◌&&◌, nat_eq}
 use Rattle.std.specs.List.{starts_with}
 use Rattle.std.specs.Bool.{one_answer}
 use Rattle.std.specs.Cmp.Lexicographic.{pointwise, same_text, nat_list_eq_equiv}
@@ -8,11 +8,10 @@ use Rattle.std.proofs.Math.Dec.{eqb}
 use Rattle.std.proofs.lemmas.Bool.Decides.{Decides-eqb}
 use Rattle.std.proofs.lemmas.Slice.Eq.{starts_is}
 use Rattle.names.specs.Names.{is_name}
-use Rattle.names.specs.Spelling.{IsNode, IsSubject}
+use Rattle.names.specs.Spelling.{IsNode}
 use Rattle.names.specs.declared.node.Node.{Node}
 use Rattle.names.specs.declared.subject.Subject.{Subject}
-use Rattle.names.specs.declared.tuple.Tuple.{Tuple}
-use Rattle.rows_core.specs.Spelled.{spelled_node, spelled_relation, spelled_subject, before_space, last_part, subject_in, tuple_of, IsSpelling}
+use Rattle.rows_core.specs.Spelled.{spelled_node, spelled_relation, spelled_subject, subject_in, tuple_of, IsSpelling}
 use Rattle.rows_core.specs.Versions.{is_of}
 use Rattle.rows_core.specs.Named.{is_within, subject_from}
 use Rattle.rows_core.proofs.Joining.{name_above, above_lacks, before_joined, after_joined}

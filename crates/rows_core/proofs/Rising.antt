@@ -1,5 +1,5 @@
 -- The versions at each text are in the order of their revisions.
-use Rattle.std.proofs.Common.{◌≡◌, List, [], ◌∷◌, ap, sym, subst}
+use Rattle.std.proofs.Common.{◌≡◌, [], ◌∷◌, ap, sym, subst}
 use Rattle.std.specs.Prelude.{Bool, true, false, cond}
 use Rattle.std.specs.Box.{boxed_str_bytes}
 use Rattle.std.specs.Map.{keys_of}

@@ -1,5 +1,5 @@
 -- What a node's tuples name: objects, and nodes whose members they name.
-use Rattle.std.specs.Prelude.{ℕ, ◌&&◌, List, Bool, Option, Some, None, filter, nat_eq}
+use Rattle.std.specs.Prelude.{ℕ, ◌&&◌, List, Bool, Option, Some, None, nat_eq}
 use Rattle.std.specs.List.{filter_map}
 use Rattle.std.specs.Option.{option_map}
 use Rattle.std.specs.Cmp.Lexicographic.{pointwise}

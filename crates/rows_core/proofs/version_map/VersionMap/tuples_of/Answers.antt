@@ -1,4 +1,4 @@
-use Rattle.std.proofs.Common.{◌≡◌, ℕ, ◌++◌, List, [], ap, sym, subst, ◌∙◌}
+use Rattle.std.proofs.Common.{◌≡◌, ℕ, List, [], ap, sym, subst, ◌∙◌}
 use Rattle.std.specs.Prelude.{Some, true, false, filter}
 use Rattle.std.specs.Box.{boxed_str_bytes}
 use Rattle.std.specs.List.{starts_with}

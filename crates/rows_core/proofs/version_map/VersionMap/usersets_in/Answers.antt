@@ -12,12 +12,11 @@ use Rattle.names.specs.declared.subject.Subject.{Subject}
 use Rattle.names.specs.declared.tuple.Tuple.{Tuple}
 use Rattle.rows_core.specs.declared.version.Version.{Version}
 use Rattle.rows_core.specs.Spelled.{spelled_node}
-use Rattle.rows_core.specs.Versions.{is_of}
 use Rattle.rows_core.specs.Named.{node_in, is_within}
 use Rattle.rows_core.specs.Texts.{AreSpelled}
 use Rattle.rows_core.proofs.Decoding.{sorted_view}
 use Rattle.rows_core.proofs.Prefixes.{namespace_begins, subject_within}
-use Rattle.rows_core.proofs.Going.{Left, left_first, left_none, left_past, left_more, left_late, first_rises, joined_starts}
+use Rattle.rows_core.proofs.Going.{left_first, left_none, left_past, left_more, left_late, first_rises, joined_starts}
 use Rattle.rows_core.proofs.version_map.VersionMap.usersets_in.Goals as goal
 
 pub loop-text-init : goal.loop-text-init
