@@ -189,7 +189,8 @@ impl Rows {
         node: &Node,
     ) -> Result<Vec<Object>, AllocError>
         requires { IsRetained self.now rev }
-        ensures { IfOk result (λ v. v.items ≡ objects_in (filter (is_of node.now) (set.items (snap_at self.now rev).tuples))) }
+        ensures { IfOk result
+            (λ v. v.items ≡ objects_in (filter (is_of node.now) (set.items (snap_at self.now rev).tuples))) }
     {
         self.tuples.objects_of(alloc, rev, node)
     }
@@ -204,7 +205,8 @@ impl Rows {
         nodes: &mut Vec<Node>,
     ) -> Result<(), AllocError>
         requires { IsRetained self.now rev }
-        ensures { OnOk result (nodes.new.items ≡ nodes.old.items ++ nodes_in (filter (is_within node.now namespace.now) (set.items (snap_at self.now rev).tuples))) }
+        ensures { OnOk result (nodes.new.items ≡ nodes.old.items
+            ++ nodes_in (filter (is_within node.now namespace.now) (set.items (snap_at self.now rev).tuples))) }
     {
         self.tuples.usersets_in(alloc, rev, node, namespace, nodes)
     }

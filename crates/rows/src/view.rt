@@ -79,7 +79,8 @@ impl<'a> View<'a> {
     /// order is promised.
     pub fn usersets_of(&self, alloc: Global, node: &Node) -> Result<Vec<Node>, AllocError>
         ensures only { IfOk result (λ v. (m : Node) → Contains v.items m → HasSet self.now node.now m) }
-        ensures all { IfOk result (λ v. (m : Node) → HasSet self.now node.now m → Has self.now.config (rel_of m) → Contains v.items m) }
+        ensures all { IfOk result
+            (λ v. (m : Node) → HasSet self.now node.now m → Has self.now.config (rel_of m) → Contains v.items m) }
     {
         let relations = self.config().relations();
         let mut nodes = Vec::new(alloc);

@@ -50,7 +50,8 @@ impl VersionMap {
         nodes: &mut Vec<Node>,
     ) -> Result<(), AllocError>
         requires { AreRising self.now }
-        ensures found { OnOk result (nodes.new.items ≡ nodes.old.items ++ nodes_in (filter (is_within node.now namespace.now) (tuples_at self.now rev))) }
+        ensures found { OnOk result (nodes.new.items ≡ nodes.old.items
+            ++ nodes_in (filter (is_within node.now namespace.now) (tuples_at self.now rev))) }
         ensures ordered { OnOk result (IsStrictlySortedBy tuple_cmp (keys self.now)) }
     {
         let texts = self.texts();
@@ -70,7 +71,8 @@ impl VersionMap {
 /// Adds the object that the subject's text spells, where it is one.
 fn push_object(alloc: Global, objects: &mut Vec<Object>, subject: &str) -> Result<(), AllocError>
     requires { IsSubject (subject_in subject.now) }
-    ensures { OnOk result (objects.new.items ≡ objects.old.items ++ option_to_list (object_in (subject_in subject.now))) }
+    ensures { OnOk result (objects.new.items ≡ objects.old.items
+        ++ option_to_list (object_in (subject_in subject.now))) }
 {
     let (namespace, parts) = cut(subject);
     if let (id, None) = cut_last(parts) {
@@ -87,7 +89,8 @@ fn push_node(
     parts: &str,
 ) -> Result<(), AllocError>
     requires { IsSubject (subject_from namespace.now parts.now) }
-    ensures { OnOk result (nodes.new.items ≡ nodes.old.items ++ option_to_list (node_in (subject_from namespace.now parts.now))) }
+    ensures { OnOk result (nodes.new.items ≡ nodes.old.items
+        ++ option_to_list (node_in (subject_from namespace.now parts.now))) }
 {
     if let (id, Some(relation)) = cut_last(parts) {
         let object = object_of(alloc, namespace.as_str(), id)?;
