@@ -1,23 +1,27 @@
 -- What the tuples of a set name.
-use Rattle.std.proofs.Common.{◌≡◌, ℕ, suc, ◌+◌, ◌<◌, ◌++◌, length, take, get_or, arith, List, [], ◌∷◌, Bool, true, false, Option, Some, None, refl, ap, sym, subst, ◌∙◌, inl, inr, ⊎_elim, true≢false}
-use Rattle.std.specs.Prelude.{◌↔◌, ◌⊎◌, cond, filter, Contains}
+use Rattle.std.proofs.Common.{◌≡◌, ℕ, suc, ◌+◌, ◌<◌, ◌++◌, length, take, get_or, length-take, get_or-take, arith, List, [], ◌∷◌, Bool, true, false, Option, Some, None, refl, ap, sym, subst, ◌∙◌, inl, inr, ⊎_elim, true≢false}
+use Rattle.std.specs.Prelude.{◌⊎◌, ◌&&◌, cond, filter, map, nat_eq, Contains}
+use Rattle.std.specs.Cmp.Lexicographic.{pointwise, nat_list_eq_equiv}
 use Rattle.std.specs.List.{filter_map, cons_option}
-use Rattle.std.specs.Option.{option_map, option_to_list}
+use Rattle.std.specs.Option.{option_map}
 use Rattle.std.proofs.Math.Seq.{take-suc}
-use Rattle.std.proofs.lemmas.List.Elements.{filter_map-append}
+use Rattle.std.proofs.lemmas.List.Elements.{Contains-get_or, Contains-push_cases, Contains-append_left, Contains-append_right, Contains-append_cases}
 use Rattle.std.specs.Cmp.{eq_by_cmp_equiv}
-use Rattle.std.specs.Ordering.{eq_by_cmp}
 use Rattle.std.proofs.lemmas.Map.Views.{tells_apart}
-use Rattle.names.specs.Order.{node_cmp}
 use Rattle.names.specs.declared.object.Object.{Object}
 use Rattle.names.specs.declared.node.Node.{Node}
 use Rattle.names.specs.declared.subject.Subject.{Subject}
 use Rattle.names.specs.declared.tuple.Tuple.{Tuple}
+use Rattle.names.specs.declared.relation.RelationName.{RelationName}
+use Rattle.config_core.specs.declared.relation.Relation.{Relation}
+use Rattle.config_core.specs.Forms.{defined_of}
+use Rattle.meaning.specs.Config.{Configured, Defined, Has, rel_of}
 use Rattle.meaning.specs.Snap.{one, set_of}
-use Rattle.meaning.proofs.Lists.{contains_here, contains_there, contains_cases, contains_none}
+use Rattle.meaning.proofs.Lists.{contains_here, contains_there, contains_cases, contains_none, contains_map_back}
 use Rattle.meaning.proofs.TupleSets.{exact_nodes, nodes_total}
 use Rattle.rows_core.specs.Versions.{is_of}
-use Rattle.rows_core.specs.Named.{user_tuple, without, object_in, node_in, objects_in, nodes_in}
+use Rattle.rows_core.specs.Named.{user_tuple, without, object_in, node_in, objects_in, nodes_in, is_within}
+use Rattle.rows.specs.Lookups.{IsRepeated}
 
 -- ---- what passes a test
 
@@ -68,20 +72,6 @@ given_contains h [] x y c is = absurd (contains_none x c)
 given_contains h (z ∷ zs) x y c is =
     ⊎_elim (λ e. gives_first (h z) (filter_map h zs) y (ap h e ∙ is)) (λ d. gives_later (h z) (filter_map h zs) y (given_contains h zs x y d is)) (contains_cases z x zs c)
 
-single : {B : Type 0} (o : Option B) → cons_option o [] ≡ option_to_list o
-single (Some b) = refl
-single None = refl
-
--- one more
-pub given_more : {A B : Type 0} (h : A → Option B) (xs : List A) (i : ℕ) (x : A) → i < length xs → x ≡ get_or xs i x → filter_map h (take i xs) ++ option_to_list (h x) ≡ filter_map h (take (i + 1) xs)
-given_more {A} {B} h xs i x small is =
-    let next : suc i ≡ i + 1 = omega arith in
-    ap (λ (ys : List B). filter_map h (take i xs) ++ ys) (sym (single (h x)))
-    ∙ sym (filter_map-append h (take i xs) (x ∷ []))
-    ∙ ap (λ (z : A). filter_map h (take i xs ++ z ∷ [])) is
-    ∙ ap (filter_map h) (sym (take-suc xs i x small))
-    ∙ ap (λ (n : ℕ). filter_map h (take n xs)) next
-
 -- ---- what a tuple names
 
 pub of_node : (n : Node) (t : Tuple) → is_of n t ≡ true → t.node ≡ n
@@ -130,3 +120,87 @@ module _ (n : Node) (test : Tuple → Bool) (ts : List Tuple) where
   pub node_named : (m : Node) → test (record { node = n; subject = set_of m }) ≡ true → Contains ts (record { node = n; subject = set_of m }) → Contains (nodes_in (filter test ts)) m
   node_named m passes c =
       given_contains (λ (t : Tuple). node_in t.subject) (filter test ts) (record { node = n; subject = set_of m }) m (kept_contains test ts (record { node = n; subject = set_of m }) c passes) refl
+
+-- ---- the namespaces of relations
+
+pub within_of : (n : Node) (namespace : List ℕ) (t : Tuple) → is_within n namespace t ≡ true → t.node ≡ n
+within_of n namespace t e = of_node n t (first (is_of n t) (pointwise nat_eq t.subject.object.namespace namespace) e)
+  where
+    first : (a b : Bool) → (a && b) ≡ true → a ≡ true
+    first true b h = refl
+    first false b h = cc
+
+pub is_within_itself : (n m : Node) (namespace : List ℕ) → namespace ≡ m.object.namespace → is_within n namespace (record { node = n; subject = set_of m }) ≡ true
+is_within_itself n m namespace same =
+    ap (λ b. b && pointwise nat_eq m.object.namespace namespace) (is_of_itself n (set_of m))
+    ∙ ap (pointwise nat_eq m.object.namespace) same
+    ∙ nat_list_eq_equiv.refl m.object.namespace
+
+-- the namespace is that of one of the relations
+pub record IsOneOf (relations : List Relation) (namespace : List ℕ) : Type 0 where
+  pub relation : Relation
+  pub among : Contains relations relation
+  pub same : relation.name.namespace ≡ namespace
+
+pub one_of_none : (relations : List Relation) (namespace : List ℕ) → IsOneOf (take 0 relations) namespace → ⊥
+one_of_none [] namespace one = contains_none one.relation one.among
+one_of_none (r ∷ rs) namespace one = contains_none one.relation one.among
+
+-- one of those up to a place is before it, or it is the one there
+pub one_of_more : (relations : List Relation) (i : ℕ) (d : Relation) → i < length relations → (namespace : List ℕ) → IsOneOf (take (i + 1) relations) namespace
+    → IsOneOf (take i relations) namespace ⊎ ((get_or relations i d).name.namespace ≡ namespace)
+one_of_more relations i d small namespace one =
+    let next : i + 1 ≡ suc i = omega arith in
+    let front : take (i + 1) relations ≡ take i relations ++ get_or relations i d ∷ [] = ap (λ (n : ℕ). take n relations) next ∙ take-suc relations i d small in
+    ⊎_elim (λ among. inl (record { relation = one.relation; among = among; same = one.same })) (λ e. inr (ap (λ (x : Relation). x.name.namespace) e ∙ one.same))
+    (Contains-push_cases (take i relations) (get_or relations i d) one.relation (subst (λ (rs : List Relation). Contains rs one.relation) front one.among))
+
+-- a repeated one is one of those before
+pub one_of_repeated : (relations : List Relation) (i : ℕ) (d : Relation) → i < length relations → IsRepeated relations i → IsOneOf (take i relations) (get_or relations i d).name.namespace
+one_of_repeated relations i d small repeated =
+    let k = repeated.0 in
+    let below : k < i = omega (arith, repeated.1) in
+    let long : k < length (take i relations) = simp length-take (omega (arith, below, small)) in
+    record {
+      relation = get_or relations k d;
+      among = subst (Contains (take i relations)) (rw get_or-take refl) (Contains-get_or (take i relations) k d long);
+      same = repeated.2 d;
+    }
+
+-- a relation of the configuration is one of those
+pub one_of_all : (relations : List Relation) (config : Configured) → map defined_of relations ≡ config.relations → (m : Node) → Has config (rel_of m) → IsOneOf relations m.object.namespace
+one_of_all relations config is m has =
+    let back = contains_map_back defined_of relations has.0 (subst (λ (ds : List Defined). Contains ds has.0) (sym is) has.1.0) in
+    record { relation = back.0; among = back.1; same = ap (λ (d : Defined). d.rel.namespace) back.2 ∙ ap (λ (r : RelationName). r.namespace) has.1.1 }
+
+-- ---- one namespace more
+
+module _ (n : Node) (ts : List Tuple) (relations : List Relation) (i : ℕ) (small : i < length relations) (old now : List Node)
+    (only : (m : Node) → Contains old m → Contains ts (record { node = n; subject = set_of m }))
+    (all : (m : Node) → Contains ts (record { node = n; subject = set_of m }) → IsOneOf (take i relations) m.object.namespace → Contains old m)
+  where
+    module _ (d : Relation) (adds : now ≡ old ++ nodes_in (filter (is_within n (get_or relations i d).name.namespace) ts)) where
+      pub more_only : (m : Node) → Contains now m → Contains ts (record { node = n; subject = set_of m })
+      more_only m c =
+          let namespace = (get_or relations i d).name.namespace in
+          ⊎_elim (only m) (named_node n (is_within n namespace) ts (within_of n namespace) m)
+          (Contains-append_cases old (nodes_in (filter (is_within n namespace) ts)) m (subst (λ (ms : List Node). Contains ms m) adds c))
+
+      pub more_all : (m : Node) → Contains ts (record { node = n; subject = set_of m }) → IsOneOf (take (i + 1) relations) m.object.namespace → Contains now m
+      more_all m has one =
+          let namespace = (get_or relations i d).name.namespace in
+          let added = nodes_in (filter (is_within n namespace) ts) in
+          subst (λ (ms : List Node). Contains ms m) (sym adds)
+          (⊎_elim (λ before. Contains-append_left old added m (all m has before))
+          (λ same. Contains-append_right old added m (node_named n (is_within n namespace) ts m (is_within_itself n m namespace same) has))
+          (one_of_more relations i d small m.object.namespace one))
+
+    -- a namespace that was there before adds nothing
+    pub same_only : now ≡ old → (m : Node) → Contains now m → Contains ts (record { node = n; subject = set_of m })
+    same_only same m c = only m (subst (λ (ms : List Node). Contains ms m) same c)
+
+    pub same_all : now ≡ old → IsRepeated relations i → (m : Node) → Contains ts (record { node = n; subject = set_of m }) → IsOneOf (take (i + 1) relations) m.object.namespace → Contains now m
+    same_all same repeated m has one =
+        subst (λ (ms : List Node). Contains ms m) (sym same)
+        (⊎_elim (all m has) (λ e. all m has (subst (IsOneOf (take i relations)) e (one_of_repeated relations i one.relation small repeated)))
+        (one_of_more relations i one.relation small m.object.namespace one))

@@ -3,4 +3,5 @@ pub mod Follows
 pub mod Loads
 pub mod Representation
 pub mod Judging
+pub mod Lookups
 pub mod inside

@@ -7,7 +7,6 @@ mod config_at;
 mod events;
 mod law;
 mod loaded;
-mod named;
 mod refusing;
 mod rows;
 mod verdict;

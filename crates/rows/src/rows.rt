@@ -5,7 +5,7 @@ ghost use Rattle.names.specs.declared.limits.TheConstants.{MAX_REV, MAX_ROWS};
 ghost use Rattle.names.specs.declared.tuple.Tuple.{Tuple};
 ghost use Rattle.meaning.specs.TupleSet as set;
 ghost use Rattle.rows.specs.Retained.{newest, empty_store, IsRetained, snap_at, spans_of, newest_of, with_commit, without_newest, after_trim, HasRoom, commits_between, is_touched_after, last_config};
-ghost use Rattle.rows_core.specs.Named.{user_tuple};
+ghost use Rattle.rows_core.specs.Named.{user_tuple, objects_in, nodes_in, is_within};
 ghost use Rattle.rows_core.specs.Versions.{is_of, refuses};
 ghost use Rattle.rows.specs.Loads.{retained_of, loaded_to, IsWithin};
 
@@ -16,7 +16,7 @@ use crate::config_at::{ConfigAt, config_up_to, drop_config, push_config, settle_
 use crate::loaded::{Counts, Loaded};
 use crate::view::View;
 use config::Config;
-use names::{Commit, Event, Node, Object, Tuple};
+use names::{Commit, Event, Name, Node, Object, Tuple};
 use rows_core::{KeptCommit, VersionMap};
 use std::alloc::{AllocError, Global};
 use std::marker::Model;
@@ -179,6 +179,36 @@ impl Rows {
         ensures { IfOk result (λ v. v.items ≡ filter (is_of node.now) (set.items (snap_at self.now rev).tuples)) }
     {
         self.tuples.tuples_of(alloc, rev, node)
+    }
+
+    /// The objects that the node's tuples name at a revision.
+    pub(crate) fn objects_of(
+        &self,
+        alloc: Global,
+        rev: u64,
+        node: &Node,
+    ) -> Result<Vec<Object>, AllocError>
+        requires { IsRetained self.now rev }
+        ensures { IfOk result
+            (λ v. v.items ≡ objects_in (filter (is_of node.now) (set.items (snap_at self.now rev).tuples))) }
+    {
+        self.tuples.objects_of(alloc, rev, node)
+    }
+
+    /// Adds the nodes of the namespace whose members the node's tuples name at a revision.
+    pub(crate) fn usersets_in(
+        &self,
+        alloc: Global,
+        rev: u64,
+        node: &Node,
+        namespace: &Name,
+        nodes: &mut Vec<Node>,
+    ) -> Result<(), AllocError>
+        requires { IsRetained self.now rev }
+        ensures { OnOk result (nodes.new.items ≡ nodes.old.items
+            ++ nodes_in (filter (is_within node.now namespace.now) (set.items (snap_at self.now rev).tuples))) }
+    {
+        self.tuples.usersets_in(alloc, rev, node, namespace, nodes)
     }
 
     /// The first current tuple that the configuration does not admit.

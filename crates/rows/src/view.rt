@@ -1,14 +1,14 @@
 //! Views.
-ghost use Rattle.std.specs.Prelude.{◌≡◌, ◌↔◌, filter, IfOk, IsTrue, Contains};
+ghost use Rattle.std.specs.Prelude.{◌≡◌, ◌<◌, ◌↔◌, false, length, filter, IfOk, IsTrue, Contains};
 ghost use Rattle.meaning.specs.Config.{Has, rel_of};
 ghost use Rattle.meaning.specs.Membership.{HasOne, HasSet};
 ghost use Rattle.meaning.specs.TupleSet as set;
 ghost use Rattle.rows_core.specs.Versions.{is_of};
+ghost use Rattle.rows.specs.Lookups.{IsRepeated};
 ghost use Rattle.rows.specs.Retained.{IsRetained, snap_at};
 
-use crate::named::{nodes_in, objects_in};
 use crate::rows::Rows;
-use config::Config;
+use config::{Config, Relation};
 use names::{Node, Object, Tuple};
 use std::alloc::{AllocError, Global};
 use std::marker::Model;
@@ -79,17 +79,33 @@ impl<'a> View<'a> {
     /// order is promised.
     pub fn usersets_of(&self, alloc: Global, node: &Node) -> Result<Vec<Node>, AllocError>
         ensures only { IfOk result (λ v. (m : Node) → Contains v.items m → HasSet self.now node.now m) }
-        ensures all { IfOk result (λ v. (m : Node) → HasSet self.now node.now m → Has self.now.config (rel_of m) → Contains v.items m) }
+        ensures all { IfOk result
+            (λ v. (m : Node) → HasSet self.now node.now m → Has self.now.config (rel_of m) → Contains v.items m) }
     {
-        let tuples = self.tuples_of(alloc, node)?;
-        nodes_in(alloc, &tuples)
+        let relations = self.config().relations();
+        let mut nodes = Vec::new(alloc);
+        for i in 0..relations.len() {
+            if is_first(relations, i) {
+                let namespace = &relations[i].name.namespace;
+                self.rows
+                    .usersets_in(alloc, self.rev, node, namespace, &mut nodes)?;
+            }
+        }
+        Ok(nodes)
     }
 
     /// The objects that the node's tuples name. No order is promised.
     pub fn objects_of(&self, alloc: Global, node: &Node) -> Result<Vec<Object>, AllocError>
         ensures { IfOk result (λ v. (p : Object) → Contains v.items p ↔ HasOne self.now node.now p) }
     {
-        let tuples = self.tuples_of(alloc, node)?;
-        objects_in(alloc, &tuples)
+        self.rows.objects_of(alloc, self.rev, node)
     }
+}
+
+/// Whether it is the first relation of its namespace: relations are in the order of their namespaces.
+fn is_first(relations: &[Relation], i: usize) -> bool
+    requires { i < length relations.now }
+    ensures { result ≡ false → IsRepeated relations.now i }
+{
+    i == 0 || relations[i - 1].name.namespace != relations[i].name.namespace
 }

@@ -13,3 +13,6 @@ pub mod Placing
 pub mod Settling
 pub mod Steps
 pub mod Together
+pub mod Prefixes
+pub mod Going
+pub mod Rising

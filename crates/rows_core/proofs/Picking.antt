@@ -20,7 +20,7 @@ pick f [] = []
 pick f (e ∷ es) = cond (f e) (e.0 ∷ pick f es) (pick f es)
 
 -- each of these entries is found among the others
-abbrev AreIn : Entries → Entries → Type 0
+abbrev pub AreIn : Entries → Entries → Type 0
 AreIn m [] = Unit {0}
 AreIn m (e ∷ es) = (lookup (is_same_tuple e.0) m ≡ Some e.1) × AreIn m es
 
@@ -28,7 +28,7 @@ in_more : (m es : Entries) (x : Tuple × List Version) → AllByRecursion (λ t.
 in_more m [] x above are = tt
 in_more m (e ∷ es) x above are = (ap (λ b. cond b (Some x.1) (lookup (is_same_tuple e.0) m)) (same_turned e.0 x.0 ∙ ap is_eq above.0) ∙ are.0, in_more m es x above.1 are.1)
 
-all_in : (es : Entries) → IsStrictlySortedBy tuple_cmp (keys es) → AreIn es es
+pub all_in : (es : Entries) → IsStrictlySortedBy tuple_cmp (keys es) → AreIn es es
 unfolding IsStrictlySortedBy
 all_in [] sorted = tt
 all_in (e ∷ es) sorted = (ap (λ b. cond b (Some e.1) (lookup (is_same_tuple e.0) es)) (ap is_eq (tied_itself tuples_total e.0)), in_more es es e sorted.0 (all_in es sorted.1))

@@ -15,7 +15,7 @@ use Rattle.names.specs.Spelling.{IsNode, IsTuple}
 use Rattle.names.specs.declared.node.Node.{Node}
 use Rattle.names.specs.declared.tuple.Tuple.{Tuple}
 use Rattle.rows_core.proofs.Joining.{Above, name_above, id_above, above_lacks, before_joined, after_joined, before_last, relation_last, then_associates, joined_order, last_order}
-use Rattle.rows_core.specs.Spelled.{spelled_relation, spelled_node, spelled_subject, spelled, after_space, tuple_of, IsSpelling}
+use Rattle.rows_core.specs.Spelled.{spelled_relation, spelled_node, spelled_subject, spelled, after_space, subject_in, tuple_of, IsSpelling}
 
 -- ---- the tuple of its text
 
@@ -27,7 +27,7 @@ abbrev from_id : Tuple → List ℕ
 from_id t = t.node.object.id ++ 32 ∷ from_relation t
 
 -- each byte of a node's parts, and of a tuple's, is above a space
-record NodeAbove (n : Node) : Type 0 where
+pub record NodeAbove (n : Node) : Type 0 where
   pub namespace : Above n.object.namespace
   pub id : Above n.object.id
   pub relation : Above n.relation
@@ -37,7 +37,7 @@ record TupleAbove (t : Tuple) : Type 0 where
   pub namespace : Above t.subject.object.namespace
   pub id : Above t.subject.object.id
 
-node_above : (n : Node) → IsNode n → NodeAbove n
+pub node_above : (n : Node) → IsNode n → NodeAbove n
 node_above n is = record { namespace = name_above n.object.namespace is.0.0; id = id_above n.object.id is.0.1; relation = name_above n.relation is.1 }
 
 tuple_above : (t : Tuple) → IsTuple t → TupleAbove t
@@ -121,21 +121,21 @@ equal_both Equal b e f = f
 equal_both Less b e f = absurd (true≢false (sym e))
 equal_both Greater b e f = absurd (true≢false (sym e))
 
-same_node : (m n : Node) → eq_by_cmp node_cmp m n ≡ true → m ≡ n
+pub same_node : (m n : Node) → eq_by_cmp node_cmp m n ≡ true → m ≡ n
 same_node m n e =
     let outer = both_equal (object_cmp m.object n.object) (slice_cmp nat_cmp m.relation n.relation) e in
     let inner = both_equal (slice_cmp nat_cmp m.object.namespace n.object.namespace) (slice_cmp nat_cmp m.object.id n.object.id) outer.0 in
     λ i. record { object = record { namespace = same_lists m.object.namespace n.object.namespace inner.0 i; id = same_lists m.object.id n.object.id inner.1 i }; relation = same_lists m.relation n.relation outer.1 i }
 
-node_itself : (n : Node) → eq_by_cmp node_cmp n n ≡ true
+pub node_itself : (n : Node) → eq_by_cmp node_cmp n n ≡ true
 node_itself n = equal_both (object_cmp n.object n.object) _ (equal_both (slice_cmp nat_cmp n.object.namespace n.object.namespace) _ (list_itself n.object.namespace) (list_itself n.object.id)) (list_itself n.relation)
 
 -- what follows a node's text goes on from its relation
-node_joined : (n : Node) (s : List ℕ) → spelled_node n ++ s ≡ n.object.namespace ++ 32 ∷ (n.object.id ++ 32 ∷ (n.relation ++ 32 ∷ s))
+pub node_joined : (n : Node) (s : List ℕ) → spelled_node n ++ s ≡ n.object.namespace ++ 32 ∷ (n.object.id ++ 32 ∷ (n.relation ++ 32 ∷ s))
 node_joined n s =
     append_assoc n.object.namespace _ s ∙ ap (λ l. n.object.namespace ++ 32 ∷ l) (append_assoc n.object.id _ s ∙ ap (λ l. n.object.id ++ 32 ∷ l) (append_assoc n.relation _ s))
 
-node_of_joined : (n : Node) → NodeAbove n → (s : List ℕ) → (tuple_of (spelled_node n ++ s)).node ≡ n
+pub node_of_joined : (n : Node) → NodeAbove n → (s : List ℕ) → (tuple_of (spelled_node n ++ s)).node ≡ n
 node_of_joined n a s =
     let whole = node_joined n s in
     let first = after_joined n.object.namespace (n.object.id ++ 32 ∷ (n.relation ++ 32 ∷ s)) (above_lacks _ a.namespace) in
@@ -144,6 +144,14 @@ node_of_joined n a s =
     let id = before_joined n.object.id (n.relation ++ 32 ∷ s) (above_lacks _ a.id) in
     let relation = before_joined n.relation s (above_lacks _ a.relation) in
     rw (whole, first, second, namespace, id, relation) refl
+
+pub subject_of_joined : (n : Node) → NodeAbove n → (s : List ℕ) → (tuple_of (spelled_node n ++ s)).subject ≡ subject_in s
+subject_of_joined n a s =
+    let whole = node_joined n s in
+    let first = after_joined n.object.namespace (n.object.id ++ 32 ∷ (n.relation ++ 32 ∷ s)) (above_lacks _ a.namespace) in
+    let second = after_joined n.object.id (n.relation ++ 32 ∷ s) (above_lacks _ a.id) in
+    let third = after_joined n.relation s (above_lacks _ a.relation) in
+    rw (whole, first, second, third) refl
 
 starts_node : (a : List ℕ) (n : Node) → IsNode n → starts_with eqb a (spelled_node n) ≡ true → (tuple_of a).node ≡ n
 starts_node a n is starts =

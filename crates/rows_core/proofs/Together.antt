@@ -1,4 +1,4 @@
--- The texts of a node's tuples stand together.
+-- The texts that begin alike stand together.
 use Rattle.std.proofs.Common.{◌≡◌, ℕ, List, [], ◌∷◌, refl, ap, sym, subst, ◌∙◌}
 use Rattle.std.specs.Prelude.{Bool, true, false, cond, ◌&&◌, filter}
 use mathlib.Core.Bool.{true≢false}
@@ -16,14 +16,11 @@ use Rattle.std.specs.declared.cmp.Ordering.TheVariants.{Less, Equal, Greater}
 use Rattle.std.specs.declared.boxed.BoxedStr.{BoxedStr}
 use Rattle.std.specs.Global.{Global}
 use Rattle.std.proofs.lemmas.List.Kept.{IsStrictlySortedBy-filter}
-use Rattle.names.specs.Spelling.{IsNode}
-use Rattle.names.specs.declared.node.Node.{Node}
 use Rattle.names.specs.declared.tuple.Tuple.{Tuple}
 use Rattle.rows_core.specs.declared.version.Version.{Version}
-use Rattle.rows_core.specs.Spelled.{spelled_node, tuple_of, IsSpelling}
-use Rattle.rows_core.specs.Versions.{is_of}
+use Rattle.rows_core.specs.Spelled.{tuple_of, IsSpelling}
 use Rattle.rows_core.specs.Texts.{Texts, entry_of, entries_of, AreSpelled}
-use Rattle.rows_core.proofs.Spellings.{starts_of_node, starts_not_below, none_starts_after}
+use Rattle.rows_core.proofs.Spellings.{starts_not_below, none_starts_after}
 use Rattle.rows_core.proofs.Decoding.{text_cmp}
 use Rattle.rows_core.proofs.Picking.{pick}
 
@@ -84,45 +81,49 @@ module _ (least : BoxedStr Global) where
   pub from_sorted : (es : Texts) → IsStrictlySortedBy text_cmp (keys_of es) → IsStrictlySortedBy text_cmp (keys_of (from es))
   from_sorted es sorted = subst (IsStrictlySortedBy text_cmp) (sym (keys_from es)) (IsStrictlySortedBy-filter text_cmp is_from (keys_of es) sorted)
 
--- Those of a node. What passes is of the node.
-module _ (node : Node) (is : IsNode node) (f : Tuple × List Version → Bool) where
-  abbrev pub passes : Tuple × List Version → Bool
-  passes e = f e && is_of node e.0
+-- a text begins so exactly where its tuple passes the test
+pub record Begins (p : List ℕ) (g : Tuple → Bool) : Type 0 where
+  pub is : (a : List ℕ) → IsSpelling a → starts_with eqb a p ≡ g (tuple_of a)
 
-  fails : (e : Tuple × List Version) → is_of node e.0 ≡ false → passes e ≡ false
-  fails e h = by_test (f e) (is_of node e.0) h
+-- Those that begin so.
+module _ (p : List ℕ) (g : Tuple → Bool) (begins : Begins p g) (f : Tuple × List Version → Bool) where
+  abbrev pub passes : Tuple × List Version → Bool
+  passes e = f e && g e.0
+
+  fails : (e : Tuple × List Version) → g e.0 ≡ false → passes e ≡ false
+  fails e h = by_test (f e) (g e.0) h
     where
       by_test : (a b : Bool) → b ≡ false → (a && b) ≡ false
       by_test true b h = h
       by_test false b h = refl
 
-  pub other : (e : BoxedStr Global × List Version) → IsSpelling (boxed_str_bytes e.0) → starts_with eqb (boxed_str_bytes e.0) (spelled_node node) ≡ false → passes (entry_of e) ≡ false
-  other e s h = fails (entry_of e) (sym (starts_of_node (boxed_str_bytes e.0) s node is) ∙ h)
+  pub other : (e : BoxedStr Global × List Version) → IsSpelling (boxed_str_bytes e.0) → starts_with eqb (boxed_str_bytes e.0) p ≡ false → passes (entry_of e) ≡ false
+  other e s h = fails (entry_of e) (sym (begins.is (boxed_str_bytes e.0) s) ∙ h)
 
-  pub both_pass : (e : BoxedStr Global × List Version) → IsSpelling (boxed_str_bytes e.0) → f (entry_of e) ≡ true → starts_with eqb (boxed_str_bytes e.0) (spelled_node node) ≡ true → passes (entry_of e) ≡ true
-  both_pass e s holds h = ap (λ b. b && is_of node (tuple_of (boxed_str_bytes e.0))) holds ∙ sym (starts_of_node (boxed_str_bytes e.0) s node is) ∙ h
+  pub both_pass : (e : BoxedStr Global × List Version) → IsSpelling (boxed_str_bytes e.0) → f (entry_of e) ≡ true → starts_with eqb (boxed_str_bytes e.0) p ≡ true → passes (entry_of e) ≡ true
+  both_pass e s holds h = ap (λ b. b && g (tuple_of (boxed_str_bytes e.0))) holds ∙ sym (begins.is (boxed_str_bytes e.0) s) ∙ h
 
   pub first_fails : (e : Tuple × List Version) → f e ≡ false → passes e ≡ false
-  first_fails e misses = ap (λ b. b && is_of node e.0) misses
+  first_fails e misses = ap (λ b. b && g e.0) misses
 
-  -- none is left out below the node's text
-  pub from_all : (least : BoxedStr Global) → boxed_str_bytes least ≡ spelled_node node → (es : Texts) → AreSpelled es → pick passes (entries_of (from least es)) ≡ pick passes (entries_of es)
+  -- none is left out below
+  pub from_all : (least : BoxedStr Global) → boxed_str_bytes least ≡ p → (es : Texts) → AreSpelled es → pick passes (entries_of (from least es)) ≡ pick passes (entries_of es)
   from_all least reads [] s = refl
   from_all least reads (e ∷ es) s = by_test (is_from least e.0) refl (from_all least reads es s.1)
     where
-      starts : is_from least e.0 ≡ false → starts_with eqb (boxed_str_bytes e.0) (spelled_node node) ≡ false
+      starts : is_from least e.0 ≡ false → starts_with eqb (boxed_str_bytes e.0) p ≡ false
       starts out =
-          never (starts_with eqb (boxed_str_bytes e.0) (spelled_node node)) (λ yes.
-          starts_not_below (boxed_str_bytes e.0) (spelled_node node) yes (ap (slice_cmp nat_cmp (boxed_str_bytes e.0)) (sym reads) ∙ turned least e.0 ∙ below least (text_cmp least e.0) out))
+          never (starts_with eqb (boxed_str_bytes e.0) p) (λ yes.
+          starts_not_below (boxed_str_bytes e.0) p yes (ap (slice_cmp nat_cmp (boxed_str_bytes e.0)) (sym reads) ∙ turned least e.0 ∙ below least (text_cmp least e.0) out))
 
       by_test : (b : Bool) → is_from least e.0 ≡ b → pick passes (entries_of (from least es)) ≡ pick passes (entries_of es)
           → pick passes (entries_of (cond b (e ∷ from least es) (from least es))) ≡ cond (passes (entry_of e)) (tuple_of (boxed_str_bytes e.0) ∷ pick passes (entries_of es)) (pick passes (entries_of es))
       by_test true out rest = ap (λ ts. cond (passes (entry_of e)) (tuple_of (boxed_str_bytes e.0) ∷ ts) ts) rest
       by_test false out rest = rest ∙ ap (λ b. cond b (tuple_of (boxed_str_bytes e.0) ∷ pick passes (entries_of es)) (pick passes (entries_of es))) (sym (other e s.0 (starts out)))
 
-  -- after a text of another node there is none of the node
-  pub none_left : (e : BoxedStr Global × List Version) (es : Texts) → AreSpelled (e ∷ es) → IsStrictlySortedBy text_cmp (keys_of (e ∷ es)) → (slice_cmp nat_cmp (boxed_str_bytes e.0) (spelled_node node) ≡ Less → ⊥)
-      → starts_with eqb (boxed_str_bytes e.0) (spelled_node node) ≡ false → pick passes (entries_of (e ∷ es)) ≡ []
+  -- after a text that begins otherwise there is none
+  pub none_left : (e : BoxedStr Global × List Version) (es : Texts) → AreSpelled (e ∷ es) → IsStrictlySortedBy text_cmp (keys_of (e ∷ es)) → (slice_cmp nat_cmp (boxed_str_bytes e.0) p ≡ Less → ⊥)
+      → starts_with eqb (boxed_str_bytes e.0) p ≡ false → pick passes (entries_of (e ∷ es)) ≡ []
   unfolding IsStrictlySortedBy
   none_left e es s sorted above past =
       ap (λ b. cond b (tuple_of (boxed_str_bytes e.0) ∷ pick passes (entries_of es)) (pick passes (entries_of es))) (other e s.0 past) ∙ later es s.1 sorted.0
@@ -131,5 +132,5 @@ module _ (node : Node) (is : IsNode node) (f : Tuple × List Version → Bool) w
       later [] x h = refl
       later (u ∷ us) x h =
           ap (λ b. cond b (tuple_of (boxed_str_bytes u.0) ∷ pick passes (entries_of us)) (pick passes (entries_of us)))
-          (other u x.0 (none_starts_after (boxed_str_bytes e.0) (boxed_str_bytes u.0) (spelled_node node) above past h.0))
+          (other u x.0 (none_starts_after (boxed_str_bytes e.0) (boxed_str_bytes u.0) p above past h.0))
           ∙ later us x.1 h.1

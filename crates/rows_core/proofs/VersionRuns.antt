@@ -1,5 +1,7 @@
 -- The versions of a history, and what its revisions hold.
-use Rattle.std.proofs.Common.{◌≡◌, ℕ, ◌+◌, ◌<◌, ◌≤◌, List, [], ◌∷◌, ◌++◌, length, take, zero, suc, get_or, refl, ap, sym, ◌∙◌, append_assoc, arith}
+use Rattle.std.proofs.Common.{◌≡◌, ℕ, ◌+◌, ◌-◌, ◌<◌, ◌≤◌, List, [], ◌∷◌, ◌++◌, length, take, zero, suc, get_or, refl, ap, sym, ◌∙◌, append_assoc, arith}
+use Rattle.std.specs.List.{AllWithin}
+use Rattle.std.proofs.lemmas.List.{take_all}
 use Rattle.std.specs.Prelude.{Bool, true, false, cond, not, ◌||◌, ◌&&◌, nat_le}
 use Rattle.std.proofs.lemmas.List.{append-nil}
 use Rattle.std.proofs.Math.Seq.{take-suc}
@@ -18,7 +20,7 @@ use Rattle.meaning.specs.Snap.{Snap}
 use Rattle.meaning.specs.History.{History, after_kind, after_event, replay, after_commit, after_commits}
 use Rattle.meaning.proofs.TupleSets.{contains_insert, contains_remove}
 use Rattle.rows_core.specs.declared.version.Version.{Version}
-use Rattle.rows_core.specs.Versions.{is_put, version_of, versions_in, commit_versions, versions_after, base_versions, stands_from, stands, last_from, is_there, last_rev_from}
+use Rattle.rows_core.specs.Versions.{is_put, version_of, versions_in, commit_versions, versions_after, base_versions, stands_from, stands, last_from, is_there, last_rev_from, IsRising}
 
 pub take_none : {A : Type 0} (xs : List A) → take 0 xs ≡ []
 take_none [] = refl
@@ -153,3 +155,84 @@ module _ (ms : List Version) (k : ℕ) (d : Version) (rev : ℕ) (small : k < le
 
   pub version_late : rev < (get_or ms k d).rev → stands (take (suc k) ms) rev ≡ stands (take k ms) rev
   version_late h = stands_at ∙ ap (λ b. cond b (get_or ms k d).put (stands (take k ms) rev)) (lt-leb (get_or ms k d).rev rev h)
+
+-- the last version, where it counts
+pub newest_counts : (ms : List Version) (k : ℕ) (d : Version) (rev : ℕ) → suc k ≡ length ms → (get_or ms k d).rev ≤ rev → (get_or ms k d).put ≡ stands ms rev
+newest_counts ms k d rev last h =
+    let small : k < length ms = omega (arith, last) in
+    let whole : length ms ≤ suc k = omega (arith, last) in
+    sym (version_counts ms k d rev small h) ∙ ap (λ xs. stands xs rev) (take_all (suc k) ms whole)
+
+-- versions that are past the revision do not count
+pub past_stands : (ms : List Version) (rev i : ℕ) → i ≤ length ms → AllWithin (λ m. rev < m.rev) ms i (length ms) → stands (take i ms) rev ≡ stands ms rev
+past_stands ms rev i within past =
+    let k : ℕ = length ms - i in
+    let all : length ms ≤ i + k = omega (arith, within) in
+    let most : i + k ≤ length ms = omega (arith, within) in
+    sym (up_to k most) ∙ ap (λ xs. stands xs rev) (take_all (i + k) ms all)
+  where
+    d : Version
+    d = record { rev = 0; put = true }
+
+    up_to : (k : ℕ) → i + k ≤ length ms → stands (take (i + k) ms) rev ≡ stands (take i ms) rev
+    up_to zero h = ap (λ (n : ℕ). stands (take n ms) rev) (omega arith)
+    up_to (suc k) h =
+        let next : i + suc k ≡ suc (i + k) = omega arith in
+        ap (λ (n : ℕ). stands (take n ms) rev) next
+        ∙ version_late ms (i + k) d rev (omega (arith, h)) (past (i + k) d (omega arith) (omega (arith, h)))
+        ∙ up_to k (omega (arith, h))
+
+-- where so many of the first versions count, the last of them decides
+module _ (ms : List Version) (rev count : ℕ) (within : count ≤ length ms) (past : AllWithin (λ m. rev < m.rev) ms count (length ms)) where
+  pub none_counts : count ≡ 0 → false ≡ stands ms rev
+  none_counts none = ap (λ xs. stands xs rev) (sym (take_none ms)) ∙ ap (λ (n : ℕ). stands (take n ms) rev) (sym none) ∙ past_stands ms rev count within past
+
+  pub last_counts : (k : ℕ) (d : Version) → suc k ≡ count → AllWithin (λ m. m.rev ≤ rev) ms 0 count → (get_or ms k d).put ≡ stands ms rev
+  last_counts k d last up_to =
+      let below : k < count = omega (arith, last) in
+      let small : k < length ms = omega (arith, below, within) in
+      sym (version_counts ms k d rev small (up_to k d (omega arith) below)) ∙ ap (λ (n : ℕ). stands (take n ms) rev) last ∙ past_stands ms rev count within past
+
+-- ---- in the order of revisions
+
+-- no revision is below the one before it
+abbrev Rises : ℕ → List Version → Type 0
+Rises low [] = Unit {0}
+Rises low (m ∷ ms) = (low ≤ m.rev) × Rises m.rev ms
+
+rises_lower : (low n : ℕ) (ms : List Version) → low ≤ n → Rises n ms → Rises low ms
+rises_lower low n [] h r = tt
+rises_lower low n (m ∷ ms) h r = let least = r.0 in (omega (arith, h, least), r.1)
+
+rises_in : (low n : ℕ) (es : List Event) (q : Tuple) (later : List Version) → low ≤ n → Rises n later → Rises low (versions_in n es q ++ later)
+rises_in low n [] q later h r = rises_lower low n later h r
+rises_in low n (e ∷ es) q later h r = by_same (is_same_tuple q e.tuple) (rises_in n n es q later (omega arith) r) (rises_in low n es q later h r)
+  where
+    by_same : (same : Bool) → Rises n (versions_in n es q ++ later) → Rises low (versions_in n es q ++ later) → Rises low (cond same (version_of n e ∷ versions_in n es q) (versions_in n es q) ++ later)
+    by_same true after rest = (h, after)
+    by_same false after rest = rest
+
+rises_commit : (low n : ℕ) (c : Commit Configured) (q : Tuple) (later : List Version) → low ≤ n → Rises n later → Rises low (commit_versions n c q ++ later)
+rises_commit low n (kinds.Tuples es) q later h r = rises_in low n es q later h r
+rises_commit low n (kinds.Config config) q later h r = rises_lower low n later h r
+
+rises_after : (n : ℕ) (h : History) (q : Tuple) → Rises n (versions_after n h q)
+rises_after n [] q = tt
+rises_after n (c ∷ h) q = rises_commit n (n + 1) c q (versions_after (n + 1) h q) (omega arith) (rises_after (n + 1) h q)
+
+at_least : (low : ℕ) (ms : List Version) → Rises low ms → (j : ℕ) (d : Version) → j < length ms → low ≤ (get_or ms j d).rev
+at_least low [] r j d small = absurd (omega (arith, small))
+at_least low (m ∷ ms) r zero d small = r.0
+at_least low (m ∷ ms) r (suc j) d small = at_least low ms (rises_lower low m.rev ms r.0 r.1) j d (omega (arith, small))
+
+rising : (low : ℕ) (ms : List Version) → Rises low ms → IsRising ms
+rising low [] r i j d h small = absurd (omega (arith, small))
+rising low (m ∷ ms) r zero zero d h small = omega arith
+rising low (m ∷ ms) r zero (suc j) d h small = at_least m.rev ms r.1 j d (omega (arith, small))
+rising low (m ∷ ms) r (suc i) zero d h small = absurd (omega (arith, h))
+rising low (m ∷ ms) r (suc i) (suc j) d h small = rising m.rev ms r.1 i j d (omega (arith, h)) (omega (arith, small))
+
+-- the versions of a history are
+pub history_rises : (b : Bool) (n : ℕ) (h : History) (q : Tuple) → IsRising (base_versions b ++ versions_after n h q)
+history_rises true n h q = rising 0 (base_versions true ++ versions_after n h q) (omega arith, rises_lower 0 n (versions_after n h q) (omega arith) (rises_after n h q))
+history_rises false n h q = rising n (versions_after n h q) (rises_after n h q)

@@ -1,5 +1,5 @@
 -- What a node's tuples name: objects, and nodes whose members they name.
-use Rattle.std.specs.Prelude.{ℕ, ◌&&◌, List, Bool, Option, Some, None, filter, nat_eq}
+use Rattle.std.specs.Prelude.{ℕ, ◌&&◌, List, Bool, Option, Some, None, nat_eq}
 use Rattle.std.specs.List.{filter_map}
 use Rattle.std.specs.Option.{option_map}
 use Rattle.std.specs.Cmp.Lexicographic.{pointwise}
@@ -8,6 +8,7 @@ use Rattle.names.specs.declared.node.Node.{Node}
 use Rattle.names.specs.declared.subject.Subject.{Subject}
 use Rattle.names.specs.declared.tuple.Tuple.{Tuple}
 use Rattle.meaning.specs.Snap.{one}
+use Rattle.rows_core.specs.Spelled.{before_space, last_part}
 use Rattle.rows_core.specs.Versions.{is_of}
 
 -- the tuple that names an object
@@ -30,6 +31,10 @@ node_in s = option_map (λ relation. record { object = s.object; relation = rela
 -- the tuple is of the node, and its subject of the namespace
 abbrev pub is_within : Node → List ℕ → Tuple → Bool
 is_within node namespace t = is_of node t && pointwise nat_eq t.subject.object.namespace namespace
+
+-- the subject of a namespace whose other parts a text spells
+abbrev pub subject_from : List ℕ → List ℕ → Subject
+subject_from namespace text = record { object = record { namespace = namespace; id = before_space text }; relation = last_part text }
 
 -- the objects that some tuples name
 abbrev pub objects_in : List Tuple → List Object

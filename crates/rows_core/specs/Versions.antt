@@ -1,5 +1,6 @@
 -- The versions of tuples: each tuple has a version for each event on it, and one where the floor holds it.
 use Rattle.std.specs.Prelude.{◌≡◌, ℕ, ◌+◌, ◌-◌, ◌==◌, List, [], ◌∷◌, ◌++◌, length, take, drop, filter, Bool, true, false, cond, not, nat_le, Option, Some, None}
+use Rattle.std.specs.List.Sorted.{IsNonDecreasingBy}
 use Rattle.std.specs.Ordering.{eq_by_cmp}
 use Rattle.std.specs.Map.{lookup, keys_of}
 use Rattle.names.specs.Order.{node_cmp, is_same_tuple}
@@ -92,6 +93,14 @@ last_rev ms = last_rev_from 0 ms
 
 abbrev pub drop_last : List Version → List Version
 drop_last ms = take (length ms - 1) ms
+
+-- the versions are in the order of their revisions
+abbrev pub IsRising : List Version → Type 0
+IsRising ms = IsNonDecreasingBy (λ m. m.rev) ms
+
+-- those of each tuple are
+abbrev pub AreRising : Entries → Type 0
+AreRising m = (q : Tuple) → IsRising (versions_at m q)
 
 -- the tuples that the floor holds
 abbrev pub base_tuples : Entries → Tuples

@@ -4,6 +4,7 @@
 mod change;
 mod kept;
 mod lists;
+mod named;
 mod places;
 mod tuple_ref;
 mod version;

@@ -5,7 +5,7 @@ ghost use Rattle.std.specs.List.{find};
 ghost use Rattle.std.specs.List.Sorted.{IsStrictlySortedBy};
 ghost use Rattle.names.specs.Order.{tuple_cmp};
 ghost use Rattle.rows_core.specs.Spelled.{tuple_of, IsSpelling};
-ghost use Rattle.rows_core.specs.Versions.{keys, is_of, tuples_at, newest_tuples, refuses};
+ghost use Rattle.rows_core.specs.Versions.{AreRising, keys, is_of, tuples_at, newest_tuples, refuses};
 
 use crate::tuple_ref::{TupleRef, node_text};
 use crate::version_map::VersionMap;
@@ -17,6 +17,7 @@ use std::boxed::BoxedStr;
 impl VersionMap {
     /// All tuples that stand at a revision.
     pub fn tuples_at(&self, alloc: Global, rev: u64) -> Result<Vec<Tuple>, AllocError>
+        requires { AreRising self.now }
         ensures found { IfOk result (λ v. v.items ≡ tuples_at self.now rev) }
         ensures ordered { IsStrictlySortedBy tuple_cmp (keys self.now) }
     {
@@ -33,6 +34,7 @@ impl VersionMap {
     /// The tuples of the node that stand at a revision. Their texts stand together: they begin with the
     /// node's.
     pub fn tuples_of(&self, alloc: Global, rev: u64, node: &Node) -> Result<Vec<Tuple>, AllocError>
+        requires { AreRising self.now }
         ensures found { IfOk result (λ v. v.items ≡ filter (is_of node.now) (tuples_at self.now rev)) }
         ensures ordered { IfOk result (λ v. IsStrictlySortedBy tuple_cmp (keys self.now)) }
     {

@@ -1,6 +1,8 @@
 //! Tuples as texts.
-ghost use Rattle.std.specs.Prelude.{◌≡◌, ◌≤◌, ◌+◌, ◌++◌, ◌∷◌, IsTrue, IfOk, option_map};
+ghost use Rattle.std.specs.Prelude.{◌≡◌, ◌≤◌, ◌+◌, ◌++◌, ◌∷◌, [], false, IsTrue, IfOk, IfSome, IfNone, option_map};
 ghost use Rattle.std.specs.Box.{boxed_str_bytes};
+ghost use Rattle.std.specs.List.{starts_with};
+ghost use Rattle.std.proofs.Math.Dec.{eqb};
 ghost use Rattle.std.specs.Arc.{arc_str_bytes};
 ghost use Rattle.arrayvec.specs.ArrayString.{array_string_len};
 ghost use Rattle.names.specs.Names.{is_name, is_id};
@@ -67,7 +69,7 @@ impl<'a> TupleRef<'a> {
 }
 
 /// What is before the first space, and what is after it.
-fn cut(text: &str) -> (&str, &str)
+pub(crate) fn cut(text: &str) -> (&str, &str)
     ensures before { result.0.now ≡ before_space text.now }
     ensures after { result.1.now ≡ after_space text.now }
 {
@@ -78,7 +80,7 @@ fn cut(text: &str) -> (&str, &str)
 }
 
 /// The same, where there may be no space.
-fn cut_last(text: &str) -> (&str, Option<&str>)
+pub(crate) fn cut_last(text: &str) -> (&str, Option<&str>)
     ensures before { result.0.now ≡ before_space text.now }
     ensures after { option_map (λ x. x.now) result.1 ≡ last_part text.now }
 {
@@ -88,7 +90,7 @@ fn cut_last(text: &str) -> (&str, Option<&str>)
     }
 }
 
-fn name_of(alloc: Global, text: &str) -> Result<Name, AllocError>
+pub(crate) fn name_of(alloc: Global, text: &str) -> Result<Name, AllocError>
     requires { IsTrue (is_name text.now) }
     ensures { IfOk result (λ n. n ≡ text.now) }
 {
@@ -99,7 +101,7 @@ fn name_of(alloc: Global, text: &str) -> Result<Name, AllocError>
     }
 }
 
-fn object_of(alloc: Global, namespace: &str, id: &str) -> Result<Object, AllocError>
+pub(crate) fn object_of(alloc: Global, namespace: &str, id: &str) -> Result<Object, AllocError>
     requires namespace { IsTrue (is_name namespace.now) }
     requires id { IsTrue (is_id id.now) }
     ensures { IfOk result (λ o. (o.namespace ≡ namespace.now) × (o.id ≡ id.now)) }
@@ -165,10 +167,10 @@ impl Scratch {
     pub(crate) fn of_user(node: &Node, user: &Object) -> Scratch
         ensures { result ≡ user_tuple node.now user.now }
     {
-        let mut text = ArrayString::new();
-        push_node(&mut text, node);
-        push_object(&mut text, user);
-        Scratch { text }
+        let mut parts = ArrayString::new();
+        push_node(&mut parts, node);
+        push_object(&mut parts, user);
+        Scratch { text: parts }
     }
 
     pub(crate) fn tuple_ref(&self) -> TupleRef<'_>
@@ -259,4 +261,29 @@ pub(crate) fn node_text(alloc: Global, node: &Node) -> Result<BoxedStr, AllocErr
     let mut text = ArrayString::new();
     push_node(&mut text, node);
     BoxedStr::from_str(alloc, text.as_str())
+}
+
+/// What the texts of those of a node's tuples begin with whose subjects are of a namespace.
+pub(crate) fn namespace_text(
+    alloc: Global,
+    node: &Node,
+    namespace: &Name,
+) -> Result<BoxedStr, AllocError>
+    ensures text { IfOk result (λ b. boxed_str_bytes b ≡ spelled_node node.now ++ (namespace.now ++ 32 ∷ [])) }
+    ensures is { IfOk result (λ b. IsNode node.now) }
+    ensures name { IfOk result (λ b. IsTrue (is_name namespace.now)) }
+{
+    let mut parts = ArrayString::new();
+    push_node(&mut parts, node);
+    push_name(&mut parts, namespace);
+    parts.push_str(" ");
+    BoxedStr::from_str(alloc, parts.as_str())
+}
+
+/// What is after the first text, where the second begins with it.
+pub(crate) fn after<'a>(least: &str, text: &'a str) -> Option<&'a str>
+    ensures some { IfSome result (λ rest. text.now ≡ least.now ++ rest.now) }
+    ensures none { IfNone result (starts_with eqb text.now least.now ≡ false) }
+{
+    text.strip_prefix(least)
 }

@@ -1,6 +1,7 @@
 //! Versions.
-ghost use Rattle.std.specs.Prelude.{◌≡◌, ◌++◌, ◌∷◌, [], drop, OnOk, OnErr, IfOk};
-ghost use Rattle.rows_core.specs.Versions.{is_put, version_of, stands, is_there, is_based, last_rev, drop_last, after_settle, after_settle_first};
+ghost use Rattle.std.specs.Prelude.{◌≡◌, ◌<◌, ◌≤◌, ◌++◌, ◌∷◌, [], drop, length, OnOk, OnErr, IfOk};
+ghost use Rattle.std.specs.List.{AllWithin};
+ghost use Rattle.rows_core.specs.Versions.{is_put, version_of, stands, IsRising, is_there, is_based, last_rev, drop_last, after_settle, after_settle_first};
 
 use crate::kept::KeptEvent;
 use names::EventKind;
@@ -60,6 +61,7 @@ impl Versions {
 
     /// Whether the last version up to a revision is a put.
     pub(crate) fn stands_at(&self, rev: u64) -> bool
+        requires { IsRising self.now }
         ensures { result ≡ stands self.now rev }
     {
         stands_at(&self.versions, rev)
@@ -112,19 +114,32 @@ fn is_put(kind: EventKind) -> bool
     }
 }
 
-/// Whether the last version up to a revision is a put.
+/// Whether the last version up to a revision is a put. Most revisions asked for are near the newest.
 fn stands_at(versions: &VecDeque<Version>, rev: u64) -> bool
+    requires { IsRising versions.now.items }
     ensures { result ≡ stands versions.now.items rev }
 {
-    let mut left = versions.len();
-    while left > 0 {
-        left -= 1;
-        let version = versions[left];
-        if version.rev <= rev {
-            return version.put;
-        }
+    let Some(newest) = versions.back() else {
+        return false;
+    };
+    if newest.rev <= rev {
+        return newest.put;
     }
-    false
+    let count = count_up_to(versions, rev);
+    if count == 0 {
+        return false;
+    }
+    versions[count - 1].put
+}
+
+/// How many of the first versions are up to a revision.
+fn count_up_to(versions: &VecDeque<Version>, rev: u64) -> usize
+    requires { IsRising versions.now.items }
+    ensures within { result ≤ length versions.now.items }
+    ensures up_to { AllWithin (λ m. m.rev ≤ rev) versions.now.items 0 result }
+    ensures past { AllWithin (λ m. rev < m.rev) versions.now.items result (length versions.now.items) }
+{
+    versions.partition_point(|version| version.rev <= rev)
 }
 
 /// Whether the last version is a put.

@@ -1,6 +1,6 @@
 //! The versions of every tuple.
 ghost use Rattle.std.specs.Prelude.{◌≡◌, true, [], OnOk, OnErr, IfOk};
-ghost use Rattle.rows_core.specs.Versions.{versions_at, is_there, is_based, last_rev, stands, with_version, drop_last, after_settle, base_versions, HasSame, ChangesAt};
+ghost use Rattle.rows_core.specs.Versions.{IsRising, versions_at, is_there, is_based, last_rev, stands, with_version, drop_last, after_settle, base_versions, HasSame, ChangesAt};
 ghost use Rattle.rows_core.specs.Named.{user_tuple};
 ghost use Rattle.rows_core.specs.Texts.{entries_of, AreSpelled};
 
@@ -51,24 +51,20 @@ impl VersionMap {
 
     /// Whether the last version of the tuple up to a revision is a put. It takes no memory.
     pub fn stands_at(&self, tuple: &Tuple, rev: u64) -> bool
+        requires { IsRising (versions_at self.now tuple.now) }
         ensures { result ≡ stands (versions_at self.now tuple.now) rev }
     {
         let scratch = Scratch::of(tuple);
-        match versions_of(self.texts(), &scratch.tuple_ref()) {
-            Some(versions) => versions.stands_at(rev),
-            None => false,
-        }
+        self.holds_at(&scratch.tuple_ref(), rev)
     }
 
     /// The same of the tuple that names the user. It takes no memory.
     pub fn has_user(&self, node: &Node, user: &Object, rev: u64) -> bool
+        requires { IsRising (versions_at self.now (user_tuple node.now user.now)) }
         ensures { result ≡ stands (versions_at self.now (user_tuple node.now user.now)) rev }
     {
-        let scratch = Scratch::of_user(node, user);
-        match versions_of(self.texts(), &scratch.tuple_ref()) {
-            Some(versions) => versions.stands_at(rev),
-            None => false,
-        }
+        let asked = Scratch::of_user(node, user);
+        self.holds_at(&asked.tuple_ref(), rev)
     }
 
     /// The revision of the tuple's last version, or 0 where it has none. It takes no memory.
@@ -88,6 +84,17 @@ impl VersionMap {
     {
         match versions_of(self.texts(), key) {
             Some(versions) => versions.is_there(),
+            None => false,
+        }
+    }
+
+    /// Whether the tuple's last version up to a revision is a put.
+    fn holds_at(&self, key: &TupleRef<'_>, rev: u64) -> bool
+        requires { IsRising (versions_at self.now key.now) }
+        ensures { result ≡ stands (versions_at self.now key.now) rev }
+    {
+        match versions_of(self.texts(), key) {
+            Some(versions) => versions.stands_at(rev),
             None => false,
         }
     }

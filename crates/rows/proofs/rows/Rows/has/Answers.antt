@@ -2,8 +2,13 @@ use Rattle.std.proofs.Common.{◌≤◌, subst, ap, sym, ◌∙◌}
 use Rattle.meaning.specs.TupleSet as set
 use Rattle.rows.specs.Retained.{Retained, snap_at}
 use Rattle.rows.specs.Representation.{as_retained}
-use Rattle.rows.proofs.Retaining.{stands_at}
+use Rattle.rows.proofs.Retaining.{stands_at, rising}
 use Rattle.rows.proofs.rows.Rows.has.Goals as goal
+
+pub stands_at-requires : goal.stands_at-requires
+stands_at-requires c =
+    let s = c.self.inside in
+    rising (as_retained s.number s.floor s.config s.tuples s.commits.items) s.tuples c.self.invariant.versions c.args.tuple.now
 
 pub returns : goal.returns
 returns c =

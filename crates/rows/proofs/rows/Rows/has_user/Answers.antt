@@ -3,8 +3,13 @@ use Rattle.meaning.specs.TupleSet as set
 use Rattle.rows.specs.Retained.{Retained, snap_at}
 use Rattle.rows.specs.Representation.{as_retained}
 use Rattle.rows_core.specs.Named.{user_tuple}
-use Rattle.rows.proofs.Retaining.{stands_at}
+use Rattle.rows.proofs.Retaining.{stands_at, rising}
 use Rattle.rows.proofs.rows.Rows.has_user.Goals as goal
+
+pub has_user-requires : goal.has_user-requires
+has_user-requires c =
+    let s = c.self.inside in
+    rising (as_retained s.number s.floor s.config s.tuples s.commits.items) s.tuples c.self.invariant.versions (user_tuple c.args.node.now c.args.user.now)
 
 pub returns : goal.returns
 returns c =

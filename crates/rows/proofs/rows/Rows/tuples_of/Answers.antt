@@ -7,8 +7,13 @@ use Rattle.rows.specs.Retained.{Retained, snap_at}
 use Rattle.rows_core.specs.Versions.{stands}
 use Rattle.rows.specs.Representation.{as_retained}
 use Rattle.rows_core.proofs.Listing.{items_by, both_ok}
-use Rattle.rows.proofs.Retaining.{stands_at}
+use Rattle.rows.proofs.Retaining.{stands_at, rising}
 use Rattle.rows.proofs.rows.Rows.tuples_of.Goals as goal
+
+pub tuples_of-requires : goal.tuples_of-requires
+tuples_of-requires c =
+    let s = c.self.inside in
+    rising (as_retained s.number s.floor s.config s.tuples s.commits.items) s.tuples c.self.invariant.versions
 
 pub returns : goal.returns
 returns c =

@@ -1,4 +1,4 @@
-use Rattle.std.proofs.Common.{◌≡◌, ◌++◌, ◌∷◌, [], List, ℕ, ap, sym, ◌∙◌, append-nil}
+use Rattle.std.proofs.Common.{◌≡◌, ◌++◌, ◌∷◌, List, ℕ, ap, sym, ◌∙◌, append-nil}
 use Rattle.names.specs.declared.node.Node.{Node}
 use Rattle.names.specs.declared.object.Object.{Object}
 use Rattle.meaning.specs.Snap.{one}
@@ -15,12 +15,12 @@ pub invariant_of-result : goal.invariant_of-result
 invariant_of-result c =
     let n = c.args.node.now in
     let u = c.args.user.now in
-    let text = c.push_object.ensures.text ∙ ap (λ l. l ++ (u.namespace ++ 32 ∷ u.id)) (c.push_node.ensures.text ∙ ap (λ l. l ++ spelled_node n) c.new-text.ensures) ∙ as_subject n u in
+    let text = c.push_object.ensures.text ∙ ap (λ l. l ++ (u.namespace ++ 32 ∷ u.id)) (c.push_node.ensures.text ∙ ap (λ l. l ++ spelled_node n) c.new-parts.ensures) ∙ as_subject n u in
     spelling_is (user_tuple n u) c.push_object.new.text.bytes (written_is (user_tuple n u) c.push_object.new.text.bytes text) (c.push_node.ensures.is, (c.push_object.ensures.is, tt))
 
 pub returns : goal.returns
 returns c =
     let n = c.args.node.now in
     let u = c.args.user.now in
-    let text = c.push_object.ensures.text ∙ ap (λ l. l ++ (u.namespace ++ 32 ∷ u.id)) (c.push_node.ensures.text ∙ ap (λ l. l ++ spelled_node n) c.new-text.ensures) ∙ as_subject n u in
+    let text = c.push_object.ensures.text ∙ ap (λ l. l ++ (u.namespace ++ 32 ∷ u.id)) (c.push_node.ensures.text ∙ ap (λ l. l ++ spelled_node n) c.new-parts.ensures) ∙ as_subject n u in
     spells (user_tuple n u) c.push_object.new.text.bytes (written_is (user_tuple n u) c.push_object.new.text.bytes text) (c.push_node.ensures.is, (c.push_object.ensures.is, tt))

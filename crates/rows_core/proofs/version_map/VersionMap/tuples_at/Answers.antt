@@ -1,12 +1,27 @@
-use Rattle.std.proofs.Common.{◌≡◌, ◌++◌, List, [], ap, sym, ◌∙◌, append-nil}
+use Rattle.std.proofs.Common.{◌≡◌, ◌++◌, List, [], ap, sym, subst, ◌∙◌, append-nil}
 use Rattle.std.specs.Prelude.{Bool}
 use Rattle.names.specs.declared.tuple.Tuple.{Tuple}
 use Rattle.rows_core.specs.declared.version.Version.{Version}
 use Rattle.rows_core.specs.Versions.{stands}
-use Rattle.rows_core.specs.Texts.{Texts, entries_of}
+use Rattle.rows_core.specs.Texts.{Texts, entries_of, AreSpelled}
 use Rattle.rows_core.proofs.Decoding.{sorted_view}
+use Rattle.rows_core.proofs.Rising.{AllRising, all_rising}
 use Rattle.rows_core.proofs.Picking.{pick, picked_is}
 use Rattle.rows_core.proofs.version_map.VersionMap.tuples_at.Goals as goal
+
+pub loop-text-init : goal.loop-text-init
+loop-text-init c =
+    let es : Texts = c.texts-texts.result.now.entries in
+    let f : Tuple × List Version → Bool = λ e. stands e.1 c.args.rev in
+    let same : es ≡ c.into_iter-text-iterator.result = sym (c.into_iter-text-iterator.ensures.into_iter_gives ∙ c.iter-text-items.ensures.rest) in
+    record {
+      spelled = subst AreSpelled same c.texts-texts.ensures.spelled;
+      rising = subst AllRising same (all_rising es c.texts-texts.ensures.spelled c.iter-text-items.ensures.ordered c.args.self.now c.texts-texts.ensures.entries c.requires);
+      all =
+          ap (λ (ts : List Tuple). ts ++ pick f (entries_of c.into_iter-text-iterator.result)) c.new-found.ensures.items
+          ∙ ap (λ (us : Texts). pick f (entries_of us)) (sym same)
+          ∙ ap (pick f) c.texts-texts.ensures.entries;
+    }
 
 pub returns-in_err-push_tuple-clause-ordered : goal.returns-in_err-push_tuple-clause-ordered
 returns-in_err-push_tuple-clause-ordered c = sorted_view c.texts-texts.result.now.entries c.args.self.now c.texts-texts.ensures.entries c.texts-texts.ensures.spelled c.iter-text-items.ensures.ordered

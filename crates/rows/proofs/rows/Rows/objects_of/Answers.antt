@@ -1,0 +1,29 @@
+use Rattle.std.proofs.Common.{◌≤◌, List, ap, sym, subst, ◌∙◌, refl}
+use Rattle.std.specs.Prelude.{filter}
+use Rattle.std.proofs.lemmas.Result.{IfOk-weaker}
+use Rattle.meaning.specs.TupleSet as set
+use Rattle.rows_core.specs.Versions.{is_of}
+use Rattle.names.specs.declared.tuple.Tuple.{Tuple}
+use Rattle.rows_core.specs.Named.{objects_in}
+use Rattle.rows.specs.Retained.{Retained, snap_at}
+use Rattle.rows_core.specs.Versions.{stands}
+use Rattle.rows.specs.Representation.{as_retained}
+use Rattle.rows_core.proofs.Listing.{items_by, both_ok}
+use Rattle.rows.proofs.Retaining.{stands_at, rising}
+use Rattle.rows.proofs.rows.Rows.objects_of.Goals as goal
+
+pub objects_of-requires : goal.objects_of-requires
+objects_of-requires c =
+    let s = c.self.inside in
+    rising (as_retained s.number s.floor s.config s.tuples s.commits.items) s.tuples c.self.invariant.versions
+
+pub returns : goal.returns
+returns c =
+    let s = c.self.inside in
+    let r : Retained = as_retained s.number s.floor s.config s.tuples s.commits.items in
+    let not_below = subst (λ (x : Retained). x.floor ≤ c.args.rev) (sym c.self.view_is) c.requires.not_below in
+    IfOk-weaker c.objects_of.result _ _
+    (λ v is.
+    let items = items_by s.tuples (snap_at r c.args.rev).tuples (λ ms. stands ms c.args.rev) refl is.1 (λ q. sym (stands_at r s.tuples c.args.rev q c.self.invariant.versions not_below)) in
+    is.0 ∙ ap (λ (ts : List Tuple). objects_in (filter (is_of c.args.node.now) ts)) (sym items ∙ ap (λ (x : Retained). set.items (snap_at x c.args.rev).tuples) c.self.view_is))
+    (both_ok c.objects_of.result _ _ c.objects_of.ensures.found c.objects_of.ensures.ordered)

@@ -1,0 +1,79 @@
+-- What the texts of a node's tuples begin with, and those of them whose subjects are of one namespace. What is after it.
+use Rattle.std.proofs.Common.{◌≡◌, ℕ, ◌++◌, Bool, true, false, List, [], ◌∷◌, refl, sym, ap, ◌∙◌, append_assoc, IsTrue}
+use Rattle.std.specs.Prelude.{◌&&◌, nat_eq}
+use Rattle.std.specs.List.{starts_with}
+use Rattle.std.specs.Bool.{one_answer}
+use Rattle.std.specs.Cmp.Lexicographic.{pointwise, same_text, nat_list_eq_equiv}
+use Rattle.std.proofs.Math.Dec.{eqb}
+use Rattle.std.proofs.lemmas.Bool.Decides.{Decides-eqb}
+use Rattle.std.proofs.lemmas.Slice.Eq.{starts_is}
+use Rattle.names.specs.Names.{is_name}
+use Rattle.names.specs.Spelling.{IsNode}
+use Rattle.names.specs.declared.node.Node.{Node}
+use Rattle.names.specs.declared.subject.Subject.{Subject}
+use Rattle.rows_core.specs.Spelled.{spelled_node, spelled_relation, spelled_subject, subject_in, tuple_of, IsSpelling}
+use Rattle.rows_core.specs.Versions.{is_of}
+use Rattle.rows_core.specs.Named.{is_within, subject_from}
+use Rattle.rows_core.proofs.Joining.{name_above, above_lacks, before_joined, after_joined}
+use Rattle.rows_core.proofs.Spellings.{starts_of_node, same_node, node_itself, node_of_joined, subject_of_joined, node_above, node_joined}
+use Rattle.rows_core.proofs.Together.{Begins}
+
+pub node_begins : (n : Node) → IsNode n → Begins (spelled_node n) (is_of n)
+node_begins n is = record { is = λ a s. starts_of_node a s n is }
+
+-- what is after a node's text is the subject's
+pub subject_after : (n : Node) → IsNode n → (a rest : List ℕ) → a ≡ spelled_node n ++ rest → (tuple_of a).subject ≡ subject_in rest
+subject_after n is a rest e = ap (λ (l : List ℕ). (tuple_of l).subject) e ∙ subject_of_joined n (node_above n is) rest
+
+-- ---- the subjects of one namespace
+
+module _ (n : Node) (is : IsNode n) (namespace : List ℕ) (name : IsTrue (is_name namespace)) where
+  abbrev prefix : List ℕ
+  prefix = spelled_node n ++ (namespace ++ 32 ∷ [])
+
+  regrouped : (rest : List ℕ) → prefix ++ rest ≡ spelled_node n ++ (namespace ++ 32 ∷ rest)
+  regrouped rest = append_assoc (spelled_node n) (namespace ++ 32 ∷ []) rest ∙ ap (λ l. spelled_node n ++ l) (append_assoc namespace (32 ∷ []) rest)
+
+  subject_is : (rest : List ℕ) → subject_in (namespace ++ 32 ∷ rest) ≡ subject_from namespace rest
+  subject_is rest = rw (before_joined namespace rest (above_lacks namespace (name_above namespace name)), after_joined namespace rest (above_lacks namespace (name_above namespace name))) refl
+
+  -- what is after it is the rest of the subject
+  pub subject_within : (a rest : List ℕ) → a ≡ prefix ++ rest → (tuple_of a).subject ≡ subject_from namespace rest
+  subject_within a rest e = subject_after n is a (namespace ++ 32 ∷ rest) (e ∙ regrouped rest) ∙ subject_is rest
+
+  abbrev IsWithin : List ℕ → Type 0
+  IsWithin a = ((tuple_of a).node ≡ n) × ((tuple_of a).subject.object.namespace ≡ namespace)
+
+  within_starts : (a : List ℕ) → starts_with eqb a prefix ≡ true → IsWithin a
+  within_starts a starts =
+      let e = (starts_is Decides-eqb a prefix (starts_with eqb a prefix) refl).0 starts in
+      (ap (λ (l : List ℕ). (tuple_of l).node) (e ∙ regrouped _) ∙ node_of_joined n (node_above n is) _, ap (λ (s : Subject). s.object.namespace) (subject_within a _ e))
+
+  starts_within : (a : List ℕ) → IsSpelling a → IsWithin a → starts_with eqb a prefix ≡ true
+  starts_within a x w =
+      let s = (tuple_of a).subject in
+      let rest = s.object.id ++ spelled_relation s.relation in
+      let whole : a ≡ prefix ++ rest = sym x.same ∙ sym (node_joined (tuple_of a).node (spelled_subject s)) ∙ ap (λ (m : Node). spelled_node m ++ spelled_subject s) w.0
+      ∙ ap (λ (l : List ℕ). spelled_node n ++ (l ++ 32 ∷ rest)) w.1 ∙ sym (regrouped rest) in
+      (starts_is Decides-eqb a prefix (starts_with eqb a prefix) refl).1 rest whole
+
+  passes_within : (a : List ℕ) → is_within n namespace (tuple_of a) ≡ true → IsWithin a
+  passes_within a e =
+      let parts = both (is_of n (tuple_of a)) (pointwise nat_eq (tuple_of a).subject.object.namespace namespace) e in
+      (same_node (tuple_of a).node n parts.0, same_text (tuple_of a).subject.object.namespace namespace (sym parts.1))
+    where
+      both : (b c : Bool) → (b && c) ≡ true → (b ≡ true) × (c ≡ true)
+      both true c h = (refl, h)
+      both false c h = cc
+
+  within_passes : (a : List ℕ) → IsWithin a → is_within n namespace (tuple_of a) ≡ true
+  within_passes a w =
+      ap (λ (m : Node). is_of n (record { node = m; subject = (tuple_of a).subject }) && pointwise nat_eq (tuple_of a).subject.object.namespace namespace) w.0
+      ∙ ap (λ b. b && pointwise nat_eq (tuple_of a).subject.object.namespace namespace) (node_itself n)
+      ∙ ap (λ (l : List ℕ). pointwise nat_eq l namespace) w.1
+      ∙ nat_list_eq_equiv.refl namespace
+
+  pub namespace_begins : Begins prefix (is_within n namespace)
+  namespace_begins = record {
+    is = λ a s. one_answer {P = IsWithin a} (starts_with eqb a prefix) (is_within n namespace (tuple_of a)) (within_starts a, starts_within a s) (passes_within a, within_passes a);
+  }
