@@ -2,7 +2,7 @@
 ghost use Rattle.std.specs.Prelude.{◌≡◌, filter, IfOk};
 ghost use Rattle.meaning.specs.TupleSet as set;
 ghost use Rattle.rows_core.specs.Versions.{is_of};
-ghost use Rattle.rows.specs.Retained.{IsRetained, snap_at};
+ghost use Rattle.rows.specs.Retained.{IsRetained, snap_at, AreAdmitted};
 
 use crate::rows::Rows;
 use config::Config;
@@ -40,7 +40,8 @@ impl<'a> View<'a> {
     }
 
     pub fn config(&self) -> &Config
-        ensures { result.now ≡ self.now.config }
+        ensures config { result.now ≡ self.now.config }
+        ensures admitted { AreAdmitted self.now }
     {
         self.rows.config_at(self.rev)
     }
