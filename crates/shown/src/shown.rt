@@ -194,6 +194,7 @@ impl Shown {
         ensures ok { OnOk result (self.new ≡ after_step self.old (Step.Commit commit.now)) }
         ensures err { OnErr result (self.new ≡ self.old) }
     {
+        self.rows.admits_its_tuples();
         what_follows_has_room();
         self.rows.commit(commit)
     }
