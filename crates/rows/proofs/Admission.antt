@@ -16,10 +16,11 @@ use Rattle.meaning.specs.TupleSet as set
 use Rattle.meaning.specs.Admits.{admits}
 use Rattle.meaning.specs.History.{replay, puts_in}
 use Rattle.meaning.specs.Verdict.{Newest, or_else, refused_if, event_of, is_full, is_in_range, is_unknown, is_untyped, is_twice, at_place, first_from, inserts_again, deletes_nothing, in_the_way, write_cause}
-use Rattle.rows.specs.Retained.{Retained, newest, newest_of, spans_of, HasRoom}
+use Rattle.rows.specs.Retained.{Retained, newest, newest_of, spans_of, AreAdmitted, HasRoom}
 use Rattle.std.specs.Prelude.{is_some}
 use Rattle.names.specs.declared.limits.TheConstants.{MAX_REV, MAX_ROWS, MAX_TUPLES}
 use Rattle.rows.specs.Follows.{commit_cause, touch_of, touch_kind, is_in_order, IsNext}
+use Rattle.rows.proofs.Admitting.{within_events, within_config}
 
 pub later_none : {A : Type 0} (a b : Option A) → or_else a b ≡ None → b ≡ None
 later_none (Some x) b h = absurd cc
@@ -55,6 +56,17 @@ never_full n ops h =
     let f = later_none (at_place (λ i. NotThere i) (first_from (deletes_nothing n.held.tuples) 0 ops)) _ e in
     not_refused Full (is_full n (map event_of ops)) f
 
+-- nor does it put a tuple that is not admitted
+never_untyped : (n : Newest) (ops : List Op) → write_cause n ops ≡ None → list_any (is_untyped n.held.config) ops ≡ false
+never_untyped n ops h =
+    let a = later_none (refused_if Malformed (not (is_in_range ops))) _ h in
+    let b = later_none (refused_if UnknownRelation (list_any (is_unknown n.held.config) ops)) _ a in
+    not_refused TypeRefused (list_any (is_untyped n.held.config) ops) (first_none _ _ b)
+
+no_way : (o : Option Tuple) → in_the_way o ≡ None → o ≡ None
+no_way (Some t) h = absurd cc
+no_way None h = refl
+
 -- touches give back the events
 touched : (k : EventKind) (t : Tuple) → event_of (record { kind = touch_kind k; tuple = t }) ≡ record { tuple = t; kind = k }
 touched Put t = refl
@@ -70,24 +82,33 @@ room spans puts fits = omega (arith, fits)
 room_for_none : (spans : ℕ) → 0 ≤ MAX_ROWS - spans
 room_for_none spans = omega arith
 
-pub has_room : (r : Retained) (c : Commit Configured) → IsNext r c → HasRoom r c
-has_room r (Tuples events) h =
+pub has_room : (r : Retained) (c : Commit Configured) → AreAdmitted (newest_of r).held → IsNext r c → HasRoom r c
+has_room r (Tuples events) old h =
     let n = newest_of r in
-    let full = never_full n (map touch_of events) (later_none (refused_if Malformed (not (is_in_order events))) _ h) in
+    let written = later_none (refused_if Malformed (not (is_in_order events))) _ h in
+    let full = never_full n (map touch_of events) written in
     let short : is_full n events ≡ false = subst (λ (es : List Event). is_full n es ≡ false) (touches_give events) full in
     let many = nat_lt MAX_TUPLES (set.len (replay n.held.tuples events)) in
     let long = nat_lt MAX_ROWS (n.rows + puts_in events) in
     let late = nat_lt MAX_REV (n.rev + 1) in
     let fits : spans_of r + puts_in events ≤ MAX_ROWS = at_most MAX_ROWS (spans_of r + puts_in events) (right_false many long (left_false (many || long) late short)) in
-    record { revs = at_most MAX_REV (newest r + 1) (right_false (many || long) late short); rows = room (spans_of r) (puts_in events) fits }
-has_room r (Config config) h =
+    record {
+      revs = at_most MAX_REV (newest r + 1) (right_false (many || long) late short);
+      rows = room (spans_of r) (puts_in events) fits;
+      admitted = within_events n.held.config n.held.tuples events old (never_untyped n (map touch_of events) written);
+    }
+has_room r (Config config) old h =
     let n = newest_of r in
     let full = not_refused Full (nat_lt MAX_REV (n.rev + 1)) (later_none (in_the_way (find (λ t. not (admits config t)) (set.items n.held.tuples))) _ h) in
-    record { revs = at_most MAX_REV (newest r + 1) full; rows = room_for_none (spans_of r) }
+    record {
+      revs = at_most MAX_REV (newest r + 1) full;
+      rows = room_for_none (spans_of r);
+      admitted = within_config config n.held.tuples (no_way _ (first_none _ _ h));
+    }
 
 -- the same of what the code tells
-pub room_unless_refused : (r : Retained) (c : Commit Configured) (refuses : Bool) → refuses ≡ is_some (commit_cause (newest_of r) c) → refuses ≡ false → HasRoom r c
-room_unless_refused r c refuses is not_so = has_room r c (none (commit_cause (newest_of r) c) (sym is ∙ not_so))
+pub room_unless_refused : (r : Retained) (c : Commit Configured) (refuses : Bool) → AreAdmitted (newest_of r).held → refuses ≡ is_some (commit_cause (newest_of r) c) → refuses ≡ false → HasRoom r c
+room_unless_refused r c refuses old is not_so = has_room r c old (none (commit_cause (newest_of r) c) (sym is ∙ not_so))
   where
     none : (o : Option Refusal) → is_some o ≡ false → o ≡ None
     none None h = refl

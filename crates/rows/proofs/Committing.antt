@@ -23,6 +23,7 @@ use Rattle.rows.specs.Retained.{Retained, newest, with_commit, HasRoom}
 use Rattle.rows_core.specs.Versions.{Entries, commit_versions, versions_at, versions_after, base_versions, is_there, AreVersions, GoesOn, HasThese, Changes}
 use Rattle.rows.specs.Representation.{configs_after, as_retained, IsConsistent}
 use Rattle.rows_core.proofs.VersionRuns.{versions_push, based_last, last_of}
+use Rattle.rows.proofs.Admitting.{admitted_with, admitted_without}
 use Rattle.rows.proofs.ConfigsAt.{configs_push, configs_same}
 use Rattle.rows_core.proofs.Bases.{base_is}
 use Rattle.rows_core.proofs.Settling.{after_push}
@@ -87,6 +88,7 @@ consistent_same r m n ds counts same consistent = record {
   tuples = consistent.tuples;
   revs = consistent.revs;
   few = consistent.few;
+  admitted = consistent.admitted;
 }
 
 -- a fact that holds anyway
@@ -126,6 +128,7 @@ consistent_events r m n ds old new es change consistent room goes changes rows t
           ∙ ap (λ (s : Snap). set.len s.tuples) (sym (after_push r.base r.commits (kinds.Tuples es)));
       revs = omega (arith, room_revs, longer);
       few = omega (arith, room_rows, more);
+      admitted = admitted_with r (kinds.Tuples es) consistent.admitted room.admitted;
     }
 
 pub consistent_config : (r : Retained) (m : Entries) (ds : List ConfigAt) (counts : Counts) (config : Configured)
@@ -144,6 +147,7 @@ consistent_config r m ds counts config consistent room =
       tuples = consistent.tuples ∙ ap (λ (s : Snap). set.len s.tuples) (sym (after_push r.base r.commits (kinds.Config config)));
       revs = omega (arith, room_revs, longer);
       few = omega (arith, room_rows, more);
+      admitted = admitted_with r (kinds.Config config) consistent.admitted room.admitted;
     }
 
 -- and off again
@@ -181,6 +185,7 @@ consistent_back r m n ds old new es change consistent versions changes rows tupl
           ∙ changes (after_commits r.base r.commits).tuples (before_these r)) tuples;
       revs = omega (arith, old_revs, longer);
       few = omega (arith, old_few, more);
+      admitted = admitted_without r (kinds.Tuples es) consistent.admitted;
     }
 
 pub consistent_back_config : (r : Retained) (m : Entries) (ds : List ConfigAt) (counts : Counts) (config : Configured)
@@ -200,4 +205,5 @@ consistent_back_config r m ds counts config consistent =
       tuples = consistent.tuples ∙ ap (λ (s : Snap). set.len s.tuples) (after_push r.base r.commits (kinds.Config config));
       revs = omega (arith, old_revs, longer);
       few = omega (arith, old_few, more);
+      admitted = admitted_without r (kinds.Config config) consistent.admitted;
     }

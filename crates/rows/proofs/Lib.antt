@@ -4,6 +4,7 @@ pub mod Touching
 pub mod Committing
 pub mod Loading
 pub mod Admitted
+pub mod Admitting
 pub mod Fullness
 pub mod Admission
 pub mod Written

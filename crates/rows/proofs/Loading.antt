@@ -1,5 +1,5 @@
 -- Making a history from what tables held.
-use Rattle.std.proofs.Common.{◌≡◌, ℕ, ◌+◌, ◌<◌, ◌≤◌, List, [], ◌∷◌, length, take, zero, suc, refl, ap, sym, ◌∙◌, arith, get_or}
+use Rattle.std.proofs.Common.{◌≡◌, ℕ, ◌+◌, ◌<◌, ◌≤◌, List, [], ◌∷◌, ◌++◌, length, take, zero, suc, refl, ap, sym, subst, ◌∙◌, arith, get_or}
 use Rattle.std.specs.List.Sorted.{IsStrictlySortedBy}
 use Rattle.std.proofs.lemmas.List.{append-nil}
 use Rattle.std.proofs.Math.Seq.{take-length}
@@ -8,16 +8,17 @@ use Rattle.names.specs.declared.tuple.Tuple.{Tuple}
 use Rattle.names.specs.declared.commit.Commit.{Commit}
 use Rattle.meaning.specs.TupleSet as set
 use Rattle.meaning.specs.Config.{Configured}
-use Rattle.meaning.specs.History.{History, rows_of, commit_rows}
+use Rattle.meaning.specs.History.{History, after_commit, after_commits, rows_of, commit_rows}
 use Rattle.meaning.proofs.TupleSets.{items_from_list, len_items}
 use Rattle.rows.specs.declared.loaded.Loaded.{Loaded}
 use Rattle.rows.specs.declared.loaded.Counts.{Counts}
-use Rattle.rows.specs.Retained.{with_commit, HasRoom}
+use Rattle.rows.specs.Retained.{newest_of, AreAdmitted, IsAdmitted, with_commit, HasRoom}
 use Rattle.rows.specs.Loads.{retained_of, loaded_to, IsWithin}
 use Rattle.rows_core.specs.Versions.{Entries, versions_at, base_versions}
 use Rattle.rows.specs.Representation.{IsConsistent}
 use Rattle.rows_core.proofs.VersionRuns.{take_none}
-use Rattle.rows_core.proofs.Settling.{take_more}
+use Rattle.rows_core.proofs.Settling.{after_push, take_more}
+use Rattle.rows.proofs.Admitting.{all_first, all_at, to_all, of_all}
 use Rattle.rows.proofs.Committing.{rows_push, length_push}
 
 -- the tuples in order are as many as the set has
@@ -34,6 +35,16 @@ length_take zero xs = let none = ap length (take_none xs) in omega (arith, none)
 length_take (suc k) [] = omega arith
 length_take (suc k) (x ∷ xs) = let rest = length_take k xs in omega (arith, rest)
 
+-- the first tuples are admitted
+first_admitted : (l : Loaded) → IsAdmitted (retained_of l) → IsAdmitted (record { number = l.number; floor = l.floor; base = record { config = l.config; tuples = set.from_list l.tuples }; commits = [] })
+first_admitted l admitted = of_all (record { number = l.number; floor = l.floor; base = (retained_of l).base; commits = [] }) (all_first (retained_of l).base l.commits (to_all (retained_of l) admitted))
+
+-- and those after each commit
+next_admitted : (l : Loaded) (k : ℕ) (c : Commit Configured) → IsAdmitted (retained_of l) → take (suc k) l.commits ≡ take k l.commits ++ c ∷ [] → AreAdmitted (after_commit (newest_of (loaded_to l k)).held c)
+next_admitted l k c admitted more =
+    let base = (retained_of l).base in
+    subst AreAdmitted (ap (after_commits base) more ∙ after_push base (take k l.commits) c) (all_at base l.commits (suc k) (to_all (retained_of l) admitted))
+
 -- no commit yet
 pub consistent_none : (l : Loaded) (m : Entries) (counts : Counts) → IsWithin l → ((q : Tuple) → versions_at m q ≡ base_versions (set.contains (set.from_list l.tuples) q))
     → counts.rows ≡ length l.tuples → counts.tuples ≡ length l.tuples
@@ -49,6 +60,7 @@ consistent_none l m counts within versions rows tuples =
       tuples = tuples ∙ len;
       revs = omega (arith, revs);
       few = omega (arith, few);
+      admitted = first_admitted l within.admitted;
     }
 
 -- there is room for each commit
@@ -64,6 +76,7 @@ has_room l k c within small is =
     record {
       revs = omega (arith, longer, fits, revs);
       rows = omega (arith, rows, all, few);
+      admitted = next_admitted l k c within.admitted more;
     }
 
 pub next_loaded : (l : Loaded) (k : ℕ) (c : Commit Configured) → k < length l.commits → c ≡ get_or l.commits k c → with_commit (loaded_to l k) c ≡ loaded_to l (k + 1)

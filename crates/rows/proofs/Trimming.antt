@@ -12,6 +12,7 @@ use Rattle.rows.specs.Representation.{config_after_settle, configs_above, config
 use Rattle.rows_core.proofs.VersionRuns.{take_none}
 use Rattle.rows_core.proofs.Settling.{drop_none}
 use Rattle.rows_core.proofs.Bases.{based_after}
+use Rattle.rows.proofs.Admitting.{admitted_after_trim}
 use Rattle.rows.proofs.Committing.{tuples_within}
 use Rattle.rows.proofs.Retaining.{whole}
 use Rattle.rows.proofs.ConfigsAt.{config_settles, configs_settle}
@@ -71,6 +72,7 @@ consistent_after_trim r m n ds es old new floor above below consistent versions 
       tuples = tuples ∙ consistent.tuples ∙ ap (λ (x : Snap). set.len x.tuples) (after_split r.base k r.commits);
       revs = omega (arith, long, revs, above, below);
       few = omega (arith, within, split, few);
+      admitted = admitted_after_trim r floor consistent.admitted;
     }
 
 pub config_after_trim : (r : Retained) (ds : List ConfigAt) (floor : ℕ) → r.floor ≤ floor → ds ≡ configs_after r.floor r.commits → config_after_settle r.base.config ds floor ≡ (snap_at r floor).config

@@ -8,7 +8,7 @@ use Rattle.meaning.specs.History.{History, after_commits}
 use Rattle.rows_core.specs.Versions.{Entries, AreVersions, base_tuples}
 use Rattle.rows.specs.declared.config_at.ConfigAt.{ConfigAt}
 use Rattle.rows.specs.declared.loaded.Counts.{Counts}
-use Rattle.rows.specs.Retained.{Retained, newest, spans_of}
+use Rattle.rows.specs.Retained.{Retained, newest, spans_of, IsAdmitted}
 
 -- the configurations of the commits above a revision
 abbrev pub configs_after : ℕ → History → List ConfigAt
@@ -44,7 +44,7 @@ configs_above rev (d ∷ ds) = cond (nat_le d.rev rev) (configs_above rev ds) (d
 abbrev pub as_retained : ℕ → ℕ → Configured → Entries → History → Retained
 as_retained number floor config m commits = record { number = number; floor = floor; base = record { config = config; tuples = base_tuples m }; commits = commits }
 
--- the versions, the configurations and the counts are right
+-- the versions, the configurations and the counts are right, and each revision's tuples are admitted
 pub record IsConsistent (r : Retained) (m : Entries) (configs : List ConfigAt) (counts : Counts) : Type 0 where
   pub versions : AreVersions m r.base.tuples r.floor r.commits
   pub configs_right : configs ≡ configs_after r.floor r.commits
@@ -52,3 +52,4 @@ pub record IsConsistent (r : Retained) (m : Entries) (configs : List ConfigAt) (
   pub tuples : counts.tuples ≡ set.len (after_commits r.base r.commits).tuples
   pub revs : newest r ≤ MAX_REV
   pub few : spans_of r ≤ MAX_ROWS
+  pub admitted : IsAdmitted r

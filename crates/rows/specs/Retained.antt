@@ -1,5 +1,5 @@
 -- What is retained of a history: what its floor holds, and the commits above it (Zanzibar, section 2.2).
-use Rattle.std.specs.Prelude.{ℕ, ◌+◌, ◌-◌, ◌≤◌, [], ◌∷◌, ◌++◌, length, take, drop, Bool, false}
+use Rattle.std.specs.Prelude.{◌≡◌, ℕ, ◌+◌, ◌-◌, ◌≤◌, [], ◌∷◌, ◌++◌, length, take, drop, Bool, true, false}
 use Rattle.std.specs.List.{list_any}
 use Rattle.names.specs.declared.limits.TheConstants.{MAX_REV, MAX_ROWS}
 use Rattle.names.specs.Order.{is_same_tuple}
@@ -8,8 +8,9 @@ use Rattle.names.specs.declared.commit.Commit.{Commit}
 use Rattle.names.specs.declared.commit.Commit.TheVariants.{Tuples, Config}
 use Rattle.meaning.specs.TupleSet as set
 use Rattle.meaning.specs.Config.{Configured}
+use Rattle.meaning.specs.Admits.{admits}
 use Rattle.meaning.specs.Snap.{Snap, empty_snap}
-use Rattle.meaning.specs.History.{History, after_commits, rows_of, commit_rows}
+use Rattle.meaning.specs.History.{History, after_commit, after_commits, rows_of, commit_rows}
 use Rattle.meaning.specs.Verdict.{Newest}
 
 -- the store's number, the floor, what the floor holds, and the commits above it
@@ -40,6 +41,14 @@ pub record IsRetained (r : Retained) (rev : ℕ) : Type 0 where
 abbrev pub snap_at : Retained → ℕ → Snap
 snap_at r rev = after_commits r.base (take (rev - r.floor) r.commits)
 
+-- the configuration admits each tuple
+abbrev pub AreAdmitted : Snap → Type 0
+AreAdmitted s = (t : Tuple) → set.contains s.tuples t ≡ true → admits s.config t ≡ true
+
+-- so it is at each retained revision
+abbrev pub IsAdmitted : Retained → Type 0
+IsAdmitted r = (rev : ℕ) → IsRetained r rev → AreAdmitted (snap_at r rev)
+
 -- How many spans of revisions are retained: a tuple that the floor holds has one, and each put above the floor begins one.
 abbrev pub spans_of : Retained → ℕ
 spans_of r = set.len r.base.tuples + rows_of r.commits
@@ -60,10 +69,11 @@ without_newest r = record { number = r.number; floor = r.floor; base = r.base; c
 abbrev pub after_trim : Retained → ℕ → Retained
 after_trim r floor = record { number = r.number; floor = floor; base = snap_at r floor; commits = drop (floor - r.floor) r.commits }
 
--- with the commit, the limits of revisions and rows still hold
+-- with the commit, the limits of revisions and rows still hold, and each tuple is admitted
 pub record HasRoom (r : Retained) (c : Commit Configured) : Type 0 where
   pub revs : newest r + 1 ≤ MAX_REV
   pub rows : commit_rows c ≤ MAX_ROWS - spans_of r
+  pub admitted : AreAdmitted (after_commit (newest_of r).held c)
 
 -- the commit has an event on the tuple
 abbrev pub touches : Tuple → Commit Configured → Bool

@@ -4,7 +4,7 @@ ghost use Rattle.names.specs.declared.commit.Event.{Event};
 ghost use Rattle.names.specs.declared.commit.Commit.{Commit};
 ghost use Rattle.meaning.specs.Config.{Configured};
 ghost use Rattle.meaning.specs.Verdict.{Newest};
-ghost use Rattle.rows.specs.Retained.{Retained, HasRoom};
+ghost use Rattle.rows.specs.Retained.{Retained, newest_of, AreAdmitted, HasRoom};
 ghost use Rattle.rows.specs.Follows.{FollowsWhereWritten, IsNext};
 
 /// Events are refused exactly where no write that is accepted gives them.
@@ -12,7 +12,7 @@ pub fn refuses_what_no_write_gives()
     ensures { (newest : Newest) (events : List Event) → FollowsWhereWritten newest events }
 {}
 
-/// A commit that can follow has room.
+/// Where the newest revision's tuples are admitted, a commit that can follow has room.
 pub fn what_follows_has_room()
-    ensures { (r : Retained) (c : Commit Configured) → IsNext r c → HasRoom r c }
+    ensures { (r : Retained) (c : Commit Configured) → AreAdmitted (newest_of r).held → IsNext r c → HasRoom r c }
 {}

@@ -4,7 +4,7 @@ ghost use Rattle.std.specs.List.{find};
 ghost use Rattle.names.specs.declared.limits.TheConstants.{MAX_REV, MAX_ROWS};
 ghost use Rattle.names.specs.declared.tuple.Tuple.{Tuple};
 ghost use Rattle.meaning.specs.TupleSet as set;
-ghost use Rattle.rows.specs.Retained.{newest, empty_store, IsRetained, snap_at, spans_of, newest_of, with_commit, without_newest, after_trim, HasRoom, commits_between, is_touched_after, last_config};
+ghost use Rattle.rows.specs.Retained.{newest, empty_store, IsRetained, snap_at, spans_of, newest_of, with_commit, without_newest, after_trim, HasRoom, AreAdmitted, IsAdmitted, commits_between, is_touched_after, last_config};
 ghost use Rattle.rows_core.specs.Named.{user_tuple, objects_in, nodes_in, is_within};
 ghost use Rattle.rows_core.specs.Versions.{is_of, refuses};
 ghost use Rattle.rows.specs.Loads.{retained_of, loaded_to, IsWithin};
@@ -127,6 +127,15 @@ impl Rows {
         self.floor + self.commits.len() as u64
     }
 
+    /// Each retained revision's tuples are admitted by its configuration.
+    pub fn admits_its_tuples(&self)
+        ensures each { IsAdmitted self.now }
+        ensures newest { AreAdmitted (newest_of self.now).held }
+    {
+        // A proof knows the invariant where a field is used.
+        let _ = &self.alloc;
+    }
+
     /// How large the history is.
     pub fn counts(&self) -> Counts
         ensures rows { result.rows ≡ spans_of self.now }
@@ -221,7 +230,8 @@ impl Rows {
     /// The configuration at a revision.
     pub(crate) fn config_at(&self, rev: u64) -> &Config
         requires { IsRetained self.now rev }
-        ensures { result.now ≡ (snap_at self.now rev).config }
+        ensures config { result.now ≡ (snap_at self.now rev).config }
+        ensures admitted { AreAdmitted (snap_at self.now rev) }
     {
         config_up_to(&self.config, &self.configs, rev)
     }

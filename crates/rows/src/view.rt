@@ -5,7 +5,7 @@ ghost use Rattle.meaning.specs.Membership.{HasOne, HasSet};
 ghost use Rattle.meaning.specs.TupleSet as set;
 ghost use Rattle.rows_core.specs.Versions.{is_of};
 ghost use Rattle.rows.specs.Lookups.{IsRepeated};
-ghost use Rattle.rows.specs.Retained.{IsRetained, snap_at};
+ghost use Rattle.rows.specs.Retained.{IsRetained, snap_at, AreAdmitted};
 
 use crate::rows::Rows;
 use config::{Config, Relation};
@@ -43,7 +43,8 @@ impl<'a> View<'a> {
     }
 
     pub fn config(&self) -> &Config
-        ensures { result.now ≡ self.now.config }
+        ensures config { result.now ≡ self.now.config }
+        ensures admitted { AreAdmitted self.now }
     {
         self.rows.config_at(self.rev)
     }

@@ -2,11 +2,15 @@
 -- event.
 use Rattle.std.specs.Prelude.{◌≡◌, ◌≢◌, ◌+◌, ℕ, Bool, true, false, List, [], ◌∷◌, ◌++◌, length, take, drop, map, is_some, not, ◌&&◌, Result, Ok, Err, nat_le, if◌then◌else◌}
 use Rattle.names.specs.declared.refusal.Refusal.TheVariants.{Memory}
+use Rattle.std.specs.List.{list_all}
 use Rattle.std.specs.Ordering.{is_lt}
 use Rattle.names.specs.declared.limits.TheConstants.{MAX_CATCH_UP, MAX_REV, MAX_ROWS}
 use Rattle.names.specs.Order.{tuple_cmp}
 use Rattle.names.specs.declared.tuple.Tuple.{Tuple}
-use Rattle.meaning.specs.History.{History}
+use Rattle.meaning.specs.TupleSet as set
+use Rattle.meaning.specs.Snap.{Snap}
+use Rattle.meaning.specs.Admits.{admits}
+use Rattle.meaning.specs.History.{History, after_commit}
 use Rattle.rows.specs.Retained.{Retained, newest, newest_of, spans_of, with_commit}
 use Rattle.rows.specs.Loads.{retained_of}
 use Rattle.rows.specs.Follows.{commit_cause}
@@ -61,10 +65,23 @@ is_rising [] = true
 is_rising (t ∷ ts) = is_below t ts && is_rising ts
 
 -- the tuples of the floor are in order, each once, and the limits of revisions and rows hold
-abbrev pub is_within : Loaded → Bool
-is_within l =
+abbrev pub is_limited : Loaded → Bool
+is_limited l =
     is_rising l.tuples
     && (nat_le (newest (retained_of l)) MAX_REV && nat_le (spans_of (retained_of l)) MAX_ROWS)
+
+-- the configuration admits each tuple
+abbrev pub is_admitted : Snap → Bool
+is_admitted s = list_all (admits s.config) (set.items s.tuples)
+
+-- so it is before the commits, and after each
+abbrev pub are_admitted : Snap → History → Bool
+are_admitted s [] = is_admitted s
+are_admitted s (c ∷ cs) = is_admitted s && are_admitted (after_commit s c) cs
+
+-- and each retained revision's tuples are admitted
+abbrev pub is_within : Loaded → Bool
+is_within l = is_limited l && are_admitted (retained_of l).base l.commits
 
 -- The opening comes first, and once. Then a commit that is not refused can be stored, the step of a stored one
 -- be posted, a part take commits, what waits be published, a session be told of what is published, and a question

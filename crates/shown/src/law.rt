@@ -1,8 +1,10 @@
 //! What holds after any events.
-ghost use Rattle.std.specs.Prelude.{ℕ, List};
+ghost use Rattle.std.specs.Prelude.{◌≡◌, ◌↔◌, ℕ, List, true};
+ghost use Rattle.rows.specs.Loads.{IsWithin};
+ghost use Rattle.rows.specs.declared.loaded.Loaded.{Loaded};
 ghost use Rattle.shown.specs.declared.event.Event.{Event};
 ghost use Rattle.shown.specs.declared.event.Question.{Question};
-ghost use Rattle.shown.specs.World.{Happening};
+ghost use Rattle.shown.specs.World.{Happening, is_within};
 ghost use Rattle.shown.specs.Runs.{AnswersRise, PostsStored};
 
 /// A question is answered by the standing of a beginning of the posted steps. It is no shorter than any
@@ -15,4 +17,10 @@ pub fn answers_rise()
 /// order, none left out. The published steps are a beginning of the posted ones.
 pub fn posts_stored()
     ensures { (events : List Event) → PostsStored events }
+{}
+
+/// What can be opened is what tables load: the tuples of the floor in order, the limits, and that each revision's
+/// tuples are admitted.
+pub fn opens_what_is_within()
+    ensures { (loaded : Loaded) → (is_within loaded ≡ true) ↔ IsWithin loaded }
 {}

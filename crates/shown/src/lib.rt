@@ -2,6 +2,7 @@
 //! change is judged on it.
 #![tactic(auto)]
 
+mod admitted;
 mod answer;
 mod copies;
 mod event;
@@ -13,7 +14,7 @@ mod world;
 
 pub use answer::{Answer, Refused};
 pub use event::{Event, Outcome, Posting, Question};
-pub use law::{answers_rise, posts_stored};
+pub use law::{answers_rise, opens_what_is_within, posts_stored};
 pub use shown::Shown;
 pub use step::Step;
 pub use world::World;

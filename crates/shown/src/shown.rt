@@ -6,7 +6,7 @@ ghost use Rattle.meaning.specs.Admits.{has_relation};
 ghost use Rattle.meaning.specs.Config.{rel_of};
 ghost use Rattle.meaning.specs.Membership.{IsMember};
 ghost use Rattle.meaning.specs.Verdict.{config_cause};
-ghost use Rattle.plain.specs.Causes.{CheckCause};
+ghost use Rattle.decide.specs.Causes.{CheckCause};
 ghost use Rattle.rows.specs.Follows.{IsAccepted};
 ghost use Rattle.rows.specs.Judging.{WriteRefused, ConfigRefused};
 ghost use Rattle.rows.specs.Retained.{IsRetained, newest, newest_of, snap_at};
@@ -14,11 +14,10 @@ ghost use Rattle.shown.specs.Standing.{nothing, after_step, after_take, cursor_a
 ghost use Rattle.shown.specs.Answers.{IsAskedAt, IsAnswer, IsRefusal};
 
 use crate::answer::{Answer, Refused};
-use crate::copies::snapshot_of;
 use crate::step::Step;
 use config::Config;
+use decide::Nothing;
 use names::{Commit, Node, Object, Op, Part, Refusal, State};
-use plain::Snapshot;
 use rows::{Loaded, Rows, what_follows_has_room};
 use std::alloc::{AllocError, Global};
 use std::marker::Model;
@@ -145,18 +144,8 @@ impl Shown {
             (has_relation (snap_at self.now.kept rev).config (rel_of node.now) ≡ true) }
         ensures err { IfErr result (CheckCause (snap_at self.now.kept rev) node.now) }
     {
-        let snapshot = self.snapshot_at(rev)?;
-        plain::check(self.alloc, &snapshot, node, user)
-    }
-
-    fn snapshot_at(&self, rev: u64) -> Result<Snapshot, AllocError>
-        requires { IsRetained self.now.kept rev }
-        ensures { IfOk result (λ snapshot. snapshot ≡ snap_at self.now.kept rev) }
-    {
         let view = self.rows.at(rev);
-        let config = view.config().again(self.alloc)?;
-        let tuples = view.tuples(self.alloc)?;
-        snapshot_of(self.alloc, config, &tuples)
+        decide::check_at(self.alloc, &view, &mut Nothing, node, user)
     }
 
     /// Why the operations are refused, if they are.
@@ -194,6 +183,7 @@ impl Shown {
         ensures ok { OnOk result (self.new ≡ after_step self.old (Step.Commit commit.now)) }
         ensures err { OnErr result (self.new ≡ self.old) }
     {
+        self.rows.admits_its_tuples();
         what_follows_has_room();
         self.rows.commit(commit)
     }

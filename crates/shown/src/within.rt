@@ -1,17 +1,28 @@
-//! Whether what was loaded is within the limits.
-ghost use Rattle.std.specs.Prelude.{◌≡◌, ◌+◌, ◌<◌, IfSome, IfNone, length, nat_le};
+//! Whether what was loaded can be opened.
+ghost use Rattle.std.specs.Prelude.{◌≡◌, ◌+◌, ◌<◌, IfOk, IfSome, IfNone, length, nat_le};
 ghost use Rattle.meaning.specs.History.{puts_in, commit_rows, rows_of};
-ghost use Rattle.shown.specs.World.{is_below, is_rising, is_within};
+ghost use Rattle.shown.specs.World.{is_below, is_rising, is_limited, is_within};
 
+use crate::admitted::are_admitted;
 use config::Config;
 use names::limits::{MAX_REV, MAX_ROWS};
 use names::{Commit, Event, EventKind, Tuple};
 use rows::Loaded;
+use std::alloc::{AllocError, Global};
 
-/// Whether the tuples are in order, each once, and there are no more revisions and rows than a store may
-/// have.
-pub(crate) fn is_within(loaded: &Loaded) -> bool
-    ensures { result ≡ is_within loaded.now }
+/// Whether the tuples are in order, each once, there are no more revisions and rows than a store may have, and
+/// each revision's tuples are admitted.
+pub(crate) fn is_within(alloc: Global, loaded: &Loaded) -> Result<bool, AllocError>
+    ensures { IfOk result (λ yes. yes ≡ is_within loaded.now) }
+{
+    if !is_limited(loaded) {
+        return Ok(false);
+    }
+    are_admitted(alloc, loaded)
+}
+
+fn is_limited(loaded: &Loaded) -> bool
+    ensures { result ≡ is_limited loaded.now }
 {
     let tuples = loaded.tuples.as_slice();
     let commits = loaded.commits.as_slice();

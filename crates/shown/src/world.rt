@@ -91,6 +91,7 @@ impl World {
             return Ok(Outcome::No);
         }
         self.waiting.reserve(1)?;
+        self.newest.admits_its_tuples();
         what_follows_has_room();
         self.newest.commit(&commit)?;
         self.waiting.push_back_reserved(commit);
@@ -101,7 +102,7 @@ impl World {
         ensures ok { IfOk result (λ o. Happens self.old (Posted (Opening loaded)) o self.new) }
         ensures err { OnErr result (self.new ≡ self.old) }
     {
-        if self.has_begun() || !is_within(&loaded) {
+        if self.has_begun() || !is_within(self.alloc, &loaded)? {
             return Ok(Outcome::No);
         }
         self.posted.reserve(1)?;

@@ -219,8 +219,8 @@ commits_take w (suc n) zero rev h = absurd (omega arith)
 commits_take w (suc n) (suc m) rev h = ap (λ cs. commit_at w (rev + 1) ∷ cs) (commits_take w n m (rev + 1) (omega arith))
 
 -- what each retained revision holds
-pub held_at : (w : Written) → IsSound w → (rev : ℕ) → w.floor ≤ rev → rev ≤ w.newest → snap_at (history_of w) rev ≡ snap_in w rev
-held_at w sound rev low high =
+pub held_at : (w : Written) → IsWhole w → (rev : ℕ) → w.floor ≤ rev → rev ≤ w.newest → snap_at (history_of w) rev ≡ snap_in w rev
+held_at w whole rev low high =
     ap (after_commits (snap_in w w.floor)) (commits_take w (rev - w.floor) (w.newest - w.floor) w.floor (omega arith))
-    ∙ held_above w (whole_of w sound) (rev - w.floor) w.floor (omega arith) (omega arith)
+    ∙ held_above w whole (rev - w.floor) w.floor (omega arith) (omega arith)
     ∙ ap (snap_in w) (omega arith)

@@ -15,6 +15,7 @@ pub mod Once
 pub mod Admitting
 pub mod Apart
 pub mod CommitRuns
+pub mod Retaining
 pub mod Current
 pub mod Adjacent
 pub mod Sequence

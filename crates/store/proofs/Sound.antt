@@ -14,7 +14,7 @@ use Rattle.meaning.specs.Admits.{admits}
 use Rattle.meaning.specs.TupleSet as set
 use Rattle.meaning.specs.History.{rows_of}
 use Rattle.meaning.proofs.TupleSets.{len_items, items_from_list}
-use Rattle.rows.specs.Retained.{Retained, spans_of}
+use Rattle.rows.specs.Retained.{Retained, spans_of, IsAdmitted}
 use Rattle.rows.specs.Loads.{retained_of, IsWithin}
 use Rattle.rows.specs.declared.loaded.Loaded.{Loaded}
 use Rattle.store_core.specs.Tables.{Contents, ConfigRow, Entry}
@@ -31,6 +31,7 @@ use Rattle.store.specs.declared.parts.Head.{Head}
 use Rattle.store.proofs.Apart.{apart, distinct}
 use Rattle.store.proofs.CommitRuns.{length_above}
 use Rattle.store.proofs.Held.{IsWhole, whole_of}
+use Rattle.store.proofs.Retaining.{AdmitsSpan, history_admitted}
 use Rattle.store.proofs.Current.{len_alive, len_current}
 use Rattle.store.proofs.Once.{rows_in, history_once}
 
@@ -45,11 +46,12 @@ built number floor config g tuples ts commits cs p q r =
 len_sorted : (ts : List Tuple) → IsStrictlySortedBy tuple_cmp ts → set.len (set.from_list ts) ≡ length ts
 len_sorted ts sorted = len_items (set.from_list ts) ∙ ap length (items_from_list ts sorted)
 
-pub within : (l : Loaded) (w : Written) (n : ℕ) → IsStrictlySortedBy tuple_cmp l.tuples → l.commits ≡ commits_above w l.floor n → l.floor + n ≤ MAX_REV → length l.tuples + rows_of l.commits ≤ MAX_ROWS → IsWithin l
-within l w n sorted commits revs rows = record {
+pub within : (l : Loaded) (w : Written) (n : ℕ) → IsStrictlySortedBy tuple_cmp l.tuples → l.commits ≡ commits_above w l.floor n → l.floor + n ≤ MAX_REV → length l.tuples + rows_of l.commits ≤ MAX_ROWS → IsAdmitted (retained_of l) → IsWithin l
+within l w n sorted commits revs rows admitted = record {
   ordered = sorted;
   revs = let len = ap length commits ∙ length_above w l.floor n in omega (arith, len, revs);
   rows = let len = len_sorted l.tuples sorted in omega (arith, len, rows);
+  admitted = admitted;
 }
 
 -- a history has no more spans than it may
@@ -69,34 +71,41 @@ many_refused head spans configs many sound =
     let most = sound.tuples in
     omega (arith, many, len, most)
 
--- what was read
-pub sound : (head : Head) (spans : List ReadSpan) (configs : List ReadConfig) → IsHead head
-    → All (λ s. IsSpan head.floor head.newest (as_span s)) spans → All (λ c. IsConfigAt head.newest (as_config c)) configs → ArePlaced head configs spans
-    → ((rev : ℕ) → head.floor < rev → rev ≤ head.newest → brings_one (as_written head spans configs) rev ≡ true)
-    → (r : Retained) → r ≡ history_of (as_written head spans configs) → spans_of r ≤ MAX_ROWS → current spans ≤ MAX_TUPLES
-    → IsSound (as_written head spans configs)
-sound head spans configs is are revised placed whole r same rows few = record {
-  number_is = (is.numbered, is.signed);
-  order = is.order;
-  revs = is.revs;
-  spans_are = rows_are.spans_are;
-  apart = rows_are.apart;
-  configs_are = All-map (IsConfigAt head.newest) as_config configs revised;
-  distinct = rows_are.distinct;
-  whole = whole;
-  admitted = λ rev above below. All-map (λ (l : TupleSpan). is_alive rev l ≡ true → admits (config_up_to rev (map as_config configs)) l.tuple ≡ true) as_span spans (λ k d lt. placed.admitted k d lt rev above);
-  rows = let P : Retained → Type 0 = λ x. spans_of x ≤ MAX_ROWS in subst P same rows;
-  tuples = let len = len_current head spans configs rows_are in omega (arith, len, few);
-}
-  where
-    rows_are : IsWhole (as_written head spans configs)
-    rows_are = record {
-      order = is.order;
-      spans_are = All-map (IsSpan head.floor head.newest) as_span spans are;
-      apart = apart as_span head.floor head.newest spans placed.apart are;
-      distinct = distinct as_config head.floor configs placed.distinct;
-      whole = whole;
-    }
+-- rows of which each is what a row may be, that are placed, and of which each revision is one commit
+module _ (head : Head) (spans : List ReadSpan) (configs : List ReadConfig) (is : IsHead head) (are : All (λ s. IsSpan head.floor head.newest (as_span s)) spans) (placed : ArePlaced head configs spans)
+    (whole : (rev : ℕ) → head.floor < rev → rev ≤ head.newest → brings_one (as_written head spans configs) rev ≡ true) where
+  rows_are : IsWhole (as_written head spans configs)
+  rows_are = record {
+    order = is.order;
+    spans_are = All-map (IsSpan head.floor head.newest) as_span spans are;
+    apart = apart as_span head.floor head.newest spans placed.apart are;
+    distinct = distinct as_config head.floor configs placed.distinct;
+    whole = whole;
+  }
+
+  admitted : (rev : ℕ) → head.floor ≤ rev → rev ≤ head.newest → All (AdmitsSpan (as_written head spans configs) rev) (map as_span spans)
+  admitted rev above below = All-map (AdmitsSpan (as_written head spans configs) rev) as_span spans (λ k d lt. placed.admitted k d lt rev above)
+
+  -- each retained revision's tuples are admitted
+  pub read_admitted : (r : Retained) → r ≡ history_of (as_written head spans configs) → IsAdmitted r
+  read_admitted r same = subst IsAdmitted (sym same) (history_admitted (as_written head spans configs) rows_are admitted)
+
+  -- what was read
+  pub sound : All (λ c. IsConfigAt head.newest (as_config c)) configs → (r : Retained) → r ≡ history_of (as_written head spans configs) → spans_of r ≤ MAX_ROWS → current spans ≤ MAX_TUPLES
+      → IsSound (as_written head spans configs)
+  sound revised r same rows few = record {
+    number_is = (is.numbered, is.signed);
+    order = is.order;
+    revs = is.revs;
+    spans_are = rows_are.spans_are;
+    apart = rows_are.apart;
+    configs_are = All-map (IsConfigAt head.newest) as_config configs revised;
+    distinct = rows_are.distinct;
+    whole = whole;
+    admitted = admitted;
+    rows = let P : Retained → Type 0 = λ x. spans_of x ≤ MAX_ROWS in subst P same rows;
+    tuples = let len = len_current head spans configs rows_are in omega (arith, len, few);
+  }
 
 pub history : (h : Contents) (s : Stored) (head : Head) (spans : List ReadSpan) (configs : List ReadConfig) (es : List StoredEntry) (cs : List StoredConfig) (ss : List StoredSpan)
     → es ≡ s.entries.items → cs ≡ s.configs.items → ss ≡ s.spans.items

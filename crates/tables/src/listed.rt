@@ -21,7 +21,7 @@ pub struct Listed {
 impl Model for Listed {
     ghost use Rattle.rows.specs.Retained.{Retained, store_from};
     ghost use Rattle.rows.specs.inside.Codes.{coded_retained};
-    ghost use Rattle.tables.specs.Limits.{IsInLimits};
+    ghost use Rattle.tables.specs.Limits.{IsLoadable};
 
     ghost Value = { Retained };
 
@@ -29,7 +29,7 @@ impl Model for Listed {
 
     ghost view = { λ t. store_from t.number t.commits.items };
 
-    ghost invariant = { λ t. IsInLimits (store_from t.number t.commits.items) };
+    ghost invariant = { λ t. IsLoadable (store_from t.number t.commits.items) };
 }
 
 impl Listed {

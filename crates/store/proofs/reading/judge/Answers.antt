@@ -9,8 +9,8 @@ use Rattle.store.proofs.reading.judge.Goals.{then-not-are_enough-via-then-not-ar
 pub returns-clause-sound : goal.returns-clause-sound
 returns-clause-sound c =
     let placed = c.if-not-are_placed.ensures in
-    sound c.args.head c.args.spans.now c.args.configs.now c.requires.head c.requires.spans c.requires.configs (placed.passes refl)
-    c.in_ok-loaded.ensures.whole (retained_of c.in_ok-loaded.loaded) c.in_ok-loaded.ensures.same c.in_ok-loaded.ensures.within.rows (leb-true _ _ (sym c.if-not-is_small.ensures))
+    sound c.args.head c.args.spans.now c.args.configs.now c.requires.head c.requires.spans (placed.passes refl) c.in_ok-loaded.ensures.whole c.requires.configs
+    (retained_of c.in_ok-loaded.loaded) c.in_ok-loaded.ensures.same c.in_ok-loaded.ensures.within.rows (leb-true _ _ (sym c.if-not-is_small.ensures))
 
 pub returns-then-not-are_enough-clause-fault : goal.returns-then-not-are_enough-clause-fault
 returns-then-not-are_enough-clause-fault c = λ (listed, sound).

@@ -5,8 +5,8 @@ use Rattle.rows.specs.Representation.{as_retained, config_from}
 use Rattle.rows.proofs.Retaining.{config_is}
 use Rattle.rows.proofs.rows.Rows.config_at.Goals as goal
 
-pub returns : goal.returns
-returns c =
+pub returns-clause-config : goal.returns-clause-config
+returns-clause-config c =
     let s = c.self.inside in
     let r = as_retained s.number s.floor s.config s.tuples s.commits.items in
     c.config_up_to.ensures

@@ -9,9 +9,10 @@ use Rattle.meaning.proofs.TupleSets.{contains_empty}
 use Rattle.rows.specs.declared.config_at.ConfigAt.{ConfigAt}
 use Rattle.rows.specs.declared.loaded.Counts.{Counts}
 use Rattle.rows.specs.declared.loaded.Loaded.{Loaded}
-use Rattle.rows.specs.Loads.{IsWithin}
+use Rattle.rows.specs.Loads.{IsWithin, retained_of}
 use Rattle.rows_core.specs.Versions.{Entries, versions_at, base_versions}
 use Rattle.rows.specs.Representation.{as_retained, IsConsistent}
+use Rattle.rows.proofs.Admitting.{of_all, none_admitted}
 use Rattle.rows.proofs.Committing.{consistent_as, as_retained_is}
 use Rattle.rows.proofs.Loading.{consistent_none, len_is}
 use Rattle.rows.proofs.rows.Rows.empty.Goals as goal
@@ -24,7 +25,7 @@ none_within : IsWithin none_loaded
 unfolding IsStrictlySortedBy
 none_within =
     let none = len_is [] tt in
-    record { ordered = tt; revs = omega arith; rows = omega (arith, none) }
+    record { ordered = tt; revs = omega arith; rows = omega (arith, none); admitted = of_all (retained_of none_loaded) (none_admitted empty_config) }
 
 consistent_nothing : (m : Entries) → ((q : Tuple) → versions_at m q ≡ []) → IsConsistent (record { number = 0; floor = 0; base = empty_snap; commits = [] }) m [] (record { rows = 0; tuples = 0 })
 consistent_nothing m versions = consistent_none none_loaded m (record { rows = 0; tuples = 0 }) none_within (λ q. versions q ∙ sym (ap base_versions (contains_empty q))) refl refl

@@ -1,6 +1,6 @@
 use Rattle.std.proofs.Common.{sym, ◌∙◌}
 use Rattle.shown.proofs.Limits.{rows_decide}
-use Rattle.shown.proofs.within.is_within.Goals as goal
+use Rattle.shown.proofs.within.is_limited.Goals as goal
 
 pub returns : goal.returns
 returns c =
