@@ -65,14 +65,18 @@ class Served:
                 time.sleep(0.0005)
         return text.decode("ascii").splitlines()
 
-    def told(self, lines):
-        """The answers to these lines, each with status 200, the seconds and the seconds of a processor."""
+    def fed(self, lines):
+        """The answers to these lines, the seconds and the seconds of a processor."""
         text = "".join(line + "\n" for line in lines).encode("ascii")
         begun, used = time.monotonic(), self.processor()
         self.process.stdin.write(text)
         self.process.stdin.flush()
         answers = self.answers(len(lines))
-        seconds, processor = time.monotonic() - begun, self.processor() - used
+        return answers, time.monotonic() - begun, self.processor() - used
+
+    def told(self, lines):
+        """The same of lines that are all answered with status 200, each answer as a value."""
+        answers, seconds, processor = self.fed(lines)
         for line, answer in zip(lines, answers):
             if not answer.startswith("200 "):
                 sys.exit(f"checks: {line[:200]}: {answer}")
