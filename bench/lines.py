@@ -3,6 +3,7 @@
 
 usage: lines.py writes N OPS      a configuration, and N writes of OPS inserts each, all accepted
        lines.py refused N         a configuration and a write, and N lines that are refused, one for each cause in turn
+       lines.py unknown N         a configuration, and N checks of nodes that no tuple names
 """
 import json
 import sys
@@ -38,12 +39,19 @@ def refused(count):
         say("write", bodies[i % len(bodies)])
 
 
+def unknown(count):
+    for i in range(count):
+        say("check", {"node": f"group:g{i}#member", "user": f"user:u{i}"})
+
+
 def main(words):
     say("config", CONFIG)
     if len(words) == 3 and words[0] == "writes":
         writes(int(words[1]), int(words[2]))
     elif len(words) == 2 and words[0] == "refused":
         refused(int(words[1]))
+    elif len(words) == 2 and words[0] == "unknown":
+        unknown(int(words[1]))
     else:
         sys.exit(__doc__)
 
