@@ -88,7 +88,8 @@ fn look<O: Oracle>(
     requires number { number < length search.old.opened.items }
     requires running { IsRunning source.now.view.now source.now.user.now search.old (Some number) }
     ensures running { OnOk result (IsRunning source.now.view.now source.now.user.now search.new None) }
-    ensures numbers { OnOk result ((i k : ℕ) (n : NodeValue) → IsNumberOf search.old i n k → IsNumberOf search.new i n k) }
+    ensures numbers { OnOk result
+        ((i k : ℕ) (n : NodeValue) → IsNumberOf search.old i n k → IsNumberOf search.new i n k) }
     ensures tells { O.tells oracle.new source.now.view.now }
 {
     if search.is_sure(number) {
@@ -121,7 +122,8 @@ fn step(source: &Source, search: &mut Search, asking: &Asking) -> Result<(), All
     requires asking { IsAsking source.now.view.now source.now.user.now search.old asking.now }
     requires plain { asking.now.plain ≡ true }
     ensures running { OnOk result (IsRunning source.now.view.now source.now.user.now search.new None) }
-    ensures numbers { OnOk result ((i k : ℕ) (n : NodeValue) → IsNumberOf search.old i n k → IsNumberOf search.new i n k) }
+    ensures numbers { OnOk result
+        ((i k : ℕ) (n : NodeValue) → IsNumberOf search.old i n k → IsNumberOf search.new i n k) }
 {
     match relation_gives(source, search, asking)? {
         Found::Yes => {

@@ -100,7 +100,8 @@ fn computed(
     requires source { IsSource source.now }
     requires asking { IsAsking source.now.view.now source.now.user.now search.old asking.now }
     ensures goes_on { OnOk result (GoesOn source.now.view.now source.now.user.now search.old search.new asking.now) }
-    ensures found { IfOk result (Gave source.now.view.now source.now.user.now search.new asking.now (Computed relation.now)) }
+    ensures found { IfOk result
+        (Gave source.now.view.now source.now.user.now search.new asking.now (Computed relation.now)) }
 {
     let other = node_of(&asking.node.object, relation)?;
     let found = asked(source, search, asking, &other)?;
@@ -137,7 +138,8 @@ fn gives(
     requires source { IsSource source.now }
     requires asking { IsAsking source.now.view.now source.now.user.now search.old asking.now }
     ensures goes_on { OnOk result (GoesOn source.now.view.now source.now.user.now search.old search.new asking.now) }
-    ensures found { IfOk result (Gave source.now.view.now source.now.user.now search.new asking.now (form_of rewrite.now)) }
+    ensures found { IfOk result
+        (Gave source.now.view.now source.now.user.now search.new asking.now (form_of rewrite.now)) }
 {
     match rewrite {
         Rewrite::This => this(source, search, asking),
@@ -170,7 +172,8 @@ fn without(
     requires asking { IsAsking source.now.view.now source.now.user.now search.old asking.now }
     requires base { BaseGives source.now.view.now source.now.user.now asking.now (form_of rewrite.now) }
     ensures goes_on { OnOk result (GoesOn source.now.view.now source.now.user.now search.old search.new asking.now) }
-    ensures found { IfOk result (Gave source.now.view.now source.now.user.now search.new asking.now (form_of rewrite.now)) }
+    ensures found { IfOk result
+        (Gave source.now.view.now source.now.user.now search.new asking.now (form_of rewrite.now)) }
 {
     match rewrite {
         Rewrite::Exclusion(_, less) => {
@@ -203,7 +206,8 @@ fn some_gives(
     requires source { IsSource source.now }
     requires asking { IsAsking source.now.view.now source.now.user.now search.old asking.now }
     ensures goes_on { OnOk result (GoesOn source.now.view.now source.now.user.now search.old search.new asking.now) }
-    ensures found { IfOk result (Gave source.now.view.now source.now.user.now search.new asking.now (Union (rewrite_forms parts.now))) }
+    ensures found { IfOk result
+        (Gave source.now.view.now source.now.user.now search.new asking.now (Union (rewrite_forms parts.now))) }
 {
     let mut later = false;
     for part in parts {
@@ -227,7 +231,8 @@ fn each_gives(
     requires source { IsSource source.now }
     requires asking { IsAsking source.now.view.now source.now.user.now search.old asking.now }
     ensures goes_on { OnOk result (GoesOn source.now.view.now source.now.user.now search.old search.new asking.now) }
-    ensures found { IfOk result (Gave source.now.view.now source.now.user.now search.new asking.now (Intersection (rewrite_forms parts.now))) }
+    ensures found { IfOk result
+        (Gave source.now.view.now source.now.user.now search.new asking.now (Intersection (rewrite_forms parts.now))) }
 {
     for part in parts {
         match gives(source, search, asking, part)? {

@@ -189,7 +189,8 @@ impl Search {
         requires number { number < length self.old.opened.items }
         requires there { (w i : ℕ) (e : Opened) → Stands self.old i e → Contains e.waiting.items w
             → (w < length self.old.opened.items) × IsThere self.old w }
-        ensures numbers { OnOk result ((i k : ℕ) (n : NodeValue) → IsNumberOf self.old i n k → IsNumberOf self.new i n k) }
+        ensures numbers { OnOk result
+            ((i k : ℕ) (n : NodeValue) → IsNumberOf self.old i n k → IsNumberOf self.new i n k) }
         ensures running { OnOk result ((S : Snap) (u : Object)
             → ((e : Opened) → Stands self.old number e → Under S u (suc e.level) e.node)
             → IsRunning S u self.old (Some number) → IsRunning S u self.new None) }
@@ -204,7 +205,8 @@ impl Search {
     pub(crate) fn put_back(&mut self, number: usize, level: usize) -> Result<(), AllocError>
         requires number { number < length self.old.opened.items }
         requires there { IsThere self.old number }
-        ensures numbers { OnOk result ((i k : ℕ) (n : NodeValue) → IsNumberOf self.old i n k → IsNumberOf self.new i n k) }
+        ensures numbers { OnOk result
+            ((i k : ℕ) (n : NodeValue) → IsNumberOf self.old i n k → IsNumberOf self.new i n k) }
         ensures running { OnOk result ((S : Snap) (u : Object)
             → IsRunning S u self.old (Some number) → IsRunning S u self.new None) }
     {
