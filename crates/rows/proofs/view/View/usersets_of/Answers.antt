@@ -49,6 +49,6 @@ loop-i-preserved c =
 pub returns-clause-all : goal.returns-clause-all
 returns-clause-all c = λ m has known.
     let relations = c.relations-relations.result.now in
-    let is = c.relations-relations.ensures.relations ∙ ap (λ (k : Configured). k.relations) c.config.ensures in
+    let is = c.relations-relations.ensures.relations ∙ ap (λ (k : Configured). k.relations) c.config.ensures.config in
     c.loop-i.invariant.all m has
     (subst (λ (rs : List Relation). IsOneOf rs m.object.namespace) (sym (take_all c.loop-i.i relations c.loop-i-test.false)) (one_of_all relations c.args.self.now.config is m known))
