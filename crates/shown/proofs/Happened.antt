@@ -1,5 +1,5 @@
 -- What comes of events, said of the parts of the machine.
-use Rattle.std.proofs.Common.{true, false, ◌≡◌, ℕ, Bool, List, [], ◌∷◌, ◌++◌, length, take, drop, map, refl, ap, sym, ◌∙◌, subst, nat_le, if◌then◌else◌, arith}
+use Rattle.std.proofs.Common.{true, false, ◌≡◌, ℕ, Bool, List, [], ◌∷◌, ◌++◌, length, take, drop, map, refl, ap, sym, ◌∙◌, nat_le, if◌then◌else◌, arith}
 use Rattle.std.proofs.lemmas.Bool.Decides.{nat_tests}
 use Rattle.std.specs.Prelude.{◌&&◌, not, is_some, Option, Some, None}
 use mathlib.Core.Bool.{true≢false}

@@ -1,17 +1,12 @@
 -- Posted steps come in order.
-use Rattle.std.proofs.Common.{true, false, ◌≡◌, Bool, List, [], ◌∷◌, ◌++◌, length, take, drop, map, refl, ap, sym, ◌∙◌, append_assoc, append-nil, if◌then◌else◌, arith}
+use Rattle.std.proofs.Common.{true, false, ◌≡◌, Bool, List, [], ◌∷◌, ◌++◌, length, take, drop, map, refl, ap, sym, ◌∙◌, append_assoc, if◌then◌else◌, arith}
 use Rattle.std.proofs.Math.Seq.{drop-append_seam}
 use Rattle.std.proofs.lemmas.List.{take-append-drop}
-use Rattle.std.specs.Prelude.{◌||◌}
 use Rattle.std.specs.List.{list_any, fold}
 use mathlib.Core.Bool.{true≢false}
-use Rattle.names.specs.declared.commit.Commit.{Commit as CommitOf}
-use Rattle.meaning.specs.Config.{Configured}
 use Rattle.meaning.specs.History.{History}
 use Rattle.rows.specs.Retained.{Retained, with_commit}
 use Rattle.rows.specs.Loads.{retained_of}
-use Rattle.names.specs.declared.part.Part.{Part}
-use Rattle.names.specs.declared.part.Part.TheVariants.{Index, Hot}
 use Rattle.shown.specs.declared.step.Step.{Step}
 use Rattle.shown.specs.declared.step.Step.TheVariants.{Open, Commit, Take}
 use Rattle.shown.specs.declared.event.Event.{Event}

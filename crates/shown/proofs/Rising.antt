@@ -14,7 +14,7 @@ use Rattle.shown.specs.declared.event.Posting.TheVariants.{Opening, NextCommit, 
 use Rattle.shown.specs.declared.event.Question.{Question}
 use Rattle.shown.specs.declared.event.Outcome.{Outcome}
 use Rattle.shown.specs.declared.event.Outcome.TheVariants.{No, Done, Answered}
-use Rattle.shown.specs.World.{State, start, has_begun, next_step, is_within, can_come, after_coming, after_event, IsComing, HasOutcome, IsReply, Happening, published_steps}
+use Rattle.shown.specs.World.{State, start, has_begun, next_step, can_come, after_coming, after_event, IsComing, HasOutcome, IsReply, Happening, published_steps}
 use Rattle.shown.specs.Runs.{after_events, IsRun, known_by, KnowsNoMore, AnswersRise}
 
 -- no more is published than is posted

@@ -1,8 +1,8 @@
-use Rattle.std.proofs.Common.{◌≡◌, ◌+◌, get_or, List, [], drop, length, sym, ap, ◌∙◌, arith}
+use Rattle.std.proofs.Common.{◌≡◌, ◌+◌, get_or, List, [], drop, sym, ap, ◌∙◌, arith}
 use Rattle.std.proofs.lemmas.Grind.{common_steps}
 use Rattle.std.proofs.lemmas.List.{drop_all}
 use Rattle.names.specs.declared.tuple.Tuple.{Tuple}
-use Rattle.meaning.specs.Snap.{Snap, empty_snap}
+use Rattle.meaning.specs.Snap.{Snap}
 use Rattle.meaning.specs.TupleSet as set
 use Rattle.meaning.specs.TupleSet.{Tuples}
 use Rattle.shown.proofs.Putting.{put_all, put_next, put_from_empty}

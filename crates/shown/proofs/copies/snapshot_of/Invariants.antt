@@ -1,5 +1,4 @@
 use Rattle.std.proofs.Common.{◌≡◌, drop}
-use Rattle.meaning.specs.TupleSet as set
 use Rattle.shown.proofs.Putting.{put_all}
 use Rattle.shown.proofs.copies.snapshot_of.Given as goal
 
