@@ -41,7 +41,14 @@ impl Score {
         }
     }
 
-    fn differ(&mut self, alloc: Global, seed: u64, rev: u64, node: &Node, user: &Object) -> Result<(), AllocError> {
+    fn differ(
+        &mut self,
+        alloc: Global,
+        seed: u64,
+        rev: u64,
+        node: &Node,
+        user: &Object,
+    ) -> Result<(), AllocError> {
         let text = format!(in alloc; "seed {seed}, revision {rev}, {node}, {user}; ")?;
         self.differing.push_str(text.as_str())
     }

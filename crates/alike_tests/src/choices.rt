@@ -46,9 +46,9 @@ pub(crate) fn numbered(
 /// Any of the words.
 pub(crate) fn any_word<'a>(words: &'a str, dice: &mut Dice) -> &'a str {
     let mut chosen = "";
-    let mut seen = 0;
+    let mut seen = 0u64;
     for word in words.split_ascii_whitespace() {
-        seen += 1;
+        seen = seen.saturating_add(1);
         if dice.roll(seen) == 0 {
             chosen = word;
         }

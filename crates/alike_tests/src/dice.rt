@@ -1,5 +1,4 @@
 //! Dice.
-ghost use Rattle.std.specs.Prelude.{◌<◌};
 
 /// Dice that fall the same way at each run of a seed (Knuth's multiplier for 64 bits).
 #[derive(Drop)]
@@ -12,13 +11,10 @@ impl Dice {
         Dice { state: seed }
     }
 
-    /// A number below that of the sides.
-    pub(crate) fn roll(&mut self, sides: u64) -> u64
-        requires { 0 < sides }
-        ensures { result < sides }
-    {
+    /// A number below that of the sides, or 0 where there are none.
+    pub(crate) fn roll(&mut self, sides: u64) -> u64 {
         let next = self.state.wrapping_mul(6364136223846793005);
         self.state = next.wrapping_add(1442695040888963407);
-        (self.state >> 33) % sides
+        (self.state >> 33).checked_rem(sides).unwrap_or(0)
     }
 }

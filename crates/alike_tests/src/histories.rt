@@ -51,14 +51,20 @@ fn any_changes(
     for tuple in snapshot.tuples() {
         if dice.roll(6) == 0 {
             let tuple = tuple.clone()?;
-            ops.push(Op { kind: OpKind::Delete, tuple })?;
+            ops.push(Op {
+                kind: OpKind::Delete,
+                tuple,
+            })?;
         }
     }
     let puts = if snapshot.len() < 10 { 8 } else { 4 };
     for _ in 0..puts {
         let tuple = any_tuple(alloc, kinds, dice)?;
         if !snapshot.contains(&tuple) && ops.iter().all(|op| op.tuple != tuple) {
-            ops.push(Op { kind: OpKind::Touch, tuple })?;
+            ops.push(Op {
+                kind: OpKind::Touch,
+                tuple,
+            })?;
         }
     }
     Ok(Commit::Tuples(events_of(Items::of(ops))?))

@@ -12,3 +12,7 @@ mod choices;
 mod dice;
 #[cfg(test)]
 mod histories;
+#[cfg(test)]
+mod policies;
+#[cfg(test)]
+mod random_policies;
