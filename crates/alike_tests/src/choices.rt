@@ -45,15 +45,9 @@ pub(crate) fn numbered(
 
 /// Any of the words.
 pub(crate) fn any_word<'a>(words: &'a str, dice: &mut Dice) -> &'a str {
-    let mut chosen = "";
-    let mut seen = 0u64;
-    for word in words.split_ascii_whitespace() {
-        seen = seen.saturating_add(1);
-        if dice.roll(seen) == 0 {
-            chosen = word;
-        }
-    }
-    chosen
+    let count = words.split_ascii_whitespace().count() as u64;
+    let place = dice.roll(count) as usize;
+    words.split_ascii_whitespace().nth(place).unwrap_or("")
 }
 
 /// A tuple that the configuration admits.
