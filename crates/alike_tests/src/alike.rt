@@ -77,7 +77,7 @@ fn random_policies_are_alike(rt: HostRuntime) -> Result<(), Fail> {
     let score = random_score(rt.alloc(), 1, 13)?;
     assert_eq!(rt; score.differing.as_str(), "");
     assert!(rt;
-        score.asked >= 6480 && score.yeses >= 1296,
+        score.asked >= 6480 && score.yeses >= 810,
         "{} of {}",
         score.yeses,
         score.asked
