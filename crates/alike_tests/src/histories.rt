@@ -16,6 +16,7 @@ fn is_committed(rows: &mut Rows, commit: &Commit<Config>) -> Result<bool, AllocE
     if rows.refuses(commit)? {
         return Ok(false);
     }
+    rows.admits_its_tuples();
     rows.commit(commit)?;
     Ok(true)
 }
