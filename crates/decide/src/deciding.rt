@@ -48,8 +48,8 @@ pub fn check_at<O: Oracle>(
     }
 }
 
-/// Whether the user is a member of a node of the level. Each turn looks at one node; there are no more turns
-/// than nodes and waits for them, so the bound is never met.
+/// Whether the user is a member of a node of the level. Each turn looks at one node. The count of turns stands
+/// in place of a measure; no contract says that a search ends before it.
 fn is_member<O: Oracle>(
     source: &Source,
     oracle: &mut O,
