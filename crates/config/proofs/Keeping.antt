@@ -6,7 +6,7 @@ use Rattle.std.specs.declared.cmp.Ordering.{Ordering}
 use Rattle.std.specs.List.{list_all}
 use Rattle.std.specs.List.Sorted.{IsStrictlySortedBy}
 use Rattle.std.proofs.lemmas.List.Elements.{All-nil, All-weaker, Contains-get_or}
-use Rattle.std.proofs.lemmas.Bool.{leb-true}
+use Rattle.std.proofs.lemmas.Bool.{and_parts, leb-true}
 use Rattle.serde_json.proofs.OnLiterals.{serde_json_on_literals}
 use Rattle.serde_json.specs.Written.{compact_text}
 use Rattle.names.specs.declared.limits.TheConstants.{MAX_CONFIG_LEN, MAX_NAMESPACES, MAX_RELATIONS, MAX_TYPES, MAX_REWRITE_DEPTH, MAX_REWRITE_NODES}
@@ -21,7 +21,7 @@ use Rattle.config_core.specs.Spelling.{IsName, IsNamed}
 use Rattle.config.specs.Causes.{Accepts}
 use Rattle.config.specs.Invariant.{IsConfig}
 use Rattle.config.specs.Valid.{is_small, is_within}
-use Rattle.config.proofs.Tested.{both_true, all_test}
+use Rattle.config.proofs.Tested.{all_test}
 
 some_part : (ws : Forms) → IsTrue (is_some ws) → IsSome ws
 some_part none e = cc
@@ -32,13 +32,13 @@ mutual
   whole This e = tt
   whole (Computed r) e = tt
   whole (TupleTo t r) e = tt
-  whole (Union ws) e = all_whole ws (both_true (is_some ws) (all_have_parts ws) e).1
-  whole (Intersection ws) e = let b = both_true (is_some ws) (all_have_parts ws) e in (some_part ws b.0, all_whole ws b.1)
-  whole (Exclusion a b) e = let both = both_true (has_parts a) (has_parts b) e in (whole a both.0, whole b both.1)
+  whole (Union ws) e = all_whole ws (and_parts (is_some ws) (all_have_parts ws) e).1
+  whole (Intersection ws) e = let b = and_parts (is_some ws) (all_have_parts ws) e in (some_part ws b.0, all_whole ws b.1)
+  whole (Exclusion a b) e = let both = and_parts (has_parts a) (has_parts b) e in (whole a both.0, whole b both.1)
 
   all_whole : (ws : Forms) → IsTrue (all_have_parts ws) → AreWhole ws
   all_whole none e = tt
-  all_whole (more w ws) e = let both = both_true (has_parts w) (all_have_parts ws) e in (whole w both.0, all_whole ws both.1)
+  all_whole (more w ws) e = let both = and_parts (has_parts w) (all_have_parts ws) e in (whole w both.0, all_whole ws both.1)
 
 pub all_are_whole : (ds : List Defined) → All (λ d. IsTrue (has_parts d.form)) ds → All (λ d. IsWhole d.form) ds
 all_are_whole ds parts = All-weaker (λ d. IsTrue (has_parts d.form)) (λ d. IsWhole d.form) (λ d. whole d.form) ds parts
@@ -76,10 +76,10 @@ at_most a b e = leb-true a b e
 pub shallow : (c : Configured) → is_within c ≡ true → All (λ d. form_depth d.form ≤ MAX_REWRITE_DEPTH) c.relations
 shallow c within k d lt =
     let e = c.relations in
-    let small = (both_true (nat_le (length c.namespaces) MAX_NAMESPACES && nat_le (length c.relations) MAX_RELATIONS) (list_all is_small c.relations) within).1 in
+    let small = (and_parts (nat_le (length c.namespaces) MAX_NAMESPACES && nat_le (length c.relations) MAX_RELATIONS) (list_all is_small c.relations) within).1 in
     let x : Defined = slice_index_or c.relations k d in
     let one = all_test is_small c.relations x small (Contains-get_or c.relations k d lt) in
-    at_most (form_depth x.form) MAX_REWRITE_DEPTH (both_true (nat_le (length x.types) MAX_TYPES && nat_le (form_nodes x.form) MAX_REWRITE_NODES) (nat_le (form_depth x.form) MAX_REWRITE_DEPTH) one).1
+    at_most (form_depth x.form) MAX_REWRITE_DEPTH (and_parts (nat_le (length x.types) MAX_TYPES && nat_le (form_nodes x.form) MAX_REWRITE_NODES) (nat_le (form_depth x.form) MAX_REWRITE_DEPTH) one).1
 
 pub accepts_back : (c : Configured) (levels text : List ℕ) → IsConfig c levels → text ≡ compact_text (config_data c) → (IsWritable c → Describes text c) → Accepts text c
 accepts_back c levels text kept is back = record {

@@ -1,44 +1,23 @@
 -- What the tests of a configuration say where none fails.
-use Rattle.std.proofs.Common.{◌≡◌, List, [], ◌∷◌, Bool, true, false, refl, ap, ◌∙◌, sym, subst, ⊎_elim}
-use Rattle.std.specs.Prelude.{◌&&◌, ◌||◌, Option, Some, None, Contains, nat_eq}
-use Rattle.std.specs.List.{list_any, list_all}
-use Rattle.std.specs.Cmp.Lexicographic.{same_text, pointwise}
+use Rattle.std.proofs.Common.{◌≡◌, List, [], ◌∷◌, Bool, true, false, refl, sym, subst, ⊎_elim}
+use Rattle.std.specs.Prelude.{Option, Some, None, Contains}
+use Rattle.std.specs.List.{list_all}
+use Rattle.std.proofs.lemmas.Bool.{and_parts}
 use Rattle.names.specs.declared.cause.Cause.{Cause}
 use Rattle.names.specs.declared.relation.RelationName.{RelationName}
 use Rattle.names.specs.declared.relation.SubjectType.{SubjectType}
 use Rattle.meaning.specs.Form.{Form, Forms, This, Computed, TupleTo, Union, Intersection, Exclusion, none, more}
 use Rattle.meaning.specs.Config.{Configured, Defined, Has, StepsTo, SomeStepsTo}
-use Rattle.meaning.specs.Admits.{is_relation, has_relation}
-use Rattle.meaning.proofs.Lists.{contains_here, contains_there, contains_cases, contains_none}
+use Rattle.meaning.specs.Admits.{has_relation}
+use Rattle.meaning.proofs.KnownRelations.{known_has}
+use Rattle.meaning.proofs.Lists.{contains_cases, contains_none}
 use Rattle.config.specs.Valid.{is_within, has_namespace, has_type, types_stand, types_used, form_computes, forms_compute, computes, has_tuplesets, is_indexable, unless, cause_of}
-
-pub both_true : (a b : Bool) → (a && b) ≡ true → (a ≡ true) × (b ≡ true)
-both_true true b e = (refl, e)
-both_true false b e = cc
 
 pub all_test : {A : Type 0} (p : A → Bool) (xs : List A) (x : A) → list_all p xs ≡ true → Contains xs x → p x ≡ true
 all_test p [] x e c = absurd (contains_none x c)
 all_test p (y ∷ ys) x e c =
-    let b = both_true (p y) (list_all p ys) e in
+    let b = and_parts (p y) (list_all p ys) e in
     ⊎_elim (λ same. subst (λ z. p z ≡ true) same b.0) (λ there. all_test p ys x b.1 there) (contains_cases y x ys c)
-
-pub test_found : {A : Type 0} (p : A → Bool) (xs : List A) → list_any p xs ≡ true → (x : A) × Contains xs x × (p x ≡ true)
-test_found p [] e = cc
-test_found {A} p (x ∷ xs) e =
-    elim (p x) as (λ b. p x ≡ b → (b || list_any p xs) ≡ true → (y : A) × Contains (x ∷ xs) y × (p y ≡ true)) [
-      | true ↦ λ here _. (x, contains_here x xs, here)
-      | false ↦ λ _ there. let r = test_found p xs there in (r.0, contains_there x r.0 xs r.1, r.2)
-    ] refl e
-
-relation_is : (r : RelationName) (d : Defined) → is_relation r d ≡ true → d.rel ≡ r
-relation_is r d e =
-    let b = both_true (pointwise nat_eq d.rel.namespace r.namespace) (pointwise nat_eq d.rel.relation r.relation) e in
-    let space = same_text d.rel.namespace r.namespace (sym b.0) in
-    let name = same_text d.rel.relation r.relation (sym b.1) in
-    ap (λ x. record { namespace = x; relation = d.rel.relation }) space ∙ ap (λ x. record { namespace = r.namespace; relation = x }) name
-
-pub known_has : (c : Configured) (r : RelationName) → has_relation c r ≡ true → Has c r
-known_has c r e = let f = test_found (is_relation r) c.relations e in (f.0, (f.1, relation_is r f.0 f.2))
 
 -- each test holds
 pub record ArePassed (c : Configured) : Type 0 where
@@ -74,19 +53,19 @@ passed c e =
 module _ (c : Configured) (d : Defined) (types : (t : SubjectType) → Contains d.types t → has_type c t.namespace t.relation ≡ true) where
   mutual
     step_ends : (w : Form) → form_computes c d.rel.namespace w ≡ true → (sign : Bool) (r : RelationName) → StepsTo c d w sign r → Has c r
-    step_ends This e sign r step = known_has c r (both_true (has_namespace c r.namespace) (has_relation c r) (types (record { namespace = r.namespace; relation = Some r.relation }) step.1)).1
+    step_ends This e sign r step = known_has c r (and_parts (has_namespace c r.namespace) (has_relation c r) (types (record { namespace = r.namespace; relation = Some r.relation }) step.1)).1
     step_ends (Computed n) e sign r step = subst (Has c) (sym step.1) (known_has c (record { namespace = d.rel.namespace; relation = n }) e)
     step_ends (TupleTo t n) e sign r step = step.2
     step_ends (Union ws) e sign r step = some_step_ends ws e sign r step
     step_ends (Intersection ws) e sign r step = some_step_ends ws e sign r step
     step_ends (Exclusion a b) e sign r step =
-        let both = both_true (form_computes c d.rel.namespace a) (form_computes c d.rel.namespace b) e in
+        let both = and_parts (form_computes c d.rel.namespace a) (form_computes c d.rel.namespace b) e in
         ⊎_elim (λ left. step_ends a both.0 sign r left) (λ right. step_ends b both.1 right.1.0 r right.1.1) step
 
     some_step_ends : (ws : Forms) → forms_compute c d.rel.namespace ws ≡ true → (sign : Bool) (r : RelationName) → SomeStepsTo c d ws sign r → Has c r
     some_step_ends none e sign r step = absurd step
     some_step_ends (more w ws) e sign r step =
-        let both = both_true (form_computes c d.rel.namespace w) (forms_compute c d.rel.namespace ws) e in
+        let both = and_parts (form_computes c d.rel.namespace w) (forms_compute c d.rel.namespace ws) e in
         ⊎_elim (λ first. step_ends w both.0 sign r first) (λ others. some_step_ends ws both.1 sign r others) step
 
   pub definition_ends : form_computes c d.rel.namespace d.form ≡ true → (sign : Bool) (r : RelationName) → StepsTo c d d.form sign r → Has c r
@@ -94,5 +73,5 @@ module _ (c : Configured) (d : Defined) (types : (t : SubjectType) → Contains 
 
 pub ends_there : (c : Configured) → ArePassed c → (d : Defined) → Contains c.relations d → (sign : Bool) (r : RelationName) → StepsTo c d d.form sign r → Has c r
 ends_there c tests d has sign r step =
-    let stand = (both_true (list_all (λ t. has_type c t.namespace t.relation) d.types) _ (all_test (types_stand c) c.relations d tests.declared_type has)).0 in
+    let stand = (and_parts (list_all (λ t. has_type c t.namespace t.relation) d.types) _ (all_test (types_stand c) c.relations d tests.declared_type has)).0 in
     definition_ends c d (λ t h. all_test (λ (u : SubjectType). has_type c u.namespace u.relation) d.types t stand h) (all_test (computes c) c.relations d tests.computed has) sign r step

@@ -1,10 +1,11 @@
 -- What is written for a rewrite, a relation and a list of them is read back.
-use Rattle.std.proofs.Common.{◌≡◌, ℕ, List, [], ◌∷◌, ◌++◌, Some, Bool, true, false, ◌&&◌, map, refl, sym, ap, ◌∙◌, append_assoc, append-nil, true≢false, nat_cmp, Less, Greater}
+use Rattle.std.proofs.Common.{◌≡◌, ℕ, List, [], ◌∷◌, ◌++◌, Some, Bool, true, false, map, refl, sym, ap, ◌∙◌, append_assoc, append-nil, true≢false, nat_cmp, Less, Greater}
 use Rattle.std.specs.Prelude.{codes}
 use Rattle.std.specs.List.{AllByRecursion}
 use Rattle.std.specs.List.Sorted.{IsStrictlySortedBy}
 use Rattle.std.specs.Ordering.{ordering_reverse}
 use Rattle.std.specs.Cmp.Lexicographic.{slice_cmp}
+use Rattle.std.proofs.lemmas.Bool.{and_parts}
 use Rattle.std.proofs.lemmas.Cmp.{nat_list_cmp_total}
 use Rattle.serde_json.specs.Data.{Data, object, Members, no_members, member, put}
 use Rattle.names.specs.declared.relation.SubjectType.{SubjectType}
@@ -18,11 +19,6 @@ use Rattle.config_core.specs.Texts.{RelationTexts}
 use Rattle.config_core.specs.Spelling.{defined_texts}
 use Rattle.config_core.specs.Shape.{form_read, forms_read, texts_read, relation_read}
 use Rattle.config_core.specs.Canonical.{form_data, forms_data, types_data, with_types, with_rewrite, with_indexed, relation_data}
-
-and_parts : (a b : Bool) → a && b ≡ true → (a ≡ true) × (b ≡ true)
-and_parts true true h = (refl, refl)
-and_parts true false h = absurd (true≢false (sym h))
-and_parts false b h = absurd (true≢false (sym h))
 
 -- the forms as a list
 abbrev pub list_of : Forms → List Form

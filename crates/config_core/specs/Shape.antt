@@ -1,5 +1,5 @@
 -- The form of a configuration's JSON, and what it says.
-use Rattle.std.specs.Prelude.{ℕ, ◌++◌, Bool, true, false, cond, List, [], ◌∷◌, Option, Some, None, option_and_then, codes}
+use Rattle.std.specs.Prelude.{ℕ, ◌++◌, Bool, false, cond, List, [], ◌∷◌, Option, Some, None, option_and_then, codes}
 use Rattle.serde_json.specs.Data.{Data, null, boolean, number, string, array, object, Items, no_items, item, Members, no_members, member}
 use Rattle.serde_json.specs.Find.{get, as_str, as_bool, as_array, as_object}
 use Rattle.meaning.specs.Form.{Form, This, Computed, TupleTo, Union, Intersection, Exclusion}

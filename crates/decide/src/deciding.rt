@@ -2,10 +2,10 @@
 ghost use Rattle.std.specs.Prelude.{◌≡◌, ◌<◌, ◌^◌, ℕ, IfOk, IfErr, OnOk, length, true, Some, None};
 ghost use Rattle.std.proofs.Common.{suc};
 ghost use Rattle.meaning.specs.Admits.{has_relation};
+ghost use Rattle.meaning.specs.Causes.{CheckCause};
 ghost use Rattle.meaning.specs.Config.{IsAt, rel_of};
 ghost use Rattle.names.specs.declared.node.Node.{Node as NodeValue};
 ghost use Rattle.decide.specs.Answers.{IsAnswer};
-ghost use Rattle.decide.specs.Causes.{CheckCause};
 ghost use Rattle.decide.specs.inside.Under.{Under};
 ghost use Rattle.decide.specs.inside.Searches.{IsNumberOf};
 ghost use Rattle.decide.specs.inside.Running.{IsRunning};

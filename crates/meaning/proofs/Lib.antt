@@ -2,6 +2,7 @@ pub mod Lists
 pub mod LeastLemmas
 pub mod GivesLemmas
 pub mod KnownLemmas
+pub mod KnownRelations
 pub mod LevelLemmas
 pub mod ReadsLemmas
 pub mod RegionLemmas

@@ -1,14 +1,12 @@
 -- What sets of tuples answer, and what their items are.
-use Rattle.std.proofs.Common.{◌≡◌, ℕ, ◌+◌, ◌-◌, List, [], ◌∷◌, length, refl, ap, sym, subst, ◌∙◌, Bool, true, false, cond}
-use Rattle.std.specs.Prelude.{not, ◌&&◌, ◌||◌, is_some, map, Contains, ◌↔◌, Option, Some, None, IsTrue}
+use Rattle.std.proofs.Common.{◌≡◌, ℕ, ◌+◌, ◌-◌, List, [], ◌∷◌, length, refl, ap, sym, ◌∙◌, Bool, true, false, cond}
+use Rattle.std.specs.Prelude.{not, ◌&&◌, ◌||◌, is_some, map, Contains, ◌↔◌, Option, Some, None}
 use Rattle.std.specs.List.{list_any}
 use Rattle.std.specs.List.Sorted.{IsStrictlySortedBy}
 use Rattle.std.specs.Cmp.{IsTotalOrder, eq_by_cmp_equiv}
 use Rattle.std.specs.Cmp.Lexicographic.{slice_cmp, nat_list_cmp_total, options_total}
 use Rattle.std.specs.Option.{option_cmp}
-use Rattle.std.specs.Ordering.{eq_by_cmp, is_eq, is_lt, nat_cmp}
-use Rattle.std.specs.declared.cmp.Ordering.{Ordering}
-use Rattle.std.specs.declared.cmp.Ordering.TheVariants.{Less, Equal, Greater}
+use Rattle.std.specs.Ordering.{eq_by_cmp, nat_cmp}
 use Rattle.std.specs.FinMap as finite
 use Rattle.std.specs.FinMap.Entries.{by_order}
 use Rattle.std.proofs.Common.{arith}
@@ -134,6 +132,10 @@ len_insert s t = finite.len-insert tuples_total s t tt
 
 pub len_remove : (s : Tuples) (t : Tuple) → set.len (set.remove s t) ≡ cond (set.contains s t) (set.len s - 1) (set.len s)
 len_remove s t = finite.len-remove tuples_total s t
+
+-- a set is that of its items
+pub from_items : (s : Tuples) → set.from_list (set.items s) ≡ s
+from_items s = same_tuples (set.from_list (set.items s)) s (λ q. contains_from_list (set.items s) q ∙ sym (contains_items s q))
 
 -- the set of a list has what the list has
 pub items_contain : (ts : List Tuple) (t : Tuple) → Contains (set.items (set.from_list ts)) t ↔ Contains ts t

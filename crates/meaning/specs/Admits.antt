@@ -1,5 +1,5 @@
 -- Which tuples a configuration admits, after OpenFGA's type restrictions.
-use Rattle.std.specs.Prelude.{◌≡◌, ◌&&◌, Bool, List, Contains, nat_eq}
+use Rattle.std.specs.Prelude.{◌&&◌, Bool, Contains, nat_eq}
 use Rattle.std.specs.List.{list_any}
 use Rattle.std.specs.Cmp.Lexicographic.{pointwise}
 use Rattle.std.specs.Option.{option_eq}

@@ -9,4 +9,5 @@ pub mod Membership
 pub mod Reads
 pub mod History
 pub mod Verdict
+pub mod Causes
 pub mod inside

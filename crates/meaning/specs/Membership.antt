@@ -1,12 +1,12 @@
 -- What a rewrite gives, and which users are members of which nodes (Zanzibar, sections 2.3 and 2.4): the least sets, level by level.
-use Rattle.std.specs.Prelude.{◌≡◌, List, ◌⊎◌, Contains}
+use Rattle.std.specs.Prelude.{◌≡◌, ◌⊎◌, Contains}
 use Rattle.meaning.specs.TupleSet as set
 use Rattle.names.specs.declared.object.Object.{Object}
 use Rattle.names.specs.declared.node.Node.{Node}
 use Rattle.names.specs.declared.tuple.Tuple.{Tuple}
 use Rattle.meaning.specs.Snap.{Snap, one, set_of}
 use Rattle.meaning.specs.Form.{Form, Forms, This, Computed, TupleTo, Union, Intersection, Exclusion, none, more}
-use Rattle.meaning.specs.Config.{Configured, Defined, Defines, Has, IsAt, rel_of}
+use Rattle.meaning.specs.Config.{Defined, Defines, Has, IsAt, rel_of}
 use Rattle.meaning.specs.Least.{IsGained}
 
 -- the tuples have node@subject, for an object or a node as the subject

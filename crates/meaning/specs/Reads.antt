@@ -1,5 +1,5 @@
 -- Which nodes a rewrite looks up, and valid snapshots.
-use Rattle.std.specs.Prelude.{◌≡◌, ℕ, List, Bool, true, false, ◌⊎◌, Contains}
+use Rattle.std.specs.Prelude.{◌≡◌, ℕ, Bool, true, false, ◌⊎◌, Contains}
 use Rattle.meaning.specs.TupleSet as set
 use Rattle.names.specs.declared.object.Object.{Object}
 use Rattle.names.specs.declared.node.Node.{Node}
@@ -9,7 +9,7 @@ use Rattle.meaning.specs.Snap.{Snap}
 use Rattle.meaning.specs.Admits.{Admits}
 use Rattle.meaning.specs.Form.{Form, Forms, This, Computed, TupleTo, Union, Intersection, Exclusion, none, more}
 use Rattle.meaning.specs.Levels.{IsLevel}
-use Rattle.meaning.specs.Config.{Configured, Defined, Defines, Has, Step, rel_of}
+use Rattle.meaning.specs.Config.{Defined, Defines, Has, Step}
 use Rattle.meaning.specs.Membership.{HasOne, HasSet}
 
 -- w at the node n looks up the node m, under a subtracted part where the sign is true

@@ -1,9 +1,9 @@
 -- Why a write or a configuration is refused: each cause is looked for over the whole request before the next.
-use Rattle.std.specs.Prelude.{◌≡◌, ℕ, ◌+◌, ◌==◌, ◌&&◌, ◌||◌, List, [], ◌∷◌, map, length, Bool, true, false, cond, not, Option, Some, None, nat_lt, nat_le, IsPermutation}
+use Rattle.std.specs.Prelude.{ℕ, ◌+◌, ◌&&◌, ◌||◌, List, [], ◌∷◌, map, length, Bool, true, false, cond, not, Option, Some, None, nat_lt, nat_le}
 use Rattle.std.specs.List.{list_any, find}
 use Rattle.names.specs.declared.limits.TheConstants.{MAX_OPS, MAX_REV, MAX_ROWS, MAX_TUPLES}
 use Rattle.meaning.specs.TupleSet as set
-use Rattle.names.specs.Order.{tuple_cmp, is_same_tuple}
+use Rattle.names.specs.Order.{is_same_tuple}
 use Rattle.names.specs.declared.tuple.Tuple.{Tuple}
 use Rattle.names.specs.declared.write.Op.{Op}
 use Rattle.names.specs.declared.write.OpKind.{OpKind}

@@ -1,6 +1,6 @@
 -- Two snapshots of the same relations and tuples have the same members: the namespaces do not matter.
 use Rattle.std.proofs.Common.{◌≡◌, ℕ, zero, suc, ◌<◌, Bool, List, length, get_or, refl, ap, ◌∙◌, sym, subst, inl, inr}
-use Rattle.std.specs.Prelude.{◌↔◌, ◌⊎◌, Contains}
+use Rattle.std.specs.Prelude.{◌↔◌, Contains}
 use Rattle.names.specs.declared.object.Object.{Object}
 use Rattle.names.specs.declared.node.Node.{Node}
 use Rattle.names.specs.declared.relation.RelationName.{RelationName}

@@ -1,66 +1,20 @@
 -- What the loops look up, and what it means.
-use Rattle.std.proofs.Common.{◌≡◌, ℕ, ◌<◌, List, [], ◌∷◌, Bool, true, false, length, get_or, refl, ap, ◌∙◌, sym, subst, inl, inr, ⊎_elim}
-use Rattle.std.specs.Prelude.{◌↔◌, ◌⊎◌, ◌&&◌, ◌||◌, Option, Some, None, Any, Contains, map, nat_eq}
-use Rattle.std.specs.List.{list_any}
-use Rattle.std.specs.Cmp.Lexicographic.{same_text, pointwise, bytes_decides}
+use Rattle.std.proofs.Common.{◌≡◌, ℕ, ◌<◌, List, true, length, get_or, refl, ap, ◌∙◌, sym, subst, inl, inr}
+use Rattle.std.specs.Prelude.{◌↔◌, Option, Some, None, Any, Contains}
 use Rattle.names.specs.declared.object.Object.{Object}
 use Rattle.names.specs.declared.node.Node.{Node}
-use Rattle.names.specs.declared.tuple.Tuple.{Tuple}
-use Rattle.names.specs.declared.relation.RelationName.{RelationName}
-use Rattle.meaning.specs.Config.{Configured, Defined, Has, rel_of}
-use Rattle.meaning.specs.Admits.{is_relation, has_relation}
+use Rattle.meaning.specs.Config.{rel_of}
+use Rattle.meaning.specs.Admits.{is_relation}
 use Rattle.meaning.specs.Form.{This, TupleTo}
 use Rattle.meaning.specs.Snap.{one}
 use Rattle.meaning.specs.Membership.{Gives, RelationGives, IsUser}
-use Rattle.meaning.proofs.Lists.{contains_map, contains_map_back, contains_here, contains_there, contains_cases, contains_none}
+use Rattle.meaning.proofs.KnownRelations.{relation_is, is_itself}
+use Rattle.meaning.proofs.Lists.{contains_map, contains_map_back}
 use Rattle.meaning.proofs.TupleSets.{items_contain}
 use Rattle.config_core.specs.declared.relation.Relation.{Relation}
 use Rattle.config.specs.Forms.{defined_of, form_of}
 use Rattle.plain.specs.declared.source.Source.{Source}
 use Rattle.plain.specs.inside.Source.{snap_of, config_of, GrantsBy, Grants, LeadsBy, LeadsOn, Names}
-
--- a test that holds of an element
-both_true : (a b : Bool) → (a && b) ≡ true → (a ≡ true) × (b ≡ true)
-both_true true b e = (refl, e)
-both_true false b e = cc
-
-pub test_found : {A : Type 0} (p : A → Bool) (xs : List A) → list_any p xs ≡ true → (x : A) × Contains xs x × (p x ≡ true)
-test_found p [] e = cc
-test_found {A} p (x ∷ xs) e =
-    elim (p x) as (λ b. p x ≡ b → (b || list_any p xs) ≡ true → (y : A) × Contains (x ∷ xs) y × (p y ≡ true)) [
-      | true ↦ λ here _. (x, contains_here x xs, here)
-      | false ↦ λ _ there. let r = test_found p xs there in (r.0, contains_there x r.0 xs r.1, r.2)
-    ] refl e
-
-or_true : (a : Bool) → (a || true) ≡ true
-or_true true = refl
-or_true false = refl
-
-pub found_test : {A : Type 0} (p : A → Bool) (xs : List A) (x : A) → Contains xs x → p x ≡ true → list_any p xs ≡ true
-found_test p [] x c e = absurd (contains_none x c)
-found_test p (y ∷ ys) x c e = ⊎_elim
-    (λ same. ap (λ b. b || list_any p ys) (ap p same ∙ e))
-    (λ there. ap (λ b. p y || b) (found_test p ys x there e) ∙ or_true (p y))
-    (contains_cases y x ys c)
-
--- the relation of a definition
-pub relation_is : (r : RelationName) (d : Defined) → is_relation r d ≡ true → d.rel ≡ r
-relation_is r d e =
-    let b = both_true (pointwise nat_eq d.rel.namespace r.namespace) (pointwise nat_eq d.rel.relation r.relation) e in
-    let space = same_text d.rel.namespace r.namespace (sym b.0) in
-    let name = same_text d.rel.relation r.relation (sym b.1) in
-    ap (λ x. record { namespace = x; relation = d.rel.relation }) space ∙ ap (λ x. record { namespace = r.namespace; relation = x }) name
-
-pub is_itself : (r : RelationName) (d : Defined) → d.rel ≡ r → is_relation r d ≡ true
-is_itself r d e =
-    ap (λ b. b && pointwise nat_eq d.rel.relation r.relation) ((bytes_decides d.rel.namespace r.namespace).1 (ap (λ q. q.namespace) e))
-    ∙ (bytes_decides d.rel.relation r.relation).1 (ap (λ q. q.relation) e)
-
-pub known_has : (config : Configured) (r : RelationName) → has_relation config r ≡ true → Has config r
-known_has config r e = let f = test_found (is_relation r) config.relations e in (f.0, (f.1, relation_is r f.0 f.2))
-
-pub has_known : (config : Configured) (r : RelationName) → Has config r → has_relation config r ≡ true
-has_known config r (d, (c, e)) = found_test (is_relation r) config.relations d c (is_itself r d e)
 
 module _ (s : Source) (u : Object) (n : Node) (held : List Node) where
   -- a tuple of the node gives it the user

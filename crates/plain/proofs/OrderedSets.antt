@@ -1,5 +1,5 @@
 -- Sets of tuples and of objects as ordered lists.
-use Rattle.std.proofs.Common.{◌≡◌, ℕ, List, [], ◌∷◌, Bool, true, false, cond, length, refl, ap, ◌∙◌, sym, subst, inl, inr, ⊎_elim}
+use Rattle.std.proofs.Common.{◌≡◌, ℕ, List, Bool, true, false, cond, refl, ap, ◌∙◌, sym, subst, inl, inr, ⊎_elim}
 use Rattle.std.specs.Prelude.{◌↔◌, ◌⊎◌, ◌&&◌, ◌||◌, not, Option, Some, None, is_some, Any, Contains}
 use Rattle.std.specs.List.{list_any}
 use Rattle.std.specs.Cmp.{eq_by_cmp_equiv}
@@ -9,16 +9,11 @@ use Rattle.names.specs.Order.{object_cmp, tuple_cmp}
 use Rattle.names.specs.declared.object.Object.{Object}
 use Rattle.names.specs.declared.node.Node.{Node}
 use Rattle.names.specs.declared.tuple.Tuple.{Tuple}
-use Rattle.names.specs.declared.refusal.Refusal.{Refusal}
-use Rattle.names.specs.declared.refusal.Refusal.TheVariants.{UnknownRelation, TypeRefused}
 use Rattle.meaning.specs.TupleSet as set
-use Rattle.meaning.specs.Config.{Configured, Defined, rel_of}
-use Rattle.meaning.specs.Admits.{is_relation, declares, has_relation, admits}
 use Rattle.meaning.specs.Snap.{Snap, one}
 use Rattle.meaning.specs.Membership.{IsMember}
 use Rattle.meaning.proofs.TupleSets.{tuples_total, objects_total, exact_objects, contains_from_list, contains_insert, contains_remove, same_tuples}
 use Rattle.meaning.proofs.KnownLemmas.{below_user}
-use Rattle.config.specs.Refused.{AdmitCause}
 use Rattle.plain.specs.declared.source.Source.{Source}
 use Rattle.plain.specs.inside.Source.{snap_of, IsSourceOf, Names}
 use Rattle.plain.proofs.Alike.{AreAlike, member_alike}

@@ -4,9 +4,9 @@ ghost use Rattle.std.specs.List.Sorted.{IsStrictlySortedBy};
 ghost use Rattle.names.specs.Order.{object_cmp};
 ghost use Rattle.names.specs.declared.object.Object.{Object};
 ghost use Rattle.meaning.specs.Admits.{has_relation};
+ghost use Rattle.meaning.specs.Causes.{CheckCause};
 ghost use Rattle.meaning.specs.Config.{rel_of};
 ghost use Rattle.meaning.specs.Membership.{IsMember};
-ghost use Rattle.plain.specs.Causes.{CheckCause};
 ghost use Rattle.plain.specs.inside.Members.{GainsObject, AreMembersAmong};
 ghost use Rattle.plain.specs.inside.Source.{snap_of, IsReady, Names};
 

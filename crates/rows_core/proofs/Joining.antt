@@ -1,9 +1,10 @@
 -- Lists of bytes joined by spaces, which are below every byte of the parts.
-use Rattle.std.proofs.Common.{◌≡◌, ℕ, ◌==◌, ◌++◌, ◌&&◌, ◌||◌, ◌<◌, Bool, true, false, IsTrue, List, [], ◌∷◌, Option, Some, None, nat_lt, nat_cmp, refl, sym, ap, ap₂, ◌∙◌, arith, append-nil, Ordering, Less, Equal, Greater}
+use Rattle.std.proofs.Common.{◌≡◌, ℕ, ◌==◌, ◌++◌, ◌||◌, ◌<◌, Bool, true, false, IsTrue, List, [], ◌∷◌, Option, Some, None, nat_lt, nat_cmp, refl, sym, ap, ap₂, ◌∙◌, arith, append-nil, Ordering, Less, Equal, Greater}
 use Rattle.std.specs.List.{list_all}
 use Rattle.std.specs.Option.{option_cmp}
 use Rattle.std.specs.Ordering.{ordering_then}
 use Rattle.std.specs.Cmp.Lexicographic.{slice_cmp}
+use Rattle.std.proofs.lemmas.Bool.{and_parts}
 use Rattle.names.specs.Names.{is_name, is_id, is_name_byte, is_id_byte}
 use Rattle.rows_core.specs.Spelled.{spelled_relation, before_space, after_space, has_space, last_part}
 
@@ -15,22 +16,18 @@ is_above b = nat_lt 32 b
 pub record Above (xs : List ℕ) : Type 0 where
   pub all : list_all is_above xs ≡ true
 
-both : (a b : Bool) → (a && b) ≡ true → (a ≡ true) × (b ≡ true)
-both true b h = (refl, h)
-both false b h = cc
-
 first : (x : ℕ) (xs : List ℕ) → Above (x ∷ xs) → 32 < x
-first x xs a = let h = (both (is_above x) (list_all is_above xs) a.all).0 in grind arith
+first x xs a = let h = (and_parts (is_above x) (list_all is_above xs) a.all).0 in grind arith
 
 rest : (x : ℕ) (xs : List ℕ) → Above (x ∷ xs) → Above xs
-rest x xs a = record { all = (both (is_above x) (list_all is_above xs) a.all).1 }
+rest x xs a = record { all = (and_parts (is_above x) (list_all is_above xs) a.all).1 }
 
 -- ---- names and ids
 
 all_above : (p : ℕ → Bool) → ((b : ℕ) → p b ≡ true → is_above b ≡ true) → (xs : List ℕ) → list_all p xs ≡ true → list_all is_above xs ≡ true
 all_above p above [] h = refl
 all_above p above (x ∷ xs) h =
-    let parts = both (p x) (list_all p xs) h in
+    let parts = and_parts (p x) (list_all p xs) h in
     let here : is_above x ≡ true = above x parts.0 in
     rw here (all_above p above xs parts.1)
 

@@ -6,7 +6,7 @@ use Rattle.names.specs.Order.{tuple_cmp}
 use Rattle.names.specs.declared.tuple.Tuple.{Tuple}
 use Rattle.meaning.specs.TupleSet as set
 use Rattle.meaning.specs.TupleSet.{Tuples}
-use Rattle.meaning.proofs.TupleSets.{contains_items, contains_insert, contains_empty, contains_from_list, same_tuples}
+use Rattle.meaning.proofs.TupleSets.{contains_insert, contains_empty, contains_from_list, same_tuples}
 
 -- the set, with each tuple of the list
 abbrev pub put_all : Tuples → List Tuple → Tuples
@@ -38,10 +38,6 @@ put_from_empty ts = same_tuples (put_all set.empty ts) (set.from_list ts) (λ q.
     contains_all set.empty ts q
     ∙ right_none (list_any (eq_by_cmp tuple_cmp q) ts) _ (contains_empty q)
     ∙ sym (contains_from_list ts q))
-
--- a set is that of its items
-pub from_items : (s : Tuples) → set.from_list (set.items s) ≡ s
-from_items s = same_tuples (set.from_list (set.items s)) s (λ q. contains_from_list (set.items s) q ∙ sym (contains_items s q))
 
 -- one tuple more is put
 pub put_next : (s : Tuples) (ts : List Tuple) (i : ℕ) (t : Tuple) → i < length ts → t ≡ get_or ts i t → put_all (set.insert s t) (drop (i + 1) ts) ≡ put_all s (drop i ts)

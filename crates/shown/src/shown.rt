@@ -3,10 +3,10 @@ ghost use Rattle.std.specs.Prelude.{◌≡◌, ◌≤◌, ◌↔◌, min, None, 
 ghost use Rattle.names.specs.declared.limits.TheConstants.{MAX_REV};
 ghost use Rattle.names.specs.declared.part.Part.TheVariants.{Index, Hot};
 ghost use Rattle.meaning.specs.Admits.{has_relation};
+ghost use Rattle.meaning.specs.Causes.{CheckCause};
 ghost use Rattle.meaning.specs.Config.{rel_of};
 ghost use Rattle.meaning.specs.Membership.{IsMember};
 ghost use Rattle.meaning.specs.Verdict.{config_cause};
-ghost use Rattle.decide.specs.Causes.{CheckCause};
 ghost use Rattle.rows.specs.Follows.{IsAccepted};
 ghost use Rattle.rows.specs.Judging.{WriteRefused, ConfigRefused};
 ghost use Rattle.rows.specs.Retained.{IsRetained, newest, newest_of, snap_at};

@@ -6,7 +6,7 @@ use Rattle.names.specs.declared.node.Node.{Node}
 use Rattle.names.specs.declared.tuple.Tuple.{Tuple}
 use Rattle.meaning.specs.TupleSet as set
 use Rattle.meaning.specs.Admits.{is_relation}
-use Rattle.meaning.specs.Config.{Configured, Defined, Has, IsWhole}
+use Rattle.meaning.specs.Config.{Configured, Has, IsWhole}
 use Rattle.meaning.specs.Snap.{Snap, one}
 use Rattle.config_core.specs.declared.relation.Relation.{Relation}
 use Rattle.config.specs.Forms.{defined_of}

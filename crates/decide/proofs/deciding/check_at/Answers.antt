@@ -1,5 +1,5 @@
 use Rattle.meaning.specs.Config.{rel_of}
-use Rattle.decide.proofs.Relations.{has_known, not_known}
+use Rattle.meaning.proofs.KnownRelations.{has_known, not_known}
 use Rattle.decide.proofs.deciding.check_at.Goals as goal
 
 pub returns-in-None-clause-err : goal.returns-in-None-clause-err

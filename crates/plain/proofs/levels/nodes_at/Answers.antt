@@ -1,5 +1,5 @@
 use Rattle.std.proofs.Common.{arith}
-use Rattle.plain.proofs.Candidates.{nodes_none, nodes_more}
+use Rattle.plain.proofs.Candidates.{nodes_more}
 use Rattle.plain.proofs.levels.nodes_at.Goals as goal
 
 pub loop-object-preserved : goal.loop-object-preserved

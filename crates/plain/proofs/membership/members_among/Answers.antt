@@ -1,5 +1,5 @@
-use Rattle.std.proofs.Common.{◌≡◌, sym, ◌∙◌, subst, inl, inr, ⊎_elim}
-use Rattle.std.specs.Prelude.{Contains, IsTrue}
+use Rattle.std.proofs.Common.{sym, ◌∙◌, subst, inl, inr, ⊎_elim}
+use Rattle.std.specs.Prelude.{Contains}
 use Rattle.meaning.specs.Membership.{IsMember}
 use Rattle.plain.specs.inside.Source.{snap_of}
 use Rattle.plain.proofs.Gather.{gather_more, gather_all}

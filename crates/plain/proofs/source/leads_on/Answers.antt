@@ -1,8 +1,7 @@
 use Rattle.std.proofs.Common.{◌≡◌, rules, subst, sym, ◌∙◌}
-use Rattle.std.specs.Prelude.{IsTrue}
 use Rattle.names.specs.declared.relation.RelationName.{RelationName}
 use Rattle.plain.specs.inside.Source.{config_of, LeadsBy}
-use Rattle.plain.proofs.Looks.{known_has, has_known}
+use Rattle.meaning.proofs.KnownRelations.{known_has, has_known}
 use Rattle.plain.proofs.source.leads_on.Goals as goal
 
 pub returns-then-has_relation : goal.returns-then-has_relation
