@@ -6,8 +6,9 @@ use crate::histories::{follow, grow};
 use config::Config;
 use decide::{Nothing, check_at};
 use names::{Commit, Node, Object, Refusal};
-use plain::{Snapshot, check};
+use plain::check;
 use rows::{Rows, View};
+use snapshots::Snapshot;
 use std::alloc::{AllocError, Global};
 
 /// How many questions were asked, how many had a yes, and where the answers differed.

@@ -4,8 +4,8 @@ use crate::choices::any_tuple;
 use crate::dice::Dice;
 use config::Config;
 use names::{Commit, EventKind, Items, Op, OpKind, Refusal};
-use plain::Snapshot;
 use rows::{Rows, events_of};
+use snapshots::Snapshot;
 use std::alloc::{AllocError, Global};
 
 /// How many commits a history has, the configuration among them.

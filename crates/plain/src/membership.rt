@@ -11,9 +11,9 @@ ghost use Rattle.plain.specs.inside.Members.{GainsObject, AreMembersAmong};
 ghost use Rattle.plain.specs.inside.Source.{snap_of, IsReady, Names};
 
 use crate::levels::nodes_of;
-use crate::snapshot::Snapshot;
-use crate::source::{Source, has_relation, holds};
+use crate::source::{Source, has_relation, holds, source_of};
 use names::{Node, Object, Refusal, Tuple};
+use snapshots::Snapshot;
 use std::alloc::{AllocError, Global};
 use std::collections::BTreeSet;
 
@@ -29,7 +29,7 @@ pub fn check(
     ensures err { IfErr result (CheckCause snapshot.now node.now) }
 {
     require_relation(snapshot, node)?;
-    let source = snapshot.source();
+    let source = source_of(snapshot);
     Ok(is_member(alloc, &source, node, user)?)
 }
 
@@ -41,7 +41,7 @@ pub fn members(alloc: Global, snapshot: &Snapshot, node: &Node) -> Result<Vec<Ob
     ensures err { IfErr result (CheckCause snapshot.now node.now) }
 {
     require_relation(snapshot, node)?;
-    let source = snapshot.source();
+    let source = source_of(snapshot);
     let users = users_of(alloc, source.tuples)?;
     let members = members_among(alloc, &source, node, &users)?;
     Ok(in_order(alloc, members)?)
@@ -52,7 +52,7 @@ fn require_relation(snapshot: &Snapshot, node: &Node) -> Result<(), Refusal>
     ensures known { OnOk result (has_relation snapshot.now.config (rel_of node.now) ≡ true) }
     ensures err { IfErr result (CheckCause snapshot.now node.now) }
 {
-    let source = snapshot.source();
+    let source = source_of(snapshot);
     if !has_relation(source.relations, &node.object.namespace, &node.relation) {
         return Err(Refusal::UnknownRelation);
     }

@@ -1,10 +1,11 @@
 //! What the rounds read.
 ghost use Rattle.std.specs.Prelude.{◌≡◌, ◌↔◌, Contains, IsTrue};
 ghost use Rattle.plain.specs.inside.Given.{TupleGives, TuplesetGives};
-ghost use Rattle.plain.specs.inside.Source.{node_of, defines, Grants, LeadsOn};
+ghost use Rattle.plain.specs.inside.Source.{node_of, defines, Grants, IsSourceOf, LeadsOn};
 
 use config::Relation;
 use names::{Name, Node, Object, Tuple};
+use snapshots::Snapshot;
 use std::collections::BTreeSet;
 
 /// The relations of a configuration, with the level of each, and tuples.
@@ -13,6 +14,18 @@ pub(crate) struct Source<'a> {
     pub(crate) relations: &'a [Relation],
     pub(crate) levels: &'a [usize],
     pub(crate) tuples: &'a BTreeSet<Tuple>,
+}
+
+/// What the rounds read of a snapshot.
+pub(crate) fn source_of(snapshot: &Snapshot) -> Source<'_>
+    ensures { IsSourceOf snapshot.now result }
+{
+    let config = snapshot.config();
+    Source {
+        relations: config.relations(),
+        levels: config.levels(),
+        tuples: snapshot.tuples(),
+    }
 }
 
 /// Whether the namespace has the relation.

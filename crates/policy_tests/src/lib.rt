@@ -1,4 +1,4 @@
-//! Tests of the policies, `config` and `plain`, by their public calls: what no run of the program shows.
+//! Tests of the policies, `config`, `snapshots` and `plain`, by their public calls: what no run of the program shows.
 #![tactic(auto)]
 
 #[cfg(test)]

@@ -2,7 +2,8 @@
 
 use config::Config;
 use names::{Node, Refusal, Tuple};
-use plain::{Snapshot, members};
+use plain::members;
+use snapshots::Snapshot;
 use std::alloc::Global;
 use std::test::Fail;
 

@@ -8,8 +8,8 @@ ghost use Rattle.shown.specs.World.{is_admitted, are_admitted};
 use crate::copies::snapshot_of;
 use config::Config;
 use names::{Commit, Event, EventKind};
-use plain::Snapshot;
 use rows::Loaded;
+use snapshots::Snapshot;
 use std::alloc::{AllocError, Global};
 
 /// Whether each retained revision's tuples are admitted. It looks at all of them again after each commit.

@@ -4,7 +4,7 @@ ghost use Rattle.meaning.specs.TupleSet as set;
 
 use config::Config;
 use names::Tuple;
-use plain::Snapshot;
+use snapshots::Snapshot;
 use std::alloc::{AllocError, Global};
 
 /// The snapshot of a configuration and copies of tuples.

@@ -6,7 +6,6 @@ ghost use Rattle.meaning.specs.TupleSet as set;
 ghost use Rattle.meaning.specs.Snap.{empty_snap};
 ghost use Rattle.meaning.specs.Admits.{admits};
 
-use crate::source::Source;
 use config::Config;
 use names::Tuple;
 use std::alloc::{AllocError, Global};
@@ -37,8 +36,6 @@ impl Model for Snapshot {
 }
 
 impl Snapshot {
-    ghost use Rattle.plain.specs.inside.Source.{IsSourceOf};
-
     /// What revision 0 holds. It takes no memory.
     pub fn empty(alloc: Global) -> Snapshot
         ensures { result ≡ empty_snap }
@@ -105,16 +102,5 @@ impl Snapshot {
         ensures { self.new ≡ record self.old { config = config } }
     {
         self.config = config;
-    }
-
-    /// What the rounds read.
-    pub(crate) fn source(&self) -> Source<'_>
-        ensures { IsSourceOf self.now result }
-    {
-        Source {
-            relations: self.config.relations(),
-            levels: self.config.levels(),
-            tuples: &self.tuples,
-        }
     }
 }

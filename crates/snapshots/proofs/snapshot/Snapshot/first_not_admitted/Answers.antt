@@ -7,7 +7,7 @@ use Rattle.std.proofs.lemmas.Iterator.Search.{find_from_yields_List}
 use Rattle.meaning.specs.Admits.{admits}
 use Rattle.meaning.specs.TupleSet as set
 use Rattle.meaning.proofs.TupleSets.{items_from_list}
-use Rattle.plain.proofs.snapshot.Snapshot.first_not_admitted.Goals as goal
+use Rattle.snapshots.proofs.snapshot.Snapshot.first_not_admitted.Goals as goal
 
 pub returns : goal.returns
 returns c =

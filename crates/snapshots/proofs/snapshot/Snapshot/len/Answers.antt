@@ -1,7 +1,7 @@
 use Rattle.std.proofs.Common.{length, ap, ◌∙◌, sym}
 use Rattle.meaning.specs.TupleSet as set
 use Rattle.meaning.proofs.TupleSets.{items_from_list, len_items}
-use Rattle.plain.proofs.snapshot.Snapshot.len.Goals as goal
+use Rattle.snapshots.proofs.snapshot.Snapshot.len.Goals as goal
 
 pub returns : goal.returns
 returns c =

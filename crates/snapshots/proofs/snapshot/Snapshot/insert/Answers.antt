@@ -1,8 +1,8 @@
 use Rattle.std.proofs.Common.{ap, ◌∙◌}
 use Rattle.meaning.specs.TupleSet as set
 use Rattle.meaning.specs.Snap.{Snap}
-use Rattle.plain.proofs.OrderedSets.{put_tuple}
-use Rattle.plain.proofs.snapshot.Snapshot.insert.Goals as goal
+use Rattle.snapshots.proofs.OrderedTuples.{put_tuple}
+use Rattle.snapshots.proofs.snapshot.Snapshot.insert.Goals as goal
 
 pub returns-clause-ok : goal.returns-clause-ok
 returns-clause-ok c =

@@ -1,8 +1,8 @@
 use Rattle.std.proofs.Common.{ap, ◌∙◌}
 use Rattle.meaning.specs.TupleSet as set
 use Rattle.meaning.specs.Snap.{Snap}
-use Rattle.plain.proofs.OrderedSets.{drop_tuple}
-use Rattle.plain.proofs.snapshot.Snapshot.remove.Goals as goal
+use Rattle.snapshots.proofs.OrderedTuples.{drop_tuple}
+use Rattle.snapshots.proofs.snapshot.Snapshot.remove.Goals as goal
 
 pub returns : goal.returns
 returns c =
