@@ -2,7 +2,7 @@
 use Rattle.std.proofs.Common.{◌≡◌, ℕ, zero, suc, ◌<◌, List, [], ◌∷◌, true, false, length, get_or, refl, ap, ◌∙◌, sym, subst, arith}
 use Rattle.std.specs.Prelude.{◌↔◌, Contains, map}
 use Rattle.std.proofs.lemmas.Bool.{false≢true}
-use Rattle.std.proofs.lemmas.List.{length-map}
+use Rattle.std.proofs.lemmas.List.{get_or-map, length-map}
 use Rattle.names.specs.declared.node.Node.{Node}
 use Rattle.meaning.specs.Config.{Defined, Has, IsAt, Step, rel_of}
 use Rattle.meaning.specs.Levels.{IsLevel}
@@ -17,14 +17,9 @@ use Rattle.decide.specs.declared.source.Source.{Source}
 use Rattle.decide.specs.inside.Asked.{IsSource, AreNodesOf, node_with}
 use Rattle.meaning.specs.Snap.{Snap}
 
-map_at : {A B : Type 0} (f : A → B) (xs : List A) (i : ℕ) (x : A) → i < length xs → get_or xs i x ≡ x → get_or (map f xs) i (f x) ≡ f x
-map_at f [] i x lt e = absurd (omega (arith, lt))
-map_at f (y ∷ ys) zero x lt e = ap f e
-map_at f (y ∷ ys) (suc i) x lt e = map_at f ys i x (omega arith) e
-
 level_found : (s : Source) → IsSource s → (i : ℕ) (r : Relation) (m : Node) (k : ℕ) → i < length s.relations.now → r ≡ get_or s.relations.now i r → r.name ≡ rel_of m → get_or s.levels.now i 0 ≡ k → IsAt s.view.now.config m k
 level_found s source i r m k lt e named level =
-    let at = map_at defined_of s.relations.now i r lt (sym e) in
+    let at = get_or-map defined_of s.relations.now i r (defined_of r) lt ∙ ap defined_of (sym e) in
     let here = subst (λ xs. (i < length xs) × (get_or xs i (defined_of r) ≡ defined_of r)) source.relations (omega (arith, lt, length-map s.relations.now defined_of), at) in (
       (defined_of r, ((i, here.0, here.1), named)),
       subst (λ x. IsLevel (Step s.view.now.config) (rel_of m) x) level (subst (λ x. IsLevel (Step s.view.now.config) x (get_or s.levels.now i 0)) named (source.levels.each i (defined_of r) here.0 here.1)),

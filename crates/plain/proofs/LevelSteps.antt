@@ -1,7 +1,7 @@
 -- From one level to the next.
-use Rattle.std.proofs.Common.{◌≡◌, ℕ, zero, suc, ◌<◌, List, [], ◌∷◌, length, get_or, refl, ap, ◌∙◌, subst, inl, inr, ⊎_elim, arith}
-use Rattle.std.specs.Prelude.{Any, Contains, map, ◌⊎◌, ◌↔◌}
-use Rattle.std.proofs.lemmas.List.{length-map}
+use Rattle.std.proofs.Common.{◌≡◌, ℕ, suc, ◌<◌, List, [], length, get_or, refl, ap, ◌∙◌, subst, inl, inr, ⊎_elim, arith}
+use Rattle.std.specs.Prelude.{Any, Contains, ◌⊎◌, ◌↔◌}
+use Rattle.std.proofs.lemmas.List.{get_or-map, length-map}
 use Rattle.std.proofs.lemmas.List.Elements.{All-contains}
 use Rattle.names.specs.declared.object.Object.{Object}
 use Rattle.names.specs.declared.node.Node.{Node}
@@ -34,16 +34,10 @@ done_none S u = record {
   known = λ m c. absurd (contains_none m c);
 }
 
--- an element and its image stand at the same place
-map_at : {A B : Type 0} (f : A → B) (xs : List A) (i : ℕ) (x : A) → i < length xs → get_or xs i x ≡ x → get_or (map f xs) i (f x) ≡ f x
-map_at f [] i x lt e = absurd (omega (arith, lt))
-map_at f (y ∷ ys) zero x lt e = ap f e
-map_at f (y ∷ ys) (suc i) x lt e = map_at f ys i x (omega arith) e
-
 module _ (s : Source) (ready : IsReady s) where
   -- a relation's level stands at its place
   placed_level : (j : ℕ) (r : Relation) → j < length s.relations.now → get_or s.relations.now j r ≡ r → IsLevel (Step (snap_of s).config) r.name (get_or s.levels.now j 0)
-  placed_level j r lt e = ready.levels_right.each j (defined_of r) (omega (arith, lt, length-map s.relations.now defined_of)) (map_at defined_of s.relations.now j r lt e)
+  placed_level j r lt e = ready.levels_right.each j (defined_of r) (omega (arith, lt, length-map s.relations.now defined_of)) (get_or-map defined_of s.relations.now j r (defined_of r) lt ∙ ap defined_of e)
 
   placed_at : (k : ℕ) (m : Node) → IsPlaced s (length s.relations.now) k m → IsAt (snap_of s).config m k
   placed_at k m (j, r, lt, e, p, l) = (
