@@ -21,7 +21,7 @@ turned Greater e = cc
 same_name : (n : List ℕ) → name_cmp n n ≡ Equal
 same_name n = turned (name_cmp n n) (nat_list_cmp_total.antisymm n n)
 
-same_relation : (r : RelationName) → relation_cmp r r ≡ Equal
+pub same_relation : (r : RelationName) → relation_cmp r r ≡ Equal
 same_relation r = ap (λ o. ordering_then o (name_cmp r.relation r.relation)) (same_name r.namespace) ∙ same_name r.relation
 
 not_before : (c : Configured) → IsOrdered c → (i j : ℕ) → i < j → j < length c.relations → name_at c i ≡ name_at c j → ⊥

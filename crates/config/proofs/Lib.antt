@@ -2,5 +2,6 @@ pub mod ByName
 pub mod Distinct
 pub mod Keeping
 pub mod Places
+pub mod Searching
 pub mod StepLemmas
 pub mod Tested

@@ -2,6 +2,7 @@ pub mod Causes
 pub mod Cycles
 pub mod Invariant
 pub mod Levels
+pub mod Places
 pub mod Refused
 pub mod Valid
 pub use Rattle.config_core.specs.Canonical

@@ -1,5 +1,5 @@
 //! Configurations.
-ghost use Rattle.std.specs.Prelude.{◌≡◌, ◌&&◌, ◌<◌, ◌^◌, All, map, IfOk, IfErr, OnOk, IsTrue, true, string_bytes};
+ghost use Rattle.std.specs.Prelude.{◌≡◌, ◌&&◌, ◌<◌, ◌^◌, All, map, IfOk, IfErr, OnOk, IsTrue, IfSome, IfNone, true, string_bytes};
 ghost use Rattle.std.specs.List.{list_any};
 ghost use Rattle.meaning.specs.Admits.{is_relation, declares};
 ghost use Rattle.meaning.specs.Config.{rel_of};
@@ -41,10 +41,11 @@ impl Model for Config {
 }
 
 impl Config {
-    ghost use Rattle.meaning.specs.Config.{IsWhole, empty_config};
+    ghost use Rattle.meaning.specs.Config.{IsWhole, Has, empty_config};
     ghost use Rattle.meaning.specs.Admits.{admits};
     ghost use Rattle.names.specs.declared.refusal.Refusal.TheVariants.{UnknownRelation, TypeRefused};
     ghost use Rattle.config.specs.Levels.{AreLevels};
+    ghost use Rattle.config.specs.Places.{StandsAt};
     ghost use Rattle.config.specs.Causes.{Accepts, ConfigCause};
     ghost use Rattle.config.specs.Refused.{AdmitCause};
 
@@ -99,6 +100,18 @@ impl Config {
         ensures small { All (λ l. l < 2 ^ 32) result.now }
     {
         &self.levels
+    }
+
+    /// Where the node's relation stands among the relations, if it is there.
+    pub fn place_of(&self, node: &Node) -> Option<usize>
+        ensures found { IfSome result (StandsAt self.now (rel_of node.now)) }
+        ensures none { IfNone result (Has self.now (rel_of node.now) → ⊥) }
+    {
+        let relations = self.relations.as_slice();
+        match relations.binary_search_by(|relation| relation.compare(node)) {
+            Ok(place) => Some(place),
+            Err(_) => None,
+        }
     }
 
     /// Whether the tuple is valid: its relation is there, and declares the type of its subject.

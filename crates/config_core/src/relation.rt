@@ -5,6 +5,7 @@ ghost use Rattle.config_core.specs.Forms.{defined_of};
 use crate::rewrite::{Rewrite, copied};
 use names::{Node, RelationName, Subject, SubjectType};
 use std::alloc::{AllocError, Global};
+use std::cmp::Ordering;
 
 /// A relation of a namespace.
 #[derive(Debug, Drop)]
@@ -21,6 +22,17 @@ impl Relation {
     ghost use Rattle.config_core.specs.Forms.{defined_of};
     ghost use Rattle.meaning.specs.Admits.{is_relation, declares};
     ghost use Rattle.meaning.specs.Config.{rel_of};
+    ghost use Rattle.config_core.specs.Order.{relation_cmp};
+
+    /// How it stands to the node's relation: by namespace, then by name.
+    pub fn compare(&self, node: &Node) -> Ordering
+        ensures { result ≡ relation_cmp (defined_of self.now).rel (rel_of node.now) }
+    {
+        match self.name.namespace.cmp(&node.object.namespace) {
+            Ordering::Equal => self.name.relation.cmp(&node.relation),
+            other => other,
+        }
+    }
 
     /// Whether it is the node's relation.
     pub fn is_of(&self, node: &Node) -> bool

@@ -1,4 +1,5 @@
 pub mod ConfigsAt
+pub mod Declaring
 pub mod Retaining
 pub mod Touching
 pub mod Committing

@@ -5,6 +5,7 @@ use Rattle.std.specs.Cmp.Lexicographic.{pointwise, nat_list_eq_equiv}
 use Rattle.std.specs.List.{filter_map, cons_option}
 use Rattle.std.specs.Option.{option_map}
 use Rattle.std.proofs.Math.Seq.{take-suc}
+use Rattle.std.proofs.lemmas.List.{get_or-map}
 use Rattle.std.proofs.lemmas.List.Elements.{Contains-get_or, Contains-push_cases, Contains-append_left, Contains-append_right, Contains-append_cases}
 use Rattle.std.specs.Cmp.{eq_by_cmp_equiv}
 use Rattle.std.proofs.lemmas.Map.Views.{tells_apart}
@@ -21,7 +22,10 @@ use Rattle.meaning.proofs.Lists.{contains_here, contains_there, contains_cases, 
 use Rattle.meaning.proofs.TupleSets.{exact_nodes, nodes_total}
 use Rattle.rows_core.specs.Versions.{is_of}
 use Rattle.rows_core.specs.Named.{user_tuple, without, object_in, node_in, objects_in, nodes_in, is_within}
-use Rattle.rows.specs.Lookups.{IsRepeated}
+use Rattle.rows.specs.Lookups.{IsOfNodes, DeclaresNodes, IsRepeated}
+use Rattle.names.specs.declared.relation.SubjectType.{SubjectType}
+use Rattle.meaning.specs.Admits.{Admits}
+use Rattle.config.specs.Places.{StandsAt}
 
 -- ---- what passes a test
 
@@ -121,7 +125,7 @@ module _ (n : Node) (test : Tuple → Bool) (ts : List Tuple) where
   node_named m passes c =
       given_contains (λ (t : Tuple). node_in t.subject) (filter test ts) (record { node = n; subject = set_of m }) m (kept_contains test ts (record { node = n; subject = set_of m }) c passes) refl
 
--- ---- the namespaces of relations
+-- ---- the namespaces of declared types
 
 pub within_of : (n : Node) (namespace : List ℕ) (t : Tuple) → is_within n namespace t ≡ true → t.node ≡ n
 within_of n namespace t e = of_node n t (first (is_of n t) (pointwise nat_eq t.subject.object.namespace namespace) e)
@@ -136,71 +140,56 @@ is_within_itself n m namespace same =
     ∙ ap (pointwise nat_eq m.object.namespace) same
     ∙ nat_list_eq_equiv.refl m.object.namespace
 
--- the namespace is that of one of the relations
-pub record IsOneOf (relations : List Relation) (namespace : List ℕ) : Type 0 where
-  pub relation : Relation
-  pub among : Contains relations relation
-  pub same : relation.name.namespace ≡ namespace
-
-pub one_of_none : (relations : List Relation) (namespace : List ℕ) → IsOneOf (take 0 relations) namespace → ⊥
-one_of_none [] namespace one = contains_none one.relation one.among
-one_of_none (r ∷ rs) namespace one = contains_none one.relation one.among
+pub declared_none : (types : List SubjectType) (namespace : List ℕ) → DeclaresNodes (take 0 types) namespace → ⊥
+declared_none [] namespace declared = contains_none declared.0 declared.1
+declared_none (t ∷ ts) namespace declared = contains_none declared.0 declared.1
 
 -- one of those up to a place is before it, or it is the one there
-pub one_of_more : (relations : List Relation) (i : ℕ) (d : Relation) → i < length relations → (namespace : List ℕ) → IsOneOf (take (i + 1) relations) namespace
-    → IsOneOf (take i relations) namespace ⊎ ((get_or relations i d).name.namespace ≡ namespace)
-one_of_more relations i d small namespace one =
+declared_more : (types : List SubjectType) (i : ℕ) (d : SubjectType) → i < length types → (namespace : List ℕ) → DeclaresNodes (take (i + 1) types) namespace
+    → DeclaresNodes (take i types) namespace ⊎ IsOfNodes namespace (get_or types i d)
+declared_more types i d small namespace declared =
     let next : i + 1 ≡ suc i = omega arith in
-    let front : take (i + 1) relations ≡ take i relations ++ get_or relations i d ∷ [] = ap (λ (n : ℕ). take n relations) next ∙ take-suc relations i d small in
-    ⊎_elim (λ among. inl (record { relation = one.relation; among = among; same = one.same })) (λ e. inr (ap (λ (x : Relation). x.name.namespace) e ∙ one.same))
-    (Contains-push_cases (take i relations) (get_or relations i d) one.relation (subst (λ (rs : List Relation). Contains rs one.relation) front one.among))
+    let front : take (i + 1) types ≡ take i types ++ get_or types i d ∷ [] = ap (λ (n : ℕ). take n types) next ∙ take-suc types i d small in
+    ⊎_elim (λ among. inl (declared.0, among, declared.2)) (λ e. inr (subst (IsOfNodes namespace) (sym e) declared.2))
+    (Contains-push_cases (take i types) (get_or types i d) declared.0 (subst (λ (ts : List SubjectType). Contains ts declared.0) front declared.1))
 
--- a repeated one is one of those before
-pub one_of_repeated : (relations : List Relation) (i : ℕ) (d : Relation) → i < length relations → IsRepeated relations i → IsOneOf (take i relations) (get_or relations i d).name.namespace
-one_of_repeated relations i d small repeated =
-    let k = repeated.0 in
-    let below : k < i = omega (arith, repeated.1) in
-    let long : k < length (take i relations) = simp length-take (omega (arith, below, small)) in
-    record {
-      relation = get_or relations k d;
-      among = subst (Contains (take i relations)) (rw get_or-take refl) (Contains-get_or (take i relations) k d long);
-      same = repeated.2 d;
-    }
-
--- a relation of the configuration is one of those
-pub one_of_all : (relations : List Relation) (config : Configured) → map defined_of relations ≡ config.relations → (m : Node) → Has config (rel_of m) → IsOneOf relations m.object.namespace
-one_of_all relations config is m has =
-    let back = contains_map_back defined_of relations has.0 (subst (λ (ds : List Defined). Contains ds has.0) (sym is) has.1.0) in
-    record { relation = back.0; among = back.1; same = ap (λ (d : Defined). d.rel.namespace) back.2 ∙ ap (λ (r : RelationName). r.namespace) has.1.1 }
+-- the type of an admitted tuple's subject is declared
+pub declared_all : (config : Configured) (n m : Node) (i : ℕ) (relations : List Relation) (d : Relation) → map defined_of relations ≡ config.relations → StandsAt config (rel_of n) i → i < length relations
+    → Admits config (record { node = n; subject = set_of m }) → DeclaresNodes (get_or relations i d).types.items m.object.namespace
+declared_all config n m i relations d is stands small (e, (defines, among)) =
+    let at : get_or config.relations i stands.defined ≡ defined_of (get_or relations i d) =
+    ap (λ (ds : List Defined). get_or ds i stands.defined) (sym is) ∙ get_or-map defined_of relations i d stands.defined small in
+    let same : e ≡ defined_of (get_or relations i d) = stands.only e defines ∙ sym stands.there ∙ at in
+    (record { namespace = m.object.namespace; relation = Some m.relation }, subst (λ (x : Defined). Contains x.types (record { namespace = m.object.namespace; relation = Some m.relation })) same among, (refl, (m.relation, refl)))
 
 -- ---- one namespace more
 
-module _ (n : Node) (ts : List Tuple) (relations : List Relation) (i : ℕ) (small : i < length relations) (old now : List Node)
+module _ (n : Node) (ts : List Tuple) (types : List SubjectType) (i : ℕ) (small : i < length types) (old now : List Node)
     (only : (m : Node) → Contains old m → Contains ts (record { node = n; subject = set_of m }))
-    (all : (m : Node) → Contains ts (record { node = n; subject = set_of m }) → IsOneOf (take i relations) m.object.namespace → Contains old m)
+    (all : (m : Node) → Contains ts (record { node = n; subject = set_of m }) → DeclaresNodes (take i types) m.object.namespace → Contains old m)
   where
-    module _ (d : Relation) (adds : now ≡ old ++ nodes_in (filter (is_within n (get_or relations i d).name.namespace) ts)) where
+    module _ (d : SubjectType) (adds : now ≡ old ++ nodes_in (filter (is_within n (get_or types i d).namespace) ts)) where
       pub more_only : (m : Node) → Contains now m → Contains ts (record { node = n; subject = set_of m })
       more_only m c =
-          let namespace = (get_or relations i d).name.namespace in
+          let namespace = (get_or types i d).namespace in
           ⊎_elim (only m) (named_node n (is_within n namespace) ts (within_of n namespace) m)
           (Contains-append_cases old (nodes_in (filter (is_within n namespace) ts)) m (subst (λ (ms : List Node). Contains ms m) adds c))
 
-      pub more_all : (m : Node) → Contains ts (record { node = n; subject = set_of m }) → IsOneOf (take (i + 1) relations) m.object.namespace → Contains now m
+      pub more_all : (m : Node) → Contains ts (record { node = n; subject = set_of m }) → DeclaresNodes (take (i + 1) types) m.object.namespace → Contains now m
       more_all m has one =
-          let namespace = (get_or relations i d).name.namespace in
+          let namespace = (get_or types i d).namespace in
           let added = nodes_in (filter (is_within n namespace) ts) in
           subst (λ (ms : List Node). Contains ms m) (sym adds)
           (⊎_elim (λ before. Contains-append_left old added m (all m has before))
-          (λ same. Contains-append_right old added m (node_named n (is_within n namespace) ts m (is_within_itself n m namespace same) has))
-          (one_of_more relations i d small m.object.namespace one))
+          (λ here. Contains-append_right old added m (node_named n (is_within n namespace) ts m (is_within_itself n m namespace here.0) has))
+          (declared_more types i d small m.object.namespace one))
 
     -- a namespace that was there before adds nothing
     pub same_only : now ≡ old → (m : Node) → Contains now m → Contains ts (record { node = n; subject = set_of m })
     same_only same m c = only m (subst (λ (ms : List Node). Contains ms m) same c)
 
-    pub same_all : now ≡ old → IsRepeated relations i → (m : Node) → Contains ts (record { node = n; subject = set_of m }) → IsOneOf (take (i + 1) relations) m.object.namespace → Contains now m
-    same_all same repeated m has one =
+    pub same_all : now ≡ old → IsRepeated types i → (m : Node) → Contains ts (record { node = n; subject = set_of m }) → DeclaresNodes (take (i + 1) types) m.object.namespace → Contains now m
+    same_all same repeated m has declared =
         subst (λ (ms : List Node). Contains ms m) (sym same)
-        (⊎_elim (all m has) (λ e. all m has (subst (IsOneOf (take i relations)) e (one_of_repeated relations i one.relation small repeated)))
-        (one_of_more relations i one.relation small m.object.namespace one))
+        (⊎_elim (all m has) (λ here. all m has (repeated declared.0 m.object.namespace here))
+        (declared_more types i declared.0 small m.object.namespace declared))

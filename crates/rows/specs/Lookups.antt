@@ -1,7 +1,15 @@
--- The namespaces of a configuration's relations.
-use Rattle.std.specs.Prelude.{◌≡◌, ℕ, ◌+◌, List, slice_index_or}
-use Rattle.config_core.specs.declared.relation.Relation.{Relation}
+-- The namespaces of whose nodes a relation declares types.
+use Rattle.std.specs.Prelude.{◌≡◌, ℕ, List, Some, Contains, take, slice_index_or}
+use Rattle.names.specs.declared.relation.SubjectType.{SubjectType}
 
--- the relation before the one at this place is of its namespace
-abbrev pub IsRepeated : List Relation → ℕ → Type 0
-IsRepeated relations i = (k : ℕ) × (k + 1 ≡ i) × ((d : Relation) → (slice_index_or relations k d).name.namespace ≡ (slice_index_or relations i d).name.namespace)
+-- the type is of nodes of the namespace
+abbrev pub IsOfNodes : List ℕ → SubjectType → Type 0
+IsOfNodes namespace type = (type.namespace ≡ namespace) × ((relation : List ℕ) × (type.relation ≡ Some relation))
+
+-- one of the types is
+abbrev pub DeclaresNodes : List SubjectType → List ℕ → Type 0
+DeclaresNodes types namespace = (type : SubjectType) × Contains types type × IsOfNodes namespace type
+
+-- where the type at this place is, one before it is too
+abbrev pub IsRepeated : List SubjectType → ℕ → Type 0
+IsRepeated types i = (d : SubjectType) (namespace : List ℕ) → IsOfNodes namespace (slice_index_or types i d) → DeclaresNodes (take i types) namespace

@@ -1,15 +1,15 @@
 //! Views.
-ghost use Rattle.std.specs.Prelude.{◌≡◌, ◌<◌, ◌↔◌, false, length, filter, IfOk, IsTrue, Contains};
+ghost use Rattle.std.specs.Prelude.{◌≡◌, ◌<◌, ◌↔◌, true, false, length, filter, IfOk, IsTrue, Contains};
 ghost use Rattle.meaning.specs.Config.{Has, rel_of};
 ghost use Rattle.meaning.specs.Membership.{HasOne, HasSet};
 ghost use Rattle.meaning.specs.TupleSet as set;
 ghost use Rattle.rows_core.specs.Versions.{is_of};
-ghost use Rattle.rows.specs.Lookups.{IsRepeated};
+ghost use Rattle.rows.specs.Lookups.{DeclaresNodes, IsRepeated};
 ghost use Rattle.rows.specs.Retained.{IsRetained, snap_at, AreAdmitted};
 
 use crate::rows::Rows;
-use config::{Config, Relation};
-use names::{Node, Object, Tuple};
+use config::Config;
+use names::{Name, Node, Object, SubjectType, Tuple};
 use std::alloc::{AllocError, Global};
 use std::marker::Model;
 
@@ -83,11 +83,15 @@ impl<'a> View<'a> {
         ensures all { IfOk result
             (λ v. (m : Node) → HasSet self.now node.now m → Has self.now.config (rel_of m) → Contains v.items m) }
     {
-        let relations = self.config().relations();
         let mut nodes = Vec::new(alloc);
-        for i in 0..relations.len() {
-            if is_first(relations, i) {
-                let namespace = &relations[i].name.namespace;
+        let config = self.config();
+        let Some(place) = config.place_of(node) else {
+            return Ok(nodes);
+        };
+        let types = config.relations()[place].types.as_slice();
+        for i in 0..types.len() {
+            if is_first(types, i) {
+                let namespace = &types[i].namespace;
                 self.rows
                     .usersets_in(alloc, self.rev, node, namespace, &mut nodes)?;
             }
@@ -103,10 +107,22 @@ impl<'a> View<'a> {
     }
 }
 
-/// Whether it is the first relation of its namespace: relations are in the order of their namespaces.
-fn is_first(relations: &[Relation], i: usize) -> bool
-    requires { i < length relations.now }
-    ensures { result ≡ false → IsRepeated relations.now i }
+/// Whether the type is of nodes, and none before it of nodes of its namespace.
+fn is_first(types: &[SubjectType], i: usize) -> bool
+    requires { i < length types.now }
+    ensures { result ≡ false → IsRepeated types.now i }
 {
-    i == 0 || relations[i - 1].name.namespace != relations[i].name.namespace
+    types[i].relation.is_some() && !are_of_nodes(&types[..i], &types[i].namespace)
+}
+
+/// Whether one of the types is of nodes of the namespace.
+fn are_of_nodes(types: &[SubjectType], namespace: &Name) -> bool
+    ensures { result ≡ true → DeclaresNodes types.now namespace.now }
+{
+    for declared in types {
+        if declared.relation.is_some() && declared.namespace == *namespace {
+            return true;
+        }
+    }
+    false
 }
