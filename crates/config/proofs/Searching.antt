@@ -1,26 +1,31 @@
 -- A relation is found by halves, since relations are in order.
-use Rattle.std.proofs.Common.{◌≡◌, ℕ, zero, suc, ◌<◌, ◌≤◌, List, [], ◌∷◌, length, get_or, ap, ◌∙◌, sym, subst, refl, arith, ⊎_elim, inl, inr}
-use Rattle.std.specs.Prelude.{◌⊎◌, map, Contains}
+use Rattle.std.proofs.Common.{◌≡◌, ℕ, zero, suc, ◌<◌, ◌≤◌, List, [], ◌∷◌, true, false, length, get_or, ap, ◌∙◌, sym, subst, refl, arith, ⊎_elim, inl, inr}
+use Rattle.std.specs.Prelude.{◌⊎◌, ◌&&◌, map}
 use Rattle.std.specs.Ordering.{ordering_then, ordering_reverse, ordering_index, is_eq}
 use Rattle.std.specs.declared.cmp.Ordering.{Ordering}
 use Rattle.std.specs.declared.cmp.Ordering.TheVariants.{Less, Equal, Greater}
-use Rattle.std.specs.Cmp.{IsTotalOrder}
+use Rattle.std.specs.Cmp.{IsTotalOrder, both_ways}
 use Rattle.std.specs.Cmp.Lexicographic.{nat_list_cmp_total, texts_ties, same_text}
 use Rattle.std.specs.List.{HoldsAt}
 use Rattle.std.specs.List.Sorted.{IsStrictlySortedBy, IsNonDecreasingBy, IsPartitionPoint}
-use Rattle.std.proofs.lemmas.Bool.{cases_lt}
+use Rattle.std.proofs.lemmas.Bool.{cases_lt, and_parts}
+use Rattle.std.proofs.lemmas.List.Folds.{Any-from_list_any, list_any-from_Any}
 use Rattle.std.proofs.lemmas.Cmp.{then_total, on_total}
 use Rattle.std.proofs.lemmas.List.{get_or-map, length-map}
 use Rattle.std.proofs.lemmas.Map.Keys.{Less-from_sorted}
 use Rattle.names.specs.declared.relation.RelationName.{RelationName}
-use Rattle.meaning.specs.Config.{Configured, Defined, Defines, Has}
-use Rattle.meaning.proofs.Lists.{contains_map, contains_map_back}
+use Rattle.names.specs.declared.tuple.Tuple.{Tuple}
+use Rattle.meaning.specs.Config.{Configured, Defined, Has, rel_of}
+use Rattle.meaning.specs.Admits.{admits, declares, is_relation}
+use Rattle.meaning.proofs.KnownRelations.{relation_is, is_itself}
+use Rattle.meaning.proofs.AdmitsLemmas.{told_admitted}
+use Rattle.meaning.proofs.Lists.{contains_map_back}
 use Rattle.config_core.specs.declared.relation.Relation.{Relation}
 use Rattle.config_core.specs.Forms.{defined_of}
 use Rattle.config_core.specs.Order.{name_cmp, relation_cmp, IsOrdered}
 use Rattle.config_core.specs.Parts.{configured}
 use Rattle.config.specs.Places.{StandsAt}
-use Rattle.config.specs.inside.Graph.{nowhere, name_at, relation_at}
+use Rattle.config.specs.inside.Graph.{nowhere, relation_at}
 use Rattle.config.proofs.Distinct.{same_relation, names_apart}
 
 total : IsTotalOrder relation_cmp
@@ -116,7 +121,35 @@ module _ (ns : List (List ℕ)) (rs : List Relation) (t : RelationName) where
       let b = contains_map_back defined_of rs d one in
       let equal : relation_cmp (name b.0) t ≡ Equal = ap (λ (x : Defined). relation_cmp x.rel t) b.2 ∙ ap (λ x. relation_cmp x t) rel ∙ same_relation t in
       let other : (relation_cmp (name b.0) t ≡ Less) ⊎ (relation_cmp (name b.0) t ≡ Greater) = ⊎_elim
-          (λ lt. inl (subst (λ x. relation_cmp (name x) t ≡ Less) b.1.2 (point.0 b.1.0 b.0 (omega arith) lt)))
-          (λ ge. inr (subst (λ x. relation_cmp (name x) t ≡ Greater) b.1.2 (point.1 b.1.0 b.0 ge b.1.1)))
-          (cases_lt b.1.0 i) in
+      (λ lt. inl (subst (λ x. relation_cmp (name x) t ≡ Less) b.1.2 (point.0 b.1.0 b.0 (omega arith) lt)))
+      (λ ge. inr (subst (λ x. relation_cmp (name x) t ≡ Greater) b.1.2 (point.1 b.1.0 b.0 ge b.1.1)))
+      (cases_lt b.1.0 i) in
       not_equal (relation_cmp (name b.0) t) equal other
+
+-- a tuple is admitted as its relation says
+module _ (config : Configured) (t : Tuple) where
+  pub declared_here : (i : ℕ) (stands : StandsAt config (rel_of t.node) i) → admits config t ≡ declares t.subject stands.defined
+  declared_here i stands = both_ways (admits config t) (declares t.subject stands.defined)
+      (λ e.
+      let (k, d, lt, at, is) = Any-from_list_any (λ d. is_relation (rel_of t.node) d && declares t.subject d) config.relations e in
+      let both = and_parts (is_relation (rel_of t.node) d) (declares t.subject d) is in
+      ap (declares t.subject) (sym (stands.only d ((k, lt, at), relation_is (rel_of t.node) d both.0))) ∙ both.1)
+      (λ e. list_any-from_Any (λ d. is_relation (rel_of t.node) d && declares t.subject d) config.relations
+      (i, stands.defined, stands.within, stands.there, ap (λ b. b && declares t.subject stands.defined) (is_itself (rel_of t.node) stands.defined stands.rel) ∙ e))
+
+  pub declared_nowhere : (Has config (rel_of t.node) → ⊥) → admits config t ≡ false
+  declared_nowhere none =
+      elim (admits config t) as (λ b. admits config t ≡ b → b ≡ false) [
+        | true ↦ λ e. let given = told_admitted config t e in absurd (none (given.0, given.1))
+        | false ↦ λ e. refl
+      ] refl
+
+-- what is read at a relation's place
+pub read_there : (config : Configured) (rs : List Relation) (r : RelationName) (i : ℕ) (d : Relation) → map defined_of rs ≡ config.relations → (stands : StandsAt config r i) → d ≡ get_or rs i d → stands.defined ≡ defined_of d
+read_there config rs r i d is stands read =
+    let long : length (map defined_of rs) ≡ length rs = length-map rs defined_of in
+    let lt : i < length rs = subst (λ n. i < n) (ap (λ (ds : List Defined). length ds) (sym is) ∙ long) stands.within in
+    sym stands.there ∙ ap (λ (ds : List Defined). get_or ds i stands.defined) (sym is) ∙ get_or-map defined_of rs i d stands.defined lt ∙ ap defined_of (sym read)
+
+pub declared_read : (config : Configured) (rs : List Relation) (t : Tuple) (i : ℕ) (d : Relation) → map defined_of rs ≡ config.relations → StandsAt config (rel_of t.node) i → d ≡ get_or rs i d → admits config t ≡ declares t.subject (defined_of d)
+declared_read config rs t i d is stands read = declared_here config t i stands ∙ ap (declares t.subject) (read_there config rs (rel_of t.node) i d is stands read)

@@ -119,20 +119,23 @@ impl Config {
         ensures ok { OnOk result (admits self.now tuple.now ≡ true) }
         ensures err { IfErr result (AdmitCause self.now tuple.now) }
     {
-        if is_declared(&self.relations, tuple) {
+        let Some(place) = self.place_of(&tuple.node) else {
+            return Err(Refusal::UnknownRelation);
+        };
+        if self.relations[place].declares(&tuple.subject) {
             return Ok(());
         }
-        if has_node(&self.relations, &tuple.node) {
-            return Err(Refusal::TypeRefused);
-        }
-        Err(Refusal::UnknownRelation)
+        Err(Refusal::TypeRefused)
     }
 
     /// Whether the tuple is valid.
     pub fn allows(&self, tuple: &Tuple) -> bool
         ensures { result ≡ admits self.now tuple.now }
     {
-        is_declared(&self.relations, tuple)
+        match self.place_of(&tuple.node) {
+            None => false,
+            Some(place) => self.relations[place].declares(&tuple.subject),
+        }
     }
 
     /// The canonical text: members in byte order, types in the order given, and no member that says what
@@ -165,29 +168,6 @@ fn is_short(alloc: Global, namespaces: &[Name], relations: &[Relation]) -> Resul
 {
     let text = text_of(alloc, namespaces, relations)?;
     Ok(text.len() <= MAX_CONFIG_LEN)
-}
-
-fn has_node(relations: &[Relation], node: &Node) -> bool
-    ensures { result ≡ list_any (is_relation (rel_of node.now)) (map defined_of relations.now) }
-{
-    for relation in relations {
-        if relation.is_of(node) {
-            return true;
-        }
-    }
-    false
-}
-
-fn is_declared(relations: &[Relation], tuple: &Tuple) -> bool
-    ensures { result ≡ list_any (λ d. is_relation (rel_of tuple.now.node) d && declares tuple.now.subject d)
-        (map defined_of relations.now) }
-{
-    for relation in relations {
-        if relation.is_of(&tuple.node) && relation.declares(&tuple.subject) {
-            return true;
-        }
-    }
-    false
 }
 
 fn copies(alloc: Global, relations: &[Relation]) -> Result<Vec<Relation>, AllocError>

@@ -8,7 +8,6 @@ use Rattle.meaning.specs.Config.{IsAt, Has, rel_of}
 use Rattle.meaning.specs.Form.{Form, This, Computed, TupleTo, Union, Exclusion}
 use Rattle.config_core.specs.declared.rewrite.Rewrite.{Rewrite}
 use Rattle.config_core.specs.declared.relation.Relation.{Relation}
-use Rattle.meaning.specs.Admits.{is_relation}
 use Rattle.config_core.specs.Forms.{form_of, rewrite_forms, defined_of}
 use Rattle.decide.proofs.Parts.{some_left, some_none}
 use Rattle.meaning.specs.Membership.{HasOne, HasSet, Gives, SomeGives}
@@ -24,7 +23,9 @@ use Rattle.std.proofs.lemmas.Bool.{cases_lt, false≢true}
 use Rattle.std.proofs.lemmas.List.{get_or_default}
 use Rattle.decide.specs.declared.asking.Found.{Found}
 use Rattle.decide.specs.declared.asking.Found.TheVariants as found
-use Rattle.decide.specs.inside.Given.{Gave, HasNode, HasSome, no_or_later, opposite, BaseGives}
+use Rattle.config.specs.Places.{StandsAt}
+use Rattle.decide.proofs.Relations.{there_gives, gives_there}
+use Rattle.decide.specs.inside.Given.{RelationGave, Gave, HasNode, HasSome, no_or_later, opposite, BaseGives}
 use Rattle.decide.specs.inside.Asked.{high, Counts, IsLeft, IsAsking, GoesOn, AreNodesOf}
 use Rattle.decide.proofs.SearchLemmas.{grew_refl, grew_trans, grew_waits, grew_number}
 use Rattle.decide.proofs.Settling.{under_up, under_own, same_opened, settled}
@@ -162,19 +163,8 @@ module _ (S : Snap) (u : Object) (a : Asking) where
   pub without_gave : (s : Search) (r v w : Form) (f : Found) (b : Asking) → r ≡ Exclusion v w → b ≡ record a { plain = false } → BaseGives S u a r → Gave S u s b w f → Gave S u s a r (opposite f)
   without_gave s r v w f b is e base less = subst (λ x. Gave S u s a x (opposite f)) (sym is) (exclusion_gave s v w f b e (subst (BaseGives S u a) is base) less)
 
-  -- no relation of the asker's name before a place gives it the user
-  abbrev pub IsNoneOf : Search → List Relation → ℕ → Type 0
-  IsNoneOf s rs k = (j : ℕ) (x : Relation) → j < k → get_or rs j x ≡ x → is_relation (rel_of a.node.now) (defined_of x) ≡ true → Gives S u a.node.now (form_of x.rewrite) (IsLeft S u s a) (Under S u a.level) → ⊥
-
-  -- one relation more was asked, or is of another name
-  pub relation_more : (s t : Search) (rs : List Relation) (k : ℕ) (r : Relation) → Grew s t → k < length rs → r ≡ get_or rs k r
-      → ((j : ℕ) (x : Relation) → j < k → get_or rs j x ≡ x → is_relation (rel_of a.node.now) (defined_of x) ≡ true → Gives S u a.node.now (form_of x.rewrite) (IsLeft S u s a) (Under S u a.level) → ⊥)
-      → (is_relation (rel_of a.node.now) (defined_of r) ≡ true → Gives S u a.node.now (form_of r.rewrite) (IsLeft S u t a) (Under S u a.level) → ⊥)
-      → (j : ℕ) (x : Relation) → j < k + 1 → get_or rs j x ≡ x → is_relation (rel_of a.node.now) (defined_of x) ≡ true → Gives S u a.node.now (form_of x.rewrite) (IsLeft S u t a) (Under S u a.level) → ⊥
-  relation_more s t rs k r g lt at before none j x low is named gives = ⊎_elim
-      (λ less. before j x less is named (left_grows s t (form_of x.rewrite) g gives))
-      (λ above.
-      let here : j ≡ k = omega (arith, above, low) in
-      let same : x ≡ r = sym is ∙ ap (λ i. get_or rs i x) here ∙ get_or_default rs k x r lt ∙ sym at in
-      none (subst (λ y. is_relation (rel_of a.node.now) (defined_of y) ≡ true) same named) (subst (λ (y : Relation). Gives S u a.node.now (form_of y.rewrite) (IsLeft S u t a) (Under S u a.level)) same gives))
-      (cases_lt j k)
+  -- what is found of the rewrite of the asker's relation
+  pub relation_gave : (s : Search) (f : Found) (i : ℕ) (stands : StandsAt S.config (rel_of a.node.now) i) (d : Relation) → stands.defined ≡ defined_of d → Gave S u s a (form_of d.rewrite) f → RelationGave S u s a f
+  relation_gave s found.Yes i stands d is g = there_gives S u a.node.now (Counts S u a) (Under S u a.level) i stands d is g
+  relation_gave s found.No i stands d is g = λ h. g (gives_there S u a.node.now (IsLeft S u s a) (Under S u a.level) i stands d is h)
+  relation_gave s found.Later i stands d is g = tt

@@ -1,5 +1,5 @@
 //! Who asks, and what is found.
-ghost use Rattle.std.specs.Prelude.{◌≡◌, ◌<◌, ◌^◌, false};
+ghost use Rattle.std.specs.Prelude.{◌≡◌, ◌+◌, ◌<◌, ◌^◌, false};
 ghost use Rattle.decide.specs.inside.Asked.{high};
 
 use names::Node;
@@ -17,7 +17,7 @@ pub(crate) struct Asking<'a> {
 impl<'a> Asking<'a> {
     /// Nodes below this level count.
     pub(crate) fn high(&self) -> usize
-        requires { self.now.level < 2 ^ 32 }
+        requires { self.now.level + 1 < 2 ^ 64 }
         ensures { result ≡ high self.now }
     {
         if self.plain {

@@ -34,13 +34,11 @@ pub fn check_at<O: Oracle>(
     ensures known { OnOk result (has_relation view.now.config (rel_of node.now) ≡ true) }
     ensures err { IfErr result (CheckCause view.now node.now) }
 {
-    let config = view.config();
     let source = Source {
         alloc,
         view,
         user,
-        relations: config.relations(),
-        levels: config.levels(),
+        config: view.config(),
     };
     match source.level_of(node) {
         None => Err(Refusal::UnknownRelation),

@@ -255,14 +255,10 @@ pub(crate) fn relation_gives(
     ensures goes_on { OnOk result (GoesOn source.now.view.now source.now.user.now search.old search.new asking.now) }
     ensures found { IfOk result (RelationGave source.now.view.now source.now.user.now search.new asking.now) }
 {
-    for relation in source.relations {
-        if relation.is_of(asking.node) {
-            match gives(source, search, asking, &relation.rewrite)? {
-                Found::Yes => return Ok(Found::Yes),
-                Found::No => {}
-                Found::Later => return Ok(Found::Later),
-            }
-        }
-    }
-    Ok(Found::No)
+    let Some(place) = source.config.place_of(asking.node) else {
+        return Ok(Found::No);
+    };
+    let relation = &source.config.relations()[place];
+    let found = gives(source, search, asking, &relation.rewrite)?;
+    Ok(found)
 }

@@ -9,19 +9,18 @@ ghost use Rattle.names.specs.declared.object.Object.{Object};
 ghost use Rattle.names.specs.declared.node.Node.{Node};
 ghost use Rattle.decide.specs.inside.Asked.{IsSource, AreNodesOf, node_with};
 
-use config_core::Relation;
+use config::Config;
 use names::{Name, Node, Object};
 use rows::View;
 use std::alloc::{AllocError, Global};
 
-/// A view with its relations and their levels, and the user.
+/// A view with its configuration, and the user.
 #[derive(Clone, Copy)]
 pub(crate) struct Source<'a> {
     pub(crate) alloc: Global,
     pub(crate) view: &'a View<'a>,
     pub(crate) user: &'a Object,
-    pub(crate) relations: &'a [Relation],
-    pub(crate) levels: &'a [usize],
+    pub(crate) config: &'a Config,
 }
 
 impl<'a> Source<'a> {
@@ -32,9 +31,9 @@ impl<'a> Source<'a> {
         ensures small { IfSome result (λ k. k < 2 ^ 32) }
         ensures none { IfNone result (Has self.now.view.now.config (rel_of node.now) → ⊥) }
     {
-        match position_of(self.relations, node) {
+        match self.config.place_of(node) {
             None => None,
-            Some(i) => Some(self.levels[i]),
+            Some(place) => Some(self.config.levels()[place]),
         }
     }
 
@@ -72,20 +71,4 @@ pub(crate) fn node_of(object: &Object, relation: &Name) -> Result<Node, AllocErr
         object: object.clone()?,
         relation: relation.clone()?,
     })
-}
-
-/// Where the node's relation stands.
-fn position_of(relations: &[Relation], node: &Node) -> Option<usize>
-    ensures found { IfSome result (λ i. (i < length relations.now)
-        × ((d : Relation) → is_relation (rel_of node.now) (defined_of (slice_index_or relations.now i d)) ≡ true)) }
-    ensures none { IfNone result ((k : ℕ) (d : Relation) → k < length relations.now
-        → is_relation (rel_of node.now) (defined_of (slice_index_or relations.now k d)) ≡ false) }
-{
-    for i in 0..relations.len() {
-        let relation = &relations[i];
-        if relation.is_of(node) {
-            return Some(i);
-        }
-    }
-    None
 }

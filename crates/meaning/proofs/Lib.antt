@@ -3,6 +3,7 @@ pub mod LeastLemmas
 pub mod GivesLemmas
 pub mod KnownLemmas
 pub mod KnownRelations
+pub mod AdmitsLemmas
 pub mod LevelLemmas
 pub mod ReadsLemmas
 pub mod RegionLemmas

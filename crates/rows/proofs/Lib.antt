@@ -1,5 +1,4 @@
 pub mod ConfigsAt
-pub mod Declaring
 pub mod Retaining
 pub mod Touching
 pub mod Committing

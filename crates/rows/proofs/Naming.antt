@@ -1,24 +1,22 @@
 -- What the tuples of a set name.
-use Rattle.std.proofs.Common.{◌≡◌, ℕ, suc, ◌+◌, ◌<◌, ◌++◌, length, take, get_or, length-take, get_or-take, arith, List, [], ◌∷◌, Bool, true, false, Option, Some, None, refl, ap, sym, subst, ◌∙◌, inl, inr, ⊎_elim, true≢false}
-use Rattle.std.specs.Prelude.{◌⊎◌, ◌&&◌, cond, filter, map, nat_eq, Contains}
+use Rattle.std.proofs.Common.{◌≡◌, ℕ, suc, ◌+◌, ◌<◌, ◌++◌, length, take, get_or, arith, List, [], ◌∷◌, Bool, true, false, Option, Some, None, refl, ap, sym, subst, ◌∙◌, inl, inr, ⊎_elim, true≢false}
+use Rattle.std.specs.Prelude.{◌⊎◌, ◌&&◌, cond, filter, nat_eq, Contains}
 use Rattle.std.specs.Cmp.Lexicographic.{pointwise, nat_list_eq_equiv}
 use Rattle.std.specs.List.{filter_map, cons_option}
 use Rattle.std.specs.Option.{option_map}
 use Rattle.std.proofs.Math.Seq.{take-suc}
-use Rattle.std.proofs.lemmas.List.{get_or-map}
-use Rattle.std.proofs.lemmas.List.Elements.{Contains-get_or, Contains-push_cases, Contains-append_left, Contains-append_right, Contains-append_cases}
+use Rattle.std.proofs.lemmas.List.Elements.{Contains-push_cases, Contains-append_left, Contains-append_right, Contains-append_cases}
 use Rattle.std.specs.Cmp.{eq_by_cmp_equiv}
 use Rattle.std.proofs.lemmas.Map.Views.{tells_apart}
 use Rattle.names.specs.declared.object.Object.{Object}
 use Rattle.names.specs.declared.node.Node.{Node}
 use Rattle.names.specs.declared.subject.Subject.{Subject}
 use Rattle.names.specs.declared.tuple.Tuple.{Tuple}
-use Rattle.names.specs.declared.relation.RelationName.{RelationName}
 use Rattle.config_core.specs.declared.relation.Relation.{Relation}
 use Rattle.config_core.specs.Forms.{defined_of}
-use Rattle.meaning.specs.Config.{Configured, Defined, Has, rel_of}
+use Rattle.meaning.specs.Config.{Configured, Defined, rel_of}
 use Rattle.meaning.specs.Snap.{one, set_of}
-use Rattle.meaning.proofs.Lists.{contains_here, contains_there, contains_cases, contains_none, contains_map_back}
+use Rattle.meaning.proofs.Lists.{contains_here, contains_there, contains_cases, contains_none}
 use Rattle.meaning.proofs.TupleSets.{exact_nodes, nodes_total}
 use Rattle.rows_core.specs.Versions.{is_of}
 use Rattle.rows_core.specs.Named.{user_tuple, without, object_in, node_in, objects_in, nodes_in, is_within}
@@ -154,13 +152,11 @@ declared_more types i d small namespace declared =
     (Contains-push_cases (take i types) (get_or types i d) declared.0 (subst (λ (ts : List SubjectType). Contains ts declared.0) front declared.1))
 
 -- the type of an admitted tuple's subject is declared
-pub declared_all : (config : Configured) (n m : Node) (i : ℕ) (relations : List Relation) (d : Relation) → map defined_of relations ≡ config.relations → StandsAt config (rel_of n) i → i < length relations
-    → Admits config (record { node = n; subject = set_of m }) → DeclaresNodes (get_or relations i d).types.items m.object.namespace
-declared_all config n m i relations d is stands small (e, (defines, among)) =
-    let at : get_or config.relations i stands.defined ≡ defined_of (get_or relations i d) =
-    ap (λ (ds : List Defined). get_or ds i stands.defined) (sym is) ∙ get_or-map defined_of relations i d stands.defined small in
-    let same : e ≡ defined_of (get_or relations i d) = stands.only e defines ∙ sym stands.there ∙ at in
-    (record { namespace = m.object.namespace; relation = Some m.relation }, subst (λ (x : Defined). Contains x.types (record { namespace = m.object.namespace; relation = Some m.relation })) same among, (refl, (m.relation, refl)))
+pub declared_all : (config : Configured) (n m : Node) (i : ℕ) (stands : StandsAt config (rel_of n) i) (d : Relation) → stands.defined ≡ defined_of d → Admits config (record { node = n; subject = set_of m })
+    → DeclaresNodes d.types.items m.object.namespace
+declared_all config n m i stands d is (e, defines, among) =
+    let t : SubjectType = record { namespace = m.object.namespace; relation = Some m.relation } in
+    (t, subst (λ (x : Defined). Contains x.types t) (stands.only e defines ∙ is) among, (refl, (m.relation, refl)))
 
 -- ---- one namespace more
 

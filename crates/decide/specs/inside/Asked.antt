@@ -1,11 +1,9 @@
 -- What is read of a snapshot, and who asks.
-use Rattle.std.specs.Prelude.{◌≡◌, ◌<◌, ◌^◌, ◌↔◌, ℕ, List, Contains, All, map, cond, true, Some}
+use Rattle.std.specs.Prelude.{◌≡◌, ◌↔◌, ℕ, List, Contains, cond, true, Some}
 use Rattle.std.proofs.Common.{suc}
 use Rattle.meaning.specs.Snap.{Snap}
 use Rattle.names.specs.declared.object.Object.{Object}
 use Rattle.names.specs.declared.node.Node.{Node}
-use Rattle.config.specs.Levels.{AreLevels}
-use Rattle.config_core.specs.Forms.{defined_of}
 use Rattle.meaning.specs.Membership.{HasOne}
 use Rattle.decide.specs.declared.source.Source.{Source}
 use Rattle.decide.specs.declared.asking.Asking.{Asking}
@@ -14,11 +12,9 @@ use Rattle.decide.specs.inside.Under.{Under}
 use Rattle.decide.specs.inside.Searches.{Waits, Grew, IsNumberOf}
 use Rattle.decide.specs.inside.Running.{IsRunning}
 
--- the relations and the levels are those of the view
+-- the configuration is that of the view
 pub record IsSource (s : Source) : Type 0 where
-  pub relations : map defined_of s.relations.now ≡ s.view.now.config.relations
-  pub levels : AreLevels s.view.now.config s.levels.now
-  pub small : All (λ l. l < 2 ^ 32) s.levels.now
+  pub config : s.config.now ≡ s.view.now.config
 
 -- Nodes below this level count: a part that is not subtracted looks up the node's own level, a subtracted one only those below it.
 abbrev pub high : Asking → ℕ

@@ -1,4 +1,4 @@
-use Rattle.std.proofs.Common.{◌∙◌, ◌<◌, ◌≤◌, subst}
+use Rattle.std.proofs.Common.{arith, ◌∙◌, ◌<◌, ◌≤◌, subst}
 use Rattle.std.specs.Prelude.{Some}
 use Rattle.decide.proofs.Found.{goes_on, no_relation, too_high, sure_counts, not_left, settled_no}
 use Rattle.decide.proofs.SearchLemmas.{grew_trans, grew_number}
@@ -63,3 +63,11 @@ returns-clause-goes_on c =
     (c.in_ok-wait-2.ensures.running c.args.source.now.view.now c.args.source.now.user.now (Some c.args.asking.now.number)
     (grew_number c.args.search.now c.number_of.new.self c.args.asking.now.number c.args.asking.now.node.now c.args.asking.now.level c.in_ok-number.ensures.grew c.requires.asking.number).1.0
     (c.in_ok-number.ensures.running c.args.source.now.view.now c.args.source.now.user.now (Some c.args.asking.now.number) c.in-Some.ensures.some c.requires.asking.running))
+
+pub high-requires : goal.high-requires
+high-requires c =
+    let number = c.requires.asking.number in
+    let there = c.requires.asking.running.stack_there c.args.asking.now.number number.0 number.1 in
+    let long = c.args.search.now.stacks.small in
+    let same = c.args.search.now.stacks.ok in
+    omega (arith, there, long, same.0, number.3)

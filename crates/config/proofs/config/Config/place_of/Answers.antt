@@ -1,4 +1,4 @@
-use Rattle.std.proofs.Common.{rules, List, length, subst, sym, ap, ◌≡◌, ◌<◌}
+use Rattle.std.proofs.Common.{rules, List, length, subst, sym, ◌≡◌, ◌<◌}
 use Rattle.std.specs.declared.cmp.Ordering.TheVariants.{Less, Equal, Greater}
 use Rattle.std.specs.List.{HoldsAt}
 use Rattle.std.specs.List.Sorted.{IsNonDecreasingBy, IsPartitionPoint}

@@ -1,24 +1,17 @@
--- What an admitted tuple's relation declares.
-use Rattle.std.proofs.Common.{◌≡◌, List, Bool, true, false, refl, ap, ◌∙◌, sym, subst}
+-- Which tuples are admitted, by the test.
+use Rattle.std.proofs.Common.{◌≡◌, ℕ, List, true, refl, ap, ◌∙◌, sym, subst}
 use Rattle.std.specs.Prelude.{◌&&◌, Contains, Option, Some, None, nat_eq}
 use Rattle.std.specs.Option.{option_eq}
 use Rattle.std.specs.Cmp.Lexicographic.{same_text, pointwise}
 use Rattle.std.proofs.lemmas.Bool.{and_parts}
 use Rattle.std.proofs.lemmas.List.Folds.{Any-from_list_any}
-use Rattle.names.specs.declared.relation.RelationName.{RelationName}
 use Rattle.names.specs.declared.relation.SubjectType.{SubjectType}
 use Rattle.names.specs.declared.tuple.Tuple.{Tuple}
-use Rattle.meaning.specs.Config.{Configured, Defined, rel_of}
+use Rattle.meaning.specs.Config.{Configured, rel_of}
 use Rattle.meaning.specs.Admits.{Admits, admits, is_relation, is_type, declares, type_of}
+use Rattle.meaning.proofs.KnownRelations.{relation_is}
 
-relation_is : (r : RelationName) (d : Defined) → is_relation r d ≡ true → d.rel ≡ r
-relation_is r d e =
-    let b = and_parts (pointwise nat_eq d.rel.namespace r.namespace) (pointwise nat_eq d.rel.relation r.relation) e in
-    let space = same_text d.rel.namespace r.namespace (sym b.0) in
-    let name = same_text d.rel.relation r.relation (sym b.1) in
-    ap (λ x. record { namespace = x; relation = d.rel.relation }) space ∙ ap (λ x. record { namespace = r.namespace; relation = x }) name
-
-same_option : (a b : Option (List _)) → option_eq (pointwise nat_eq) a b ≡ true → a ≡ b
+same_option : (a b : Option (List ℕ)) → option_eq (pointwise nat_eq) a b ≡ true → a ≡ b
 same_option None None e = refl
 same_option None (Some b) e = cc
 same_option (Some a) None e = cc
