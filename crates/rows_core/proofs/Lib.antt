@@ -5,6 +5,7 @@ pub mod Admitted
 pub mod Bases
 pub mod Basing
 pub mod Coming
+pub mod Counting
 pub mod Decoding
 pub mod Listing
 pub mod VersionRuns

@@ -1,22 +1,66 @@
--- What the texts of a node's tuples begin with, and those of them whose subjects are of one namespace. What is after it.
+-- What the texts of an object's tuples begin with, and of a node's, and those of these whose subjects are of one namespace.
+-- What is after it.
 use Rattle.std.proofs.Common.{◌≡◌, ℕ, ◌++◌, Bool, true, false, List, [], ◌∷◌, refl, sym, ap, ◌∙◌, append_assoc, IsTrue}
-use Rattle.std.specs.Prelude.{◌&&◌, nat_eq}
+use Rattle.std.specs.Prelude.{◌&&◌, nat_eq, None, MatchBool}
+use Rattle.std.specs.Str.Pattern.{FindsTextPrefix, HasPrefixMatch}
+use Rattle.std.proofs.lemmas.Str.Pattern.{starts_text}
 use Rattle.std.specs.List.{starts_with}
 use Rattle.std.specs.Bool.{one_answer}
 use Rattle.std.specs.Cmp.Lexicographic.{pointwise, same_text, nat_list_eq_equiv}
 use Rattle.std.proofs.Math.Dec.{eqb}
 use Rattle.std.proofs.lemmas.Bool.Decides.{Decides-eqb}
 use Rattle.std.proofs.lemmas.Slice.Eq.{starts_is}
+use Rattle.std.specs.Ordering.{eq_by_cmp}
+use Rattle.names.specs.Order.{object_cmp}
 use Rattle.names.specs.Names.{is_name}
-use Rattle.names.specs.Spelling.{IsNode}
+use Rattle.names.specs.Spelling.{IsObject, IsNode}
+use Rattle.names.specs.declared.object.Object.{Object}
 use Rattle.names.specs.declared.node.Node.{Node}
 use Rattle.names.specs.declared.subject.Subject.{Subject}
-use Rattle.rows_core.specs.Spelled.{spelled_node, spelled_relation, spelled_subject, subject_in, tuple_of, IsSpelling}
-use Rattle.rows_core.specs.Versions.{is_of}
+use Rattle.rows_core.specs.Spelled.{spelled_object, spelled_node, spelled_relation, spelled_subject, subject_in, tuple_of, IsSpelling}
+use Rattle.rows_core.specs.Versions.{is_at, is_of}
 use Rattle.rows_core.specs.Named.{is_within, subject_from}
-use Rattle.rows_core.proofs.Joining.{name_above, above_lacks, before_joined, after_joined}
-use Rattle.rows_core.proofs.Spellings.{starts_of_node, same_node, node_itself, node_of_joined, subject_of_joined, node_above, node_joined}
+use Rattle.rows_core.proofs.Joining.{name_above, id_above, above_lacks, before_joined, after_joined}
+use Rattle.rows_core.proofs.Spellings.{starts_of_node, same_object, object_itself, same_node, node_itself, node_of_joined, subject_of_joined, node_above, node_joined}
 use Rattle.rows_core.proofs.Together.{Begins}
+
+-- the answer where a text begins with another
+pub starts_as : (r : Bool) (n s a p : List ℕ) → MatchBool r (HasPrefixMatch (FindsTextPrefix n) s) (FindsTextPrefix n s None) → s ≡ a → n ≡ p → starts_with eqb a p ≡ r
+starts_as r n s a p cases text least = sym (starts_text r n s cases ∙ ap (λ (l : List ℕ). starts_with eqb l n) text ∙ ap (starts_with eqb a) least)
+
+-- ---- the tuples of one object
+
+-- what follows an object's text goes on from its id
+object_joined : (o : Object) (rest : List ℕ) → spelled_object o ++ rest ≡ o.namespace ++ 32 ∷ (o.id ++ 32 ∷ rest)
+object_joined o rest = append_assoc o.namespace _ rest ∙ ap (λ l. o.namespace ++ 32 ∷ l) (append_assoc o.id _ rest)
+
+object_of_joined : (o : Object) → IsObject o → (rest : List ℕ) → (tuple_of (spelled_object o ++ rest)).node.object ≡ o
+object_of_joined o is rest =
+    let namespace_lacks = above_lacks o.namespace (name_above o.namespace is.0) in
+    let id_lacks = above_lacks o.id (id_above o.id is.1) in
+    let whole = object_joined o rest in
+    let from_id = after_joined o.namespace (o.id ++ 32 ∷ rest) namespace_lacks in
+    let namespace = before_joined o.namespace (o.id ++ 32 ∷ rest) namespace_lacks in
+    let id = before_joined o.id rest id_lacks in
+    rw (whole, from_id, namespace, id) refl
+
+starts_object : (o : Object) → IsObject o → (a : List ℕ) → starts_with eqb a (spelled_object o) ≡ true → (tuple_of a).node.object ≡ o
+starts_object o is a starts = ap (λ (l : List ℕ). (tuple_of l).node.object) ((starts_is Decides-eqb a (spelled_object o) (starts_with eqb a (spelled_object o)) refl).0 starts) ∙ object_of_joined o is _
+
+object_starts : (o : Object) (a : List ℕ) → IsSpelling a → (tuple_of a).node.object ≡ o → starts_with eqb a (spelled_object o) ≡ true
+object_starts o a x e =
+    let t = tuple_of a in
+    let rest = t.node.relation ++ 32 ∷ spelled_subject t.subject in
+    (starts_is Decides-eqb a (spelled_object o) (starts_with eqb a (spelled_object o)) refl).1 rest
+    (sym x.same ∙ sym (object_joined t.node.object rest) ∙ ap (λ (p : Object). spelled_object p ++ rest) e)
+
+pub object_begins : (o : Object) → IsObject o → Begins (spelled_object o) (is_at o)
+object_begins o is = record {
+  is = λ a s. one_answer {P = (tuple_of a).node.object ≡ o} (starts_with eqb a (spelled_object o)) (is_at o (tuple_of a)) (starts_object o is a, object_starts o a s)
+      (same_object (tuple_of a).node.object o, λ e. ap (λ (p : Object). eq_by_cmp object_cmp p o) e ∙ object_itself o);
+}
+
+-- ---- the tuples of one node
 
 pub node_begins : (n : Node) → IsNode n → Begins (spelled_node n) (is_of n)
 node_begins n is = record { is = λ a s. starts_of_node a s n is }

@@ -12,6 +12,7 @@ use Rattle.std.proofs.lemmas.Bool.Decides.{Decides-eqb}
 use Rattle.std.proofs.lemmas.Slice.Eq.{starts_is}
 use Rattle.names.specs.Order.{object_cmp, node_cmp, tuple_cmp}
 use Rattle.names.specs.Spelling.{IsNode, IsTuple}
+use Rattle.names.specs.declared.object.Object.{Object}
 use Rattle.names.specs.declared.node.Node.{Node}
 use Rattle.names.specs.declared.tuple.Tuple.{Tuple}
 use Rattle.rows_core.proofs.Joining.{Above, name_above, id_above, above_lacks, before_joined, after_joined, before_last, relation_last, then_associates, joined_order, last_order}
@@ -121,14 +122,21 @@ equal_both Equal b e f = f
 equal_both Less b e f = absurd (true≢false (sym e))
 equal_both Greater b e f = absurd (true≢false (sym e))
 
+pub same_object : (o p : Object) → eq_by_cmp object_cmp o p ≡ true → o ≡ p
+same_object o p e =
+    let parts = both_equal (slice_cmp nat_cmp o.namespace p.namespace) (slice_cmp nat_cmp o.id p.id) e in
+    λ i. record { namespace = same_lists o.namespace p.namespace parts.0 i; id = same_lists o.id p.id parts.1 i }
+
+pub object_itself : (o : Object) → eq_by_cmp object_cmp o o ≡ true
+object_itself o = equal_both (slice_cmp nat_cmp o.namespace o.namespace) _ (list_itself o.namespace) (list_itself o.id)
+
 pub same_node : (m n : Node) → eq_by_cmp node_cmp m n ≡ true → m ≡ n
 same_node m n e =
-    let outer = both_equal (object_cmp m.object n.object) (slice_cmp nat_cmp m.relation n.relation) e in
-    let inner = both_equal (slice_cmp nat_cmp m.object.namespace n.object.namespace) (slice_cmp nat_cmp m.object.id n.object.id) outer.0 in
-    λ i. record { object = record { namespace = same_lists m.object.namespace n.object.namespace inner.0 i; id = same_lists m.object.id n.object.id inner.1 i }; relation = same_lists m.relation n.relation outer.1 i }
+    let parts = both_equal (object_cmp m.object n.object) (slice_cmp nat_cmp m.relation n.relation) e in
+    λ i. record { object = same_object m.object n.object parts.0 i; relation = same_lists m.relation n.relation parts.1 i }
 
 pub node_itself : (n : Node) → eq_by_cmp node_cmp n n ≡ true
-node_itself n = equal_both (object_cmp n.object n.object) _ (equal_both (slice_cmp nat_cmp n.object.namespace n.object.namespace) _ (list_itself n.object.namespace) (list_itself n.object.id)) (list_itself n.relation)
+node_itself n = equal_both (object_cmp n.object n.object) _ (object_itself n.object) (list_itself n.relation)
 
 -- what follows a node's text goes on from its relation
 pub node_joined : (n : Node) (s : List ℕ) → spelled_node n ++ s ≡ n.object.namespace ++ 32 ∷ (n.object.id ++ 32 ∷ (n.relation ++ 32 ∷ s))

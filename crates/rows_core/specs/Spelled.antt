@@ -2,6 +2,7 @@
 -- below every byte of a part, so the order of such texts by bytes is the order of tuples.
 use Rattle.std.specs.Prelude.{◌≡◌, ℕ, ◌==◌, ◌++◌, List, [], ◌∷◌, Bool, false, cond, ◌||◌, Option, Some, None}
 use Rattle.names.specs.Spelling.{IsTuple}
+use Rattle.names.specs.declared.object.Object.{Object}
 use Rattle.names.specs.declared.node.Node.{Node}
 use Rattle.names.specs.declared.subject.Subject.{Subject}
 use Rattle.names.specs.declared.tuple.Tuple.{Tuple}
@@ -11,7 +12,11 @@ abbrev pub spelled_relation : Option (List ℕ) → List ℕ
 spelled_relation None = []
 spelled_relation (Some relation) = 32 ∷ relation
 
--- the parts of a node, each with a space after it
+-- the parts of an object, each with a space after it
+abbrev pub spelled_object : Object → List ℕ
+spelled_object o = o.namespace ++ 32 ∷ (o.id ++ 32 ∷ [])
+
+-- the same of a node
 abbrev pub spelled_node : Node → List ℕ
 spelled_node n = n.object.namespace ++ 32 ∷ (n.object.id ++ 32 ∷ (n.relation ++ 32 ∷ []))
 

@@ -3,7 +3,8 @@ use Rattle.std.specs.Prelude.{◌≡◌, ℕ, ◌+◌, ◌-◌, ◌==◌, List, 
 use Rattle.std.specs.List.Sorted.{IsNonDecreasingBy}
 use Rattle.std.specs.Ordering.{eq_by_cmp}
 use Rattle.std.specs.Map.{lookup, keys_of}
-use Rattle.names.specs.Order.{node_cmp, is_same_tuple}
+use Rattle.names.specs.Order.{object_cmp, node_cmp, is_same_tuple}
+use Rattle.names.specs.declared.object.Object.{Object}
 use Rattle.names.specs.declared.node.Node.{Node}
 use Rattle.names.specs.declared.tuple.Tuple.{Tuple}
 use Rattle.names.specs.declared.commit.Event.{Event}
@@ -206,3 +207,7 @@ refuses config t = not (admits config t)
 -- the tuple is of the node
 abbrev pub is_of : Node → Tuple → Bool
 is_of node t = eq_by_cmp node_cmp t.node node
+
+-- the tuple is of a node of the object
+abbrev pub is_at : Object → Tuple → Bool
+is_at object t = eq_by_cmp object_cmp t.node.object object

@@ -2,6 +2,7 @@
 #![tactic(auto)]
 
 mod change;
+mod few;
 mod kept;
 mod lists;
 mod named;

@@ -77,7 +77,11 @@ fn read(alloc: Global, text: &BoxedStr) -> Result<Tuple, AllocError>
     TupleRef::of(text.as_str()).tuple(alloc)
 }
 
-fn push_tuple(alloc: Global, tuples: &mut Vec<Tuple>, text: &BoxedStr) -> Result<(), AllocError>
+pub(crate) fn push_tuple(
+    alloc: Global,
+    tuples: &mut Vec<Tuple>,
+    text: &BoxedStr,
+) -> Result<(), AllocError>
     requires { IsSpelling (boxed_str_bytes text.now) }
     ensures { OnOk result (tuples.new.items ≡ tuples.old.items ++ tuple_of (boxed_str_bytes text.now) ∷ []) }
 {

@@ -8,7 +8,7 @@ ghost use Rattle.arrayvec.specs.ArrayString.{array_string_len};
 ghost use Rattle.names.specs.Names.{is_name, is_id};
 ghost use Rattle.names.specs.Spelling.{IsNode, IsObject, IsSubject};
 ghost use Rattle.rows_core.specs.Named.{user_tuple};
-ghost use Rattle.rows_core.specs.Spelled.{spelled, spelled_node, spelled_subject, before_space, after_space, last_part, subject_in, tuple_of, IsSpelling};
+ghost use Rattle.rows_core.specs.Spelled.{spelled, spelled_object, spelled_node, spelled_subject, before_space, after_space, last_part, subject_in, tuple_of, IsSpelling};
 
 use arrayvec::ArrayString;
 use names::{Name, Node, Object, ObjectId, Refusal, Subject, Tuple};
@@ -251,6 +251,17 @@ pub(crate) fn shared_text(alloc: Global, tuple: &Tuple) -> Result<ArcStr, AllocE
 {
     let scratch = Scratch::of(tuple);
     ArcStr::from_str(alloc, scratch.tuple_ref().as_str())
+}
+
+/// What the texts of an object's tuples begin with.
+pub(crate) fn object_text(alloc: Global, object: &Object) -> Result<BoxedStr, AllocError>
+    ensures text { IfOk result (λ b. boxed_str_bytes b ≡ spelled_object object.now) }
+    ensures is { IfOk result (λ b. IsObject object.now) }
+{
+    let mut text = ArrayString::new();
+    push_object(&mut text, object);
+    text.push_str(" ");
+    BoxedStr::from_str(alloc, text.as_str())
 }
 
 /// What the texts of a node's tuples begin with.

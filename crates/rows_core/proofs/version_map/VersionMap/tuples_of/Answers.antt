@@ -1,17 +1,14 @@
-use Rattle.std.proofs.Common.{◌≡◌, ℕ, List, [], ap, sym, subst, ◌∙◌}
-use Rattle.std.specs.Prelude.{Some, true, false, filter}
+use Rattle.std.proofs.Common.{List, [], sym, subst, ◌∙◌}
+use Rattle.std.specs.Prelude.{Some, filter}
 use Rattle.std.specs.Box.{boxed_str_bytes}
-use Rattle.std.specs.List.{starts_with}
 use Rattle.std.specs.Global.{Global}
 use Rattle.std.specs.declared.boxed.BoxedStr.{BoxedStr}
-use Rattle.std.proofs.Math.Dec.{eqb}
-use Rattle.std.proofs.lemmas.Str.Pattern.{starts_text}
 use Rattle.names.specs.declared.tuple.Tuple.{Tuple}
 use Rattle.rows_core.specs.declared.version.Version.{Version}
 use Rattle.rows_core.specs.Spelled.{spelled_node}
 use Rattle.rows_core.specs.Versions.{is_of, tuples_at}
 use Rattle.rows_core.proofs.Decoding.{sorted_view}
-use Rattle.rows_core.proofs.Prefixes.{node_begins}
+use Rattle.rows_core.proofs.Prefixes.{starts_as, node_begins}
 use Rattle.rows_core.proofs.Going.{Left, left_first, left_none, left_past, left_more, left_late, first_rises, all_given}
 use Rattle.rows_core.proofs.version_map.VersionMap.tuples_of.Goals as goal
 
@@ -32,10 +29,7 @@ returns-then-not-starts_with c =
     let node = c.args.node.now in
     let e : BoxedStr Global × List Version = (c.in-Some.text.now, c.in-Some.versions.now) in
     let ordered = sorted_view c.texts-texts.result.now.entries c.args.self.now c.texts-texts.ensures.entries c.texts-texts.ensures.spelled c.range-text-items.ensures.ordered in
-    let past : starts_with eqb (boxed_str_bytes e.0) (spelled_node node) ≡ false =
-    sym (starts_text c.starts_with.result c.as_str-in-loop-text.result.now c.as_str.result.now c.starts_with.ensures.cases
-    ∙ ap (λ (s : List ℕ). starts_with eqb s c.as_str-in-loop-text.result.now) c.as_str.ensures.value
-    ∙ ap (starts_with eqb (boxed_str_bytes e.0)) (c.as_str-in-loop-text.ensures.value ∙ c.in_ok-least.ensures.text)) ∙ c.if-not-starts_with.true in
+    let past = starts_as c.starts_with.result c.as_str-in-loop-text.result.now c.as_str.result.now (boxed_str_bytes e.0) (spelled_node node) c.starts_with.ensures.cases c.as_str.ensures.value (c.as_str-in-loop-text.ensures.value ∙ c.in_ok-least.ensures.text) ∙ c.if-not-starts_with.true in
     record {
       found = left_past Some (spelled_node node) (is_of node) (node_begins node c.in_ok-least.ensures.is) c.args.rev c.args.self.now [] c.loop-text.tuples.items c.loop-text.text-iterator c.loop-text.invariant e c.next.new.self c.in-Some.ensures.steps past ordered ∙ all_given (filter (is_of node) (tuples_at c.args.self.now c.args.rev));
       ordered = ordered;
@@ -45,10 +39,7 @@ pub loop-text-preserved-in-Continue-branch-2 : goal.loop-text-preserved-in-Conti
 loop-text-preserved-in-Continue-branch-2 c =
     let node = c.args.node.now in
     let e : BoxedStr Global × List Version = (c.in-Some.text.now, c.in-Some.versions.now) in
-    let starts : starts_with eqb (boxed_str_bytes e.0) (spelled_node node) ≡ true =
-    sym (starts_text c.starts_with.result c.as_str-in-loop-text.result.now c.as_str.result.now c.starts_with.ensures.cases
-    ∙ ap (λ (s : List ℕ). starts_with eqb s c.as_str-in-loop-text.result.now) c.as_str.ensures.value
-    ∙ ap (starts_with eqb (boxed_str_bytes e.0)) (c.as_str-in-loop-text.ensures.value ∙ c.in_ok-least.ensures.text)) ∙ c.if-not-starts_with.false in
+    let starts = starts_as c.starts_with.result c.as_str-in-loop-text.result.now c.as_str.result.now (boxed_str_bytes e.0) (spelled_node node) c.starts_with.ensures.cases c.as_str.ensures.value (c.as_str-in-loop-text.ensures.value ∙ c.in_ok-least.ensures.text) ∙ c.if-not-starts_with.false in
     left_more Some (spelled_node node) (is_of node) (node_begins node c.in_ok-least.ensures.is) c.args.rev c.args.self.now [] c.loop-text.tuples.items c.loop-text.text-iterator c.loop-text.invariant e c.next.new.self c.in-Some.ensures.steps starts (sym c.stands_at.ensures ∙ c.if-stands_at.true) c.push_tuple.new.tuples.items c.in_ok-push_tuple.ensures
 
 pub loop-text-preserved : goal.loop-text-preserved

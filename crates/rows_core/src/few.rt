@@ -1,0 +1,46 @@
+//! The tuples of an object, where it has few.
+ghost use Rattle.std.specs.Prelude.{◌≡◌, ◌<◌, filter, length, IfOk, IfSome, IfNone};
+ghost use Rattle.std.specs.List.Sorted.{IsStrictlySortedBy};
+ghost use Rattle.names.specs.Order.{tuple_cmp};
+ghost use Rattle.rows_core.specs.Versions.{AreRising, keys, is_at, tuples_at};
+
+use crate::lists::push_tuple;
+use crate::tuple_ref::object_text;
+use crate::version_map::VersionMap;
+use names::{Object, Tuple};
+use std::alloc::{AllocError, Global};
+
+impl VersionMap {
+    /// The tuples of the object that stand at a revision, or `None` where the map has more than `most` of its
+    /// tuples. Their texts stand together: they begin with the object's.
+    pub fn tuples_at_object(
+        &self,
+        alloc: Global,
+        rev: u64,
+        object: &Object,
+        most: usize,
+    ) -> Result<Option<Vec<Tuple>>, AllocError>
+        requires { AreRising self.now }
+        ensures found { IfOk result (λ o. IfSome o (λ v. v.items ≡ filter (is_at object.now) (tuples_at self.now rev))) }
+        ensures few { IfOk result (λ o. IfNone o (most < length (filter (is_at object.now) (keys self.now)))) }
+        ensures ordered { IfOk result (λ o. IsStrictlySortedBy tuple_cmp (keys self.now)) }
+    {
+        let texts = self.texts();
+        let least = object_text(alloc, object)?;
+        let mut tuples = Vec::new(alloc);
+        let mut more = most;
+        for (text, versions) in texts.range(&least..) {
+            if !text.as_str().starts_with(least.as_str()) {
+                return Ok(Some(tuples));
+            }
+            if more == 0 {
+                return Ok(None);
+            }
+            more -= 1;
+            if versions.stands_at(rev) {
+                push_tuple(alloc, &mut tuples, text)?;
+            }
+        }
+        Ok(Some(tuples))
+    }
+}
