@@ -1,12 +1,12 @@
 //! Histories.
-ghost use Rattle.std.specs.Prelude.{◌≡◌, ℕ, ◌+◌, ◌-◌, ◌<◌, ◌≤◌, List, [], ◌∷◌, ◌++◌, length, take, drop, filter, IfOk, OnOk, OnErr, not};
+ghost use Rattle.std.specs.Prelude.{◌≡◌, ℕ, ◌+◌, ◌-◌, ◌<◌, ◌≤◌, List, [], ◌∷◌, ◌++◌, length, take, drop, filter, IfOk, IfSome, OnOk, OnErr, not};
 ghost use Rattle.std.specs.List.{find};
 ghost use Rattle.names.specs.declared.limits.TheConstants.{MAX_REV, MAX_ROWS};
 ghost use Rattle.names.specs.declared.tuple.Tuple.{Tuple};
 ghost use Rattle.meaning.specs.TupleSet as set;
 ghost use Rattle.rows.specs.Retained.{newest, empty_store, IsRetained, snap_at, spans_of, newest_of, with_commit, without_newest, after_trim, HasRoom, AreAdmitted, IsAdmitted, commits_between, is_touched_after, last_config};
 ghost use Rattle.rows_core.specs.Named.{user_tuple, objects_in, nodes_in, is_within};
-ghost use Rattle.rows_core.specs.Versions.{is_of, refuses};
+ghost use Rattle.rows_core.specs.Versions.{is_at, is_of, refuses};
 ghost use Rattle.rows.specs.Loads.{retained_of, loaded_to, IsWithin};
 
 use crate::committed::{
@@ -188,6 +188,21 @@ impl Rows {
         ensures { IfOk result (λ v. v.items ≡ filter (is_of node.now) (set.items (snap_at self.now rev).tuples)) }
     {
         self.tuples.tuples_of(alloc, rev, node)
+    }
+
+    /// The object's tuples at a revision, where the map has no more than `most` of them. Otherwise `None`.
+    pub(crate) fn tuples_at_object(
+        &self,
+        alloc: Global,
+        rev: u64,
+        object: &Object,
+        most: usize,
+    ) -> Result<Option<Vec<Tuple>>, AllocError>
+        requires { IsRetained self.now rev }
+        ensures { IfOk result
+            (λ o. IfSome o (λ v. v.items ≡ filter (is_at object.now) (set.items (snap_at self.now rev).tuples))) }
+    {
+        self.tuples.tuples_at_object(alloc, rev, object, most)
     }
 
     /// The objects that the node's tuples name at a revision.

@@ -1,9 +1,9 @@
 //! Views.
-ghost use Rattle.std.specs.Prelude.{◌≡◌, ◌<◌, ◌↔◌, true, false, length, filter, IfOk, IsTrue, Contains};
+ghost use Rattle.std.specs.Prelude.{◌≡◌, ◌<◌, ◌↔◌, true, false, length, filter, IfOk, IfSome, IsTrue, Contains};
 ghost use Rattle.meaning.specs.Config.{Has, rel_of};
 ghost use Rattle.meaning.specs.Membership.{HasOne, HasSet};
 ghost use Rattle.meaning.specs.TupleSet as set;
-ghost use Rattle.rows_core.specs.Versions.{is_of};
+ghost use Rattle.rows_core.specs.Versions.{is_at, is_of};
 ghost use Rattle.rows.specs.Lookups.{DeclaresNodes, IsRepeated};
 ghost use Rattle.rows.specs.Retained.{IsRetained, snap_at, AreAdmitted};
 
@@ -67,6 +67,19 @@ impl<'a> View<'a> {
         ensures { IfOk result (λ v. v.items ≡ filter (is_of node.now) (set.items self.now.tuples)) }
     {
         self.rows.tuples_of(alloc, self.rev, node)
+    }
+
+    /// The object's tuples, in order, where it has few: no more than `most` are gone over, those that were
+    /// deleted among them. Otherwise `None`.
+    pub fn few_of(
+        &self,
+        alloc: Global,
+        object: &Object,
+        most: usize,
+    ) -> Result<Option<Vec<Tuple>>, AllocError>
+        ensures { IfOk result (λ o. IfSome o (λ v. v.items ≡ filter (is_at object.now) (set.items self.now.tuples))) }
+    {
+        self.rows.tuples_at_object(alloc, self.rev, object, most)
     }
 
     /// Whether the user has the node by a tuple of its own. It takes no memory.
