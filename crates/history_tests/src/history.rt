@@ -1,7 +1,7 @@
 //! Calls of a history that the program does not make yet.
 
 use config::Config;
-use names::{Commit, Event, EventKind, Items, Node, Op, OpKind, Refusal, Tuple};
+use names::{Commit, Event, EventKind, Items, Node, Object, Op, OpKind, Refusal, Tuple};
 use rows::{Rows, events_of};
 use std::alloc::{AllocError, Global};
 use std::test::Fail;
@@ -105,6 +105,53 @@ fn lists_nodes(alloc: Global) -> Result<bool, Refusal> {
 #[test]
 fn tuples_are_listed_in_order(rt: HostRuntime) -> Result<(), Fail> {
     assert!(rt; lists_nodes(rt.alloc())?);
+    Ok(())
+}
+
+const AT_B: &str =
+    "doc:b#view@u:a doc:b#viewer@u:a doc:b#viewer@u:a#m doc:b#viewer@u:b doc:b#viewer_@u:a";
+
+// What the newest revision says of an object's few tuples.
+fn few_are(
+    alloc: Global,
+    rows: &Rows,
+    object: &str,
+    most: usize,
+    words: Option<&str>,
+) -> Result<bool, Refusal> {
+    let object = Object::parse(alloc, object)?;
+    let found = rows.at(rows.newest()).few_of(alloc, &object, most)?;
+    Ok(match (found, words) {
+        (Some(found), Some(words)) => found == tuples_in(alloc, words)?,
+        (None, None) => true,
+        _ => false,
+    })
+}
+
+fn lists_few(alloc: Global) -> Result<bool, Refusal> {
+    let mut rows = three_commits(alloc)?;
+    let came = is_committed(&mut rows, &touches(alloc, PLACES)?)?;
+    let five = few_are(alloc, &rows, "doc:b", 5, Some(AT_B))?;
+    let four = few_are(alloc, &rows, "doc:b", 4, None)?;
+    let next = few_are(alloc, &rows, "doc:b-", 1, Some("doc:b-#viewer@u:a"))?;
+    let last = few_are(alloc, &rows, "doc:c", 1, Some("doc:c#viewer@u:a"))?;
+    let none = few_are(alloc, &rows, "doc:d", 0, Some(""))?;
+    Ok(came && five && four && next && last && none)
+}
+
+// The tuple of ann was deleted, and is gone over with the other.
+fn goes_over_deleted(alloc: Global) -> Result<bool, Refusal> {
+    let mut rows = three_commits(alloc)?;
+    let alone = few_are(alloc, &rows, "doc:a", 1, Some(""))?;
+    let came = is_committed(&mut rows, &touches(alloc, PLACES)?)?;
+    let two = few_are(alloc, &rows, "doc:a", 2, Some("doc:a#viewer@u:a"))?;
+    Ok(alone && came && two && few_are(alloc, &rows, "doc:a", 1, None)?)
+}
+
+#[test]
+fn the_tuples_of_an_object_are_listed_where_they_are_few(rt: HostRuntime) -> Result<(), Fail> {
+    assert!(rt; lists_few(rt.alloc())?);
+    assert!(rt; goes_over_deleted(rt.alloc())?);
     Ok(())
 }
 
