@@ -3,4 +3,5 @@ pub mod Under
 pub mod Searches
 pub mod Running
 pub mod Asked
+pub mod Reading
 pub mod Given

@@ -6,6 +6,7 @@
 
 mod asking;
 mod deciding;
+mod facts;
 mod law;
 mod oracle;
 mod rewrites;
