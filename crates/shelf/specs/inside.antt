@@ -1,0 +1,2 @@
+-- How the entries stand in memory. No promise rests on it.
+pub mod Blocks

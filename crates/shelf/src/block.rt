@@ -1,0 +1,70 @@
+//! One block of texts.
+ghost use Rattle.std.specs.Prelude.{◌≡◌, ℕ, ◌+◌, ◌<◌, ◌≤◌, List, [], ◌∷◌, length, slice_index, slice_index_or, Some, IfOk, OnOk, OnErr};
+ghost use Rattle.std.specs.List.{slice_get, insert};
+ghost use Rattle.std.specs.Map.{keys_of, values_of};
+ghost use Rattle.std.specs.Map.Iter.{deref_pair};
+
+use std::alloc::{AllocError, AllocFailed, Global};
+use std::marker::Model;
+
+/// As many texts as a block has at most.
+pub(crate) const FULL: usize = 128;
+
+/// Texts one after another, each with a value.
+#[derive(Drop)]
+pub(crate) struct Block<V> {
+    texts: String,
+    ends: Vec<u16>,
+    values: Vec<V>,
+}
+
+impl<V> Model for Block<V> {
+    ghost use Rattle.std.specs.Prelude.{List, ℕ, length};
+
+    ghost Value = { List (List ℕ × V) };
+
+    ghost use Rattle.std.specs.String.{string_bytes};
+    ghost use Rattle.shelf.specs.inside.Blocks.{entries, IsBlock};
+
+    ghost view = { λ b. entries (string_bytes b.texts) b.ends.items b.values.items };
+
+    ghost invariant = { λ b. IsBlock (string_bytes b.texts) b.ends.items (length b.values.items) };
+}
+
+impl<V> Block<V> {
+    pub(crate) fn len(&self) -> usize
+        ensures { result ≡ length self.now }
+    {
+        self.values.len()
+    }
+
+    pub(crate) fn text(&self, i: usize) -> &str
+        requires { i < length self.now }
+        ensures { result.now ≡ slice_index_or (keys_of self.now) i [] }
+    {
+        let start = start_of(&self.ends, i);
+        let end = self.ends[i] as usize;
+        &self.texts.as_str()[start..end]
+    }
+
+    pub(crate) fn value(&self, i: usize) -> &V
+        requires { i < length self.now }
+        ensures { slice_get (values_of self.now) i ≡ Some result.now }
+    {
+        &self.values[i]
+    }
+
+    pub(crate) fn entry(&self, i: usize) -> (&str, &V)
+        requires { i < length self.now }
+        ensures { slice_get self.now i ≡ Some (deref_pair result) }
+    {
+        (self.text(i), self.value(i))
+    }
+}
+
+fn start_of(ends: &[u16], i: usize) -> usize
+    requires { i < length ends.now }
+    ensures { result ≡ slice_index (0 ∷ ends.now) i }
+{
+    if i == 0 { 0 } else { ends[i - 1] as usize }
+}
