@@ -1,2 +1,3 @@
 -- How the entries stand in memory. No promise rests on it.
 pub mod Blocks
+pub mod Places

@@ -4,7 +4,11 @@ ghost use Rattle.std.specs.List.{slice_get, insert};
 ghost use Rattle.std.specs.Map.{keys_of, values_of};
 ghost use Rattle.std.specs.Map.Iter.{deref_pair};
 
+ghost use Rattle.std.specs.Prelude.{IfErr};
+ghost use Rattle.shelf.specs.inside.Places.{AreSorted, AreFilled, IsAt, IsBetween, IsBlockOf, joined};
+
 use std::alloc::{AllocError, AllocFailed, Global};
+use std::cmp::Ordering;
 use std::marker::Model;
 
 /// As many texts as a block has at most.
@@ -60,6 +64,44 @@ impl<V> Block<V> {
     {
         (self.text(i), self.value(i))
     }
+
+    /// Where the text is, or where it would be put in.
+    pub(crate) fn search(&self, key: &str) -> Result<usize, usize>
+        requires { AreSorted self.now }
+        ensures ok { IfOk result (λ i. IsAt key.now i self.now) }
+        ensures err { IfErr result (λ i. IsBetween key.now i self.now) }
+    {
+        let mut low = 0;
+        let mut high = self.len();
+        'halves: while low < high {
+            let mid = low + (high - low) / 2;
+            match self.text(mid).cmp(key) {
+                Ordering::Less => low = mid + 1,
+                Ordering::Equal => return Ok(mid),
+                Ordering::Greater => high = mid,
+            }
+        }
+        Err(low)
+    }
+}
+
+/// The block in which the text is, or would be put in.
+pub(crate) fn block_of<V>(blocks: &[Block<V>], key: &str) -> usize
+    requires some { 0 < length blocks.now }
+    requires filled { AreFilled blocks.now }
+    requires sorted { AreSorted (joined blocks.now) }
+    ensures { IsBlockOf key.now result blocks.now }
+{
+    let mut low = 0;
+    let mut high = blocks.len();
+    'halves: while low + 1 < high {
+        let mid = low + (high - low) / 2;
+        match blocks[mid].text(0).cmp(key) {
+            Ordering::Greater => high = mid,
+            _ => low = mid,
+        }
+    }
+    low
 }
 
 fn start_of(ends: &[u16], i: usize) -> usize
