@@ -1,6 +1,6 @@
 -- What is known of a block from its entries.
 use Rattle.std.proofs.Common.{◌≡◌, ℕ, zero, suc, ◌<◌, List, [], ◌∷◌, length, get_or, refl, ap, sym, subst, ◌∙◌, arith}
-use Rattle.std.specs.Prelude.{Option, Some}
+use Rattle.std.specs.Prelude.{Some}
 use Rattle.std.specs.List.{zip, slice_get}
 use Rattle.std.specs.Map.{keys_of, values_of}
 use Rattle.shelf.specs.inside.Blocks.{cuts, entries, IsBlock}

@@ -1,3 +1,6 @@
 pub mod Cuts
 pub mod Blocks
 pub mod Order
+pub mod Looking
+pub mod Walking
+pub mod Shelves

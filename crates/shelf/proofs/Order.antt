@@ -1,10 +1,9 @@
 -- Entries in order, on both sides of a text.
-use Rattle.std.proofs.Common.{◌≡◌, ℕ, zero, suc, ◌<◌, ◌≤◌, List, [], ◌∷◌, ◌++◌, length, take, drop, get_or, refl, ap, sym, subst, ◌∙◌, arith, append_assoc}
-use Rattle.std.specs.List.{AllByRecursion, flat_map}
+use Rattle.std.proofs.Common.{◌≡◌, ℕ, zero, suc, ◌<◌, List, [], ◌∷◌, ◌++◌, length, take, drop, get_or, refl, ap, sym, subst, ◌∙◌, arith, append_assoc}
+use Rattle.std.specs.List.{AllByRecursion}
 use Rattle.std.specs.List.Sorted.{IsStrictlySortedBy}
 use Rattle.std.specs.Map.{keys_of}
-use Rattle.std.specs.Ordering.{nat_cmp, ordering_reverse}
-use Rattle.std.specs.Cmp.Lexicographic.{slice_cmp}
+use Rattle.std.specs.Ordering.{ordering_reverse}
 use Rattle.std.specs.declared.cmp.Ordering.{Ordering}
 use Rattle.std.specs.declared.cmp.Ordering.TheVariants.{Less, Equal, Greater}
 use Rattle.std.proofs.lemmas.Cmp.{nat_list_cmp_total}
@@ -32,7 +31,7 @@ text_itself a = itself (text_cmp a a) (nat_list_cmp_total.antisymm a a)
     itself Greater h = cc
 
 module _ {V : Type 0} where
-  head_at : (es : List (List ℕ × V)) (a : List ℕ) (i : ℕ) → AllByRecursion (λ k. text_cmp a k ≡ Less) (keys_of es) → i < length es → text_cmp a (get_or (keys_of es) i []) ≡ Less
+  pub head_at : (es : List (List ℕ × V)) (a : List ℕ) (i : ℕ) → AllByRecursion (λ k. text_cmp a k ≡ Less) (keys_of es) → i < length es → text_cmp a (get_or (keys_of es) i []) ≡ Less
   head_at [] a i h within = absurd (omega arith)
   head_at (e ∷ es) a zero h within = h.0
   head_at (e ∷ es) a (suc i) h within = head_at es a i h.1 (omega arith)
@@ -44,7 +43,7 @@ module _ {V : Type 0} where
   below_to key (e ∷ es) (suc i) sorted within h =
       (less_less e.0 (get_or (keys_of es) i []) key (head_at es e.0 i (sorted_head text_cmp e.0 (keys_of es) sorted) (omega arith)) h, below_to key es i (sorted_tail text_cmp e.0 (keys_of es) sorted) (omega arith) h)
 
-  all_above : (key a : List ℕ) (es : List (List ℕ × V)) → text_cmp key a ≡ Less → AllByRecursion (λ k. text_cmp a k ≡ Less) (keys_of es) → AreAbove key es
+  pub all_above : (key a : List ℕ) (es : List (List ℕ × V)) → text_cmp key a ≡ Less → AllByRecursion (λ k. text_cmp a k ≡ Less) (keys_of es) → AreAbove key es
   all_above key a [] h all = tt
   all_above key a (e ∷ es) h all = (less_less key a e.0 h all.0, all_above key a es h all.1)
 
@@ -127,3 +126,6 @@ module _ {V : Type 0} where
   -- the text with which a block begins, read off the block
   pub begins : (bs : List (List (List ℕ × V))) (i : ℕ) (b : List (List ℕ × V)) (text : List ℕ) → i < length bs → b ≡ get_or bs i b → text ≡ get_or (keys_of b) 0 [] → text ≡ get_or (keys_of (get_or bs i [])) 0 []
   begins bs i b text within is reads = reads ∙ ap (λ c. get_or (keys_of c) 0 []) (is ∙ get_or_default bs i b [] within)
+
+  pub sorted_block : (bs : List (List (List ℕ × V))) (i : ℕ) (b : List (List ℕ × V)) → AreSorted (joined bs) → i < length bs → b ≡ get_or bs i b → AreSorted b
+  sorted_block bs i b sorted within is = subst AreSorted (sym (is ∙ get_or_default bs i b [] within)) (sorted_at bs i sorted within)

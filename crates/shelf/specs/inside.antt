@@ -1,3 +1,4 @@
 -- How the entries stand in memory. No promise rests on it.
 pub mod Blocks
 pub mod Places
+pub mod Walks

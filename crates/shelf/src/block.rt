@@ -3,9 +3,8 @@ ghost use Rattle.std.specs.Prelude.{◌≡◌, ℕ, ◌+◌, ◌<◌, ◌≤◌,
 ghost use Rattle.std.specs.List.{slice_get, insert};
 ghost use Rattle.std.specs.Map.{keys_of, values_of};
 ghost use Rattle.std.specs.Map.Iter.{deref_pair};
-
 ghost use Rattle.std.specs.Prelude.{IfErr};
-ghost use Rattle.shelf.specs.inside.Places.{AreSorted, AreFilled, IsAt, IsBetween, IsBlockOf, joined};
+ghost use Rattle.shelf.specs.inside.Places.{AreSorted, AreFilled, IsAt, IsBetween, IsPlace, IsBlockOf, joined};
 
 use std::alloc::{AllocError, AllocFailed, Global};
 use std::cmp::Ordering;
@@ -82,6 +81,17 @@ impl<V> Block<V> {
             }
         }
         Err(low)
+    }
+
+    /// How many texts are below a text.
+    pub(crate) fn place(&self, key: &str) -> usize
+        requires { AreSorted self.now }
+        ensures { IsPlace key.now result self.now }
+    {
+        match self.search(key) {
+            Ok(i) => i,
+            Err(i) => i,
+        }
     }
 }
 

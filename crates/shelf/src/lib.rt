@@ -2,3 +2,8 @@
 #![tactic(auto)]
 
 mod block;
+mod texts;
+mod walk;
+
+pub use texts::Shelf;
+pub use walk::Walk;

@@ -3,7 +3,7 @@ use Rattle.std.specs.Prelude.{◌≡◌, ℕ, suc, ◌<◌, ◌≤◌, List, [],
 use Rattle.std.specs.List.{AllByRecursion, flat_map}
 use Rattle.std.specs.List.Sorted.{IsStrictlySortedBy}
 use Rattle.std.specs.Map.{keys_of}
-use Rattle.std.specs.declared.cmp.Ordering.TheVariants.{Less}
+use Rattle.std.specs.declared.cmp.Ordering.TheVariants.{Less, Greater}
 use Rattle.shelf.specs.Texts.{text_cmp}
 
 -- the texts are in order
@@ -27,6 +27,16 @@ pub record IsBetween {V : Type 0} (key : List ℕ) (i : ℕ) (es : List (List �
   pub within : i ≤ length es
   pub below : AreBelow key (take i es)
   pub above : AreAbove key (drop i es)
+
+-- no text is below the key
+abbrev pub AreFrom : {V : Type 0} → List ℕ → List (List ℕ × V) → Type 0
+AreFrom key es = AllByRecursion (λ e. text_cmp key e.0 ≡ Greater → ⊥) es
+
+-- so many texts are below the key
+pub record IsPlace {V : Type 0} (key : List ℕ) (i : ℕ) (es : List (List ℕ × V)) : Type 0 where
+  pub within : i ≤ length es
+  pub below : AreBelow key (take i es)
+  pub from : AreFrom key (drop i es)
 
 -- the entries of all blocks
 abbrev pub joined : {V : Type 0} → List (List (List ℕ × V)) → List (List ℕ × V)

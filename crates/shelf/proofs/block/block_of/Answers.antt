@@ -1,5 +1,4 @@
-use Rattle.std.proofs.Common.{ℕ, List, [], ◌∷◌, ◌+◌, ◌-◌, ◌/◌, ◌≡◌, ◌<◌, suc, length, take, drop, get_or, arith, ap, sym, subst, ◌∙◌, add-one}
-use Rattle.std.specs.Map.{keys_of}
+use Rattle.std.proofs.Common.{◌+◌, ◌-◌, ◌/◌, ◌≡◌, suc, drop, arith, ap, sym, subst, ◌∙◌}
 use Rattle.shelf.specs.Texts.{text_cmp}
 use Rattle.shelf.specs.inside.Places.{AreAbove, joined}
 use Rattle.shelf.proofs.Order.{blocks_below, blocks_above, begins}
@@ -13,7 +12,7 @@ halves-preserved-in-Greater g c =
       within = omega (arith, c.halves.invariant.within);
       below = c.halves.invariant.below;
       above = blocks_above c.args.key.now c.args.blocks.now mid c.requires.filled c.requires.sorted (omega (arith, c.halves.invariant.within))
-      (ap (λ k. text_cmp k c.args.key.now) (sym (begins c.args.blocks.now mid _ _ (omega (arith, c.halves.invariant.within)) c.index-blocks-mid.is c.text.ensures)) ∙ sym c.in-Greater.ensures);
+          (ap (λ k. text_cmp k c.args.key.now) (sym (begins c.args.blocks.now mid _ _ (omega (arith, c.halves.invariant.within)) c.index-blocks-mid.is c.text.ensures)) ∙ sym c.in-Greater.ensures);
     }
 
 pub halves-preserved : goal.halves-preserved
@@ -23,7 +22,7 @@ halves-preserved g c =
       up = omega arith;
       within = c.halves.invariant.within;
       below = blocks_below c.args.key.now c.args.blocks.now mid c.requires.filled c.requires.sorted (omega (arith, c.halves.invariant.within))
-      (λ is. c.in_default.not-Greater (c.cmp.ensures ∙ ap (λ k. text_cmp k c.args.key.now) (begins c.args.blocks.now mid _ _ (omega (arith, c.halves.invariant.within)) c.index-blocks-mid.is c.text.ensures) ∙ is));
+          (λ is. c.in_default.not-Greater (c.cmp.ensures ∙ ap (λ k. text_cmp k c.args.key.now) (begins c.args.blocks.now mid _ _ (omega (arith, c.halves.invariant.within)) c.index-blocks-mid.is c.text.ensures) ∙ is));
       above = c.halves.invariant.above;
     }
 

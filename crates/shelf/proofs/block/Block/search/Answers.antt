@@ -1,6 +1,5 @@
-use Rattle.std.proofs.Common.{List, ℕ, ◌+◌, ◌-◌, ◌/◌, length, take, ◌<◌, arith, ap, sym, subst, ◌∙◌, add-one}
+use Rattle.std.proofs.Common.{◌+◌, ◌-◌, ◌/◌, arith, ap, sym, ◌∙◌, add-one}
 use Rattle.shelf.specs.Texts.{text_cmp}
-use Rattle.shelf.specs.inside.Places.{AreBelow}
 use Rattle.shelf.proofs.Order.{below_to, above_from, turned, same_text}
 use Rattle.shelf.proofs.block.Block.search.Goals as goal
 

@@ -1,6 +1,4 @@
-use Rattle.std.proofs.Common.{ℕ, [], ◌<◌, get_or, ◌∙◌, arith}
-use Rattle.std.specs.Map.{keys_of}
-use Rattle.shelf.proofs.Cuts.{CutAt}
+use Rattle.std.proofs.Common.{◌∙◌, arith}
 use Rattle.shelf.proofs.Blocks.{ends_are, text_at}
 use Rattle.shelf.proofs.block.Block.text.Goals as goal
 
