@@ -4,3 +4,4 @@ pub mod Order
 pub mod Looking
 pub mod Walking
 pub mod Shelves
+pub mod Inserting

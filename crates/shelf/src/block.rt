@@ -1,12 +1,12 @@
 //! One block of texts.
-ghost use Rattle.std.specs.Prelude.{◌≡◌, ℕ, ◌+◌, ◌<◌, ◌≤◌, List, [], ◌∷◌, length, slice_index, slice_index_or, Some, IfOk, OnOk, OnErr};
+ghost use Rattle.std.specs.Prelude.{◌≡◌, ℕ, ◌+◌, ◌^◌, ◌<◌, ◌≤◌, [], ◌∷◌, length, map, slice_index, slice_index_or, Some, IfOk, IfErr, OnOk, OnErr, All};
 ghost use Rattle.std.specs.List.{slice_get, insert};
 ghost use Rattle.std.specs.Map.{keys_of, values_of};
 ghost use Rattle.std.specs.Map.Iter.{deref_pair};
-ghost use Rattle.std.specs.Prelude.{IfErr};
+ghost use Rattle.shelf.specs.inside.Ends.{with_end};
 ghost use Rattle.shelf.specs.inside.Places.{AreSorted, AreFilled, IsAt, IsBetween, IsPlace, IsBlockOf, joined};
 
-use std::alloc::{AllocError, AllocFailed, Global};
+use std::alloc::AllocError;
 use std::cmp::Ordering;
 use std::marker::Model;
 
@@ -45,7 +45,7 @@ impl<V> Block<V> {
         requires { i < length self.now }
         ensures { result.now ≡ slice_index_or (keys_of self.now) i [] }
     {
-        let start = start_of(&self.ends, i);
+        let start = start_of(&self.ends, i) as usize;
         let end = self.ends[i] as usize;
         &self.texts.as_str()[start..end]
     }
@@ -83,6 +83,25 @@ impl<V> Block<V> {
         Err(low)
     }
 
+    /// Puts a text in at a place, with its value. For want of memory nothing changes.
+    pub(crate) fn insert(&mut self, i: usize, key: &str, value: V) -> Result<(), AllocError>
+    where
+        V: Drop,
+        requires within { i ≤ length self.old }
+        requires room { length self.old < 128 }
+        requires short { length key.now ≤ 511 }
+        ensures ok { OnOk result (self.new ≡ insert self.old i (key.now, value)) }
+        ensures err { OnErr result (self.new ≡ self.old) }
+    {
+        self.texts.reserve(key.len())?;
+        self.values.reserve(1)?;
+        let start = start_of(&self.ends, i);
+        put_end(&mut self.ends, i, key.len() as u16)?;
+        self.texts.insert_str(start as usize, key)?;
+        self.values.insert(i, value)?;
+        Ok(())
+    }
+
     /// How many texts are below a text.
     pub(crate) fn place(&self, key: &str) -> usize
         requires { AreSorted self.now }
@@ -93,6 +112,29 @@ impl<V> Block<V> {
             Err(i) => i,
         }
     }
+}
+
+/// Adds so much to each.
+fn raise(ends: &mut [u16], by: u16)
+    requires { All (λ end. end + by < 2 ^ 16) ends.old }
+    ensures { ends.new ≡ map (λ end. end + by) ends.old }
+{
+    for end in ends.iter_mut() {
+        *end += by;
+    }
+}
+
+/// Puts in the end of a text of so many bytes. For want of memory nothing changes.
+fn put_end(ends: &mut Vec<u16>, i: usize, by: u16) -> Result<(), AllocError>
+    requires within { i ≤ length ends.old.items }
+    requires fits { All (λ end. end + by < 2 ^ 16) (0 ∷ ends.old.items) }
+    ensures ok { OnOk result (ends.new.items ≡ with_end ends.old.items i by) }
+    ensures err { OnErr result (ends.new.items ≡ ends.old.items) }
+{
+    let start = start_of(ends, i);
+    ends.insert(i, start)?;
+    raise(&mut ends[i..], by);
+    Ok(())
 }
 
 /// The block in which the text is, or would be put in.
@@ -114,9 +156,10 @@ pub(crate) fn block_of<V>(blocks: &[Block<V>], key: &str) -> usize
     low
 }
 
-fn start_of(ends: &[u16], i: usize) -> usize
-    requires { i < length ends.now }
+/// Where a text starts.
+fn start_of(ends: &[u16], i: usize) -> u16
+    requires { i ≤ length ends.now }
     ensures { result ≡ slice_index (0 ∷ ends.now) i }
 {
-    if i == 0 { 0 } else { ends[i - 1] as usize }
+    if i == 0 { 0 } else { ends[i - 1] }
 }
