@@ -5,3 +5,4 @@ pub mod Looking
 pub mod Walking
 pub mod Shelves
 pub mod Inserting
+pub mod Writing

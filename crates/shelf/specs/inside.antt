@@ -3,3 +3,4 @@ pub mod Blocks
 pub mod Ends
 pub mod Places
 pub mod Walks
+pub mod Written

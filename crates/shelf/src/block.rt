@@ -3,7 +3,11 @@ ghost use Rattle.std.specs.Prelude.{◌≡◌, ℕ, ◌+◌, ◌^◌, ◌<◌, �
 ghost use Rattle.std.specs.List.{slice_get, insert};
 ghost use Rattle.std.specs.Map.{keys_of, values_of};
 ghost use Rattle.std.specs.Map.Iter.{deref_pair};
+ghost use Rattle.std.specs.Borrow.{LendsSo, sem};
+ghost use Rattle.std.specs.Option.{option_copied_mut};
+ghost use Rattle.shelf.specs.contracts.block.Block.{the_row};
 ghost use Rattle.shelf.specs.inside.Ends.{with_end};
+ghost use Rattle.shelf.specs.inside.Written.{with_value};
 ghost use Rattle.shelf.specs.inside.Places.{AreSorted, AreFilled, IsAt, IsBetween, IsPlace, IsBlockOf, joined};
 
 use std::alloc::AllocError;
@@ -100,6 +104,14 @@ impl<V> Block<V> {
         self.texts.insert_str(start as usize, key)?;
         self.values.insert(i, value)?;
         Ok(())
+    }
+
+    /// The value at a place, to be written.
+    pub(crate) fn value_mut(&mut self, i: usize) -> Option<&mut V>
+        ensures* writes_back { sem 𝓛 (LendsSo (the_row V.row) V.row self.entry result (λ n w. n ≡ with_value self.entry.now i w) (λ n. n ≡ self.entry.now)) }
+        ensures value { option_copied_mut result ≡ slice_get (values_of self.old) i }
+    {
+        self.values.get_mut(i)
     }
 
     /// How many texts are below a text.

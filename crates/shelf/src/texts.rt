@@ -1,11 +1,15 @@
 //! All texts.
-ghost use Rattle.std.specs.Prelude.{◌≡◌, ◌==◌, ℕ, List, [], length, IfOk, OnOk, OnErr};
-ghost use Rattle.std.specs.Option.{option_copied};
+ghost use Rattle.std.specs.Prelude.{◌≡◌, ◌==◌, [], length, None, MatchOption};
+ghost use Rattle.std.specs.Option.{option_copied, option_copied_mut};
 ghost use Rattle.std.specs.List.Sorted.{IsStrictlySortedBy};
-ghost use Rattle.std.specs.Map.{lookup, keys_of};
+ghost use Rattle.std.specs.Map.{lookup, keys_of, set_value};
 ghost use Rattle.std.specs.BTreeMap.Range.{entries_between};
 ghost use Rattle.std.specs.declared.ops.Bound.TheVariants.{Included, Unbounded};
+ghost use Rattle.std.specs.Borrow.{LendsSo, sem};
+ghost use Rattle.shelf.specs.contracts.texts.Shelf.{the_row};
 ghost use Rattle.shelf.specs.Texts.{text_cmp, is_text};
+ghost use Rattle.shelf.specs.inside.Places.{IsFound, joined};
+ghost use Rattle.shelf.specs.inside.Walks.{IsShelf};
 
 use crate::block::{Block, block_of};
 use crate::walk::{Walk, walk_all, walk_from};
@@ -53,15 +57,20 @@ impl<V> Shelf<V> {
     pub fn get(&self, key: &str) -> Option<&V>
         ensures { option_copied result ≡ lookup (is_text key.now) self.now }
     {
-        let blocks = self.blocks.as_slice();
-        if blocks.is_empty() {
+        let (at, i) = spot(&self.blocks, key)?;
+        Some(self.blocks[at].value(i))
+    }
+
+    /// The value at a text, to be written.
+    pub fn get_mut(&mut self, key: &str) -> Option<&mut V>
+        ensures* writes_back { sem 𝓛 (LendsSo (the_row V.row) V.row self.entry result (λ n w. n ≡ set_value (is_text key.now) self.entry.now w) (λ n. n ≡ self.entry.now)) }
+        ensures value { option_copied_mut result ≡ lookup (is_text key.now) self.old }
+    {
+        let Some((at, i)) = spot(&self.blocks, key) else {
             return None;
-        }
-        let block = &blocks[block_of(blocks, key)];
-        match block.search(key) {
-            Ok(i) => Some(block.value(i)),
-            Err(_) => None,
-        }
+        };
+        let block = self.blocks.get_mut(at)?;
+        block.value_mut(i)
     }
 
     /// All texts in order, each with its value.
@@ -78,5 +87,20 @@ impl<V> Shelf<V> {
         ensures ordered { IsStrictlySortedBy text_cmp (keys_of self.now) }
     {
         walk_from(&self.blocks, least)
+    }
+}
+
+/// Where a text is: its block, and its place in it.
+fn spot<V>(blocks: &[Block<V>], key: &str) -> Option<(usize, usize)>
+    requires { IsShelf blocks.now }
+    ensures { MatchOption result (lookup (is_text key.now) (joined blocks.now) ≡ None) (λ p. IsFound key.now p.0 p.1 blocks.now) }
+{
+    if blocks.is_empty() {
+        return None;
+    }
+    let at = block_of(blocks, key);
+    match blocks[at].search(key) {
+        Ok(i) => Some((at, i)),
+        Err(_) => None,
     }
 }

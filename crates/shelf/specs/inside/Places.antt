@@ -51,3 +51,8 @@ pub record IsBlockOf {V : Type 0} (key : List ℕ) (i : ℕ) (bs : List (List (L
   pub within : i < length bs
   pub below : AreBelow key (joined (take i bs))
   pub above : AreAbove key (joined (drop (suc i) bs))
+
+-- the key is the text at a place of a block
+pub record IsFound {V : Type 0} (key : List ℕ) (at i : ℕ) (bs : List (List (List ℕ × V))) : Type 0 where
+  pub block : IsBlockOf key at bs
+  pub there : IsAt key i (slice_index_or bs at [])
