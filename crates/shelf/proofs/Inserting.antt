@@ -42,7 +42,7 @@ raised start by (k ∷ ks) =
     let e : start + length k + by ≡ start + by + length k = omega arith in
     rw e (ap (λ es. (start + by + length k) ∷ es) (raised (start + length k) by ks ∙ ap (λ n. ends_of n ks) e))
 
-length_ends : (start : ℕ) (ks : List (List ℕ)) → length (ends_of start ks) ≡ length ks
+pub length_ends : (start : ℕ) (ks : List (List ℕ)) → length (ends_of start ks) ≡ length ks
 length_ends start [] = refl
 length_ends start (k ∷ ks) = ap suc (length_ends (start + length k) ks)
 
@@ -96,10 +96,10 @@ pub rest_put : (now old : List ℕ) (i x : ℕ) → i ≤ length old → now ≡
 rest_put now old i x h is = take_rest now i ∙ ap (drop i) is ∙ drop_at (take i old) (x ∷ drop i old) i (length-take-le i old h)
 
 module _ {V : Type 0} (texts ends : List ℕ) (values : List V) (is : IsBlock texts ends (length values)) (i : ℕ) (within : i ≤ length values) where
-  count : length (cuts 0 texts ends) ≡ length values
+  pub count : length (cuts 0 texts ends) ≡ length values
   count = length_cuts 0 texts ends ∙ is.paired
 
-  start_is : get_or (0 ∷ ends) i 0 ≡ length (concat (take i (cuts 0 texts ends)))
+  pub start_is : get_or (0 ∷ ends) i 0 ≡ length (concat (take i (cuts 0 texts ends)))
   start_is = ap (λ es. get_or (0 ∷ es) i 0) (sym is.ended) ∙ start_at 0 (cuts 0 texts ends) i (omega (arith, count)) ∙ omega arith
 
   -- a text starts or would start where the texts may be cut

@@ -6,3 +6,4 @@ pub mod Walking
 pub mod Shelves
 pub mod Inserting
 pub mod Writing
+pub mod Splitting

@@ -1,5 +1,5 @@
 //! One block of texts.
-ghost use Rattle.std.specs.Prelude.{◌≡◌, ℕ, ◌+◌, ◌^◌, ◌<◌, ◌≤◌, [], ◌∷◌, length, map, slice_index, slice_index_or, Some, IfOk, IfErr, OnOk, OnErr, All};
+ghost use Rattle.std.specs.Prelude.{◌≡◌, ℕ, ◌+◌, ◌-◌, ◌^◌, ◌<◌, ◌≤◌, [], ◌∷◌, length, map, take, drop, slice_index, slice_index_or, Some, IfOk, IfErr, OnOk, OnErr, All};
 ghost use Rattle.std.specs.List.{slice_get, insert};
 ghost use Rattle.std.specs.Map.{keys_of, values_of};
 ghost use Rattle.std.specs.Map.Iter.{deref_pair};
@@ -10,9 +10,10 @@ ghost use Rattle.shelf.specs.inside.Ends.{with_end};
 ghost use Rattle.shelf.specs.inside.Written.{with_value};
 ghost use Rattle.shelf.specs.inside.Places.{AreSorted, AreFilled, IsAt, IsBetween, IsPlace, IsBlockOf, joined};
 
-use std::alloc::AllocError;
+use std::alloc::{AllocError, Global};
 use std::cmp::Ordering;
 use std::marker::Model;
+use std::mem::replace;
 
 /// As many texts as a block has at most.
 pub(crate) const FULL: usize = 128;
@@ -39,6 +40,17 @@ impl<V> Model for Block<V> {
 }
 
 impl<V> Block<V> {
+    /// No text. It takes no memory.
+    pub(crate) fn new(alloc: Global) -> Block<V>
+        ensures { result ≡ [] }
+    {
+        Block {
+            texts: String::new(alloc),
+            ends: Vec::new(alloc),
+            values: Vec::new(alloc),
+        }
+    }
+
     pub(crate) fn len(&self) -> usize
         ensures { result ≡ length self.now }
     {
@@ -114,6 +126,38 @@ impl<V> Block<V> {
         self.values.get_mut(i)
     }
 
+    /// Writes the value at a place, and gives the one that was there.
+    pub(crate) fn replace(&mut self, i: usize, value: V) -> V
+        requires { i < length self.old }
+        ensures old { slice_get (values_of self.old) i ≡ Some result }
+        ensures new { self.new ≡ with_value self.old i value }
+    {
+        replace(&mut self.values[i], value)
+    }
+
+    /// Takes the texts from a place on, with their values. For want of memory nothing changes.
+    pub(crate) fn split_off(&mut self, alloc: Global, at: usize) -> Result<Block<V>, AllocError>
+        requires { at ≤ length self.old }
+        ensures left { OnOk result (self.new ≡ take at self.old) }
+        ensures right { IfOk result (λ right. right ≡ drop at self.old) }
+        ensures err { OnErr result (self.new ≡ self.old) }
+    {
+        let start = start_of(&self.ends, at);
+        let texts = String::from_str(alloc, &self.texts.as_str()[start as usize..])?;
+        let ends = ends_from(alloc, &self.ends, at)?;
+        let values = self.values.split_off(at)?;
+        self.texts.truncate(start as usize);
+        self.ends.truncate(at);
+        self.texts.shrink_to_fit();
+        self.ends.shrink_to_fit();
+        self.values.shrink_to_fit();
+        Ok(Block {
+            texts,
+            ends,
+            values,
+        })
+    }
+
     /// How many texts are below a text.
     pub(crate) fn place(&self, key: &str) -> usize
         requires { AreSorted self.now }
@@ -134,6 +178,27 @@ fn raise(ends: &mut [u16], by: u16)
     for end in ends.iter_mut() {
         *end += by;
     }
+}
+
+/// Takes so much from each.
+fn lower(ends: &mut [u16], by: u16)
+    requires { All (λ end. by ≤ end) ends.old }
+    ensures { ends.new ≡ map (λ end. end - by) ends.old }
+{
+    for end in ends.iter_mut() {
+        *end -= by;
+    }
+}
+
+/// The ends of the texts from a place on, as they are where that text comes first.
+fn ends_from(alloc: Global, ends: &[u16], at: usize) -> Result<Vec<u16>, AllocError>
+    requires within { at ≤ length ends.now }
+    requires rising { All (λ end. slice_index (0 ∷ ends.now) at ≤ end) (drop at ends.now) }
+    ensures { IfOk result (λ left. left.items ≡ map (λ end. end - slice_index (0 ∷ ends.now) at) (drop at ends.now)) }
+{
+    let mut left = Vec::from_slice(alloc, &ends[at..])?;
+    lower(&mut left, start_of(ends, at));
+    Ok(left)
 }
 
 /// Puts in the end of a text of so many bytes. For want of memory nothing changes.

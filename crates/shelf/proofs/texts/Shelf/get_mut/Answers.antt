@@ -8,7 +8,7 @@ use Rattle.shelf.proofs.texts.Shelf.get_mut.Goals as goal
 pub returns-in_default : goal.returns-in_default
 returns-in_default g c =
     let none = sym c.in_default.ensures ∙ ap (λ bs. lookup (is_text c.args.key.now) (joined bs)) c.deref.ensures.value in
-    ((refl, λ w. set_none c.args.key.now (joined c.self.inside.blocks.items) w none ∙ ap (λ es. set_value (is_text c.args.key.now) es w) c.self.view_is, c.self.view_is), none ∙ ap (lookup (is_text c.args.key.now)) c.self.view_is)
+    ((refl, λ w. set_none c.args.key.now _ w none ∙ ap (λ es. set_value (is_text c.args.key.now) es w) c.self.view_is, c.self.view_is), none ∙ ap (lookup (is_text c.args.key.now)) c.self.view_is)
 
 pub invariant_of-self-lent : goal.invariant_of-self-lent
 invariant_of-self-lent g c = λ _.
