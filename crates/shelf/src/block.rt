@@ -51,8 +51,21 @@ impl<V> Block<V> {
         }
     }
 
+    /// The block of one text.
+    pub(crate) fn one(alloc: Global, key: &str, value: V) -> Result<Block<V>, AllocError>
+    where
+        V: Drop,
+        requires { length key.now ≤ 511 }
+        ensures { IfOk result (λ block. block ≡ (key.now, value) ∷ []) }
+    {
+        let mut block = Block::new(alloc);
+        block.insert(0, key, value)?;
+        Ok(block)
+    }
+
     pub(crate) fn len(&self) -> usize
-        ensures { result ≡ length self.now }
+        ensures len { result ≡ length self.now }
+        ensures few { result ≤ 128 }
     {
         self.values.len()
     }

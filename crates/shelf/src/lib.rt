@@ -2,6 +2,7 @@
 #![tactic(auto)]
 
 mod block;
+mod filling;
 mod texts;
 mod walk;
 

@@ -1,5 +1,6 @@
 //! All texts.
-ghost use Rattle.std.specs.Prelude.{◌≡◌, ◌==◌, [], length, None, MatchOption};
+ghost use Rattle.std.specs.Prelude.{◌≡◌, ◌≤◌, ◌==◌, [], length, None, MatchOption, IfOk, OnOk, OnErr};
+ghost use Rattle.std.specs.BTreeMap.{insert_entry};
 ghost use Rattle.std.specs.Option.{option_copied, option_copied_mut};
 ghost use Rattle.std.specs.List.Sorted.{IsStrictlySortedBy};
 ghost use Rattle.std.specs.Map.{lookup, keys_of, set_value};
@@ -12,8 +13,9 @@ ghost use Rattle.shelf.specs.inside.Places.{IsFound, joined};
 ghost use Rattle.shelf.specs.inside.Walks.{IsShelf};
 
 use crate::block::{Block, block_of};
+use crate::filling::put;
 use crate::walk::{Walk, walk_all, walk_from};
-use std::alloc::Global;
+use std::alloc::{AllocError, Global};
 use std::marker::Model;
 
 /// Texts in order, each with a value, packed in blocks.
@@ -71,6 +73,34 @@ impl<V> Shelf<V> {
         };
         let block = self.blocks.get_mut(at)?;
         block.value_mut(i)
+    }
+
+    /// Puts a text in with its value, or writes the value of one that is there, and gives the value that was
+    /// there. For want of memory nothing changes.
+    pub fn insert(&mut self, key: &str, value: V) -> Result<Option<V>, AllocError>
+    where
+        V: Drop,
+        requires { length key.now ≤ 511 }
+        ensures entries { OnOk result (self.new ≡ insert_entry text_cmp self.old key.now value) }
+        ensures old { IfOk result (λ old. old ≡ lookup (is_text key.now) self.old) }
+        ensures err { OnErr result (self.new ≡ self.old) }
+    {
+        if self.blocks.is_empty() {
+            let block = Block::one(self.alloc, key, value)?;
+            self.blocks.push(block)?;
+            return Ok(None);
+        }
+        let at = block_of(&self.blocks, key);
+        match self.blocks[at].search(key) {
+            Ok(i) => {
+                let block = &mut self.blocks[at];
+                Ok(Some(block.replace(i, value)))
+            }
+            Err(i) => {
+                put(self.alloc, &mut self.blocks, at, i, key, value)?;
+                Ok(None)
+            }
+        }
     }
 
     /// All texts in order, each with its value.
