@@ -7,3 +7,4 @@ pub mod Shelves
 pub mod Inserting
 pub mod Writing
 pub mod Splitting
+pub mod Parting
