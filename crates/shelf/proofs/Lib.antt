@@ -8,3 +8,4 @@ pub mod Inserting
 pub mod Writing
 pub mod Splitting
 pub mod Parting
+pub mod Entering
