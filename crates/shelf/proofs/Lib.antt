@@ -9,3 +9,4 @@ pub mod Writing
 pub mod Splitting
 pub mod Parting
 pub mod Entering
+pub mod Skipping

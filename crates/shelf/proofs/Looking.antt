@@ -97,7 +97,7 @@ module _ {V : Type 0} where
 
   -- the block in which the key stands, or would
   module _ (key : List ℕ) (at : ℕ) (bs : List (List (List ℕ × V))) (is : IsBlockOf key at bs) (b : List (List ℕ × V)) (reads : b ≡ get_or bs at b) where
-    block_is : b ≡ get_or bs at []
+    pub block_is : b ≡ get_or bs at []
     block_is = reads ∙ get_or_default bs at b [] is.within
 
     pub all_is : joined bs ≡ joined (take at bs) ++ (b ++ joined (drop (suc at) bs))

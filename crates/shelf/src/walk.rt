@@ -5,10 +5,11 @@ ghost use Rattle.std.specs.Map.Iter.{TakesFirst, deref_pair};
 ghost use Rattle.std.specs.BTreeMap.Range.{entries_between};
 ghost use Rattle.std.specs.declared.ops.Bound.TheVariants.{Included, Unbounded};
 ghost use Rattle.shelf.specs.Texts.{text_cmp};
-ghost use Rattle.shelf.specs.inside.Places.{joined};
+ghost use Rattle.shelf.specs.inside.Places.{AreFilled, AreSorted, IsBlockOf, joined};
 ghost use Rattle.shelf.specs.inside.Walks.{IsShelf};
 
 use crate::block::{Block, block_of};
+use std::cmp::Ordering;
 use std::iter::Iterator;
 use std::marker::Model;
 
@@ -29,6 +30,27 @@ impl<'a, V> Model for Walk<'a, V> {
     ghost view = { λ w. rest w.blocks.now w.index };
 
     ghost invariant = { λ w. IsWalk w.blocks.now w.index };
+}
+
+impl<'a, V> Walk<'a, V> {
+    /// Passes over the texts below a text. It costs little where few are below.
+    pub fn skip_to(&mut self, least: &str)
+        ensures { self.new ≡ entries_between text_cmp (Included least.now) Unbounded self.old }
+    {
+        let blocks = self.blocks;
+        if blocks.is_empty() {
+            return;
+        }
+        let passed = self.index;
+        let at = near_block_of(blocks, least);
+        let place = blocks[at].place(least);
+        let index = if at == 0 {
+            place.max(passed)
+        } else {
+            place
+        };
+        *self = walk_at(blocks, at, index);
+    }
 }
 
 impl<'a, V> Iterator for Walk<'a, V> {
@@ -69,6 +91,22 @@ pub(crate) fn walk_from<'a, V>(blocks: &'a [Block<V>], least: &str) -> Walk<'a, 
     let at = block_of(blocks, least);
     let index = blocks[at].place(least);
     walk_at(blocks, at, index)
+}
+
+/// The block in which the text is, or would be put in, which may be the first.
+fn near_block_of<V>(blocks: &[Block<V>], key: &str) -> usize
+    requires some { 0 < length blocks.now }
+    requires filled { AreFilled blocks.now }
+    requires sorted { AreSorted (joined blocks.now) }
+    ensures { IsBlockOf key.now result blocks.now }
+{
+    if blocks.len() == 1 {
+        return 0;
+    }
+    match blocks[1].text(0).cmp(key) {
+        Ordering::Greater => 0,
+        _ => block_of(blocks, key),
+    }
 }
 
 /// What is left after a place.
