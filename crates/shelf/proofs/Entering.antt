@@ -1,6 +1,6 @@
 -- A text entered among those in order.
-use Rattle.std.proofs.Common.{◌≡◌, ℕ, zero, suc, ◌<◌, ◌≤◌, List, [], ◌∷◌, ◌++◌, length, take, drop, get_or, set, refl, ap, sym, subst, ◌∙◌, arith, append_assoc}
-use Rattle.std.specs.Prelude.{Option, Some, None}
+use Rattle.std.proofs.Common.{◌≡◌, ℕ, zero, suc, ◌<◌, List, [], ◌∷◌, ◌++◌, length, take, drop, get_or, set, refl, ap, sym, subst, ◌∙◌, arith, append_assoc}
+use Rattle.std.specs.Prelude.{Some}
 use Rattle.std.specs.List.{AllByRecursion, insert, slice_get}
 use Rattle.std.specs.List.Sorted.{IsStrictlySortedBy}
 use Rattle.std.specs.Map.{keys_of, values_of, lookup}
@@ -14,7 +14,7 @@ use Rattle.shelf.specs.inside.Places.{AreSorted, AreBelow, AreAbove, AreFilled, 
 use Rattle.shelf.specs.inside.Walks.{IsShelf}
 use Rattle.shelf.specs.inside.Written.{with_value, entries_put}
 use Rattle.shelf.proofs.Order.{head_at, text_itself, sorted_block}
-use Rattle.shelf.proofs.Looking.{greater, all_is, below_append, above_append, missing}
+use Rattle.shelf.proofs.Looking.{greater, all_is, below_append, above_append}
 use Rattle.shelf.proofs.Writing.{joined_set, set_shelf, found_value}
 
 -- a block read twice

@@ -1,13 +1,12 @@
 -- An entry put in among blocks, one of which may be parted.
-use Rattle.std.proofs.Common.{◌≡◌, ℕ, zero, suc, ◌+◌, ◌-◌, ◌<◌, ◌≤◌, List, [], ◌∷◌, ◌++◌, length, take, drop, get_or, set, refl, ap, sym, subst, ◌∙◌, arith, append_assoc, length-append, add-one}
+use Rattle.std.proofs.Common.{◌≡◌, ℕ, zero, suc, ◌+◌, ◌-◌, ◌<◌, ◌≤◌, List, [], ◌∷◌, ◌++◌, length, take, drop, get_or, set, refl, ap, sym, subst, ◌∙◌, arith, append_assoc, length-append}
 use Rattle.std.specs.Prelude.{Result, Ok, Err, OnOk, OnErr}
-use Rattle.std.specs.List.{AllByRecursion, insert, flat_map}
+use Rattle.std.specs.List.{insert}
 use Rattle.std.proofs.lemmas.List.{take-append-drop, length-take-le, length-drop, get_or_at, set_at, get_or-append-add, set-append_right, set_split, get_or_default}
 use Rattle.std.proofs.lemmas.List.Concat.{flat_map-append}
 use Rattle.std.proofs.lemmas.List.Edits.{insert-append_left, insert-append_right}
 use Rattle.shelf.specs.inside.Places.{AreFilled, joined}
 use Rattle.shelf.specs.inside.Written.{entries_put, parted}
-use Rattle.shelf.proofs.Order.{joined_split, joined_at}
 use Rattle.shelf.proofs.Looking.{joined_around}
 use Rattle.shelf.proofs.Writing.{joined_set}
 

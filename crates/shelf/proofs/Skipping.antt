@@ -1,14 +1,13 @@
 -- A walk that passes over texts below a text.
-use Rattle.std.proofs.Common.{◌≡◌, ℕ, zero, suc, ◌+◌, ◌-◌, ◌<◌, ◌≤◌, List, [], ◌∷◌, ◌++◌, length, take, drop, get_or, refl, ap, sym, subst, ◌∙◌, arith, append_assoc, length-append, inl, inr}
+use Rattle.std.proofs.Common.{◌≡◌, ℕ, zero, suc, ◌+◌, ◌-◌, ◌<◌, ◌≤◌, List, [], ◌∷◌, ◌++◌, length, take, drop, get_or, ap, sym, ◌∙◌, arith, append_assoc, length-append, inl, inr}
 use Rattle.std.specs.Prelude.{max, ◌⊎◌}
 use Rattle.std.proofs.lemmas.Bool.{cases_lt}
 use Rattle.std.specs.BTreeMap.Range.{entries_between}
 use Rattle.std.specs.declared.ops.Bound.TheVariants.{Included, Unbounded}
-use Rattle.std.specs.declared.cmp.Ordering.{Ordering}
 use Rattle.std.proofs.lemmas.List.{take-append-drop, drop-append-le, length-take-le, drop-drop}
 use Rattle.shelf.specs.Texts.{text_cmp}
-use Rattle.shelf.specs.inside.Places.{AreSorted, AreFilled, AreBelow, AreAbove, AreFrom, IsPlace, IsBlockOf, joined}
-use Rattle.shelf.specs.inside.Walks.{IsShelf, IsWalk, IsInside, rest}
+use Rattle.shelf.specs.inside.Places.{AreBelow, AreFrom, IsPlace, IsBlockOf, joined}
+use Rattle.shelf.specs.inside.Walks.{IsInside, rest}
 use Rattle.shelf.proofs.Looking.{below_append, from_append, above_from_key, between_split, all_is, block_is}
 use Rattle.shelf.proofs.Order.{joined_at}
 

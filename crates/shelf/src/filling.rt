@@ -41,7 +41,11 @@ fn cut_of(last: bool, i: usize) -> usize
     ensures some { 0 < result }
     ensures less { result < 128 }
 {
-    if last && i == FULL { FULL - 1 } else { FULL / 2 }
+    if last && i == FULL {
+        FULL - 1
+    } else {
+        FULL / 2
+    }
 }
 
 fn put_in<V: Drop>(

@@ -55,6 +55,18 @@ impl<V> Shelf<V> {
         self.blocks.is_empty()
     }
 
+    /// How many texts there are. It goes over the blocks.
+    pub fn len(&self) -> usize
+        ensures { result ≡ length self.now }
+    {
+        let blocks = self.blocks.as_slice();
+        let mut count = 0;
+        for block in blocks {
+            count += block.len();
+        }
+        count
+    }
+
     /// The value at a text.
     pub fn get(&self, key: &str) -> Option<&V>
         ensures { option_copied result ≡ lookup (is_text key.now) self.now }

@@ -44,11 +44,7 @@ impl<'a, V> Walk<'a, V> {
         let passed = self.index;
         let at = near_block_of(blocks, least);
         let place = blocks[at].place(least);
-        let index = if at == 0 {
-            place.max(passed)
-        } else {
-            place
-        };
+        let index = if at == 0 { place.max(passed) } else { place };
         *self = walk_at(blocks, at, index);
     }
 }

@@ -8,5 +8,5 @@ returns-in-Greater g c = record {
   within = c.requires.some;
   below = tt;
   above = blocks_above c.args.key.now c.args.blocks.now 1 c.requires.filled c.requires.sorted (omega arith)
-  (ap (λ k. text_cmp k c.args.key.now) (sym (begins c.args.blocks.now 1 _ _ (omega arith) c.index-blocks-1.is c.text.ensures)) ∙ sym c.in-Greater.ensures);
+      (ap (λ k. text_cmp k c.args.key.now) (sym (begins c.args.blocks.now 1 _ _ (omega arith) c.index-blocks-1.is c.text.ensures)) ∙ sym c.in-Greater.ensures);
 }

@@ -1,4 +1,4 @@
-use Rattle.std.proofs.Common.{ℕ, List, ◌∷◌, length, get_or, ap, sym, ◌∙◌, arith}
+use Rattle.std.proofs.Common.{List, ◌∷◌, length, get_or, ap, ◌∙◌, arith}
 use Rattle.std.specs.List.{insert, insert_slice}
 use Rattle.std.specs.String.{string_bytes}
 use Rattle.shelf.proofs.Blocks.{count_is, ends_are}

@@ -1,4 +1,4 @@
-use Rattle.std.proofs.Common.{ℕ, List, ◌∷◌, get_or, drop, refl, ap, ◌∙◌, arith}
+use Rattle.std.proofs.Common.{◌∷◌, get_or, drop, refl, ap, ◌∙◌, arith}
 use Rattle.shelf.proofs.Blocks.{count_is, ends_are}
 use Rattle.shelf.proofs.Inserting.{cut_point}
 use Rattle.shelf.proofs.Splitting.{rising, lowered_from, left_block, left_entries, right_block, right_entries}

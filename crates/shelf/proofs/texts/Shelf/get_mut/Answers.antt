@@ -1,4 +1,4 @@
-use Rattle.std.proofs.Common.{List, ℕ, ap, refl, sym, subst, ◌∙◌}
+use Rattle.std.proofs.Common.{ap, refl, sym, subst, ◌∙◌}
 use Rattle.std.specs.Map.{lookup, set_value}
 use Rattle.shelf.specs.Texts.{is_text}
 use Rattle.shelf.specs.inside.Places.{IsFound, joined}
@@ -12,14 +12,18 @@ returns-in_default g c =
 
 pub invariant_of-self-lent : goal.invariant_of-self-lent
 invariant_of-self-lent g c = λ _.
-    let found = subst (IsFound c.args.key.now c.in-Some.at c.in-Some.i) c.deref.ensures.value c.in-Some.ensures in
-    (λ w. set_shelf c.args.key.now c.in-Some.at c.in-Some.i _ c.self.invariant found _ c.in_ok-block.ensures.value w _ (c.value_mut.follows.holds w),
-    kept_shelf c.args.key.now c.in-Some.at c.in-Some.i _ c.self.invariant found _ c.in_ok-block.ensures.value _ c.value_mut.follows.holds-at-none)
+    let found = subst (IsFound c.args.key.now c.in-Some.at c.in-Some.i) c.deref.ensures.value c.in-Some.ensures in (
+      λ w. set_shelf c.args.key.now c.in-Some.at c.in-Some.i _ c.self.invariant found _ c.in_ok-block.ensures.value w _ (c.value_mut.follows.holds w),
+      kept_shelf c.args.key.now c.in-Some.at c.in-Some.i _ c.self.invariant found _ c.in_ok-block.ensures.value _ c.value_mut.follows.holds-at-none,
+    )
 
 pub returns : goal.returns
 returns g c =
-    let found = subst (IsFound c.args.key.now c.in-Some.at c.in-Some.i) c.deref.ensures.value c.in-Some.ensures in
-    ((refl,
-    λ w. set_entries c.args.key.now c.in-Some.at c.in-Some.i _ c.self.invariant found _ c.in_ok-block.ensures.value w _ (c.value_mut.follows.holds w) ∙ ap (λ es. set_value (is_text c.args.key.now) es w) c.self.view_is,
-    ap joined (kept c.args.key.now c.in-Some.at c.in-Some.i _ c.self.invariant found _ c.in_ok-block.ensures.value _ c.value_mut.follows.holds-at-none) ∙ c.self.view_is),
-    c.value_mut.ensures.value ∙ found_there c.args.key.now c.in-Some.at c.in-Some.i _ c.self.invariant found _ c.in_ok-block.ensures.value ∙ ap (lookup (is_text c.args.key.now)) c.self.view_is)
+    let found = subst (IsFound c.args.key.now c.in-Some.at c.in-Some.i) c.deref.ensures.value c.in-Some.ensures in (
+      (
+        refl,
+        λ w. set_entries c.args.key.now c.in-Some.at c.in-Some.i _ c.self.invariant found _ c.in_ok-block.ensures.value w _ (c.value_mut.follows.holds w) ∙ ap (λ es. set_value (is_text c.args.key.now) es w) c.self.view_is,
+        ap joined (kept c.args.key.now c.in-Some.at c.in-Some.i _ c.self.invariant found _ c.in_ok-block.ensures.value _ c.value_mut.follows.holds-at-none) ∙ c.self.view_is,
+      ),
+      c.value_mut.ensures.value ∙ found_there c.args.key.now c.in-Some.at c.in-Some.i _ c.self.invariant found _ c.in_ok-block.ensures.value ∙ ap (lookup (is_text c.args.key.now)) c.self.view_is,
+    )
