@@ -8,17 +8,17 @@ ghost use Rattle.std.specs.Option.{option_copied_mut};
 ghost use Rattle.shelf.specs.contracts.block.Block.{the_row};
 ghost use Rattle.shelf.specs.inside.Ends.{with_end};
 ghost use Rattle.shelf.specs.inside.Written.{with_value};
-ghost use Rattle.shelf.specs.inside.Places.{AreSorted, AreFilled, IsAt, IsBetween, IsPlace, IsBlockOf, joined};
+ghost use Rattle.shelf.specs.inside.Places.{AreSorted, AreFilled, AreBelow, AreAbove, IsAt, IsBetween, IsPlace, IsBlockOf, joined};
 
 use std::alloc::{AllocError, Global};
 use std::cmp::Ordering;
 use std::marker::Model;
 use std::mem::replace;
 
-/// As many texts as a block has at most.
+/// As many texts as a block has at most. So many of at most 511 bytes each end below 2^16.
 pub(crate) const FULL: usize = 128;
 
-/// Texts one after another, each with a value.
+/// Texts one after another, where each ends, and their values.
 #[derive(Drop)]
 pub(crate) struct Block<V> {
     texts: String,
@@ -234,8 +234,24 @@ pub(crate) fn block_of<V>(blocks: &[Block<V>], key: &str) -> usize
     requires sorted { AreSorted (joined blocks.now) }
     ensures { IsBlockOf key.now result blocks.now }
 {
-    let mut low = 0;
-    let mut high = blocks.len();
+    block_between(blocks, 0, blocks.len(), key)
+}
+
+/// The same, of the blocks from one up to another.
+pub(crate) fn block_between<V>(
+    blocks: &[Block<V>],
+    mut low: usize,
+    mut high: usize,
+    key: &str,
+) -> usize
+    requires up { low < high }
+    requires within { high ≤ length blocks.now }
+    requires below { AreBelow key.now (joined (take low blocks.now)) }
+    requires above { AreAbove key.now (joined (drop high blocks.now)) }
+    requires filled { AreFilled blocks.now }
+    requires sorted { AreSorted (joined blocks.now) }
+    ensures { IsBlockOf key.now result blocks.now }
+{
     'halves: while low + 1 < high {
         let mid = low + (high - low) / 2;
         match blocks[mid].text(0).cmp(key) {

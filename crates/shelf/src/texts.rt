@@ -18,7 +18,8 @@ use crate::walk::{Walk, walk_all, walk_from};
 use std::alloc::{AllocError, Global};
 use std::marker::Model;
 
-/// Texts in order, each with a value, packed in blocks.
+/// Texts in order, each with a value. They stand in blocks, one text after another, so that none has memory
+/// of its own. A look-up is by halves among blocks and within one; a text put in moves those of its block.
 #[derive(Drop)]
 pub struct Shelf<V> {
     alloc: Global,
@@ -49,6 +50,7 @@ impl<V> Shelf<V> {
         }
     }
 
+    /// Whether there is no text.
     pub fn is_empty(&self) -> bool
         ensures { result ≡ (length self.now == 0) }
     {

@@ -8,7 +8,7 @@ ghost use Rattle.shelf.specs.Texts.{text_cmp};
 ghost use Rattle.shelf.specs.inside.Places.{AreFilled, AreSorted, IsBlockOf, joined};
 ghost use Rattle.shelf.specs.inside.Walks.{IsShelf};
 
-use crate::block::{Block, block_of};
+use crate::block::{Block, block_between, block_of};
 use std::cmp::Ordering;
 use std::iter::Iterator;
 use std::marker::Model;
@@ -33,7 +33,7 @@ impl<'a, V> Model for Walk<'a, V> {
 }
 
 impl<'a, V> Walk<'a, V> {
-    /// Passes over the texts below a text. It costs little where few are below.
+    /// Passes over the texts below a text. It costs little where few are left out.
     pub fn skip_to(&mut self, least: &str)
         ensures { self.new ≡ entries_between text_cmp (Included least.now) Unbounded self.old }
     {
@@ -89,20 +89,25 @@ pub(crate) fn walk_from<'a, V>(blocks: &'a [Block<V>], least: &str) -> Walk<'a, 
     walk_at(blocks, at, index)
 }
 
-/// The block in which the text is, or would be put in, which may be the first.
+/// The block in which the text is, or would be put in. It costs little where that is near the first.
 fn near_block_of<V>(blocks: &[Block<V>], key: &str) -> usize
     requires some { 0 < length blocks.now }
     requires filled { AreFilled blocks.now }
     requires sorted { AreSorted (joined blocks.now) }
     ensures { IsBlockOf key.now result blocks.now }
 {
-    if blocks.len() == 1 {
-        return 0;
+    let mut low = 0;
+    let mut high = 1;
+    'steps: while high < blocks.len() {
+        match blocks[high].text(0).cmp(key) {
+            Ordering::Greater => return block_between(blocks, low, high, key),
+            _ => {
+                low = high;
+                high = high.saturating_add(high);
+            }
+        }
     }
-    match blocks[1].text(0).cmp(key) {
-        Ordering::Greater => 0,
-        _ => block_of(blocks, key),
-    }
+    block_between(blocks, low, blocks.len(), key)
 }
 
 /// What is left after a place.

@@ -1,12 +1,17 @@
 use Rattle.std.proofs.Common.{ap, sym, ◌∙◌, arith}
 use Rattle.shelf.specs.Texts.{text_cmp}
-use Rattle.shelf.proofs.Order.{blocks_above, begins}
+use Rattle.shelf.proofs.Order.{blocks_below, blocks_above, begins}
 use Rattle.shelf.proofs.walk.near_block_of.Goals as goal
 
-pub returns-in-Greater : goal.returns-in-Greater
-returns-in-Greater g c = record {
-  within = c.requires.some;
-  below = tt;
-  above = blocks_above c.args.key.now c.args.blocks.now 1 c.requires.filled c.requires.sorted (omega arith)
-      (ap (λ k. text_cmp k c.args.key.now) (sym (begins c.args.blocks.now 1 _ _ (omega arith) c.index-blocks-1.is c.text.ensures)) ∙ sym c.in-Greater.ensures);
+pub block_between-requires-clause-above : goal.block_between-requires-clause-above
+block_between-requires-clause-above g c =
+    blocks_above c.args.key.now c.args.blocks.now c.steps.high c.requires.filled c.requires.sorted c.steps-test.true
+    (ap (λ k. text_cmp k c.args.key.now) (sym (begins c.args.blocks.now c.steps.high _ _ c.steps-test.true c.index-blocks-high.is c.text.ensures)) ∙ sym c.in-Greater.ensures)
+
+pub steps-preserved : goal.steps-preserved
+steps-preserved g c = record {
+  up = omega arith;
+  within = c.steps-test.true;
+  below = blocks_below c.args.key.now c.args.blocks.now c.steps.high c.requires.filled c.requires.sorted c.steps-test.true
+      (λ is. c.in_default.not-Greater (c.cmp.ensures ∙ ap (λ k. text_cmp k c.args.key.now) (begins c.args.blocks.now c.steps.high _ _ c.steps-test.true c.index-blocks-high.is c.text.ensures) ∙ is));
 }

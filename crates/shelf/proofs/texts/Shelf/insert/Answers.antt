@@ -21,35 +21,35 @@ search-requires g c =
 pub invariant_of-self-in-Ok : goal.invariant_of-self-in-Ok
 invariant_of-self-in-Ok g c =
     let is = subst (IsBlockOf c.args.key.now c.block_of-at.result) c.deref.ensures.value c.block_of-at.ensures in
-    let there = subst (IsAt c.args.key.now c.in-Ok.i) (read_twice _ _ _ _ is.within c.index.ensures c.index_mut-block.ensures.value) c.in-Ok.ensures.ok in
-    replaced_shelf c.args.key.now c.block_of-at.result c.in-Ok.i _ c.self.invariant is _ c.index_mut-block.ensures.value there c.args.value _ c.replace.ensures.new
+    let there = subst (IsAt c.args.key.now c.in-Ok.i) (read_twice c.self.inside.blocks.items c.block_of-at.result c.index.result.now c.index_mut-block.result.now is.within c.index.ensures c.index_mut-block.ensures.value) c.in-Ok.ensures.ok in
+    replaced_shelf c.args.key.now c.block_of-at.result c.in-Ok.i c.self.inside.blocks.items c.self.invariant is c.index_mut-block.result.now c.index_mut-block.ensures.value there c.args.value _ c.replace.ensures.new
 
 pub returns-in-Ok-clause-entries : goal.returns-in-Ok-clause-entries
 returns-in-Ok-clause-entries g c =
     let is = subst (IsBlockOf c.args.key.now c.block_of-at.result) c.deref.ensures.value c.block_of-at.ensures in
-    let there = subst (IsAt c.args.key.now c.in-Ok.i) (read_twice _ _ _ _ is.within c.index.ensures c.index_mut-block.ensures.value) c.in-Ok.ensures.ok in
-    replaced c.args.key.now c.block_of-at.result c.in-Ok.i _ c.self.invariant is _ c.index_mut-block.ensures.value there c.args.value _ c.replace.ensures.new
+    let there = subst (IsAt c.args.key.now c.in-Ok.i) (read_twice c.self.inside.blocks.items c.block_of-at.result c.index.result.now c.index_mut-block.result.now is.within c.index.ensures c.index_mut-block.ensures.value) c.in-Ok.ensures.ok in
+    replaced c.args.key.now c.block_of-at.result c.in-Ok.i c.self.inside.blocks.items c.self.invariant is c.index_mut-block.result.now c.index_mut-block.ensures.value there c.args.value _ c.replace.ensures.new
     ∙ ap (λ es. insert_entry text_cmp es c.args.key.now c.args.value) c.self.view_is
 
 pub returns-in-Ok-clause-old : goal.returns-in-Ok-clause-old
 returns-in-Ok-clause-old g c =
     let is = subst (IsBlockOf c.args.key.now c.block_of-at.result) c.deref.ensures.value c.block_of-at.ensures in
-    let there = subst (IsAt c.args.key.now c.in-Ok.i) (read_twice _ _ _ _ is.within c.index.ensures c.index_mut-block.ensures.value) c.in-Ok.ensures.ok in
-    replaced_value c.args.key.now c.block_of-at.result c.in-Ok.i _ c.self.invariant is _ c.index_mut-block.ensures.value there _ c.replace.ensures.old
+    let there = subst (IsAt c.args.key.now c.in-Ok.i) (read_twice c.self.inside.blocks.items c.block_of-at.result c.index.result.now c.index_mut-block.result.now is.within c.index.ensures c.index_mut-block.ensures.value) c.in-Ok.ensures.ok in
+    replaced_value c.args.key.now c.block_of-at.result c.in-Ok.i c.self.inside.blocks.items c.self.invariant is c.index_mut-block.result.now c.index_mut-block.ensures.value there _ c.replace.ensures.old
     ∙ ap (lookup (is_text c.args.key.now)) c.self.view_is
 
 pub invariant_of-self-in-Err : goal.invariant_of-self-in-Err
 invariant_of-self-in-Err g c =
     let is = subst (IsBlockOf c.args.key.now c.block_of-at.result) c.deref.ensures.value c.block_of-at.ensures in
-    entered_shelf c.args.key.now c.block_of-at.result c.in-Err.i _ is _ c.index.ensures c.in-Err.ensures.err c.args.value c.self.invariant.sorted _ c.in_ok-put-in-Err.ensures.filled c.in_ok-put-in-Err.ensures.ok
+    entered_shelf c.args.key.now c.block_of-at.result c.in-Err.i c.self.inside.blocks.items is c.index.result.now c.index.ensures c.in-Err.ensures.err c.args.value c.self.invariant.sorted _ c.in_ok-put-in-Err.ensures.filled c.in_ok-put-in-Err.ensures.ok
 
 pub returns-in_ok-put-in-Err-clause-entries : goal.returns-in_ok-put-in-Err-clause-entries
 returns-in_ok-put-in-Err-clause-entries g c =
     let is = subst (IsBlockOf c.args.key.now c.block_of-at.result) c.deref.ensures.value c.block_of-at.ensures in
-    c.in_ok-put-in-Err.ensures.ok ∙ entered c.args.key.now c.block_of-at.result c.in-Err.i _ is _ c.index.ensures c.in-Err.ensures.err c.args.value
+    c.in_ok-put-in-Err.ensures.ok ∙ entered c.args.key.now c.block_of-at.result c.in-Err.i c.self.inside.blocks.items is c.index.result.now c.index.ensures c.in-Err.ensures.err c.args.value
     ∙ ap (λ es. insert_entry text_cmp es c.args.key.now c.args.value) c.self.view_is
 
 pub returns-in_ok-put-in-Err-clause-old : goal.returns-in_ok-put-in-Err-clause-old
 returns-in_ok-put-in-Err-clause-old g c =
     let is = subst (IsBlockOf c.args.key.now c.block_of-at.result) c.deref.ensures.value c.block_of-at.ensures in
-    missing c.args.key.now c.block_of-at.result _ is _ c.index.ensures c.in-Err.i c.in-Err.ensures.err ∙ ap (lookup (is_text c.args.key.now)) c.self.view_is
+    missing c.args.key.now c.block_of-at.result c.self.inside.blocks.items is c.index.result.now c.index.ensures c.in-Err.i c.in-Err.ensures.err ∙ ap (lookup (is_text c.args.key.now)) c.self.view_is

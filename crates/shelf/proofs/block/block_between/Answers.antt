@@ -2,7 +2,7 @@ use Rattle.std.proofs.Common.{◌+◌, ◌-◌, ◌/◌, ◌≡◌, suc, drop, a
 use Rattle.shelf.specs.Texts.{text_cmp}
 use Rattle.shelf.specs.inside.Places.{AreAbove, joined}
 use Rattle.shelf.proofs.Order.{blocks_below, blocks_above, begins}
-use Rattle.shelf.proofs.block.block_of.Goals as goal
+use Rattle.shelf.proofs.block.block_between.Goals as goal
 
 pub halves-preserved-in-Greater : goal.halves-preserved-in-Greater
 halves-preserved-in-Greater g c =
