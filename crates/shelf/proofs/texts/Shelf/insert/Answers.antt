@@ -22,13 +22,13 @@ pub invariant_of-self-in-Ok : goal.invariant_of-self-in-Ok
 invariant_of-self-in-Ok g c =
     let is = subst (IsBlockOf c.args.key.now c.block_of-at.result) c.deref.ensures.value c.block_of-at.ensures in
     let there = subst (IsAt c.args.key.now c.in-Ok.i) (read_twice c.self.inside.blocks.items c.block_of-at.result c.index.result.now c.index_mut-block.result.now is.within c.index.ensures c.index_mut-block.ensures.value) c.in-Ok.ensures.ok in
-    replaced_shelf c.args.key.now c.block_of-at.result c.in-Ok.i c.self.inside.blocks.items c.self.invariant is c.index_mut-block.result.now c.index_mut-block.ensures.value there c.args.value _ c.replace.ensures.new
+    replaced_shelf c.args.key.now c.block_of-at.result c.in-Ok.i c.self.inside.blocks.items c.self.invariant is c.index_mut-block.result.now c.index_mut-block.ensures.value there c.args.value c.replace.new.self c.replace.ensures.new
 
 pub returns-in-Ok-clause-entries : goal.returns-in-Ok-clause-entries
 returns-in-Ok-clause-entries g c =
     let is = subst (IsBlockOf c.args.key.now c.block_of-at.result) c.deref.ensures.value c.block_of-at.ensures in
     let there = subst (IsAt c.args.key.now c.in-Ok.i) (read_twice c.self.inside.blocks.items c.block_of-at.result c.index.result.now c.index_mut-block.result.now is.within c.index.ensures c.index_mut-block.ensures.value) c.in-Ok.ensures.ok in
-    replaced c.args.key.now c.block_of-at.result c.in-Ok.i c.self.inside.blocks.items c.self.invariant is c.index_mut-block.result.now c.index_mut-block.ensures.value there c.args.value _ c.replace.ensures.new
+    replaced c.args.key.now c.block_of-at.result c.in-Ok.i c.self.inside.blocks.items c.self.invariant is c.index_mut-block.result.now c.index_mut-block.ensures.value there c.args.value c.replace.new.self c.replace.ensures.new
     ∙ ap (λ es. insert_entry text_cmp es c.args.key.now c.args.value) c.self.view_is
 
 pub returns-in-Ok-clause-old : goal.returns-in-Ok-clause-old

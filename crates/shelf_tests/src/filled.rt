@@ -1,0 +1,126 @@
+//! Shelves that are filled with a thousand texts.
+use shelf::{Shelf, Walk};
+use std::alloc::{AllocError, Global};
+use std::test::Fail;
+
+const COUNT: u64 = 1000;
+
+fn text_of(alloc: Global, i: u64) -> Result<String, AllocError> {
+    format!(in alloc; "document d{i:03}")
+}
+
+/// The texts of the numbers below a thousand, each with its number, put in by steps of so many.
+fn filled(alloc: Global, step: u64) -> Result<Shelf<u64>, AllocError> {
+    let mut shelf = Shelf::new(alloc);
+    for i in 0..COUNT {
+        let number = i.wrapping_mul(step) % COUNT;
+        let text = text_of(alloc, number)?;
+        if text.as_str().len() <= 511 {
+            let _ = shelf.insert(text.as_str(), number)?;
+        }
+    }
+    Ok(shelf)
+}
+
+/// Whether the walk gives the numbers from one up to another, and then nothing.
+fn gives(alloc: Global, walk: Walk<'_, u64>, from: u64, to: u64) -> Result<bool, AllocError> {
+    let mut next = from;
+    for (text, number) in walk {
+        let wanted = text_of(alloc, next)?;
+        if *number != next || text != wanted.as_str() {
+            return Ok(false);
+        }
+        next = next.wrapping_add(1);
+    }
+    Ok(next == to)
+}
+
+/// Whether each text is found with its number, and none between two.
+fn finds(alloc: Global, shelf: &Shelf<u64>) -> Result<bool, AllocError> {
+    for i in 0..COUNT {
+        let text = text_of(alloc, i)?;
+        let later = format!(in alloc; "{text}0")?;
+        if shelf.get(text.as_str()).copied() != Some(i) || shelf.get(later.as_str()).is_some() {
+            return Ok(false);
+        }
+    }
+    Ok(true)
+}
+
+/// Whether the shelf has the texts, in order, from each on.
+fn is_full(alloc: Global, shelf: &Shelf<u64>) -> Result<bool, AllocError> {
+    for i in 0..COUNT {
+        let least = text_of(alloc, i)?;
+        if i % 97 == 0 && !gives(alloc, shelf.range(least.as_str()), i, COUNT)? {
+            return Ok(false);
+        }
+    }
+    Ok(shelf.len() == 1000 && finds(alloc, shelf)? && gives(alloc, shelf.iter(), 0, COUNT)?)
+}
+
+/// Whether a walk that skips to each text gives it next.
+fn skips(alloc: Global, shelf: &Shelf<u64>, step: u64) -> Result<bool, AllocError> {
+    let mut walk = shelf.iter();
+    for i in 0..COUNT {
+        if step == 0 || i % step != 0 {
+            continue;
+        }
+        let least = text_of(alloc, i)?;
+        walk.skip_to(least.as_str());
+        walk.skip_to("document");
+        if walk.next().map(|(_, number)| *number) != Some(i) {
+            return Ok(false);
+        }
+    }
+    Ok(true)
+}
+
+/// Whether a value is written and replaced at each text, and the old one given back.
+fn writes(alloc: Global, shelf: &mut Shelf<u64>) -> Result<bool, AllocError> {
+    for i in 0..COUNT {
+        let text = text_of(alloc, i)?;
+        if let Some(number) = shelf.get_mut(text.as_str()) {
+            *number = 7;
+        }
+        if text.as_str().len() <= 511 && shelf.insert(text.as_str(), i)? != Some(7) {
+            return Ok(false);
+        }
+    }
+    Ok(true)
+}
+
+#[test]
+fn scattered_texts_are_in_order(rt: HostRuntime) -> Result<(), Fail> {
+    let shelf = filled(rt.alloc(), 617)?;
+    assert!(rt; is_full(rt.alloc(), &shelf)?);
+    Ok(())
+}
+
+#[test]
+fn texts_in_order_are_in_order(rt: HostRuntime) -> Result<(), Fail> {
+    let shelf = filled(rt.alloc(), 1)?;
+    assert!(rt; is_full(rt.alloc(), &shelf)?);
+    Ok(())
+}
+
+#[test]
+fn texts_from_the_last_are_in_order(rt: HostRuntime) -> Result<(), Fail> {
+    let shelf = filled(rt.alloc(), 999)?;
+    assert!(rt; is_full(rt.alloc(), &shelf)?);
+    Ok(())
+}
+
+#[test]
+fn a_walk_skips_forward_alone(rt: HostRuntime) -> Result<(), Fail> {
+    let shelf = filled(rt.alloc(), 617)?;
+    assert!(rt; skips(rt.alloc(), &shelf, 3)? && skips(rt.alloc(), &shelf, 131)?);
+    Ok(())
+}
+
+#[test]
+fn a_written_value_is_given_back(rt: HostRuntime) -> Result<(), Fail> {
+    let mut shelf = filled(rt.alloc(), 617)?;
+    let written = writes(rt.alloc(), &mut shelf)?;
+    assert!(rt; written && is_full(rt.alloc(), &shelf)?);
+    Ok(())
+}
