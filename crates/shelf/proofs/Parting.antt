@@ -8,6 +8,7 @@ use Rattle.std.proofs.lemmas.List.Edits.{insert-append_left, insert-append_right
 use Rattle.shelf.specs.inside.Places.{AreFilled, joined}
 use Rattle.shelf.specs.inside.Written.{entries_put, parted}
 use Rattle.shelf.proofs.Looking.{joined_around}
+use Rattle.shelf.proofs.Walking.{filled_from}
 use Rattle.shelf.proofs.Writing.{joined_set}
 
 pub ok_then : {T E P Q : Type 0} (r : Result T E) → OnOk r P → (P → Q) → OnOk r Q
@@ -34,11 +35,6 @@ module _ {V : Type 0} where
   filled_take bs zero filled = tt
   filled_take [] (suc i) filled = tt
   filled_take (b ∷ bs) (suc i) filled = (filled.0, filled_take bs i filled.1)
-
-  filled_drop : (bs : List (List (List ℕ × V))) (i : ℕ) → AreFilled bs → AreFilled (drop i bs)
-  filled_drop bs zero filled = filled
-  filled_drop [] (suc i) filled = filled
-  filled_drop (b ∷ bs) (suc i) filled = filled_drop bs i filled.1
 
   pub put_joined : (bs : List (List (List ℕ × V))) (at i : ℕ) (e : List ℕ × V) → at < length bs → joined (set bs at (insert (get_or bs at []) i e)) ≡ entries_put bs at i e
   put_joined bs at i e within = joined_set bs at (insert (get_or bs at []) i e) within
@@ -120,15 +116,15 @@ module _ {V : Type 0} where
       right_some = omega (arith, length-drop cut (get_or bs at []))
 
       pub parted_filled : AreFilled (parted bs at cut)
-      parted_filled = subst AreFilled (sym parted_is) (two_filled (take at bs) _ _ (drop (suc at) bs) (filled_take bs at filled) (filled_drop bs (suc at) filled) left_some right_some)
+      parted_filled = subst AreFilled (sym parted_is) (two_filled (take at bs) _ _ (drop (suc at) bs) (filled_take bs at filled) (filled_from bs (suc at) filled) left_some right_some)
 
       pub left_filled : (i : ℕ) (e : List ℕ × V) → AreFilled (set (parted bs at cut) at (insert (get_or (parted bs at cut) at []) i e))
       left_filled i e =
-          subst AreFilled (sym (left_is i e)) (two_filled (take at bs) _ _ (drop (suc at) bs) (filled_take bs at filled) (filled_drop bs (suc at) filled) (some_put (take cut (get_or bs at [])) i e) right_some)
+          subst AreFilled (sym (left_is i e)) (two_filled (take at bs) _ _ (drop (suc at) bs) (filled_take bs at filled) (filled_from bs (suc at) filled) (some_put (take cut (get_or bs at [])) i e) right_some)
 
       pub right_filled : (i : ℕ) (e : List ℕ × V) → AreFilled (set (parted bs at cut) (at + 1) (insert (get_or (parted bs at cut) (at + 1) []) i e))
       right_filled i e =
-          subst AreFilled (sym (right_is i e)) (two_filled (take at bs) _ _ (drop (suc at) bs) (filled_take bs at filled) (filled_drop bs (suc at) filled) left_some (some_put (drop cut (get_or bs at [])) i e))
+          subst AreFilled (sym (right_is i e)) (two_filled (take at bs) _ _ (drop (suc at) bs) (filled_take bs at filled) (filled_from bs (suc at) filled) left_some (some_put (drop cut (get_or bs at [])) i e))
 
   -- a block that is full is longer than where it is parted
   pub longer : (bs : List (List (List ℕ × V))) (at n cut : ℕ) (b : List (List ℕ × V)) → at < length bs → b ≡ get_or bs at b → n ≡ length b → 128 ≤ n → cut < 128 → cut < length (get_or bs at [])

@@ -8,7 +8,7 @@ use Rattle.shelf.specs.inside.Walks.{IsInside, IsShelf, IsWalk, rest}
 use Rattle.shelf.proofs.Order.{sorted_right, joined_split}
 
 module _ {V : Type 0} where
-  filled_from : (bs : List (List (List ℕ × V))) (i : ℕ) → AreFilled bs → AreFilled (drop i bs)
+  pub filled_from : (bs : List (List (List ℕ × V))) (i : ℕ) → AreFilled bs → AreFilled (drop i bs)
   filled_from bs zero filled = filled
   filled_from [] (suc i) filled = filled
   filled_from (b ∷ bs) (suc i) filled = filled_from bs i filled.1
@@ -51,9 +51,6 @@ module _ {V : Type 0} where
 
     pub others_walk : IsWalk others 0
     others_walk = at_start others (shelf_from (b ∷ others) 1 (subst IsShelf first is.blocks))
-
-    pub same_block : index + 1 < length b → IsWalk bs (index + 1)
-    same_block h = record { blocks = is.blocks; inside = let P : List (List (List ℕ × V)) → Type 0 = λ cs. IsInside cs (index + 1) in subst P (sym first) h }
 
     pub stays : (e : List ℕ × V) (all : List (List ℕ × V)) → slice_get b index ≡ Some e → rest bs index ≡ all → all ≡ e ∷ rest bs (index + 1)
     stays e all h view =
