@@ -3,3 +3,4 @@ pub mod Spelled
 pub mod Versions
 pub mod Texts
 pub mod Named
+pub mod Inline

@@ -2,6 +2,7 @@
 ghost use Rattle.std.specs.Prelude.{◌≡◌, ◌<◌, ◌≤◌, ◌++◌, ◌∷◌, [], drop, length, OnOk, OnErr, IfOk};
 ghost use Rattle.std.specs.List.{AllWithin};
 ghost use Rattle.rows_core.specs.Versions.{is_put, version_of, stands, IsRising, is_there, is_based, last_rev, drop_last, after_settle, after_settle_first};
+ghost use Rattle.rows_core.specs.Inline.{kept_versions};
 
 use crate::kept::KeptEvent;
 use names::EventKind;
@@ -33,8 +34,18 @@ impl Version {
 /// see the versions.
 #[derive(Drop)]
 pub(crate) struct Versions {
+    alloc: Global,
     text: ArcStr,
-    versions: VecDeque<Version>,
+    kept: Kept,
+}
+
+// Most tuples never have a second version, so the first takes no memory of its own. More are boxed, so that what
+// holds the first stays small. What has had many keeps their room.
+#[derive(Drop)]
+enum Kept {
+    None,
+    One(Version),
+    Many(Box<VecDeque<Version>>),
 }
 
 impl Model for Versions {
@@ -43,15 +54,20 @@ impl Model for Versions {
 
     ghost Value = { List VersionValue };
 
-    ghost view = { λ m. m.versions.items };
+    ghost use Rattle.rows_core.specs.Inline.{kept_versions};
+
+    ghost view = { λ m. kept_versions m.kept };
 }
 
 impl Versions {
     pub(crate) fn one(alloc: Global, text: ArcStr, version: Version) -> Result<Versions, AllocError>
         ensures { IfOk result (λ m. m ≡ version ∷ []) }
     {
-        let versions = one_version(alloc, version)?;
-        Ok(Versions { text, versions })
+        Ok(Versions {
+            alloc,
+            text,
+            kept: Kept::One(version),
+        })
     }
 
     /// The text that is shared.
@@ -64,35 +80,47 @@ impl Versions {
         requires { IsRising self.now }
         ensures { result ≡ stands self.now rev }
     {
-        stands_at(&self.versions, rev)
+        match &self.kept {
+            Kept::None => false,
+            Kept::One(version) => version.rev <= rev && version.put,
+            Kept::Many(versions) => stands_at(versions, rev),
+        }
     }
 
     /// Whether the last version is a put.
     pub(crate) fn is_there(&self) -> bool
         ensures { result ≡ is_there self.now }
     {
-        is_there(&self.versions)
+        match &self.kept {
+            Kept::None => false,
+            Kept::One(version) => version.put,
+            Kept::Many(versions) => is_there(versions),
+        }
     }
 
     /// The revision of the last version.
     pub(crate) fn last_rev(&self) -> u64
         ensures { result ≡ last_rev self.now }
     {
-        last_rev(&self.versions)
+        match &self.kept {
+            Kept::None => 0,
+            Kept::One(version) => version.rev,
+            Kept::Many(versions) => last_rev(versions),
+        }
     }
 
     pub(crate) fn add(&mut self, version: Version) -> Result<(), AllocError>
         ensures ok { OnOk result (self.new ≡ self.old ++ version ∷ []) }
         ensures err { OnErr result (self.new ≡ self.old) }
     {
-        add_version(&mut self.versions, version)
+        add_kept(self.alloc, &mut self.kept, version)
     }
 
     /// Takes the newest version off.
     pub(crate) fn drop_newest(&mut self)
         ensures { self.new ≡ drop_last self.old }
     {
-        drop_version(&mut self.versions);
+        drop_kept(&mut self.kept);
     }
 
     /// Takes the oldest version above the floor into what the floor holds. Says whether the floor held the
@@ -101,8 +129,72 @@ impl Versions {
         ensures versions { self.new ≡ after_settle self.old }
         ensures was_based { result ≡ is_based self.old }
     {
-        settle(&mut self.versions)
+        settle_kept(&mut self.kept)
     }
+}
+
+fn add_kept(alloc: Global, kept: &mut Kept, version: Version) -> Result<(), AllocError>
+    ensures ok { OnOk result (kept_versions kept.new ≡ kept_versions kept.old ++ version ∷ []) }
+    ensures err { OnErr result (kept_versions kept.new ≡ kept_versions kept.old) }
+{
+    match kept {
+        Kept::None => *kept = Kept::One(version),
+        Kept::One(first) => *kept = Kept::Many(two_versions(alloc, *first, version)?),
+        Kept::Many(versions) => add_version(versions, version)?,
+    }
+    Ok(())
+}
+
+fn two_versions(
+    alloc: Global,
+    first: Version,
+    second: Version,
+) -> Result<Box<VecDeque<Version>>, AllocError>
+    ensures { IfOk result (λ versions. versions.value.items ≡ first ∷ second ∷ []) }
+{
+    let mut versions = VecDeque::with_capacity(alloc, 2)?;
+    versions.push_back(first)?;
+    versions.push_back(second)?;
+    match Box::new(alloc, versions) {
+        Ok(versions) => Ok(versions),
+        Err(_) => Err(AllocError),
+    }
+}
+
+fn drop_kept(kept: &mut Kept)
+    ensures { kept_versions kept.new ≡ drop_last (kept_versions kept.old) }
+{
+    match kept {
+        Kept::Many(versions) => drop_version(versions),
+        Kept::None | Kept::One(_) => *kept = Kept::None,
+    }
+}
+
+/// Takes the oldest version above the floor into what the floor holds. Says whether the floor held the
+/// tuple before.
+fn settle_kept(kept: &mut Kept) -> bool
+    ensures versions { kept_versions kept.new ≡ after_settle (kept_versions kept.old) }
+    ensures was_based { result ≡ is_based (kept_versions kept.old) }
+{
+    match kept {
+        Kept::None => false,
+        Kept::One(version) => {
+            let was_based = version.rev == 0;
+            *kept = settled(*version);
+            was_based
+        }
+        Kept::Many(versions) => settle(versions),
+    }
+}
+
+/// What is left of a tuple's only version, once it is taken into what the floor holds.
+fn settled(version: Version) -> Kept
+    ensures { kept_versions result ≡ after_settle (version ∷ []) }
+{
+    if version.rev != 0 && version.put {
+        return Kept::One(Version { rev: 0, put: true });
+    }
+    Kept::None
 }
 
 fn is_put(kind: EventKind) -> bool
@@ -168,15 +260,6 @@ fn add_version(versions: &mut VecDeque<Version>, version: Version) -> Result<(),
 {
     versions.push_back(version)?;
     Ok(())
-}
-
-/// Most tuples never have a second version, so there is room for one.
-fn one_version(alloc: Global, version: Version) -> Result<VecDeque<Version>, AllocError>
-    ensures { IfOk result (λ versions. versions.items ≡ version ∷ []) }
-{
-    let mut versions = VecDeque::with_capacity(alloc, 1)?;
-    versions.push_back(version)?;
-    Ok(versions)
 }
 
 fn drop_version(versions: &mut VecDeque<Version>)
