@@ -10,3 +10,4 @@ pub mod Admission
 pub mod Written
 pub mod Trimming
 pub mod Naming
+pub mod Repeats

@@ -9,6 +9,7 @@ mod law;
 mod loaded;
 mod refusing;
 mod rows;
+mod twice;
 mod verdict;
 mod view;
 

@@ -1,7 +1,6 @@
 //! Why a write is refused.
 ghost use Rattle.std.specs.Prelude.{◌≡◌, ◌≤◌, count_by, length, map, None, false, IfErr, OnOk};
 ghost use Rattle.std.specs.List.{list_any};
-ghost use Rattle.names.specs.Order.{is_same_tuple};
 ghost use Rattle.meaning.specs.History.{puts_in};
 ghost use Rattle.meaning.specs.Verdict.{is_unknown, is_untyped, is_twice, inserts_again, deletes_nothing, first_from, event_of, write_cause, config_cause, is_full};
 ghost use Rattle.rows.specs.Retained.{newest_of};
@@ -9,6 +8,7 @@ ghost use Rattle.rows.specs.Follows.{IsAccepted};
 ghost use Rattle.rows.specs.Judging.{adds_tuple, takes_tuple, puts_tuple, says_unknown, WriteRefused, ConfigRefused};
 
 use crate::rows::Rows;
+use crate::twice::is_twice;
 use crate::view::View;
 use config::Config;
 use names::limits::{MAX_OPS, MAX_REV, MAX_ROWS, MAX_TUPLES};
@@ -102,18 +102,6 @@ fn some_untyped(config: &Config, ops: &[Op]) -> bool
     ops.iter().any(|op| !config.allows(&op.tuple))
 }
 
-/// Whether a tuple stands in two operations. Each is compared with those after it.
-fn is_twice(ops: &[Op]) -> bool
-    ensures { result ≡ is_twice ops.now }
-{
-    for i in 0..ops.len() {
-        if is_again(&ops[i], &ops[i + 1..]) {
-            return true;
-        }
-    }
-    false
-}
-
 /// The first operation that inserts a tuple which is there.
 fn first_there(view: &View<'_>, ops: &[Op]) -> Option<u64>
     ensures { result ≡ first_from (inserts_again view.now.tuples) 0 ops.now }
@@ -179,14 +167,6 @@ fn says_unknown(why: &Refusal) -> bool
         Refusal::UnknownRelation => true,
         _ => false,
     }
-}
-
-fn is_again(op: &Op, others: &[Op]) -> bool
-    ensures { result ≡ list_any (λ p. is_same_tuple op.now.tuple p.tuple) others.now }
-{
-    others
-        .iter()
-        .any(|other| op.tuple.cmp(&other.tuple).is_eq())
 }
 
 fn inserts_again(view: &View<'_>, op: &Op) -> bool
