@@ -8,7 +8,6 @@ pub mod Giving
 pub mod Settling
 pub mod Parts
 pub mod Found
-pub mod ReadingLemmas
 pub mod Relations
 pub mod Turns
 pub mod Popping

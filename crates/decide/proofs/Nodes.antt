@@ -1,7 +1,7 @@
 -- A node is its parts.
 use Rattle.std.proofs.Common.{◌≡◌, true, sym, ap, ◌∙◌}
 use Rattle.std.specs.Prelude.{◌&&◌, nat_eq}
-use Rattle.std.specs.Cmp.Lexicographic.{same_text, pointwise, bytes_decides}
+use Rattle.std.specs.Cmp.Lexicographic.{same_text, pointwise}
 use Rattle.std.proofs.lemmas.Bool.{and_parts}
 use Rattle.names.specs.declared.node.Node.{Node}
 
@@ -22,13 +22,3 @@ same_node m n e =
     let outer = and_parts (namespace && id) (pointwise nat_eq m.relation n.relation) e in
     let inner = and_parts namespace id outer.0 in
     node_parts m n (same_text _ _ (sym inner.0)) (same_text _ _ (sym inner.1)) (same_text _ _ (sym outer.1))
-
-pub node_tested : (m n : Node) → m ≡ n
-    → ((pointwise nat_eq m.object.namespace n.object.namespace && pointwise nat_eq m.object.id n.object.id)
-    && pointwise nat_eq m.relation n.relation) ≡ true
-node_tested m n e =
-    let relation = pointwise nat_eq m.relation n.relation in
-    let id = pointwise nat_eq m.object.id n.object.id in
-    ap (λ b. (b && id) && relation) ((bytes_decides m.object.namespace n.object.namespace).1 (ap (λ (k : Node). k.object.namespace) e))
-    ∙ ap (λ b. b && relation) ((bytes_decides m.object.id n.object.id).1 (ap (λ (k : Node). k.object.id) e))
-    ∙ (bytes_decides m.relation n.relation).1 (ap (λ (k : Node). k.relation) e)

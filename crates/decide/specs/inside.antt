@@ -3,5 +3,4 @@ pub mod Under
 pub mod Searches
 pub mod Running
 pub mod Asked
-pub mod Reading
 pub mod Given

@@ -6,7 +6,6 @@
 
 mod asking;
 mod deciding;
-mod facts;
 mod law;
 mod oracle;
 mod rewrites;

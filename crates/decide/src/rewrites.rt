@@ -6,9 +6,8 @@ ghost use Rattle.decide.specs.inside.Asked.{IsSource, IsAsking, GoesOn};
 ghost use Rattle.decide.specs.inside.Given.{Gave, BaseGives, HasNode, HasSome, RelationGave, opposite, no_or_later};
 
 use crate::asking::{Asking, Found};
-use crate::facts::{Facts, node_of};
 use crate::search::Search;
-use crate::source::Source;
+use crate::source::{Source, node_of};
 use config_core::Rewrite;
 use names::{Name, Node};
 use std::alloc::AllocError;
@@ -77,23 +76,16 @@ fn no_or_later(later: bool) -> Found
 }
 
 /// The node's own tuples.
-fn this(
-    source: &Source,
-    facts: &mut Facts,
-    search: &mut Search,
-    asking: &Asking,
-) -> Result<Found, AllocError>
+fn this(source: &Source, search: &mut Search, asking: &Asking) -> Result<Found, AllocError>
     requires source { IsSource source.now }
-    requires facts { facts.old ≡ source.now.view.now }
     requires asking { IsAsking source.now.view.now source.now.user.now search.old asking.now }
-    ensures facts { OnOk result (facts.new ≡ facts.old) }
     ensures goes_on { OnOk result (GoesOn source.now.view.now source.now.user.now search.old search.new asking.now) }
     ensures found { IfOk result (Gave source.now.view.now source.now.user.now search.new asking.now This) }
 {
-    if facts.has(asking.node, source.user)? {
+    if source.view.has(asking.node, source.user) {
         return Ok(Found::Yes);
     }
-    let sets = facts.usersets_of(asking.node)?;
+    let sets = source.view.usersets_of(source.alloc, asking.node)?;
     let found = some_asked(source, search, asking, &sets)?;
     Ok(found)
 }
@@ -119,21 +111,18 @@ fn computed(
 /// A relation of the objects that the tupleset's tuples name.
 fn through(
     source: &Source,
-    facts: &mut Facts,
     search: &mut Search,
     asking: &Asking,
     tupleset: &Name,
     relation: &Name,
 ) -> Result<Found, AllocError>
     requires source { IsSource source.now }
-    requires facts { facts.old ≡ source.now.view.now }
     requires asking { IsAsking source.now.view.now source.now.user.now search.old asking.now }
-    ensures facts { OnOk result (facts.new ≡ facts.old) }
     ensures goes_on { OnOk result (GoesOn source.now.view.now source.now.user.now search.old search.new asking.now) }
     ensures found { IfOk result (Gave source.now.view.now source.now.user.now search.new asking.now
         (TupleTo tupleset.now relation.now)) }
 {
-    let parents = facts.parents_of(asking.node, tupleset, relation)?;
+    let parents = source.parents_of(asking.node, tupleset, relation)?;
     let found = some_asked(source, search, asking, &parents)?;
     Ok(found)
 }
@@ -142,30 +131,27 @@ fn through(
 #[cycle(gives)]
 fn gives(
     source: &Source,
-    facts: &mut Facts,
     search: &mut Search,
     asking: &Asking,
     rewrite: &Rewrite,
 ) -> Result<Found, AllocError>
     requires source { IsSource source.now }
-    requires facts { facts.old ≡ source.now.view.now }
     requires asking { IsAsking source.now.view.now source.now.user.now search.old asking.now }
-    ensures facts { OnOk result (facts.new ≡ facts.old) }
     ensures goes_on { OnOk result (GoesOn source.now.view.now source.now.user.now search.old search.new asking.now) }
     ensures found { IfOk result
         (Gave source.now.view.now source.now.user.now search.new asking.now (form_of rewrite.now)) }
 {
     match rewrite {
-        Rewrite::This => this(source, facts, search, asking),
+        Rewrite::This => this(source, search, asking),
         Rewrite::Computed(relation) => computed(source, search, asking, relation),
         Rewrite::TupleTo { tupleset, relation } => {
-            through(source, facts, search, asking, tupleset, relation)
+            through(source, search, asking, tupleset, relation)
         }
-        Rewrite::Union(parts) => some_gives(source, facts, search, asking, parts),
-        Rewrite::Intersection(parts) => each_gives(source, facts, search, asking, parts),
-        Rewrite::Exclusion(base, _) => match gives(source, facts, search, asking, base)? {
+        Rewrite::Union(parts) => some_gives(source, search, asking, parts),
+        Rewrite::Intersection(parts) => each_gives(source, search, asking, parts),
+        Rewrite::Exclusion(base, _) => match gives(source, search, asking, base)? {
             Found::Yes => {
-                let found = without(source, facts, search, asking, rewrite)?;
+                let found = without(source, search, asking, rewrite)?;
                 Ok(found)
             }
             Found::No => Ok(Found::No),
@@ -178,16 +164,13 @@ fn gives(
 #[cycle(gives)]
 fn without(
     source: &Source,
-    facts: &mut Facts,
     search: &mut Search,
     asking: &Asking,
     rewrite: &Rewrite,
 ) -> Result<Found, AllocError>
     requires source { IsSource source.now }
-    requires facts { facts.old ≡ source.now.view.now }
     requires asking { IsAsking source.now.view.now source.now.user.now search.old asking.now }
     requires base { BaseGives source.now.view.now source.now.user.now asking.now (form_of rewrite.now) }
-    ensures facts { OnOk result (facts.new ≡ facts.old) }
     ensures goes_on { OnOk result (GoesOn source.now.view.now source.now.user.now search.old search.new asking.now) }
     ensures found { IfOk result
         (Gave source.now.view.now source.now.user.now search.new asking.now (form_of rewrite.now)) }
@@ -195,7 +178,7 @@ fn without(
     match rewrite {
         Rewrite::Exclusion(_, less) => {
             let subtracted = asking.subtracted();
-            let found = gives(source, facts, search, &subtracted, less)?;
+            let found = gives(source, search, &subtracted, less)?;
             Ok(opposite(found))
         }
         _ => Ok(Found::Later),
@@ -216,22 +199,19 @@ fn opposite(found: Found) -> Found
 #[cycle(gives)]
 fn some_gives(
     source: &Source,
-    facts: &mut Facts,
     search: &mut Search,
     asking: &Asking,
     parts: &[Rewrite],
 ) -> Result<Found, AllocError>
     requires source { IsSource source.now }
-    requires facts { facts.old ≡ source.now.view.now }
     requires asking { IsAsking source.now.view.now source.now.user.now search.old asking.now }
-    ensures facts { OnOk result (facts.new ≡ facts.old) }
     ensures goes_on { OnOk result (GoesOn source.now.view.now source.now.user.now search.old search.new asking.now) }
     ensures found { IfOk result
         (Gave source.now.view.now source.now.user.now search.new asking.now (Union (rewrite_forms parts.now))) }
 {
     let mut later = false;
     for part in parts {
-        match gives(source, facts, search, asking, part)? {
+        match gives(source, search, asking, part)? {
             Found::Yes => return Ok(Found::Yes),
             Found::No => {}
             Found::Later => later = true,
@@ -244,21 +224,18 @@ fn some_gives(
 #[cycle(gives)]
 fn each_gives(
     source: &Source,
-    facts: &mut Facts,
     search: &mut Search,
     asking: &Asking,
     parts: &[Rewrite],
 ) -> Result<Found, AllocError>
     requires source { IsSource source.now }
-    requires facts { facts.old ≡ source.now.view.now }
     requires asking { IsAsking source.now.view.now source.now.user.now search.old asking.now }
-    ensures facts { OnOk result (facts.new ≡ facts.old) }
     ensures goes_on { OnOk result (GoesOn source.now.view.now source.now.user.now search.old search.new asking.now) }
     ensures found { IfOk result
         (Gave source.now.view.now source.now.user.now search.new asking.now (Intersection (rewrite_forms parts.now))) }
 {
     for part in parts {
-        match gives(source, facts, search, asking, part)? {
+        match gives(source, search, asking, part)? {
             Found::Yes => {}
             Found::No => return Ok(Found::No),
             Found::Later => return Ok(Found::Later),
@@ -270,14 +247,11 @@ fn each_gives(
 /// Whether the rewrite of the node's own relation gives it the user.
 pub(crate) fn relation_gives(
     source: &Source,
-    facts: &mut Facts,
     search: &mut Search,
     asking: &Asking,
 ) -> Result<Found, AllocError>
     requires source { IsSource source.now }
-    requires facts { facts.old ≡ source.now.view.now }
     requires asking { IsAsking source.now.view.now source.now.user.now search.old asking.now }
-    ensures facts { OnOk result (facts.new ≡ facts.old) }
     ensures goes_on { OnOk result (GoesOn source.now.view.now source.now.user.now search.old search.new asking.now) }
     ensures found { IfOk result (RelationGave source.now.view.now source.now.user.now search.new asking.now) }
 {
@@ -285,6 +259,6 @@ pub(crate) fn relation_gives(
         return Ok(Found::No);
     };
     let relation = &source.config.relations()[place];
-    let found = gives(source, facts, search, asking, &relation.rewrite)?;
+    let found = gives(source, search, asking, &relation.rewrite)?;
     Ok(found)
 }

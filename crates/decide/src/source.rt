@@ -1,12 +1,18 @@
-//! What a question is about.
-ghost use Rattle.std.specs.Prelude.{◌<◌, ◌^◌, IfSome, IfNone};
+//! What a question reads.
+ghost use Rattle.std.specs.Prelude.{◌≡◌, ℕ, ◌<◌, ◌^◌, ◌∷◌, ◌++◌, [], Contains, IfOk, OnOk, IfSome, IfNone, length, map, slice_index_or, true, false};
 ghost use Rattle.meaning.specs.Config.{IsAt, Has, rel_of};
-ghost use Rattle.decide.specs.inside.Asked.{IsSource};
+ghost use Rattle.meaning.specs.Membership.{HasOne};
+ghost use Rattle.meaning.specs.Admits.{is_relation};
+ghost use Rattle.config_core.specs.Forms.{defined_of};
+ghost use Rattle.config_core.specs.declared.relation.Relation.{Relation};
+ghost use Rattle.names.specs.declared.object.Object.{Object};
+ghost use Rattle.names.specs.declared.node.Node.{Node};
+ghost use Rattle.decide.specs.inside.Asked.{IsSource, AreNodesOf, node_with};
 
 use config::Config;
-use names::{Node, Object};
+use names::{Name, Node, Object};
 use rows::View;
-use std::alloc::Global;
+use std::alloc::{AllocError, Global};
 
 /// A view with its configuration, and the user.
 #[derive(Clone, Copy)]
@@ -30,4 +36,39 @@ impl<'a> Source<'a> {
             Some(place) => Some(self.config.levels()[place]),
         }
     }
+
+    /// The nodes of the relation of the objects that the tupleset's tuples name.
+    pub(crate) fn parents_of(
+        &self,
+        node: &Node,
+        tupleset: &Name,
+        relation: &Name,
+    ) -> Result<Vec<Node>, AllocError>
+        ensures { IfOk result (λ v. AreNodesOf self.now.view.now node.now tupleset.now relation.now v.items) }
+    {
+        let from = node_of(&node.object, tupleset)?;
+        let objects = self.view.objects_of(self.alloc, &from)?;
+        let nodes = nodes_of(self.alloc, &objects, relation)?;
+        Ok(nodes)
+    }
+}
+
+/// The nodes of the relation of the objects.
+fn nodes_of(alloc: Global, objects: &[Object], relation: &Name) -> Result<Vec<Node>, AllocError>
+    ensures { IfOk result (λ v. v.items ≡ map (node_with relation.now) objects.now) }
+{
+    let mut nodes = Vec::new(alloc);
+    for object in objects {
+        nodes.push(node_of(object, relation)?)?;
+    }
+    Ok(nodes)
+}
+
+pub(crate) fn node_of(object: &Object, relation: &Name) -> Result<Node, AllocError>
+    ensures { IfOk result (λ n. n ≡ node_with relation.now object.now) }
+{
+    Ok(Node {
+        object: object.clone()?,
+        relation: relation.clone()?,
+    })
 }

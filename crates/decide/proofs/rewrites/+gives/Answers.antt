@@ -12,7 +12,7 @@ use Rattle.decide.proofs.rewrites.+gives.Goals.{some_gives-in-No, some_gives-in-
 use Rattle.decide.proofs.rewrites.+gives.Goals as goal
 
 pub each_gives-loop-part-init : goal.each_gives-loop-part-init
-each_gives-loop-part-init t c = (c.requires.asking, grew_refl c.args.search.now, λ g. g, c.requires.facts)
+each_gives-loop-part-init t c = (c.requires.asking, grew_refl c.args.search.now, λ g. g)
 
 pub each_gives-returns-in-No-clause-goes_on : goal.each_gives-returns-in-No-clause-goes_on
 each_gives-returns-in-No-clause-goes_on t c = goes_more c.args.source.now.view.now c.args.source.now.user.now c.args.asking.now c.args.search.now c.loop-part.search c.gives.new.search c.loop-part.invariant.1 c.in_ok-gives.ensures.goes_on
@@ -35,7 +35,6 @@ each_gives-loop-part-preserved t c = (
       c.args.parts.now c.loop-part.part-index c.part-item.result c.loop-part-test.true (sym c.part-item.is)
       (subst (Gave c.args.source.now.view.now c.args.source.now.user.now c.gives.new.search c.args.asking.now (form_of c.part-item.result)) c.in-Yes.is c.in_ok-gives.ensures.found)
       rest),
-  c.in_ok-gives.ensures.facts ∙ c.loop-part.invariant.3,
 )
 
 pub each_gives-returns-clause-goes_on : goal.each_gives-returns-clause-goes_on
@@ -47,7 +46,7 @@ each_gives-returns-clause-found t c = c.loop-part.invariant.2
     c.args.parts.now c.loop-part.part-index (omega (arith, c.loop-part-test.false)))
 
 pub some_gives-loop-part-init : goal.some_gives-loop-part-init
-some_gives-loop-part-init t c = (c.requires.asking, grew_refl c.args.search.now, λ e w g h. h, c.requires.facts)
+some_gives-loop-part-init t c = (c.requires.asking, grew_refl c.args.search.now, λ e w g h. h)
 
 pub some_gives-returns-in-Yes-clause-goes_on : goal.some_gives-returns-in-Yes-clause-goes_on
 some_gives-returns-in-Yes-clause-goes_on t c = goes_more c.args.source.now.view.now c.args.source.now.user.now c.args.asking.now c.args.search.now c.loop-part.search c.gives.new.search c.loop-part.invariant.1 c.in_ok-gives.ensures.goes_on
@@ -68,7 +67,6 @@ some_gives-loop-part-preserved t c = (
         (subst (Gave c.args.source.now.view.now c.args.source.now.user.now c.gives.new.search c.args.asking.now (form_of c.part-item.result)) w.in-No.is c.in_ok-gives.ensures.found)
     | some_gives-in-Later w ↦ λ e. cc
   ],
-  c.in_ok-gives.ensures.facts ∙ c.loop-part.invariant.3,
 )
 
 pub some_gives-returns-clause-goes_on : goal.some_gives-returns-clause-goes_on
@@ -87,10 +85,7 @@ without-gives-requires t c = (
   search (rules, the_lemmas),
   (
     c.requires.source,
-    (
-      c.requires.facts,
-      asking_subtracted c.args.source.now.view.now c.args.source.now.user.now c.args.asking.now c.args.search.now c.subtracted-subtracted.result c.subtracted-subtracted.ensures c.requires.asking,
-    ),
+    asking_subtracted c.args.source.now.view.now c.args.source.now.user.now c.args.asking.now c.args.search.now c.subtracted-subtracted.result c.subtracted-subtracted.ensures c.requires.asking,
   ),
 )
 

@@ -14,7 +14,6 @@ invariant-each_gives-loop-part l =
     × Grew l.fn.search l.search
     × (EachGives l.source.view.now l.source.user.now l.asking.node.now (rewrite_forms (drop l.part-index l.parts)) (Counts l.source.view.now l.source.user.now l.asking) (Under l.source.view.now l.source.user.now l.asking.level)
     → EachGives l.source.view.now l.source.user.now l.asking.node.now (rewrite_forms l.parts) (Counts l.source.view.now l.source.user.now l.asking) (Under l.source.view.now l.source.user.now l.asking.level))
-    × (l.facts ≡ l.source.view.now)
 
 abbrev pub invariant-some_gives-loop-part : goal.invariant-some_gives-loop-part
 invariant-some_gives-loop-part l =
@@ -23,4 +22,3 @@ invariant-some_gives-loop-part l =
     × (l.later ≡ false → (w : Search) → Grew l.search w
     → SomeGives l.source.view.now l.source.user.now l.asking.node.now (rewrite_forms l.parts) (IsLeft l.source.view.now l.source.user.now w l.asking) (Under l.source.view.now l.source.user.now l.asking.level)
     → SomeGives l.source.view.now l.source.user.now l.asking.node.now (rewrite_forms (drop l.part-index l.parts)) (IsLeft l.source.view.now l.source.user.now w l.asking) (Under l.source.view.now l.source.user.now l.asking.level))
-    × (l.facts ≡ l.source.view.now)

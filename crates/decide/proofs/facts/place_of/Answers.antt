@@ -1,7 +1,0 @@
-use Rattle.decide.proofs.ReadingLemmas.{object_parts, read_more}
-use Rattle.decide.proofs.facts.place_of.Goals as goal
-
-pub returns-clause-right : goal.returns-clause-right
-returns-clause-right c =
-    read_more c.args.view.now c.args.reads.now.read.items c.push.new.self.items c.args.object.now (record { object = c.in_ok-clone.field-0; few = c.in_ok-few.few }) c.in_ok-push.ensures.items
-    (object_parts c.in_ok-clone.field-0 c.args.object.now c.in_ok-clone.ensures.cases.0 c.in_ok-clone.ensures.cases.1) c.requires c.in_ok-few.ensures

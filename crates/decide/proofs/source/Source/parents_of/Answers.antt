@@ -1,0 +1,10 @@
+use Rattle.std.proofs.Common.{ap, ◌∙◌, map}
+use Rattle.decide.specs.inside.Asked.{node_with}
+use Rattle.decide.proofs.Relations.{nodes_are}
+use Rattle.decide.proofs.source.Source.parents_of.Goals as goal
+
+pub returns : goal.returns
+returns c =
+    nodes_are c.args.self.now.view.now c.args.node.now c.in_ok-from.from c.args.tupleset.now c.args.relation.now c.in_ok-objects.objects.items c.in_ok-nodes.nodes.items
+    c.in_ok-from.ensures c.in_ok-objects.ensures
+    (c.in_ok-nodes.ensures ∙ ap (map (node_with c.args.relation.now)) c.deref.ensures.value)
