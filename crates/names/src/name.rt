@@ -9,6 +9,7 @@ ghost use Rattle.names.specs.Names.{is_name, is_name_byte, is_lower};
 
 use crate::Refusal;
 use crate::limits::MAX_NAME_LEN;
+use arrayvec::ArrayString;
 use std::alloc::{AllocError, Global};
 use std::cmp::Ordering;
 use std::fmt;
@@ -18,31 +19,32 @@ use std::marker::Model;
 /// underscores. Names are ordered by their bytes.
 #[derive(Debug, Drop)]
 pub struct Name {
-    text: String,
+    text: ArrayString<32>,
 }
 
 impl Model for Name {
-    ghost use Rattle.std.specs.Prelude.{ℕ, List, IsTrue, string_bytes};
+    ghost use Rattle.std.specs.Prelude.{ℕ, List, IsTrue};
     ghost use Rattle.names.specs.Names.{is_name};
 
     ghost Value = { List ℕ };
 
-    ghost view = { λ n. string_bytes n.text };
+    ghost view = { λ n. n.text.bytes };
 
-    ghost invariant = { λ n. IsTrue (is_name (string_bytes n.text)) };
+    ghost invariant = { λ n. IsTrue (is_name n.text.bytes) };
 }
 
 impl Name {
     /// Reads a name. The text is refused as malformed exactly where it is none.
-    pub fn parse(alloc: Global, text: &str) -> Result<Name, Refusal>
+    pub fn parse(_alloc: Global, text: &str) -> Result<Name, Refusal>
         ensures ok { IfOk result (λ n. (n ≡ text.now) × IsTrue (is_name text.now)) }
         ensures err { IfErr result (λ e. ReadCause (is_name text.now ≡ false) e) }
     {
         if !is_spelled(text.as_bytes()) {
             return Err(Refusal::Malformed);
         }
-        let text = String::from_str(alloc, text)?;
-        Ok(Name { text })
+        let mut own = ArrayString::new();
+        own.push_str(text);
+        Ok(Name { text: own })
     }
 
     pub fn as_str(&self) -> &str
@@ -57,8 +59,7 @@ impl Clone for Name {
     ghost is_clone = { λ x y. y ≡ x };
 
     fn clone(&self) -> Result<Name, AllocError> {
-        let text = self.text.clone()?;
-        Ok(Name { text })
+        Ok(Name { text: self.text })
     }
 }
 

@@ -10,6 +10,7 @@ ghost use Rattle.names.specs.Names.{is_id, is_id_byte};
 use crate::Refusal;
 use crate::limits::MAX_ID_LEN;
 use crate::name::is_name_code;
+use arrayvec::ArrayString;
 use std::alloc::{AllocError, Global};
 use std::cmp::Ordering;
 use std::fmt;
@@ -19,31 +20,32 @@ use std::marker::Model;
 /// ordered by their bytes.
 #[derive(Debug, Drop)]
 pub struct ObjectId {
-    text: String,
+    text: ArrayString<64>,
 }
 
 impl Model for ObjectId {
-    ghost use Rattle.std.specs.Prelude.{ℕ, List, IsTrue, string_bytes};
+    ghost use Rattle.std.specs.Prelude.{ℕ, List, IsTrue};
     ghost use Rattle.names.specs.Names.{is_id};
 
     ghost Value = { List ℕ };
 
-    ghost view = { λ n. string_bytes n.text };
+    ghost view = { λ n. n.text.bytes };
 
-    ghost invariant = { λ n. IsTrue (is_id (string_bytes n.text)) };
+    ghost invariant = { λ n. IsTrue (is_id n.text.bytes) };
 }
 
 impl ObjectId {
     /// Reads an object's id. The text is refused as malformed exactly where it is none.
-    pub fn parse(alloc: Global, text: &str) -> Result<ObjectId, Refusal>
+    pub fn parse(_alloc: Global, text: &str) -> Result<ObjectId, Refusal>
         ensures ok { IfOk result (λ n. (n ≡ text.now) × IsTrue (is_id text.now)) }
         ensures err { IfErr result (λ e. ReadCause (is_id text.now ≡ false) e) }
     {
         if !is_spelled(text.as_bytes()) {
             return Err(Refusal::Malformed);
         }
-        let text = String::from_str(alloc, text)?;
-        Ok(ObjectId { text })
+        let mut own = ArrayString::new();
+        own.push_str(text);
+        Ok(ObjectId { text: own })
     }
 
     pub fn as_str(&self) -> &str
@@ -58,8 +60,7 @@ impl Clone for ObjectId {
     ghost is_clone = { λ x y. y ≡ x };
 
     fn clone(&self) -> Result<ObjectId, AllocError> {
-        let text = self.text.clone()?;
-        Ok(ObjectId { text })
+        Ok(ObjectId { text: self.text })
     }
 }
 
