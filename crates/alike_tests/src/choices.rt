@@ -56,7 +56,7 @@ pub(crate) fn any_tuple(alloc: Global, kinds: &str, dice: &mut Dice) -> Result<T
     let object = dice.roll(OBJECTS);
     let subject = dice.roll(OBJECTS);
     let text = numbered(alloc, kind, object, subject)?;
-    Tuple::parse(alloc, text.as_str())
+    Tuple::parse(text.as_str())
 }
 
 /// All nodes that are asked about.
@@ -65,7 +65,7 @@ pub(crate) fn nodes_of(alloc: Global, asked: &str) -> Result<Vec<Node>, Refusal>
     for word in asked.split_ascii_whitespace() {
         for object in 0..OBJECTS {
             let text = numbered(alloc, word, object, 0)?;
-            nodes.push(Node::parse(alloc, text.as_str())?)?;
+            nodes.push(Node::parse(text.as_str())?)?;
         }
     }
     Ok(nodes)
@@ -76,7 +76,7 @@ pub(crate) fn users(alloc: Global) -> Result<Vec<Object>, Refusal> {
     let mut users = Vec::new(alloc);
     for number in 0..OBJECTS {
         let text = numbered(alloc, "user:*", number, 0)?;
-        users.push(Object::parse(alloc, text.as_str())?)?;
+        users.push(Object::parse(text.as_str())?)?;
     }
     Ok(users)
 }

@@ -2,7 +2,7 @@
 use Rattle.std.proofs.Common.{◌≡◌, ℕ, List, Option, Result, IfErr, subst}
 use Rattle.std.specs.Result.{IsErrAnd}
 use Rattle.std.proofs.lemmas.Result.{err_from_is_err_and}
-use Rattle.names.specs.Refusals.{ReadCause}
+use Rattle.names.specs.Refusals.{IsMalformed}
 use Rattle.names.specs.declared.refusal.Refusal.{Refusal}
 use Rattle.names.specs.declared.refusal.Refusal.TheVariants.{Malformed, BadZookie, Memory}
 use Rattle.names.specs.declared.node.Node.{Node}
@@ -20,7 +20,6 @@ exit cause r e was why = let p = err_from_is_err_and r was in rw (p.1, p.2) why
 pub at_bad : (at : Option Data) (text : List ℕ) (e : Refusal) → HasZookieText at text → (e ≡ BadZookie) × ((zookie : Zookie) → IsZookieOf text zookie → ⊥) → AtCause at e
 at_bad at text e has bad = rw bad.0 (text, has, bad.1)
 
-pub check_unasked : (body : List ℕ) (d : Data) (e : Refusal) → Reads body d → ReadCause ((node : Node) (user : Object) → CheckOf d node user → ⊥) e → CheckCause body e
+pub check_unasked : (body : List ℕ) (d : Data) (e : Refusal) → Reads body d → IsMalformed ((node : Node) (user : Object) → CheckOf d node user → ⊥) e → CheckCause body e
 check_unasked body d Malformed reads not = λ f. not f.node f.user (subst (λ (x : Data). CheckOf x f.node f.user) (same_read body f.data_read d f.reads reads) f.check)
-check_unasked body d Memory reads not = tt
 check_unasked body d _ reads not = absurd not

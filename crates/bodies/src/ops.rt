@@ -1,7 +1,7 @@
 //! The operations of a write, as JSON.
 ghost use Rattle.std.specs.Prelude.{◌≡◌, List, IfOk, IfErr, MatchOption};
 ghost use Rattle.serde_json.specs.View.{view, items_view};
-ghost use Rattle.names.specs.Refusals.{ReadCause};
+ghost use Rattle.names.specs.Refusals.{IsMalformed, ReadCause};
 ghost use Rattle.bodies.specs.Requests.{IsKind, AsksOp, AskOps};
 
 use config_core::{has_only_members, text_at};
@@ -23,9 +23,9 @@ fn kind_of(word: &str) -> Option<OpKind>
 }
 
 /// The operation that a value asks for.
-fn read_op(alloc: Global, value: &Value) -> Result<Op, Refusal>
+fn read_op(value: &Value) -> Result<Op, Refusal>
     ensures ok { IfOk result (λ o. AsksOp (view value.now) o) }
-    ensures err { IfErr result (ReadCause ((o : Op) → ¬ (AsksOp (view value.now) o))) }
+    ensures err { IfErr result (IsMalformed ((o : Op) → ¬ (AsksOp (view value.now) o))) }
 {
     if !has_only_members(value, ["op", "tuple"].as_slice()) {
         return Err(Refusal::Malformed);
@@ -39,7 +39,7 @@ fn read_op(alloc: Global, value: &Value) -> Result<Op, Refusal>
     let Some(text) = text_at(value, "tuple") else {
         return Err(Refusal::Malformed);
     };
-    let tuple = Tuple::parse(alloc, text)?;
+    let tuple = Tuple::parse(text)?;
     Ok(Op { kind, tuple })
 }
 
@@ -51,7 +51,7 @@ pub(crate) fn read_ops(alloc: Global, items: &Vec<Value>) -> Result<Vec<Op>, Ref
 {
     let mut ops = Vec::new(alloc);
     for item in items {
-        let op = read_op(alloc, item)?;
+        let op = read_op(item)?;
         ops.push(op)?;
     }
     Ok(ops)

@@ -3,7 +3,7 @@ ghost use Rattle.std.specs.Prelude.{◌≡◌, List, Some, MatchOption, IfOk, If
 ghost use Rattle.serde_json.specs.Data.{Data};
 ghost use Rattle.serde_json.specs.Find.{get};
 ghost use Rattle.serde_json.specs.View.{view, items_view};
-ghost use Rattle.names.specs.Refusals.{ReadCause};
+ghost use Rattle.names.specs.Refusals.{IsMalformed, ReadCause};
 ghost use Rattle.names.specs.declared.refusal.Refusal.TheVariants.{BadZookie};
 ghost use Rattle.config_core.specs.Reading.{Reads};
 ghost use Rattle.bodies.specs.Requests.{items_at, number_at, only_text, WriteOf, AsksWrite, AsksNoWrite, IsZookieOf, AsksAt, AtCause, CheckOf, IsOfNoCheck, AsksCheck, CheckCause, IsPart, CatchUpOf, IsOfNoCatchUp, AsksCatchUp, AsksNoCatchUp};
@@ -117,9 +117,9 @@ fn write_of(alloc: Global, value: &Value) -> Result<Items<Op>, Refusal>
 }
 
 /// The node and the user that a value asks about.
-fn check_of(alloc: Global, value: &Value) -> Result<(Node, Object), Refusal>
+fn check_of(value: &Value) -> Result<(Node, Object), Refusal>
     ensures ok { IfOk result (λ asked. CheckOf (view value.now) asked.0 asked.1) }
-    ensures err { IfErr result (ReadCause (IsOfNoCheck (view value.now))) }
+    ensures err { IfErr result (IsMalformed (IsOfNoCheck (view value.now))) }
 {
     if !has_only_members(value, ["at", "node", "user"].as_slice()) {
         return Err(Refusal::Malformed);
@@ -130,8 +130,8 @@ fn check_of(alloc: Global, value: &Value) -> Result<(Node, Object), Refusal>
     let Some(user) = text_at(value, "user") else {
         return Err(Refusal::Malformed);
     };
-    let node = Node::parse(alloc, node)?;
-    let user = Object::parse(alloc, user)?;
+    let node = Node::parse(node)?;
+    let user = Object::parse(user)?;
     Ok((node, user))
 }
 
@@ -152,7 +152,7 @@ pub fn check_body(alloc: Global, body: &[u8]) -> Result<(Consistency, Node, Obje
     ensures err { IfErr result (CheckCause body.now) }
 {
     let value = read_value(alloc, body)?;
-    let (node, user) = check_of(alloc, &value)?;
+    let (node, user) = check_of(&value)?;
     let consistency = consistency_of(&value)?;
     Ok((consistency, node, user))
 }

@@ -20,12 +20,12 @@ pub fn name_rewrite(alloc: Global, draft: &DraftRewrite) -> Result<Rewrite, Refu
     match draft {
         DraftRewrite::This => Ok(Rewrite::This),
         DraftRewrite::Computed(relation) => {
-            let relation = Name::parse(alloc, relation.as_str())?;
+            let relation = Name::parse(relation.as_str())?;
             Ok(Rewrite::Computed(relation))
         }
         DraftRewrite::TupleTo { tupleset, relation } => Ok(Rewrite::TupleTo {
-            tupleset: Name::parse(alloc, tupleset.as_str())?,
-            relation: Name::parse(alloc, relation.as_str())?,
+            tupleset: Name::parse(tupleset.as_str())?,
+            relation: Name::parse(relation.as_str())?,
         }),
         DraftRewrite::Union(parts) => {
             let parts = name_rewrites(alloc, parts)?;

@@ -25,7 +25,7 @@ fn read_names(alloc: Global, texts: &[String]) -> Result<Vec<Name>, Refusal>
 {
     let mut names = Vec::new(alloc);
     for text in texts {
-        let name = Name::parse(alloc, text.as_str())?;
+        let name = Name::parse(text.as_str())?;
         names.push(name)?;
     }
     Ok(names)
@@ -37,7 +37,7 @@ fn read_types(alloc: Global, texts: &[String]) -> Result<Vec<SubjectType>, Refus
 {
     let mut types = Vec::new(alloc);
     for text in texts {
-        let declared = SubjectType::parse(alloc, text.as_str())?;
+        let declared = SubjectType::parse(text.as_str())?;
         types.push(declared)?;
     }
     Ok(types)
@@ -47,8 +47,8 @@ fn read_relation(alloc: Global, draft: &DraftRelation) -> Result<Relation, Refus
     ensures ok { IfOk result (λ r. SpellsRelation (relation_texts draft.now) (defined_of r)) }
     ensures err { IfErr result (ReadCause (SpellsNoRelation (relation_texts draft.now))) }
 {
-    let namespace = Name::parse(alloc, draft.namespace.as_str())?;
-    let relation = Name::parse(alloc, draft.relation.as_str())?;
+    let namespace = Name::parse(draft.namespace.as_str())?;
+    let relation = Name::parse(draft.relation.as_str())?;
     let types = read_types(alloc, &draft.types)?;
     let rewrite = name_rewrite(alloc, &draft.rewrite)?;
     Ok(Relation {

@@ -74,7 +74,7 @@ fn after_a_fault_changes_are_refused(rt: HostRuntime) {
 }
 
 fn insert_of(alloc: Global, text: &str) -> Result<Write<Zookie>, Refusal> {
-    let tuple = Tuple::parse(alloc, text)?;
+    let tuple = Tuple::parse(text)?;
     let mut ops = Vec::new(alloc);
     ops.push(Op {
         kind: OpKind::Insert,

@@ -12,7 +12,7 @@ const CONFIG: &str =
 const ANN: &str = "doc:a#viewer@u:ann";
 
 fn event(alloc: Global, kind: EventKind) -> Result<Commit<Config>, Refusal> {
-    let tuple = Tuple::parse(alloc, ANN)?;
+    let tuple = Tuple::parse(ANN)?;
     let mut events = Vec::new(alloc);
     events.push(Event { tuple, kind })?;
     Ok(Commit::Tuples(Items::of(events)))
@@ -26,7 +26,7 @@ fn configuration(alloc: Global) -> Result<Commit<Config>, Refusal> {
 fn touches(alloc: Global, words: &str) -> Result<Commit<Config>, Refusal> {
     let mut ops = Vec::new(alloc);
     for word in words.split_ascii_whitespace() {
-        let tuple = Tuple::parse(alloc, word)?;
+        let tuple = Tuple::parse(word)?;
         ops.push(Op {
             kind: OpKind::Touch,
             tuple,
@@ -77,7 +77,7 @@ const OF_B: &str = "doc:b#viewer@u:a doc:b#viewer@u:a#m doc:b#viewer@u:b";
 fn tuples_in(alloc: Global, words: &str) -> Result<Vec<Tuple>, Refusal> {
     let mut tuples = Vec::new(alloc);
     for word in words.split_ascii_whitespace() {
-        tuples.push(Tuple::parse(alloc, word)?)?;
+        tuples.push(Tuple::parse(word)?)?;
     }
     Ok(tuples)
 }
@@ -88,7 +88,7 @@ fn lists(alloc: Global, rows: &Rows, words: &str) -> Result<bool, Refusal> {
 }
 
 fn lists_of(alloc: Global, rows: &Rows, node: &str, words: &str) -> Result<bool, Refusal> {
-    let node = Node::parse(alloc, node)?;
+    let node = Node::parse(node)?;
     let found = rows.at(rows.newest()).tuples_of(alloc, &node)?;
     Ok(found == tuples_in(alloc, words)?)
 }
@@ -119,7 +119,7 @@ fn few_are(
     most: usize,
     words: Option<&str>,
 ) -> Result<bool, Refusal> {
-    let object = Object::parse(alloc, object)?;
+    let object = Object::parse(object)?;
     let found = rows.at(rows.newest()).few_of(alloc, &object, most)?;
     Ok(match (found, words) {
         (Some(found), Some(words)) => found == tuples_in(alloc, words)?,
@@ -165,7 +165,7 @@ fn is_unchanged(rows: &Rows, tuple: &Tuple, rev: u64) -> bool {
 
 fn changes_last_at(alloc: Global, word: &str, rev: u64) -> Result<bool, Refusal> {
     let rows = three_commits(alloc)?;
-    let tuple = Tuple::parse(alloc, word)?;
+    let tuple = Tuple::parse(word)?;
     let before = rev > 0 && is_unchanged(&rows, &tuple, rev - 1);
     Ok(!before && is_unchanged(&rows, &tuple, rev))
 }
@@ -195,7 +195,7 @@ fn has(rows: &Rows, floor: u64, newest: u64, spans: u64, tuples: u64) -> bool {
 }
 
 fn is_trimmed(alloc: Global) -> Result<bool, Refusal> {
-    let ann = Tuple::parse(alloc, ANN)?;
+    let ann = Tuple::parse(ANN)?;
     let mut rows = three_commits(alloc)?;
     let whole = has(&rows, 0, 3, 1, 0);
     trims(&mut rows, 2);
@@ -217,7 +217,7 @@ fn goes_back(rows: &mut Rows) {
 }
 
 fn is_taken_back(alloc: Global) -> Result<bool, Refusal> {
-    let ann = Tuple::parse(alloc, ANN)?;
+    let ann = Tuple::parse(ANN)?;
     let mut rows = three_commits(alloc)?;
     goes_back(&mut rows);
     let there = has(&rows, 0, 2, 1, 1) && holds_at(&rows, 2, &ann);
@@ -263,7 +263,7 @@ fn brought(
 }
 
 fn brings_back(alloc: Global) -> Result<bool, Refusal> {
-    let ann = Tuple::parse(alloc, ANN)?;
+    let ann = Tuple::parse(ANN)?;
     let rows = three_commits(alloc)?;
     let all = brought(alloc, &rows, 0, 3)?;
     let last = brought(alloc, &rows, 2, 3)?;

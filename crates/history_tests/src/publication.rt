@@ -40,7 +40,7 @@ fn opens(alloc: Global, world: &mut World) -> Result<bool, Refusal> {
 
 // Whether ann can be put, and the commit be posted.
 fn puts_ann(alloc: Global, world: &mut World) -> Result<bool, Refusal> {
-    let tuple = Tuple::parse(alloc, ANN)?;
+    let tuple = Tuple::parse(ANN)?;
     let mut ops = Vec::new(alloc);
     ops.push(Op {
         kind: OpKind::Insert,
@@ -52,8 +52,8 @@ fn puts_ann(alloc: Global, world: &mut World) -> Result<bool, Refusal> {
 
 // By how many steps it is answered whether ann is a member at any revision, at which one, and what.
 fn asked(alloc: Global, world: &mut World) -> Result<Option<(u64, u64, bool)>, Refusal> {
-    let node = Node::parse(alloc, "group:a#member")?;
-    let user = Object::parse(alloc, "user:ann")?;
+    let node = Node::parse("group:a#member")?;
+    let user = Object::parse("user:ann")?;
     let any = Consistency::AtLeast(Zookie { store: 1, rev: 0 });
     match world.event(Event::Entered(7, Question::Check(any, node, user)))? {
         Outcome::Answered(steps, Ok(answer)) => Ok(Some((steps, answer.rev, answer.value))),

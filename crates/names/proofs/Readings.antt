@@ -5,7 +5,7 @@ use Rattle.std.specs.Result.{IsErrAnd}
 use Rattle.std.proofs.lemmas.Result.{err_from_is_err_and}
 use Rattle.std.proofs.lemmas.Str.Pattern.{IsSplitOnceResult, split_parts}
 use Rattle.names.specs.Names.{is_name, is_id, is_name_byte, is_id_byte}
-use Rattle.names.specs.Refusals.{ReadCause}
+use Rattle.names.specs.Refusals.{IsMalformed, ReadCause}
 use Rattle.names.specs.Spelling.{IsObject, IsNode, IsNameOrNone, SpellsObject, SpellsNode, SpellsSubject, SpellsTuple, SpellsType, object_text, node_text, subject_text}
 use Rattle.names.specs.declared.refusal.Refusal.{Refusal}
 use Rattle.names.specs.declared.refusal.Refusal.TheVariants.{Malformed, Memory}
@@ -16,14 +16,29 @@ use Rattle.names.specs.declared.tuple.Tuple.{Tuple}
 use Rattle.names.specs.declared.relation.SubjectType.{SubjectType}
 use Rattle.names.proofs.Splitting.{Lacks, is_other, lacks_refused, lacks_joined, cut_at, cut_optional}
 
+pub malformed_map : {P Q : Type 0} → (P → Q) → (e : Refusal) → IsMalformed P e → IsMalformed Q e
+malformed_map f Malformed p = f p
+malformed_map f _ p = absurd p
+
+-- a reader that takes memory, of a part that takes none
+pub read_map : {P Q : Type 0} → (P → Q) → (e : Refusal) → IsMalformed P e → ReadCause Q e
+read_map f Malformed p = f p
+read_map f _ p = absurd p
+
 pub read_cause_map : {P Q : Type 0} → (P → Q) → (e : Refusal) → ReadCause P e → ReadCause Q e
 read_cause_map f Malformed p = f p
 read_cause_map f Memory p = tt
 read_cause_map f _ p = absurd p
 
 -- at the exit of a `?`
+pub malformed_exit : {T P Q : Type 0} → (r : Result T Refusal) (e : Refusal) → IsErrAnd r (λ x. x ≡ e) → (P → Q) → IsMalformed P e → IfErr r (λ x. IsMalformed Q x)
+malformed_exit r e was f cause = let p = err_from_is_err_and r was in rw (p.1, p.2) (malformed_map f e cause)
+
 pub read_exit : {T P Q : Type 0} → (r : Result T Refusal) (e : Refusal) → IsErrAnd r (λ x. x ≡ e) → (P → Q) → ReadCause P e → IfErr r (λ x. ReadCause Q x)
 read_exit r e was f cause = let p = err_from_is_err_and r was in rw (p.1, p.2) (read_cause_map f e cause)
+
+pub read_part : {T P Q : Type 0} → (r : Result T Refusal) (e : Refusal) → IsErrAnd r (λ x. x ≡ e) → (P → Q) → IsMalformed P e → IfErr r (λ x. ReadCause Q x)
+read_part r e was f cause = let p = err_from_is_err_and r was in rw (p.1, p.2) (read_map f e cause)
 
 clash : (p : List ℕ → Bool) (xs ys : List ℕ) → xs ≡ ys → p xs ≡ false → IsTrue (p ys) → ⊥
 clash p xs ys e refused good = let g : p ys ≡ true = good in true≢false (sym g ∙ ap p (sym e) ∙ refused)

@@ -95,6 +95,11 @@ cause_name_of Tupleset = codes "tupleset"
 cause_name_of Indexed = codes "indexed"
 cause_name_of (Cycle certificate) = codes "cycle"
 
+-- Why a text is refused that is read without memory: it is malformed, as stated.
+abbrev pub IsMalformed : Type 0 → Refusal → Type 0
+IsMalformed malformed Malformed = malformed
+IsMalformed malformed _ = ⊥
+
 -- Why a reader of a text refuses: it is malformed, as stated, or there was no memory.
 abbrev pub ReadCause : Type 0 → Refusal → Type 0
 ReadCause malformed Malformed = malformed

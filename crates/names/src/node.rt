@@ -1,9 +1,8 @@
 //! Nodes.
 ghost use Rattle.std.specs.Prelude.{◌≡◌, Some, IfOk, IfErr};
-ghost use Rattle.names.specs.Refusals.{ReadCause};
+ghost use Rattle.names.specs.Refusals.{IsMalformed};
 
 use crate::{Name, Object, Refusal};
-use std::alloc::Global;
 use std::fmt;
 
 /// A relation of an object, spelled `namespace:id#relation`. Nodes are ordered by object, then by
@@ -19,15 +18,15 @@ impl Node {
     ghost use Rattle.names.specs.Spelling.{SpellsNode};
 
     /// Reads a node's spelling.
-    pub fn parse(alloc: Global, text: &str) -> Result<Node, Refusal>
+    pub fn parse(text: &str) -> Result<Node, Refusal>
         ensures ok { IfOk result (λ n. SpellsNode text.now n) }
-        ensures err { IfErr result (λ e. ReadCause ((n : Node) → ¬ (SpellsNode text.now n)) e) }
+        ensures err { IfErr result (λ e. IsMalformed ((n : Node) → ¬ (SpellsNode text.now n)) e) }
     {
         let Some((object, relation)) = text.split_once('#') else {
             return Err(Refusal::Malformed);
         };
-        let object = Object::parse(alloc, object)?;
-        let relation = Name::parse(alloc, relation)?;
+        let object = Object::parse(object)?;
+        let relation = Name::parse(relation)?;
         Ok(Node { object, relation })
     }
 }

@@ -1,9 +1,8 @@
 //! Objects.
 ghost use Rattle.std.specs.Prelude.{◌≡◌, Some, IsTrue, IfOk, IfErr, false};
-ghost use Rattle.names.specs.Refusals.{ReadCause};
+ghost use Rattle.names.specs.Refusals.{IsMalformed};
 
 use crate::{Name, ObjectId, Refusal};
-use std::alloc::Global;
 use std::fmt;
 
 /// An object, spelled `namespace:id`. Objects are ordered by namespace, then by id.
@@ -19,23 +18,23 @@ impl Object {
     ghost use Rattle.names.specs.Spelling.{SpellsObject};
 
     /// Reads an object's spelling.
-    pub fn parse(alloc: Global, text: &str) -> Result<Object, Refusal>
+    pub fn parse(text: &str) -> Result<Object, Refusal>
         ensures ok { IfOk result (λ o. SpellsObject text.now o) }
-        ensures err { IfErr result (λ e. ReadCause ((o : Object) → ¬ (SpellsObject text.now o)) e) }
+        ensures err { IfErr result (λ e. IsMalformed ((o : Object) → ¬ (SpellsObject text.now o)) e) }
     {
         let Some((namespace, id)) = text.split_once(':') else {
             return Err(Refusal::Malformed);
         };
-        let namespace = Name::parse(alloc, namespace)?;
-        Object::of(alloc, namespace, id)
+        let namespace = Name::parse(namespace)?;
+        Object::of(namespace, id)
     }
 
     /// The object of a namespace with this id.
-    pub fn of(alloc: Global, namespace: Name, id: &str) -> Result<Object, Refusal>
+    pub fn of(namespace: Name, id: &str) -> Result<Object, Refusal>
         ensures ok { IfOk result (λ o. (o.namespace ≡ namespace) × (o.id ≡ id.now) × IsTrue (is_id id.now)) }
-        ensures err { IfErr result (λ e. ReadCause (is_id id.now ≡ false) e) }
+        ensures err { IfErr result (λ e. IsMalformed (is_id id.now ≡ false) e) }
     {
-        let id = ObjectId::parse(alloc, id)?;
+        let id = ObjectId::parse(id)?;
         Ok(Object { namespace, id })
     }
 }

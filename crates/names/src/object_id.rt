@@ -4,14 +4,14 @@ ghost use Rattle.std.specs.Ordering.{nat_cmp};
 ghost use Rattle.std.specs.List.{list_all};
 ghost use Rattle.std.specs.Cmp.Lexicographic.{pointwise, slice_cmp, nat_list_eq_equiv, nat_list_cmp_total, texts_ties, texts_po};
 ghost use Rattle.std.specs.Cmp.{partial_equiv_from_equiv};
-ghost use Rattle.names.specs.Refusals.{ReadCause};
+ghost use Rattle.names.specs.Refusals.{IsMalformed};
 ghost use Rattle.names.specs.Names.{is_id, is_id_byte};
 
 use crate::Refusal;
 use crate::limits::MAX_ID_LEN;
 use crate::name::is_name_code;
 use arrayvec::ArrayString;
-use std::alloc::{AllocError, Global};
+use std::alloc::AllocError;
 use std::cmp::Ordering;
 use std::fmt;
 use std::marker::Model;
@@ -36,9 +36,9 @@ impl Model for ObjectId {
 
 impl ObjectId {
     /// Reads an object's id. The text is refused as malformed exactly where it is none.
-    pub fn parse(_alloc: Global, text: &str) -> Result<ObjectId, Refusal>
+    pub fn parse(text: &str) -> Result<ObjectId, Refusal>
         ensures ok { IfOk result (λ n. (n ≡ text.now) × IsTrue (is_id text.now)) }
-        ensures err { IfErr result (λ e. ReadCause (is_id text.now ≡ false) e) }
+        ensures err { IfErr result (λ e. IsMalformed (is_id text.now ≡ false) e) }
     {
         if !is_spelled(text.as_bytes()) {
             return Err(Refusal::Malformed);

@@ -1,9 +1,8 @@
 //! Relations of namespaces, and the types that they declare.
 ghost use Rattle.std.specs.Prelude.{◌≡◌, Some, IfOk, IfErr};
-ghost use Rattle.names.specs.Refusals.{ReadCause};
+ghost use Rattle.names.specs.Refusals.{IsMalformed};
 
 use crate::{Name, Refusal};
-use std::alloc::Global;
 use std::fmt;
 
 /// A relation of a namespace, spelled `namespace#relation`.
@@ -38,19 +37,19 @@ impl SubjectType {
     ghost use Rattle.names.specs.Spelling.{SpellsType};
 
     /// Reads a type's spelling.
-    pub fn parse(alloc: Global, text: &str) -> Result<SubjectType, Refusal>
+    pub fn parse(text: &str) -> Result<SubjectType, Refusal>
         ensures ok { IfOk result (λ t. SpellsType text.now t) }
-        ensures err { IfErr result (λ e. ReadCause ((t : SubjectType) → ¬ (SpellsType text.now t)) e) }
+        ensures err { IfErr result (λ e. IsMalformed ((t : SubjectType) → ¬ (SpellsType text.now t)) e) }
     {
         let Some((namespace, relation)) = text.split_once('#') else {
-            let namespace = Name::parse(alloc, text)?;
+            let namespace = Name::parse(text)?;
             return Ok(SubjectType {
                 namespace,
                 relation: None,
             });
         };
-        let namespace = Name::parse(alloc, namespace)?;
-        let relation = Name::parse(alloc, relation)?;
+        let namespace = Name::parse(namespace)?;
+        let relation = Name::parse(relation)?;
         Ok(SubjectType {
             namespace,
             relation: Some(relation),

@@ -1,9 +1,8 @@
 //! Subjects.
 ghost use Rattle.std.specs.Prelude.{◌≡◌, Some, None, IfOk, IfErr};
-ghost use Rattle.names.specs.Refusals.{ReadCause};
+ghost use Rattle.names.specs.Refusals.{IsMalformed};
 
 use crate::{Name, Node, Object, Refusal};
-use std::alloc::Global;
 use std::fmt;
 
 /// Whom a tuple names: an object, or with a relation the members of a node (a userset). It is spelled
@@ -40,16 +39,16 @@ impl Subject {
     }
 
     /// Reads a subject's spelling.
-    pub fn parse(alloc: Global, text: &str) -> Result<Subject, Refusal>
+    pub fn parse(text: &str) -> Result<Subject, Refusal>
         ensures ok { IfOk result (λ s. SpellsSubject text.now s) }
-        ensures err { IfErr result (λ e. ReadCause ((s : Subject) → ¬ (SpellsSubject text.now s)) e) }
+        ensures err { IfErr result (λ e. IsMalformed ((s : Subject) → ¬ (SpellsSubject text.now s)) e) }
     {
         let Some((object, relation)) = text.split_once('#') else {
-            let object = Object::parse(alloc, text)?;
+            let object = Object::parse(text)?;
             return Ok(Subject::one(object));
         };
-        let object = Object::parse(alloc, object)?;
-        let relation = Name::parse(alloc, relation)?;
+        let object = Object::parse(object)?;
+        let relation = Name::parse(relation)?;
         Ok(Subject {
             object,
             relation: Some(relation),

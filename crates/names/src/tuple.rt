@@ -1,9 +1,8 @@
 //! Tuples.
 ghost use Rattle.std.specs.Prelude.{◌≡◌, Some, IfOk, IfErr};
-ghost use Rattle.names.specs.Refusals.{ReadCause};
+ghost use Rattle.names.specs.Refusals.{IsMalformed};
 
 use crate::{Node, Refusal, Subject};
-use std::alloc::Global;
 use std::fmt;
 
 /// That a subject has a relation to an object, spelled `node@subject`. Tuples are ordered by node, then
@@ -19,15 +18,15 @@ impl Tuple {
     ghost use Rattle.names.specs.Spelling.{SpellsTuple};
 
     /// Reads a tuple's spelling.
-    pub fn parse(alloc: Global, text: &str) -> Result<Tuple, Refusal>
+    pub fn parse(text: &str) -> Result<Tuple, Refusal>
         ensures ok { IfOk result (λ t. SpellsTuple text.now t) }
-        ensures err { IfErr result (λ e. ReadCause ((t : Tuple) → ¬ (SpellsTuple text.now t)) e) }
+        ensures err { IfErr result (λ e. IsMalformed ((t : Tuple) → ¬ (SpellsTuple text.now t)) e) }
     {
         let Some((node, subject)) = text.split_once('@') else {
             return Err(Refusal::Malformed);
         };
-        let node = Node::parse(alloc, node)?;
-        let subject = Subject::parse(alloc, subject)?;
+        let node = Node::parse(node)?;
+        let subject = Subject::parse(subject)?;
         Ok(Tuple { node, subject })
     }
 }

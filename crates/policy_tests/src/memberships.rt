@@ -17,14 +17,14 @@ fn snapshot_of(alloc: Global, tuples: &str) -> Result<Snapshot, Refusal> {
     let mut snapshot = Snapshot::empty(alloc);
     snapshot.set_config(Config::from_json(alloc, CONFIG.as_bytes())?);
     for tuple in tuples.split_ascii_whitespace() {
-        snapshot.insert(Tuple::parse(alloc, tuple)?)?;
+        snapshot.insert(Tuple::parse(tuple)?)?;
     }
     Ok(snapshot)
 }
 
 // The members of the node, each followed by a space.
 fn members_text(alloc: Global, snapshot: &Snapshot, node: &str) -> Result<String, Refusal> {
-    let node = Node::parse(alloc, node)?;
+    let node = Node::parse(node)?;
     let mut text = String::new(alloc);
     for object in &members(alloc, snapshot, &node)? {
         text.push_str(object.to_string(alloc)?.as_str())?;
@@ -56,7 +56,7 @@ fn members_are_listed_once_and_in_order(rt: HostRuntime) -> Result<(), Fail> {
 // The number of the refusal, or 0.
 fn refusal_of(alloc: Global, node: &str) -> Result<u8, Refusal> {
     let snapshot = snapshot_of(alloc, "group:a#member@user:ann")?;
-    let node = Node::parse(alloc, node)?;
+    let node = Node::parse(node)?;
     match members(alloc, &snapshot, &node) {
         Ok(_) => Ok(0),
         Err(why) => Ok(why.number()),
@@ -77,7 +77,7 @@ fn relations_that_are_not_there_have_no_members(rt: HostRuntime) -> Result<(), F
 }
 
 fn is_taken_away(alloc: Global) -> Result<bool, Refusal> {
-    let ann = Tuple::parse(alloc, "group:a#member@user:ann")?;
+    let ann = Tuple::parse("group:a#member@user:ann")?;
     let mut snapshot = snapshot_of(alloc, "group:a#member@user:ann group:a#member@user:bob")?;
     let both = snapshot.len() == 2 && snapshot.contains(&ann);
     snapshot.remove(&ann);
@@ -94,7 +94,7 @@ fn a_tuple_is_taken_away(rt: HostRuntime) -> Result<(), Fail> {
 
 fn finds_the_first(alloc: Global) -> Result<bool, Refusal> {
     let snapshot = snapshot_of(alloc, GROUPS)?;
-    let first = Tuple::parse(alloc, "group:a#member@group:b#member")?;
+    let first = Tuple::parse("group:a#member@group:b#member")?;
     let users_alone = Config::from_json(alloc, USERS_ALONE.as_bytes())?;
     let none = snapshot.first_not_admitted(snapshot.config()).is_none();
     Ok(none && snapshot.first_not_admitted(&users_alone) == Some(&first))

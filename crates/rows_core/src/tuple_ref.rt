@@ -94,7 +94,7 @@ pub(crate) fn name_of(alloc: Global, text: &str) -> Result<Name, AllocError>
     requires { IsTrue (is_name text.now) }
     ensures { IfOk result (λ n. n ≡ text.now) }
 {
-    match Name::parse(alloc, text) {
+    match Name::parse(text) {
         Ok(name) => Ok(name),
         Err(Refusal::Memory) => Err(AllocError),
         Err(_) => unreachable!(),
@@ -107,7 +107,7 @@ pub(crate) fn object_of(alloc: Global, namespace: &str, id: &str) -> Result<Obje
     ensures { IfOk result (λ o. (o.namespace ≡ namespace.now) × (o.id ≡ id.now)) }
 {
     let namespace = name_of(alloc, namespace)?;
-    match Object::of(alloc, namespace, id) {
+    match Object::of(namespace, id) {
         Ok(object) => Ok(object),
         Err(Refusal::Memory) => Err(AllocError),
         Err(_) => unreachable!(),

@@ -19,10 +19,10 @@ fn read_tuple(alloc: Global, text: &TupleText) -> Result<Tuple, Unread>
     ensures is { IfOk result IsTuple }
     ensures fault { IfErr result (DeservedBy (IsOfTuple text.now)) }
 {
-    let namespace = Name::parse(alloc, text.namespace.as_str())?;
-    let id = ObjectId::parse(alloc, text.object.as_str())?;
-    let relation = Name::parse(alloc, text.relation.as_str())?;
-    let subject = Subject::parse(alloc, text.subject.as_str())?;
+    let namespace = Name::parse(text.namespace.as_str())?;
+    let id = ObjectId::parse(text.object.as_str())?;
+    let relation = Name::parse(text.relation.as_str())?;
+    let subject = Subject::parse(text.subject.as_str())?;
     let object = Object { namespace, id };
     let node = Node { object, relation };
     Ok(Tuple { node, subject })

@@ -6,14 +6,14 @@ use std::alloc::Global;
 use std::test::Fail;
 
 fn is_object_before(alloc: Global, first: &str, second: &str) -> Result<bool, Refusal> {
-    let first = Object::parse(alloc, first)?;
-    let second = Object::parse(alloc, second)?;
+    let first = Object::parse(first)?;
+    let second = Object::parse(second)?;
     Ok(first < second && !(second < first))
 }
 
 fn is_subject_before(alloc: Global, first: &str, second: &str) -> Result<bool, Refusal> {
-    let first = Subject::parse(alloc, first)?;
-    let second = Subject::parse(alloc, second)?;
+    let first = Subject::parse(first)?;
+    let second = Subject::parse(second)?;
     Ok(first < second)
 }
 

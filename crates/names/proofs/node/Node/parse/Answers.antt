@@ -1,4 +1,4 @@
-use Rattle.names.proofs.Readings.{read_exit, node_uncut, node_object_refused, node_relation_refused}
+use Rattle.names.proofs.Readings.{malformed_exit, node_uncut, node_object_refused, node_relation_refused}
 use Rattle.names.proofs.node.Node.parse.Goals as goal
 
 pub returns-in_default-clause-err : goal.returns-in_default-clause-err
@@ -6,10 +6,10 @@ returns-in_default-clause-err c = node_uncut c.args.text.now c.in_default.ensure
 
 pub returns-in_err-object-clause-err : goal.returns-in_err-object-clause-err
 returns-in_err-object-clause-err c =
-    read_exit c.from_residual.result c.in_err-object.field-0.0 c.from_residual.ensures.1
+    malformed_exit c.from_residual.result c.in_err-object.field-0.0 c.from_residual.ensures.1
     (node_object_refused c.args.text.now c.in-Some.object c.in-Some.relation c.in-Some.ensures.cases) c.in_err-object.ensures.err
 
 pub returns-in_err-relation-clause-err : goal.returns-in_err-relation-clause-err
 returns-in_err-relation-clause-err c =
-    read_exit c.from_residual-in_err-relation.result c.in_err-relation.field-0.0 c.from_residual-in_err-relation.ensures.1
+    malformed_exit c.from_residual-in_err-relation.result c.in_err-relation.field-0.0 c.from_residual-in_err-relation.ensures.1
     (node_relation_refused c.args.text.now c.in-Some.object c.in-Some.relation c.in-Some.ensures.cases) c.in_err-relation.ensures.err
