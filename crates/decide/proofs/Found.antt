@@ -10,7 +10,7 @@ use Rattle.config_core.specs.declared.rewrite.Rewrite.{Rewrite}
 use Rattle.config_core.specs.declared.relation.Relation.{Relation}
 use Rattle.config_core.specs.Forms.{form_of, rewrite_forms, defined_of}
 use Rattle.decide.proofs.Parts.{some_left, some_none}
-use Rattle.meaning.specs.Membership.{HasOne, HasSet, Gives, SomeGives}
+use Rattle.meaning.specs.Membership.{Gives, SomeGives}
 use Rattle.meaning.proofs.GivesLemmas.{gives_grows}
 use Rattle.meaning.proofs.ReadsLemmas.{below_level}
 use Rattle.decide.specs.declared.search.Search.{Search}
@@ -26,7 +26,8 @@ use Rattle.decide.specs.declared.asking.Found.TheVariants as found
 use Rattle.config.specs.Places.{StandsAt}
 use Rattle.decide.proofs.Relations.{there_gives, gives_there}
 use Rattle.decide.specs.inside.Given.{RelationGave, Gave, HasNode, HasSome, no_or_later, opposite, BaseGives}
-use Rattle.decide.specs.inside.Asked.{high, Counts, IsLeft, IsAsking, GoesOn, AreNodesOf}
+use Rattle.decide.specs.inside.Asked.{high, Counts, IsLeft, IsAsking, GoesOn}
+use Rattle.decide.specs.inside.Reads.{AreNodesOf, AreOwn}
 use Rattle.decide.proofs.SearchLemmas.{grew_refl, grew_trans, grew_waits, grew_number}
 use Rattle.decide.proofs.Settling.{under_up, under_own, same_opened, settled}
 
@@ -39,6 +40,15 @@ module _ (S : Snap) (u : Object) (a : Asking) where
 
   pub goes_on : (s t : Search) → IsAsking S u s a → Grew s t → IsRunning S u t (Some a.number) → GoesOn S u s t a
   goes_on s t h g run = record { asking = record { running = run; number = grew_number s t a.number a.node.now a.level g h.number }; grew = g }
+
+  -- more was kept of the asker, or less
+  pub goes_read : (s t : Search) → IsAsking S u s a → Grew s t → (IsRunning S u s (Some a.number) → IsRunning S u t (Some a.number)) → GoesOn S u s t a
+  goes_read s t h g run = goes_on s t h g (run h.running)
+
+  pub asker_is : (s : Search) → IsAsking S u s a → (P : Node → Type 0) → P a.node.now → (e : Opened) → Stands s a.number e → P e.node
+  asker_is s h P own e there =
+      let same : e ≡ h.number.0 = same_opened s a.number e h.number.0 there h.number.1 in
+      subst P (sym (ap (λ (x : Opened). x.node) same ∙ h.number.2)) own
 
   pub left_before : (s t : Search) (m : Node) → Grew s t → IsLeft S u t a m → IsLeft S u s a m
   left_before s t m g (under, h) = (under, λ p w. h p (grew_waits s t m a.number g w))
@@ -105,13 +115,18 @@ module _ (S : Snap) (u : Object) (a : Asking) where
   computed_gave s c m found.No e h = λ g. h (subst (IsLeft S u s a) (sym e) g)
   computed_gave s c m found.Later e h = tt
 
+  pub some_grows : (s t : Search) (nodes : List Node) (f : Found) → Grew s t → HasSome S u s a nodes f → HasSome S u t a nodes f
+  some_grows s t nodes found.Yes g h = h
+  some_grows s t nodes found.No g h = λ m c left. h m c (left_before S u a s t m g left)
+  some_grows s t nodes found.Later g h = tt
+
   counts_has : (m : Node) → Under S u (high a) m → Has S.config (rel_of m)
   counts_has m x = (below_level S u (high a) m x).1.0
 
-  pub this_gave : (s : Search) (sets : List Node) (f : Found) → (HasOne S a.node.now u → ⊥) → ((m : Node) → Contains sets m → HasSet S a.node.now m) → ((m : Node) → HasSet S a.node.now m → Has S.config (rel_of m) → Contains sets m) → HasSome S u s a sets f → Gave S u s a This f
-  this_gave s sets found.Yes direct only all (m, c, counts) = inr (m, only m c, counts)
-  this_gave s sets found.No direct only all none = λ g. ⊎_elim direct (λ (m, set, left). none m (all m set (counts_has m left.0)) left) g
-  this_gave s sets found.Later direct only all h = tt
+  pub this_gave : (s : Search) (sets : List Node) (f : Found) → AreOwn S u a.node.now sets → HasSome S u s a sets f → Gave S u s a This f
+  this_gave s sets found.Yes own (m, c, counts) = inr (m, own.only m c, counts)
+  this_gave s sets found.No own none = λ g. ⊎_elim own.direct (λ (m, set, left). none m (own.all m set (counts_has m left.0)) left) g
+  this_gave s sets found.Later own h = tt
 
   pub through_gave : (s : Search) (t c : List ℕ) (nodes : List Node) (f : Found) → AreNodesOf S a.node.now t c nodes → HasSome S u s a nodes f → Gave S u s a (TupleTo t c) f
   through_gave s t c nodes found.Yes are (m, x, counts) =

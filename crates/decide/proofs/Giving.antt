@@ -13,10 +13,11 @@ use Rattle.decide.specs.declared.search.Search.{Search}
 use Rattle.decide.specs.declared.search.Opened.{Opened}
 use Rattle.decide.specs.inside.Under.{Under}
 use Rattle.decide.specs.inside.Searches.{Stands, IsStacked, Waits, IsNumberOf, Pushes, Wakes}
+use Rattle.decide.specs.inside.Reads.{IsKept}
 use Rattle.decide.specs.inside.Running.{IsRunning}
 use Rattle.decide.proofs.Elements.{Holds, holds_same, holds_set, holds_stored, holds_set_back, contains_or_not}
 use Rattle.decide.proofs.Pushing.{pushed_long, pushed_stays, pushed_here, pushed_back}
-use Rattle.decide.proofs.SearchLemmas.{waits_stuck}
+use Rattle.decide.proofs.SearchLemmas.{waits_stuck, kept_same}
 
 pub wakes_none : (s : Search) → Wakes s s []
 wakes_none s = record {
@@ -52,6 +53,8 @@ pub record Gave (s t : Search) (i : ℕ) (e f : Opened) : Type 0 where
   pub level : f.level ≡ e.level
   pub sure : f.sure ≡ true
   pub alone : f.waiting.items ≡ []
+  pub own : f.own ≡ e.own
+  pub parents : f.parents ≡ e.parents
   pub long : length t.stacks.items ≡ length s.stacks.items
   pub stays : (l j : ℕ) → IsStacked s l j → IsStacked t l j
   pub woken : (w : ℕ) (g : Opened) → Contains e.waiting.items w → Stands s w g → IsStacked t g.level w
@@ -127,6 +130,10 @@ module _ (s t : Search) (i : ℕ) (e f : Opened) (gave : Gave s t i e f) where
           (λ c. let lt = r.waiting_there i j e gave.at c in omega (arith, lt, as_long))
           (gave.only l j on);
       right = right_all;
+      kept = λ j g at. ⊎_elim
+          (λ (_, same). subst (IsKept S u) (sym same) (kept_same S u e f gave.node gave.own gave.parents (r.kept i e gave.at)))
+          (λ (_, old). r.kept j g old)
+          (cases j g at);
       covered = λ j g at unsure _. ⊎_elim
           (λ (_, same). absurd (false≢true (sym unsure ∙ ap (λ (x : Opened). x.sure) same ∙ gave.sure)))
           (λ (other, old). ⊎_elim

@@ -13,12 +13,12 @@ use Rattle.decide.specs.inside.Searches.{Stands, IsStacked, Grew, IsNumberOf, Op
 use Rattle.decide.specs.inside.Running.{IsRunning}
 use Rattle.decide.proofs.Elements.{Holds, holds_left, holds_last, holds_back}
 use Rattle.decide.proofs.Pushing.{pushed_long, pushed_stays, pushed_here, pushed_back}
-use Rattle.decide.proofs.SearchLemmas.{more_refl, grew_stuck}
+use Rattle.decide.proofs.SearchLemmas.{more_refl, grew_stuck, kept_none}
 
 module _ (s t : Search) (n : Node) (k i : ℕ) (opens : Opens s t n k i) where
   pub opens_grew : Grew s t
   opens_grew =
-      let (e, opened, _, _, _, _, _, pushes) = opens in
+      let (e, opened, _, _, _, _, _, _, _, pushes) = opens in
       record {
         stands = λ j f at. (f, subst (λ zs. Holds zs j f) (sym opened) (holds_left s.opened.items (e ∷ []) j f at), more_refl f);
         stacked = pushed_stays s.stacks.items t.stacks.items k i pushes;
@@ -27,14 +27,14 @@ module _ (s t : Search) (n : Node) (k i : ℕ) (opens : Opens s t n k i) where
 
   pub opens_number : IsNumberOf t i n k
   opens_number =
-      let (e, opened, node, level, _, _, is, _) = opens in
+      let (e, opened, node, level, _, _, _, _, is, _) = opens in
       let last : Holds (s.opened.items ++ e ∷ []) i e = subst (λ q. Holds (s.opened.items ++ e ∷ []) q e) (sym is) (holds_last s.opened.items e) in
       (e, subst (λ zs. Holds zs i e) (sym opened) last, node, level)
 
   module _ (S : Snap) (u : Object) (but : Option ℕ) (there : k < length s.stacks.items) (here : IsAt S.config n k) (r : IsRunning S u s but) where
     opens_back : (j : ℕ) (f : Opened) → Stands t j f → Stands s j f ⊎ ((j ≡ i) × (f ≡ opens.0))
     opens_back j f at =
-        let (e, opened, _, _, _, _, is, _) = opens in
+        let (e, opened, _, _, _, _, _, _, is, _) = opens in
         ⊎_elim inl (λ (last, same). inr (last ∙ sym is, same)) (holds_back s.opened.items e j f (subst (λ zs. Holds zs j f) opened at))
 
     longer : length t.opened.items ≡ length s.opened.items + 1
@@ -42,7 +42,7 @@ module _ (s t : Search) (n : Node) (k i : ℕ) (opens : Opens s t n k i) where
 
     pub opens_running : IsRunning S u t but
     opens_running =
-        let (e, opened, node, level, unsure, alone, is, pushes) = opens in
+        let (e, opened, node, level, unsure, alone, own, parents, is, pushes) = opens in
         let grew = opens_grew in
         let level_of : (f : Opened) → f ≡ e → f.level ≡ k = λ f same. ap (λ (x : Opened). x.level) same ∙ level in
         record {
@@ -67,6 +67,10 @@ module _ (s t : Search) (n : Node) (k i : ℕ) (opens : Opens s t n k i) where
           right = λ j f at sure. ⊎_elim
               (λ old. r.right j f old sure)
               (λ (_, same). absurd (false≢true (sym unsure ∙ sym (ap (λ (x : Opened). x.sure) same) ∙ sure)))
+              (opens_back j f at);
+          kept = λ j f at. ⊎_elim
+              (λ old. r.kept j f old)
+              (λ (_, same). kept_none S u f (ap (λ (x : Opened). x.own) same ∙ own) (ap (λ (x : Opened). x.parents) same ∙ parents))
               (opens_back j f at);
           covered = λ j f at no other. ⊎_elim
               (λ old. ⊎_elim

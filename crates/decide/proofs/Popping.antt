@@ -66,6 +66,7 @@ module _ (S : Snap) (u : Object) (s t : Search) (opened : t.opened.items ≡ s.o
           waiting_there = λ j w g at c. let lt = r.waiting_there j w g (old j g at) c in omega (arith, lt, as_long);
           stacked_there = λ l j on. let lt = r.stacked_there l j (fewer l j on) in omega (arith, lt, as_long);
           right = λ j g at sure. r.right j g (old j g at) sure;
+          kept = λ j g at. r.kept j g (old j g at);
           covered = λ j g at unsure other. ⊎_elim
               (λ on. inl (rest g.level j other on))
               (λ stuck. inr (waits_stuck S u s t j g g (still j) refl refl stuck))

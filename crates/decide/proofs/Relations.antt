@@ -12,7 +12,7 @@ use Rattle.config_core.specs.declared.relation.Relation.{Relation}
 use Rattle.config_core.specs.Forms.{defined_of, form_of}
 use Rattle.config.specs.Levels.{AreLevels}
 use Rattle.config.specs.Places.{StandsAt}
-use Rattle.decide.specs.inside.Asked.{AreNodesOf, node_with}
+use Rattle.decide.specs.inside.Reads.{AreNodesOf, node_with}
 
 pub element : {A : Type 0} (xs : List A) (i : ℕ) → i < length xs → (x : A) × (get_or xs i x ≡ x)
 element [] i l = absurd (omega (arith, l))

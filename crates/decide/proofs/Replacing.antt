@@ -11,15 +11,17 @@ use Rattle.decide.specs.declared.search.Search.{Search}
 use Rattle.decide.specs.declared.search.Opened.{Opened}
 use Rattle.decide.specs.inside.Under.{Under}
 use Rattle.decide.specs.inside.Searches.{Stands, IsStacked, Grew, IsMore, Pushes}
+use Rattle.decide.specs.inside.Reads.{IsKept}
 use Rattle.decide.specs.inside.Running.{IsRunning}
 use Rattle.decide.proofs.Elements.{Holds, holds_same, holds_set, holds_stored, holds_set_back}
 use Rattle.decide.proofs.Pushing.{IsOn, pushed_long, pushed_stays, pushed_here, pushed_back}
-use Rattle.decide.proofs.SearchLemmas.{more_refl, grew_stuck}
+use Rattle.decide.proofs.SearchLemmas.{more_refl, grew_stuck, kept_same}
 
 module _ (S : Snap) (u : Object) (s t : Search) (but except : Option ℕ) (grew : Grew s t)
     (back : (j : ℕ) (g : Opened) → Stands t j g → (h : Opened) × Stands s j h × IsMore h g)
     (waiting : (j w : ℕ) (g : Opened) → Stands t j g → Contains g.waiting.items w → w < length t.opened.items)
     (stacked : (l j : ℕ) → IsStacked t l j → j < length t.opened.items)
+    (kept : IsRunning S u s but → (j : ℕ) (g : Opened) → Stands t j g → IsKept S u g)
     (cover : (j : ℕ) (g : Opened) → Stands t j g → (except ≡ Some j → ⊥) → (but ≡ Some j → ⊥) ⊎ IsStacked t g.level j) where
   pub grew_running : IsRunning S u s but → IsRunning S u t except
   grew_running r = record {
@@ -38,6 +40,7 @@ module _ (S : Snap) (u : Object) (s t : Search) (but except : Option ℕ) (grew 
         let (h, old, more) = back j g at in
         let named : Under S u (suc h.level) g.node = subst (Under S u (suc h.level)) (sym more.node) (r.right j h old (sym more.sure ∙ sure)) in
         subst (λ k. Under S u (suc k) g.node) (sym more.level) named;
+    kept = kept r;
     covered = λ j g at no other.
         let (h, old, more) = back j g at in
         ⊎_elim
@@ -71,7 +74,32 @@ module _ (s t : Search) (i : ℕ) (e f : Opened) (at : Stands s i e) (more : IsM
       (λ (_, old). (g, old, more_refl g))
       (holds_set_back s.opened.items i f j g (subst (λ xs. Holds xs j g) opened new))
 
-  module _ (asker : ℕ) (last : f.waiting.items ≡ e.waiting.items ++ asker ∷ []) (there : asker < length s.opened.items) (S : Snap) (u : Object) (but : Option ℕ) where
+  -- what is kept is right where the new one's is
+  pub replaced_kept : (S : Snap) (u : Object) → IsKept S u f → ((j : ℕ) (g : Opened) → Stands s j g → IsKept S u g)
+      → (j : ℕ) (g : Opened) → Stands t j g → IsKept S u g
+  replaced_kept S u here before j g new = ⊎_elim
+      (λ (_, same). subst (IsKept S u) (sym same) here)
+      (λ (_, old). before j g old)
+      (holds_set_back s.opened.items i f j g (subst (λ xs. Holds xs j g) opened new))
+
+  -- more or less is kept of it
+  module _ (waiting : f.waiting.items ≡ e.waiting.items) (S : Snap) (u : Object) (but : Option ℕ) where
+    pub reading_running : IsKept S u f → IsRunning S u s but → IsRunning S u t but
+    reading_running right r =
+        let long : length t.opened.items ≡ length s.opened.items = ap length opened ∙ length-set s.opened.items i f in
+        grew_running S u s t but but replaced_grew replaced_back
+        (λ j w g new c. ⊎_elim
+        (λ (_, here).
+        let lt = r.waiting_there i w e at (subst (λ xs. Contains xs w) (ap (λ (x : Opened). x.waiting.items) here ∙ waiting) c) in
+        omega (arith, lt, long))
+        (λ (_, old). let lt = r.waiting_there j w g old c in omega (arith, lt, long))
+        (holds_set_back s.opened.items i f j g (subst (λ xs. Holds xs j g) opened new)))
+        (λ l j on. let lt = r.stacked_there l j (subst (λ xs. IsOn xs l j) stacks on) in omega (arith, lt, long))
+        (λ before. replaced_kept S u right before.kept)
+        (λ j g new free. inl free)
+        r
+
+  module _ (own : f.own ≡ e.own) (parents : f.parents ≡ e.parents) (asker : ℕ) (last : f.waiting.items ≡ e.waiting.items ++ asker ∷ []) (there : asker < length s.opened.items) (S : Snap) (u : Object) (but : Option ℕ) where
     pub waiting_running : IsRunning S u s but → IsRunning S u t but
     waiting_running r =
         let long : length t.opened.items ≡ length s.opened.items = ap length opened ∙ length-set s.opened.items i f in
@@ -86,6 +114,7 @@ module _ (s t : Search) (i : ℕ) (e f : Opened) (at : Stands s i e) (more : IsM
         (λ (_, old). let lt = r.waiting_there j w g old c in omega (arith, lt, long))
         (holds_set_back s.opened.items i f j g (subst (λ xs. Holds xs j g) opened new)))
         (λ l j on. let lt = r.stacked_there l j (subst (λ xs. IsOn xs l j) stacks on) in omega (arith, lt, long))
+        (λ before. replaced_kept S u (kept_same S u e f more.node own parents (before.kept i e at)) before.kept)
         (λ j g new free. inl free)
         r
 
@@ -110,6 +139,7 @@ module _ (s t : Search) (i : ℕ) (e : Opened) (at : Stands s i e) (opened : t.o
       (λ before. let lt = r.stacked_there l j before in omega (arith, lt, long))
       (λ same. let lt = at.0 in omega (arith, same, lt, long))
       (pushed_back s.stacks.items t.stacks.items e.level i pushes l j on))
+      (λ before j g new. before.kept j g (old j g new))
       (λ j g new _. ⊎_elim
       (λ same.
       let here : e ≡ g = holds_same s.opened.items j e g (subst (λ q. Holds s.opened.items q e) (sym same) at) (old j g new) in

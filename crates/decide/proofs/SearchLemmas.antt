@@ -1,5 +1,7 @@
 -- A search that grew: what held of it holds still.
-use Rattle.std.proofs.Common.{◌≡◌, ℕ, refl, ◌∙◌, subst}
+use Rattle.std.proofs.Common.{◌≡◌, ℕ, refl, sym, ◌∙◌, subst}
+use Rattle.std.specs.Prelude.{Option, Vec, Some, None, IfSome}
+use Rattle.std.specs.Global.{Global}
 use Rattle.names.specs.declared.object.Object.{Object}
 use Rattle.names.specs.declared.node.Node.{Node}
 use Rattle.meaning.specs.Snap.{Snap}
@@ -7,8 +9,11 @@ use Rattle.meaning.specs.Membership.{RelationGives}
 use Rattle.meaning.proofs.GivesLemmas.{relation_grows}
 use Rattle.decide.specs.declared.search.Search.{Search}
 use Rattle.decide.specs.declared.search.Opened.{Opened}
+use Rattle.decide.specs.declared.search.Parents.{Parents}
+use Rattle.decide.proofs.Elements.{holds_same}
 use Rattle.decide.specs.inside.Under.{Under}
 use Rattle.decide.specs.inside.Searches.{Stands, Waits, IsMore, Grew, IsNumberOf}
+use Rattle.decide.specs.inside.Reads.{AreOwn, AreParents, IsKept}
 use Rattle.decide.specs.inside.Running.{IsHope, IsStuck}
 
 pub more_refl : (e : Opened) → IsMore e e
@@ -62,3 +67,34 @@ pub grew_stuck : (S : Snap) (u : Object) (s t : Search) (i : ℕ) (e f : Opened)
     → Stands s i e → Stands t i f → IsMore e f → IsStuck S u s i e → IsStuck S u t i f
 grew_stuck S u s t i e f grew _ _ more stuck =
     waits_stuck S u s t i e f (λ m w. grew_waits s t m i grew w) more.node more.level stuck
+
+-- ---- what is kept of nodes
+
+pub kept_none : (S : Snap) (u : Object) (e : Opened) → e.own ≡ None → e.parents ≡ None → IsKept S u e
+kept_none S u e own parents = record {
+  own = subst (λ o. IfSome o (λ v. AreOwn S u e.node v.items)) (sym own) tt;
+  parents = subst (λ o. IfSome o (AreParents S e.node)) (sym parents) tt;
+}
+
+pub kept_same : (S : Snap) (u : Object) (e f : Opened) → f.node ≡ e.node → f.own ≡ e.own → f.parents ≡ e.parents → IsKept S u e → IsKept S u f
+kept_same S u e f node own parents h = record {
+  own = subst (λ o. IfSome o (λ v. AreOwn S u f.node v.items)) (sym own)
+      (subst (λ n. IfSome e.own (λ v. AreOwn S u n v.items)) (sym node) h.own);
+  parents = subst (λ o. IfSome o (AreParents S f.node)) (sym parents)
+      (subst (λ n. IfSome e.parents (AreParents S n)) (sym node) h.parents);
+}
+
+-- what was kept of the node with the number
+pub own_kept : (S : Snap) (u : Object) (s : Search) (i : ℕ) (e : Opened) (o : Option (Vec Node Global)) → Stands s i e → o ≡ e.own → IsKept S u e
+    → IfSome o (λ v. (f : Opened) → Stands s i f → AreOwn S u f.node v.items)
+own_kept S u s i e (Some v) at is kept = λ f there.
+    let right : AreOwn S u e.node v.items = subst (λ o. IfSome o (λ w. AreOwn S u e.node w.items)) (sym is) kept.own in
+    subst (λ (x : Opened). AreOwn S u x.node v.items) (holds_same s.opened.items i e f at there) right
+own_kept S u s i e None at is kept = tt
+
+pub parents_kept : (S : Snap) (u : Object) (s : Search) (i : ℕ) (e : Opened) (o : Option Parents) → Stands s i e → o ≡ e.parents → IsKept S u e
+    → IfSome o (λ p. (f : Opened) → Stands s i f → AreParents S f.node p)
+parents_kept S u s i e (Some p) at is kept = λ f there.
+    let right : AreParents S e.node p = subst (λ o. IfSome o (AreParents S e.node)) (sym is) kept.parents in
+    subst (λ (x : Opened). AreParents S x.node p) (holds_same s.opened.items i e f at there) right
+parents_kept S u s i e None at is kept = tt

@@ -40,6 +40,7 @@ module _ (S : Snap) (u : Object) where
     waiting_there = run.waiting_there;
     stacked_there = run.stacked_there;
     right = run.right;
+    kept = run.kept;
     covered = λ i e st unsure _. ⊎_elim
         (λ here. inr (stuck_here i e here st unsure))
         (λ other. run.covered i e st unsure (λ is. other (number_is i is)))
@@ -109,6 +110,7 @@ module _ (S : Snap) (u : Object) where
     waiting_there = λ i w e st. absurd (nothing i e st);
     stacked_there = λ l i x. absurd (empty l i x);
     right = λ i e st. absurd (nothing i e st);
+    kept = λ i e st. absurd (nothing i e st);
     covered = λ i e st. absurd (nothing i e st);
   }
     where

@@ -1,12 +1,14 @@
 //! What a rewrite gives the node that asks.
-ghost use Rattle.std.specs.Prelude.{◌≡◌, Contains, IfOk, OnOk, map};
+ghost use Rattle.std.specs.Prelude.{◌≡◌, Contains, IfOk, IfSome, IfNone, OnOk, map};
+ghost use Rattle.meaning.specs.Membership.{HasOne};
 ghost use Rattle.meaning.specs.Form.{This, Computed, TupleTo, Union, Intersection};
 ghost use Rattle.config_core.specs.Forms.{form_of, rewrite_forms};
 ghost use Rattle.decide.specs.inside.Asked.{IsSource, IsAsking, GoesOn};
+ghost use Rattle.decide.specs.inside.Reads.{AreOwn, AreNodesOf};
 ghost use Rattle.decide.specs.inside.Given.{Gave, BaseGives, HasNode, HasSome, RelationGave, opposite, no_or_later};
 
 use crate::asking::{Asking, Found};
-use crate::search::Search;
+use crate::search::{Parents, Search};
 use crate::source::{Source, node_of};
 use config_core::Rewrite;
 use names::{Name, Node};
@@ -75,6 +77,29 @@ fn no_or_later(later: bool) -> Found
     if later { Found::Later } else { Found::No }
 }
 
+/// The usersets of the node's own tuples, unless one of these names the user. They are read once.
+fn own_of(
+    source: &Source,
+    search: &mut Search,
+    asking: &Asking,
+) -> Result<Option<Vec<Node>>, AllocError>
+    requires source { IsSource source.now }
+    requires asking { IsAsking source.now.view.now source.now.user.now search.old asking.now }
+    ensures goes_on { OnOk result (GoesOn source.now.view.now source.now.user.now search.old search.new asking.now) }
+    ensures some { IfOk result (λ o. IfSome o (λ v.
+        AreOwn source.now.view.now source.now.user.now asking.now.node.now v.items)) }
+    ensures none { IfOk result (λ o. IfNone o (HasOne source.now.view.now asking.now.node.now source.now.user.now)) }
+{
+    if let Some(sets) = search.take_own(asking.number) {
+        return Ok(Some(sets));
+    }
+    if source.view.has(asking.node, source.user) {
+        return Ok(None);
+    }
+    let sets = source.view.usersets_of(source.alloc, asking.node)?;
+    Ok(Some(sets))
+}
+
 /// The node's own tuples.
 fn this(source: &Source, search: &mut Search, asking: &Asking) -> Result<Found, AllocError>
     requires source { IsSource source.now }
@@ -82,11 +107,11 @@ fn this(source: &Source, search: &mut Search, asking: &Asking) -> Result<Found, 
     ensures goes_on { OnOk result (GoesOn source.now.view.now source.now.user.now search.old search.new asking.now) }
     ensures found { IfOk result (Gave source.now.view.now source.now.user.now search.new asking.now This) }
 {
-    if source.view.has(asking.node, source.user) {
+    let Some(sets) = own_of(source, search, asking)? else {
         return Ok(Found::Yes);
-    }
-    let sets = source.view.usersets_of(source.alloc, asking.node)?;
+    };
     let found = some_asked(source, search, asking, &sets)?;
+    search.keep_own(asking.number, sets);
     Ok(found)
 }
 
@@ -108,6 +133,30 @@ fn computed(
     Ok(found)
 }
 
+/// The nodes of the relation, of the objects that the tupleset's tuples name. They are read once, where the
+/// node has no other tupleset.
+fn parents_of(
+    source: &Source,
+    search: &mut Search,
+    asking: &Asking,
+    tupleset: &Name,
+    relation: &Name,
+) -> Result<Vec<Node>, AllocError>
+    requires source { IsSource source.now }
+    requires asking { IsAsking source.now.view.now source.now.user.now search.old asking.now }
+    ensures goes_on { OnOk result (GoesOn source.now.view.now source.now.user.now search.old search.new asking.now) }
+    ensures are { IfOk result (λ v.
+        AreNodesOf source.now.view.now asking.now.node.now tupleset.now relation.now v.items) }
+{
+    if let Some(kept) = search.take_parents(asking.number) {
+        if kept.tupleset == *tupleset && kept.relation == *relation {
+            return Ok(kept.nodes);
+        }
+    }
+    let nodes = source.parents_of(asking.node, tupleset, relation)?;
+    Ok(nodes)
+}
+
 /// A relation of the objects that the tupleset's tuples name.
 fn through(
     source: &Source,
@@ -122,8 +171,14 @@ fn through(
     ensures found { IfOk result (Gave source.now.view.now source.now.user.now search.new asking.now
         (TupleTo tupleset.now relation.now)) }
 {
-    let parents = source.parents_of(asking.node, tupleset, relation)?;
-    let found = some_asked(source, search, asking, &parents)?;
+    let nodes = parents_of(source, search, asking, tupleset, relation)?;
+    let found = some_asked(source, search, asking, &nodes)?;
+    let parents = Parents {
+        tupleset: tupleset.clone()?,
+        relation: relation.clone()?,
+        nodes,
+    };
+    search.keep_parents(asking.number, parents);
     Ok(found)
 }
 

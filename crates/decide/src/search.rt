@@ -8,21 +8,33 @@ ghost use Rattle.names.specs.declared.node.Node.{Node as NodeValue};
 ghost use Rattle.decide.specs.declared.search.Opened.{Opened};
 ghost use Rattle.decide.specs.inside.Under.{Under};
 ghost use Rattle.decide.specs.inside.Searches.{Stands, IsStacked, Waits, Grew, IsNumberOf, Opens, Pushes, IsThere, Wakes};
+ghost use Rattle.decide.specs.inside.Reads.{AreOwn, AreParents};
 ghost use Rattle.decide.specs.inside.Running.{IsRunning};
 
-use names::Node;
+use names::{Name, Node};
 use std::alloc::{AllocError, Global};
 use std::collections::BTreeMap;
 use std::mem::replace;
 
-/// A node that was opened: its relation's level, whether it is known to have the user, and the numbers of
-/// the nodes that wait for it.
+/// A node that was opened: its relation's level, whether it is known to have the user, the numbers of the
+/// nodes that wait for it, and what was read of it: the usersets of its own tuples, where none names the
+/// user, and the nodes of one tupleset.
 #[derive(Drop)]
 pub(crate) struct Opened {
     node: Node,
     level: usize,
     sure: bool,
     waiting: Vec<usize>,
+    own: Option<Vec<Node>>,
+    parents: Option<Parents>,
+}
+
+/// The nodes of the relation, of the objects that the tupleset's tuples name.
+#[derive(Drop)]
+pub(crate) struct Parents {
+    pub(crate) tupleset: Name,
+    pub(crate) relation: Name,
+    pub(crate) nodes: Vec<Node>,
 }
 
 /// While it stands, only nodes of lower levels are looked at, until the asker is woken.
@@ -87,6 +99,8 @@ impl Search {
             level,
             sure: false,
             waiting: Vec::new(self.alloc),
+            own: None,
+            parents: None,
         })?;
         self.numbers.insert(node.clone()?, number)?;
         self.stacks[level].push(number)?;
@@ -128,6 +142,52 @@ impl Search {
         ensures { (e : Opened) → Stands self.now number e → e.level ≡ result }
     {
         self.opened[number].level
+    }
+
+    /// The usersets of the node's own tuples, if they were read and kept. They are kept no more.
+    pub(crate) fn take_own(&mut self, number: usize) -> Option<Vec<Node>>
+        requires { number < length self.old.opened.items }
+        ensures grew { Grew self.old self.new }
+        ensures own { (S : Snap) (u : Object) (but : Option ℕ) → IsRunning S u self.old but
+            → IfSome result (λ v. (e : Opened) → Stands self.old number e → AreOwn S u e.node v.items) }
+        ensures running { (S : Snap) (u : Object) (but : Option ℕ)
+            → IsRunning S u self.old but → IsRunning S u self.new but }
+    {
+        self.opened[number].own.take()
+    }
+
+    /// Keeps the usersets of the node's own tuples, none of which names the user.
+    pub(crate) fn keep_own(&mut self, number: usize, own: Vec<Node>)
+        requires { number < length self.old.opened.items }
+        ensures grew { Grew self.old self.new }
+        ensures running { (S : Snap) (u : Object) (but : Option ℕ)
+            → ((e : Opened) → Stands self.old number e → AreOwn S u e.node own.items)
+            → IsRunning S u self.old but → IsRunning S u self.new but }
+    {
+        self.opened[number].own = Some(own);
+    }
+
+    /// What was kept of one of the node's tuplesets. It is kept no more.
+    pub(crate) fn take_parents(&mut self, number: usize) -> Option<Parents>
+        requires { number < length self.old.opened.items }
+        ensures grew { Grew self.old self.new }
+        ensures parents { (S : Snap) (u : Object) (but : Option ℕ) → IsRunning S u self.old but
+            → IfSome result (λ p. (e : Opened) → Stands self.old number e → AreParents S e.node p) }
+        ensures running { (S : Snap) (u : Object) (but : Option ℕ)
+            → IsRunning S u self.old but → IsRunning S u self.new but }
+    {
+        self.opened[number].parents.take()
+    }
+
+    /// Keeps what one of the node's tuplesets names.
+    pub(crate) fn keep_parents(&mut self, number: usize, parents: Parents)
+        requires { number < length self.old.opened.items }
+        ensures grew { Grew self.old self.new }
+        ensures running { (S : Snap) (u : Object) (but : Option ℕ)
+            → ((e : Opened) → Stands self.old number e → AreParents S e.node parents)
+            → IsRunning S u self.old but → IsRunning S u self.new but }
+    {
+        self.opened[number].parents = Some(parents);
     }
 
     /// Lets the asker wait for a node.

@@ -7,7 +7,8 @@ ghost use Rattle.config_core.specs.Forms.{defined_of};
 ghost use Rattle.config_core.specs.declared.relation.Relation.{Relation};
 ghost use Rattle.names.specs.declared.object.Object.{Object};
 ghost use Rattle.names.specs.declared.node.Node.{Node};
-ghost use Rattle.decide.specs.inside.Asked.{IsSource, AreNodesOf, node_with};
+ghost use Rattle.decide.specs.inside.Asked.{IsSource};
+ghost use Rattle.decide.specs.inside.Reads.{AreNodesOf, node_with};
 
 use config::Config;
 use names::{Name, Node, Object};

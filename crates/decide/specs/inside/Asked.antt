@@ -1,10 +1,9 @@
 -- What is read of a snapshot, and who asks.
-use Rattle.std.specs.Prelude.{◌≡◌, ◌↔◌, ℕ, List, Contains, cond, true, Some}
+use Rattle.std.specs.Prelude.{◌≡◌, ℕ, cond, true, Some}
 use Rattle.std.proofs.Common.{suc}
 use Rattle.meaning.specs.Snap.{Snap}
 use Rattle.names.specs.declared.object.Object.{Object}
 use Rattle.names.specs.declared.node.Node.{Node}
-use Rattle.meaning.specs.Membership.{HasOne}
 use Rattle.decide.specs.declared.source.Source.{Source}
 use Rattle.decide.specs.declared.asking.Asking.{Asking}
 use Rattle.decide.specs.declared.search.Search.{Search}
@@ -37,13 +36,3 @@ pub record IsAsking (S : Snap) (u : Object) (s : Search) (a : Asking) : Type 0 w
 pub record GoesOn (S : Snap) (u : Object) (s t : Search) (a : Asking) : Type 0 where
   pub asking : IsAsking S u t a
   pub grew : Grew s t
-
--- the object's node of the relation
-abbrev pub node_with : List ℕ → Object → Node
-node_with relation o = record { object = o; relation = relation }
-
--- the nodes of the relation, of the objects that the tupleset's tuples name
-abbrev pub AreNodesOf : Snap → Node → List ℕ → List ℕ → List Node → Type 0
-AreNodesOf S n tupleset relation nodes =
-    (m : Node) → Contains nodes m
-    ↔ ((p : Object) × HasOne S (node_with tupleset n.object) p × (node_with relation p ≡ m))

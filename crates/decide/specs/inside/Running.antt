@@ -9,6 +9,7 @@ use Rattle.meaning.specs.Membership.{RelationGives}
 use Rattle.decide.specs.declared.search.Search.{Search}
 use Rattle.decide.specs.declared.search.Opened.{Opened}
 use Rattle.decide.specs.inside.Under.{Under}
+use Rattle.decide.specs.inside.Reads.{IsKept}
 use Rattle.decide.specs.inside.Searches.{Stands, IsStacked, Waits}
 
 -- a member for which the number does not wait
@@ -25,4 +26,5 @@ pub record IsRunning (S : Snap) (u : Object) (s : Search) (but : Option ℕ) : T
   pub waiting_there : (i w : ℕ) (e : Opened) → Stands s i e → Contains e.waiting.items w → w < length s.opened.items
   pub stacked_there : (l i : ℕ) → IsStacked s l i → i < length s.opened.items
   pub right : (i : ℕ) (e : Opened) → Stands s i e → e.sure ≡ true → Under S u (suc e.level) e.node
+  pub kept : (i : ℕ) (e : Opened) → Stands s i e → IsKept S u e
   pub covered : (i : ℕ) (e : Opened) → Stands s i e → e.sure ≡ false → (but ≡ Some i → ⊥) → IsStacked s e.level i ⊎ IsStuck S u s i e

@@ -1,5 +1,5 @@
 -- What stands in a search: the nodes that were opened, who waits for them, and which are to be looked at.
-use Rattle.std.specs.Prelude.{◌≡◌, ◌<◌, ◌⊎◌, ◌++◌, ◌∷◌, [], ℕ, List, false, Contains, Vec, length, slice_index_or, slice_set}
+use Rattle.std.specs.Prelude.{◌≡◌, ◌<◌, ◌⊎◌, ◌++◌, ◌∷◌, [], ℕ, List, false, Contains, Vec, None, length, slice_index_or, slice_set}
 use Rattle.std.specs.Global.{Global}
 use Rattle.names.specs.declared.node.Node.{Node}
 use Rattle.decide.specs.declared.search.Search.{Search}
@@ -45,7 +45,7 @@ Pushes before after l i =
 abbrev pub Opens : Search → Search → Node → ℕ → ℕ → Type 0
 Opens s t n k i =
     (e : Opened) × (t.opened.items ≡ s.opened.items ++ e ∷ []) × (e.node ≡ n) × (e.level ≡ k) × (e.sure ≡ false)
-    × (e.waiting.items ≡ []) × (i ≡ length s.opened.items) × Pushes s.stacks.items t.stacks.items k i
+    × (e.waiting.items ≡ []) × (e.own ≡ None) × (e.parents ≡ None) × (i ≡ length s.opened.items) × Pushes s.stacks.items t.stacks.items k i
 
 -- there is a stack for the node's level
 abbrev pub IsThere : Search → ℕ → Type 0

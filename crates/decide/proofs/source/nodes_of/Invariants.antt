@@ -1,5 +1,5 @@
 use Rattle.std.proofs.Common.{◌≡◌, map, take}
-use Rattle.decide.specs.inside.Asked.{node_with}
+use Rattle.decide.specs.inside.Reads.{node_with}
 use Rattle.decide.proofs.source.nodes_of.Given as goal
 
 abbrev pub invariant-loop-object : goal.invariant-loop-object

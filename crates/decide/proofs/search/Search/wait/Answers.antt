@@ -12,7 +12,7 @@ abbrev before : In_ok-push → Opened
 before c = c.index_mut.result.now
 
 abbrev after : In_ok-push → Opened
-after c = record { node = (before c).node; level = (before c).level; sure = (before c).sure; waiting = c.push.new.self }
+after c = record { node = (before c).node; level = (before c).level; sure = (before c).sure; waiting = c.push.new.self; own = (before c).own; parents = (before c).parents }
 
 stood : (c : In_ok-push) → Holds c.args.self.now.opened.items c.args.number (before c)
 stood c = (c.requires, sym c.index_mut.ensures.value)
@@ -46,4 +46,4 @@ returns-clause-waits c e at unsure =
 
 pub returns-clause-running : goal.returns-clause-running
 returns-clause-running c S u but there =
-    waiting_running c.args.self.now _ c.args.number (before c) (after c) (stood c) (more c) refl refl c.args.asker (pushed c) there S u but
+    waiting_running c.args.self.now _ c.args.number (before c) (after c) (stood c) (more c) refl refl refl refl c.args.asker (pushed c) there S u but

@@ -1,5 +1,5 @@
 use Rattle.std.proofs.Common.{ap, ◌∙◌, map}
-use Rattle.decide.specs.inside.Asked.{node_with}
+use Rattle.decide.specs.inside.Reads.{node_with}
 use Rattle.decide.proofs.Relations.{nodes_are}
 use Rattle.decide.proofs.source.Source.parents_of.Goals as goal
 
