@@ -3,9 +3,6 @@ use Rattle.std.proofs.Common.{◌≡◌, ℕ, suc, ◌+◌, ◌-◌, ◌<◌, Li
 use Rattle.std.specs.Prelude.{Bool, true, cond, filter}
 use Rattle.std.specs.List.{starts_with}
 use Rattle.std.proofs.Math.Dec.{eqb}
-use Rattle.std.specs.Box.{boxed_str_bytes}
-use Rattle.std.specs.Global.{Global}
-use Rattle.std.specs.declared.boxed.BoxedStr.{BoxedStr}
 use Rattle.names.specs.declared.tuple.Tuple.{Tuple}
 use Rattle.rows_core.specs.declared.version.Version.{Version}
 use Rattle.rows_core.specs.Spelled.{tuple_of}
@@ -25,25 +22,25 @@ picked_keys g (e ∷ es) = ap (λ (ts : List Tuple). cond (g e.0) (e.0 ∷ ts) t
 pub record Counted (g : Tuple → Bool) (m : Entries) (it : Texts) (most more : ℕ) : Type 0 where
   pub all : count g (entries_of it) + most ≡ length (filter g (keys m)) + more
 
-pub counted_first : (p : List ℕ) (g : Tuple → Bool) → Begins p g → (least : BoxedStr Global) → boxed_str_bytes least ≡ p → (es : Texts) → AreSpelled es → (m : Entries) → entries_of es ≡ m
-    → (it : Texts) → from least es ≡ it → (most : ℕ) → Counted g m it most most
-counted_first p g begins least reads es s m is it same most = record {
+pub counted_first : (p : List ℕ) (g : Tuple → Bool) → Begins p g → (es : Texts) → AreSpelled es → (m : Entries) → entries_of es ≡ m
+    → (it : Texts) → from p es ≡ it → (most : ℕ) → Counted g m it most most
+counted_first p g begins es s m is it same most = record {
   all =
       ap (λ (us : Texts). count g (entries_of us) + most) (sym same)
-      ∙ ap (λ (ts : List Tuple). length ts + most) (from_all p g begins (λ _. true) least reads es s)
+      ∙ ap (λ (ts : List Tuple). length ts + most) (from_all p g begins (λ _. true) es s)
       ∙ ap (λ (ds : Entries). count g ds + most) is
       ∙ ap (λ (ts : List Tuple). length ts + most) (picked_keys g m);
 }
 
 -- one that passes is next
 module _ (p : List ℕ) (g : Tuple → Bool) (begins : Begins p g) (m : Entries) (it : Texts) (spelled : AreSpelled it) (most more : ℕ) (counted : Counted g m it most more)
-    (e : BoxedStr Global × List Version) (rest : Texts) (steps : it ≡ e ∷ rest) (starts : starts_with eqb (boxed_str_bytes e.0) p ≡ true)
+    (e : List ℕ × List Version) (rest : Texts) (steps : it ≡ e ∷ rest) (starts : starts_with eqb e.0 p ≡ true)
   where
     one_of_them : count g (entries_of it) ≡ suc (count g (entries_of rest))
     one_of_them =
         let others = pick (λ x. g x.0) (entries_of rest) in
-        let passes = sym (begins.is (boxed_str_bytes e.0) (subst AreSpelled steps spelled).0) ∙ starts in
-        ap (λ (us : Texts). count g (entries_of us)) steps ∙ ap (λ b. length (cond b (tuple_of (boxed_str_bytes e.0) ∷ others) others)) passes
+        let passes = sym (begins.is e.0 (subst AreSpelled steps spelled).0) ∙ starts in
+        ap (λ (us : Texts). count g (entries_of us)) steps ∙ ap (λ b. length (cond b (tuple_of e.0 ∷ others) others)) passes
 
     -- but no more may be
     pub counted_out : more ≡ 0 → most < length (filter g (keys m))

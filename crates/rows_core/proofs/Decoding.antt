@@ -1,18 +1,15 @@
 -- The map as it stands in memory, and the tuples that its texts spell.
-use Rattle.std.proofs.Common.{◌≡◌, ℕ, List, [], ◌∷◌, refl, ap, sym, subst, ◌∙◌}
-use Rattle.std.specs.Prelude.{Bool, true, false, cond, None, Some, IsSome}
-use Rattle.std.specs.Option.{option_map}
+use Rattle.std.proofs.Common.{◌≡◌, ℕ, List, [], ◌∷◌, refl, ap, ap₂, sym, subst, ◌∙◌}
+use Rattle.std.specs.Prelude.{Bool, true, false, cond, Option, None, Some, IsSome}
 use Rattle.std.specs.List.{AllByRecursion}
 use Rattle.std.specs.List.Sorted.{IsStrictlySortedBy}
 use Rattle.std.specs.Map.{lookup, set_value, keys_of}
 use Rattle.std.specs.BTreeMap.{insert_entry}
-use Rattle.std.specs.Box.{boxed_str_bytes}
-use Rattle.std.specs.Global.{Global}
 use Rattle.std.specs.Ordering.{match_ordering, is_eq, nat_cmp}
 use Rattle.std.specs.Cmp.Lexicographic.{slice_cmp}
 use Rattle.std.specs.declared.cmp.Ordering.{Ordering}
 use Rattle.std.specs.declared.cmp.Ordering.TheVariants.{Less, Equal, Greater}
-use Rattle.std.specs.declared.boxed.BoxedStr.{BoxedStr}
+use Rattle.shelf.specs.Texts.{text_cmp, is_text}
 use Rattle.names.specs.Order.{tuple_cmp, is_same_tuple}
 use Rattle.names.specs.declared.tuple.Tuple.{Tuple}
 use Rattle.rows_core.specs.declared.version.Version.{Version}
@@ -22,38 +19,23 @@ use Rattle.rows_core.specs.Texts.{Texts, entry_of, entries_of, AreSpelled}
 use Rattle.rows_core.proofs.Spellings.{texts_order}
 use Rattle.rows_core.proofs.Placing.{placed, set_at, inserted_at, nothing_changed}
 
--- the order of the texts in the map
-abbrev pub text_cmp : BoxedStr Global → BoxedStr Global → Ordering
-text_cmp a b = slice_cmp nat_cmp (boxed_str_bytes a) (boxed_str_bytes b)
-
--- whether a text of the map is this
-abbrev pub is_text : List ℕ → BoxedStr Global → Bool
-is_text text k = is_eq (slice_cmp nat_cmp text (boxed_str_bytes k))
-
 same_text : (a b : List ℕ) → IsSpelling a → IsSpelling b → is_eq (slice_cmp nat_cmp a b) ≡ is_same_tuple (tuple_of a) (tuple_of b)
 same_text a b x y = ap is_eq (texts_order a b x y)
 
 -- a text looked up
 module _ (text : List ℕ) (is : IsSpelling text) where
-  pub looked_up : (es : Texts) → AreSpelled es → option_map (λ v. v) (lookup (is_text text) es) ≡ lookup (is_same_tuple (tuple_of text)) (entries_of es)
+  looked_up : (es : Texts) → AreSpelled es → lookup (is_text text) es ≡ lookup (is_same_tuple (tuple_of text)) (entries_of es)
   looked_up [] s = refl
-  looked_up (e ∷ es) s =
-      ap (λ b. option_map (λ (v : List Version). v) (cond b (Some e.1) (lookup (is_text text) es))) (same_text text (boxed_str_bytes e.0) is s.0)
-      ∙ by_same (is_same_tuple (tuple_of text) (tuple_of (boxed_str_bytes e.0))) (looked_up es s.1)
-    where
-      by_same : (b : Bool) → option_map (λ (v : List Version). v) (lookup (is_text text) es) ≡ lookup (is_same_tuple (tuple_of text)) (entries_of es)
-          → option_map (λ (v : List Version). v) (cond b (Some e.1) (lookup (is_text text) es)) ≡ cond b (Some e.1) (lookup (is_same_tuple (tuple_of text)) (entries_of es))
-      by_same true rest = refl
-      by_same false rest = rest
+  looked_up (e ∷ es) s = ap₂ (λ b (o : Option (List Version)). cond b (Some e.1) o) (same_text text e.0 is s.0) (looked_up es s.1)
 
   decoded_set : (es : Texts) (w : List Version) → AreSpelled es → entries_of (set_value (is_text text) es w) ≡ set_value (is_same_tuple (tuple_of text)) (entries_of es) w
   decoded_set [] w s = refl
   decoded_set (e ∷ es) w s =
-      ap (λ b. entries_of (cond b ((e.0, w) ∷ es) (e ∷ set_value (is_text text) es w))) (same_text text (boxed_str_bytes e.0) is s.0)
-      ∙ by_same (is_same_tuple (tuple_of text) (tuple_of (boxed_str_bytes e.0))) (decoded_set es w s.1)
+      ap (λ b. entries_of (cond b ((e.0, w) ∷ es) (e ∷ set_value (is_text text) es w))) (same_text text e.0 is s.0)
+      ∙ by_same (is_same_tuple (tuple_of text) (tuple_of e.0)) (decoded_set es w s.1)
     where
       by_same : (b : Bool) → entries_of (set_value (is_text text) es w) ≡ set_value (is_same_tuple (tuple_of text)) (entries_of es) w
-          → entries_of (cond b ((e.0, w) ∷ es) (e ∷ set_value (is_text text) es w)) ≡ cond b ((tuple_of (boxed_str_bytes e.0), w) ∷ entries_of es) (entry_of e ∷ set_value (is_same_tuple (tuple_of text)) (entries_of es) w)
+          → entries_of (cond b ((e.0, w) ∷ es) (e ∷ set_value (is_text text) es w)) ≡ cond b ((tuple_of e.0, w) ∷ entries_of es) (entry_of e ∷ set_value (is_same_tuple (tuple_of text)) (entries_of es) w)
       by_same true rest = refl
       by_same false rest = ap (λ (fs : Entries). entry_of e ∷ fs) rest
 
@@ -66,16 +48,16 @@ module _ (text : List ℕ) (is : IsSpelling text) where
       by_same false rest = (s.0, rest)
 
 -- a text put in
-module _ (k : BoxedStr Global) (v : List Version) (is : IsSpelling (boxed_str_bytes k)) where
-  decoded_insert : (es : Texts) → AreSpelled es → entries_of (insert_entry text_cmp es k v) ≡ insert_entry tuple_cmp (entries_of es) (tuple_of (boxed_str_bytes k)) v
+module _ (k : List ℕ) (v : List Version) (is : IsSpelling k) where
+  decoded_insert : (es : Texts) → AreSpelled es → entries_of (insert_entry text_cmp es k v) ≡ insert_entry tuple_cmp (entries_of es) (tuple_of k) v
   decoded_insert [] s = refl
   decoded_insert (e ∷ es) s =
-      ap (λ r. entries_of (match_ordering r ((k, v) ∷ e ∷ es) ((e.0, v) ∷ es) (e ∷ insert_entry text_cmp es k v))) (texts_order (boxed_str_bytes k) (boxed_str_bytes e.0) is s.0)
-      ∙ by_order (tuple_cmp (tuple_of (boxed_str_bytes k)) (tuple_of (boxed_str_bytes e.0))) (decoded_insert es s.1)
+      ap (λ r. entries_of (match_ordering r ((k, v) ∷ e ∷ es) ((e.0, v) ∷ es) (e ∷ insert_entry text_cmp es k v))) (texts_order k e.0 is s.0)
+      ∙ by_order (tuple_cmp (tuple_of k) (tuple_of e.0)) (decoded_insert es s.1)
     where
-      by_order : (r : Ordering) → entries_of (insert_entry text_cmp es k v) ≡ insert_entry tuple_cmp (entries_of es) (tuple_of (boxed_str_bytes k)) v
+      by_order : (r : Ordering) → entries_of (insert_entry text_cmp es k v) ≡ insert_entry tuple_cmp (entries_of es) (tuple_of k) v
           → entries_of (match_ordering r ((k, v) ∷ e ∷ es) ((e.0, v) ∷ es) (e ∷ insert_entry text_cmp es k v))
-          ≡ match_ordering r ((tuple_of (boxed_str_bytes k), v) ∷ entry_of e ∷ entries_of es) ((tuple_of (boxed_str_bytes e.0), v) ∷ entries_of es) (entry_of e ∷ insert_entry tuple_cmp (entries_of es) (tuple_of (boxed_str_bytes k)) v)
+          ≡ match_ordering r ((tuple_of k, v) ∷ entry_of e ∷ entries_of es) ((tuple_of e.0, v) ∷ entries_of es) (entry_of e ∷ insert_entry tuple_cmp (entries_of es) (tuple_of k) v)
       by_order Less rest = refl
       by_order Equal rest = refl
       by_order Greater rest = ap (λ (fs : Entries). entry_of e ∷ fs) rest
@@ -95,20 +77,20 @@ unfolding IsStrictlySortedBy
 sorted_tuples [] s sorted = sorted
 sorted_tuples (e ∷ es) s sorted = (above es s.1 sorted.0, sorted_tuples es s.1 sorted.1)
   where
-    above : (fs : Texts) → AreSpelled fs → AllByRecursion (λ k. text_cmp e.0 k ≡ Less) (keys_of fs) → AllByRecursion (λ t. tuple_cmp (tuple_of (boxed_str_bytes e.0)) t ≡ Less) (keys (entries_of fs))
+    above : (fs : Texts) → AreSpelled fs → AllByRecursion (λ k. text_cmp e.0 k ≡ Less) (keys_of fs) → AllByRecursion (λ t. tuple_cmp (tuple_of e.0) t ≡ Less) (keys (entries_of fs))
     above [] x h = h
-    above (f ∷ fs) x h = (sym (texts_order (boxed_str_bytes e.0) (boxed_str_bytes f.0) s.0 x.0) ∙ h.0, above fs x.1 h.1)
+    above (f ∷ fs) x h = (sym (texts_order e.0 f.0 s.0 x.0) ∙ h.0, above fs x.1 h.1)
 
 -- One step: what is at a text that spells the tuple t.
 module _ (text : List ℕ) (is : IsSpelling text) (t : Tuple) (reads : tuple_of text ≡ t) (es : Texts) (s : AreSpelled es) where
-  found : option_map (λ v. v) (lookup (is_text text) es) ≡ lookup (is_same_tuple t) (entries_of es)
+  found : lookup (is_text text) es ≡ lookup (is_same_tuple t) (entries_of es)
   found = looked_up text is es s ∙ ap (λ x. lookup (is_same_tuple x) (entries_of es)) reads
 
-  pub versions_found : items_or (option_map (λ v. v) (lookup (is_text text) es)) ≡ versions_at (entries_of es) t
+  pub versions_found : items_or (lookup (is_text text) es) ≡ versions_at (entries_of es) t
   versions_found = ap items_or found
 
   has_some : (old : List Version) → Some old ≡ lookup (is_text text) es → IsSome (lookup (is_same_tuple t) (entries_of es))
-  has_some old h = subst IsSome (ap (option_map (λ (v : List Version). v)) h ∙ found) refl
+  has_some old h = subst IsSome (h ∙ found) refl
 
   -- what was lent there, written
   pub written : (fs : Texts) (old new : List Version) (f : List Version → List Version) → Some old ≡ lookup (is_text text) es → fs ≡ set_value (is_text text) es new → new ≡ f old
@@ -117,20 +99,20 @@ module _ (text : List ℕ) (is : IsSpelling text) (t : Tuple) (reads : tuple_of 
       placed (entries_of es) (entries_of fs) t new f
       (λ q. ap (λ (ds : Entries). lookup (is_same_tuple q) ds) (ap entries_of now ∙ decoded_set text is es new s ∙ ap (λ x. set_value (is_same_tuple x) (entries_of es) new) reads)
       ∙ set_at (entries_of es) t new (has_some old was) q)
-      (gives ∙ ap f (ap items_or (ap (option_map (λ (v : List Version). v)) was) ∙ versions_found))
+      (gives ∙ ap f (ap items_or was ∙ versions_found))
 
   pub written_spelled : (fs : Texts) (new : List Version) → fs ≡ set_value (is_text text) es new → AreSpelled fs
   written_spelled fs new now = subst AreSpelled (sym now) (spelled_set text is es new s)
 
   pub none_found : None ≡ lookup (is_text text) es → [] ≡ versions_at (entries_of es) t
-  none_found h = ap items_or (ap (option_map (λ (v : List Version). v)) h) ∙ versions_found
+  none_found h = ap items_or h ∙ versions_found
 
   -- nothing was there
   pub unwritten : (q : Tuple) (f : List Version → List Version) → f [] ≡ [] → None ≡ lookup (is_text text) es → versions_at (entries_of es) q ≡ cond (is_same_tuple q t) (f (versions_at (entries_of es) q)) (versions_at (entries_of es) q)
   unwritten q f nil h = nothing_changed (entries_of es) q t f nil (none_found h)
 
 -- a text with versions, put in
-module _ (k : BoxedStr Global) (v : List Version) (is : IsSpelling (boxed_str_bytes k)) (t : Tuple) (reads : tuple_of (boxed_str_bytes k) ≡ t) (es fs : Texts) (s : AreSpelled es) (now : fs ≡ insert_entry text_cmp es k v) where
+module _ (k : List ℕ) (v : List Version) (is : IsSpelling k) (t : Tuple) (reads : tuple_of k ≡ t) (es fs : Texts) (s : AreSpelled es) (now : fs ≡ insert_entry text_cmp es k v) where
   pub put_in : (f : List Version → List Version) → v ≡ f (versions_at (entries_of es) t)
       → (q : Tuple) → versions_at (entries_of fs) q ≡ cond (is_same_tuple q t) (f (versions_at (entries_of es) q)) (versions_at (entries_of es) q)
   put_in f gives =

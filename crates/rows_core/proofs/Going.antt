@@ -1,13 +1,10 @@
 -- Going over the texts that begin alike: what was found, and what is left.
 use Rattle.std.proofs.Common.{◌≡◌, ℕ, List, [], ◌∷◌, ◌++◌, refl, ap, sym, subst, ◌∙◌, append_assoc, append-nil}
 use Rattle.std.specs.Prelude.{Bool, true, false, cond, ◌&&◌, filter, Option, Some, None}
-use Rattle.std.specs.Box.{boxed_str_bytes}
 use Rattle.std.specs.List.{filter_map, cons_option, starts_with}
 use Rattle.std.specs.List.Sorted.{IsStrictlySortedBy}
 use Rattle.std.specs.Map.{keys_of}
 use Rattle.std.specs.Option.{option_to_list}
-use Rattle.std.specs.declared.boxed.BoxedStr.{BoxedStr}
-use Rattle.std.specs.Global.{Global}
 use Rattle.std.proofs.Math.Dec.{eqb}
 use Rattle.std.proofs.lemmas.Bool.Decides.{Decides-eqb}
 use Rattle.std.proofs.lemmas.Slice.Eq.{starts_is}
@@ -18,7 +15,7 @@ use Rattle.rows_core.specs.declared.version.Version.{Version}
 use Rattle.rows_core.specs.Spelled.{tuple_of}
 use Rattle.rows_core.specs.Versions.{Entries, keys, stands, tuples_at, IsRising, AreRising}
 use Rattle.rows_core.specs.Texts.{Texts, entry_of, entries_of, AreSpelled}
-use Rattle.rows_core.proofs.Decoding.{text_cmp}
+use Rattle.shelf.specs.Texts.{text_cmp}
 use Rattle.rows_core.proofs.Rising.{AllRising, all_rising, from_rising}
 use Rattle.rows_core.proofs.Picking.{pick, picked_is, picked_both, one_left}
 use Rattle.rows_core.proofs.Together.{AreFrom, Begins, from, from_spelled, from_sorted, from_above, from_all, none_left, both_pass, first_fails}
@@ -53,16 +50,16 @@ onto (Some x) xs = refl
 onto None xs = refl
 
 module _ {X : Type 0} (h : Tuple → Option X) (p : List ℕ) (g : Tuple → Bool) (begins : Begins p g) (rev : ℕ) where
-  pub left_first : (least : BoxedStr Global) → boxed_str_bytes least ≡ p → (es : Texts) → AreSpelled es → IsStrictlySortedBy text_cmp (keys_of es) → (m : Entries) → entries_of es ≡ m → AreRising m
-      → (it : Texts) → from least es ≡ it → (start : List X) → Left h p g rev m start start it
-  left_first least reads es s sorted m is r it same start = record {
-    spelled = subst AreSpelled same (from_spelled least es s);
-    rising = subst AllRising same (from_rising least es (all_rising es s sorted m is r));
-    sorted = subst (λ (us : Texts). IsStrictlySortedBy text_cmp (keys_of us)) same (from_sorted least es sorted);
-    above = subst (AreFrom p) same (subst (λ (q : List ℕ). AreFrom q (from least es)) reads (from_above least es));
+  pub left_first : (es : Texts) → AreSpelled es → IsStrictlySortedBy text_cmp (keys_of es) → (m : Entries) → entries_of es ≡ m → AreRising m
+      → (it : Texts) → from p es ≡ it → (start : List X) → Left h p g rev m start start it
+  left_first es s sorted m is r it same start = record {
+    spelled = subst AreSpelled same (from_spelled p es s);
+    rising = subst AllRising same (from_rising p es (all_rising es s sorted m is r));
+    sorted = subst (λ (us : Texts). IsStrictlySortedBy text_cmp (keys_of us)) same (from_sorted p es sorted);
+    above = subst (AreFrom p) same (from_above p es);
     all =
         ap (λ (us : Texts). start ++ given h g rev (entries_of us)) (sym same)
-        ∙ ap (λ (ts : List Tuple). start ++ filter_map h ts) (from_all p g begins (stands_then rev) least reads es s)
+        ∙ ap (λ (ts : List Tuple). start ++ filter_map h ts) (from_all p g begins (stands_then rev) es s)
         ∙ ap (λ (ds : Entries). start ++ given h g rev ds) is;
   }
 
@@ -77,7 +74,7 @@ module _ {X : Type 0} (h : Tuple → Option X) (p : List ℕ) (g : Tuple → Boo
     pub left_none : it ≡ [] → IsStrictlySortedBy tuple_cmp (keys m) → found ≡ start ++ filter_map h (filter g (tuples_at m rev))
     left_none none ordered = at_end (ap (λ (us : Texts). given h g rev (entries_of us)) none) ordered
 
-    module _ (e : BoxedStr Global × List Version) (rest : Texts) (steps : it ≡ e ∷ rest) where
+    module _ (e : List ℕ × List Version) (rest : Texts) (steps : it ≡ e ∷ rest) where
       spelled_now : AreSpelled (e ∷ rest)
       spelled_now = subst AreSpelled steps left.spelled
 
@@ -95,16 +92,16 @@ module _ {X : Type 0} (h : Tuple → Option X) (p : List ℕ) (g : Tuple → Boo
       above_now = subst (AreFrom p) steps left.above
 
       -- the first text does not begin so
-      pub left_past : starts_with eqb (boxed_str_bytes e.0) p ≡ false → IsStrictlySortedBy tuple_cmp (keys m) → found ≡ start ++ filter_map h (filter g (tuples_at m rev))
+      pub left_past : starts_with eqb e.0 p ≡ false → IsStrictlySortedBy tuple_cmp (keys m) → found ≡ start ++ filter_map h (filter g (tuples_at m rev))
       left_past past ordered =
           at_end (ap (λ (us : Texts). given h g rev (entries_of us)) steps
           ∙ ap (filter_map h) (none_left p g begins (stands_then rev) e rest spelled_now sorted_now above_now.0 past)) ordered
 
       -- it begins so, and its tuple stands
-      pub left_more : starts_with eqb (boxed_str_bytes e.0) p ≡ true → stands e.1 rev ≡ true → (now : List X) → now ≡ found ++ option_to_list (h (tuple_of (boxed_str_bytes e.0))) → Left h p g rev m start now rest
+      pub left_more : starts_with eqb e.0 p ≡ true → stands e.1 rev ≡ true → (now : List X) → now ≡ found ++ option_to_list (h (tuple_of e.0)) → Left h p g rev m start now rest
       left_more starts stood now adds =
           let counts = both_pass p g begins (stands_then rev) e spelled_now.0 stood starts in
-          let t = tuple_of (boxed_str_bytes e.0) in
+          let t = tuple_of e.0 in
           record {
             spelled = spelled_now.1;
             rising = rising_now.1;

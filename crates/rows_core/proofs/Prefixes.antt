@@ -25,8 +25,8 @@ use Rattle.rows_core.proofs.Spellings.{starts_of_node, same_object, object_itsel
 use Rattle.rows_core.proofs.Together.{Begins}
 
 -- the answer where a text begins with another
-pub starts_as : (r : Bool) (n s a p : List ℕ) → MatchBool r (HasPrefixMatch (FindsTextPrefix n) s) (FindsTextPrefix n s None) → s ≡ a → n ≡ p → starts_with eqb a p ≡ r
-starts_as r n s a p cases text least = sym (starts_text r n s cases ∙ ap (λ (l : List ℕ). starts_with eqb l n) text ∙ ap (starts_with eqb a) least)
+pub starts_as : (r : Bool) (n a p : List ℕ) → MatchBool r (HasPrefixMatch (FindsTextPrefix n) a) (FindsTextPrefix n a None) → n ≡ p → starts_with eqb a p ≡ r
+starts_as r n a p cases start = sym (starts_text r n a cases ∙ ap (starts_with eqb a) start)
 
 -- ---- the tuples of one object
 

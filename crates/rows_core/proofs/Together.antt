@@ -6,22 +6,19 @@ use Rattle.std.proofs.Math.Dec.{eqb}
 use Rattle.std.specs.List.{AllByRecursion, starts_with}
 use Rattle.std.specs.List.Sorted.{IsStrictlySortedBy}
 use Rattle.std.specs.Map.{keys_of}
-use Rattle.std.specs.Box.{boxed_str_bytes}
 use Rattle.std.specs.BTreeMap.Range.{entries_between, range_contains}
 use Rattle.std.specs.Ordering.{is_le, is_eq, nat_cmp, ordering_reverse}
 use Rattle.std.specs.declared.ops.Bound.TheVariants.{Included, Unbounded}
 use Rattle.std.specs.Cmp.Lexicographic.{slice_cmp, nat_list_cmp_total}
 use Rattle.std.specs.declared.cmp.Ordering.{Ordering}
 use Rattle.std.specs.declared.cmp.Ordering.TheVariants.{Less, Equal, Greater}
-use Rattle.std.specs.declared.boxed.BoxedStr.{BoxedStr}
-use Rattle.std.specs.Global.{Global}
 use Rattle.std.proofs.lemmas.List.Kept.{IsStrictlySortedBy-filter}
 use Rattle.names.specs.declared.tuple.Tuple.{Tuple}
 use Rattle.rows_core.specs.declared.version.Version.{Version}
 use Rattle.rows_core.specs.Spelled.{tuple_of, IsSpelling}
 use Rattle.rows_core.specs.Texts.{Texts, entry_of, entries_of, AreSpelled}
 use Rattle.rows_core.proofs.Spellings.{starts_not_below, none_starts_after}
-use Rattle.rows_core.proofs.Decoding.{text_cmp}
+use Rattle.shelf.specs.Texts.{text_cmp}
 use Rattle.rows_core.proofs.Picking.{pick}
 
 never : (b : Bool) → (b ≡ true → ⊥) → b ≡ false
@@ -31,11 +28,11 @@ never false h = refl
 -- no text is below this
 abbrev pub AreFrom : List ℕ → Texts → Type 0
 AreFrom p [] = Unit {0}
-AreFrom p (e ∷ es) = (slice_cmp nat_cmp (boxed_str_bytes e.0) p ≡ Less → ⊥) × AreFrom p es
+AreFrom p (e ∷ es) = (slice_cmp nat_cmp e.0 p ≡ Less → ⊥) × AreFrom p es
 
 -- the texts from a text on
-module _ (least : BoxedStr Global) where
-  abbrev is_from : BoxedStr Global → Bool
+module _ (least : List ℕ) where
+  abbrev is_from : List ℕ → Bool
   is_from k = range_contains text_cmp (Included least) Unbounded k
 
   abbrev pub from : Texts → Texts
@@ -59,14 +56,14 @@ module _ (least : BoxedStr Global) where
   below Equal h = absurd (true≢false h)
   below Greater h = refl
 
-  turned : (k : BoxedStr Global) → slice_cmp nat_cmp (boxed_str_bytes k) (boxed_str_bytes least) ≡ ordering_reverse (text_cmp least k)
-  turned k = nat_list_cmp_total.antisymm (boxed_str_bytes k) (boxed_str_bytes least)
+  turned : (k : List ℕ) → slice_cmp nat_cmp k least ≡ ordering_reverse (text_cmp least k)
+  turned k = nat_list_cmp_total.antisymm k least
 
-  pub from_above : (es : Texts) → AreFrom (boxed_str_bytes least) (from es)
+  pub from_above : (es : Texts) → AreFrom least (from es)
   from_above [] = tt
   from_above (e ∷ es) = by_test (is_from e.0) refl (from_above es)
     where
-      by_test : (b : Bool) → is_from e.0 ≡ b → AreFrom (boxed_str_bytes least) (from es) → AreFrom (boxed_str_bytes least) (cond b (e ∷ from es) (from es))
+      by_test : (b : Bool) → is_from e.0 ≡ b → AreFrom least (from es) → AreFrom least (cond b (e ∷ from es) (from es))
       by_test true is rest = (λ less. not_below (text_cmp least e.0) is (sym (turned e.0) ∙ less), rest)
       by_test false is rest = rest
 
@@ -97,40 +94,40 @@ module _ (p : List ℕ) (g : Tuple → Bool) (begins : Begins p g) (f : Tuple ×
       by_test true b h = h
       by_test false b h = refl
 
-  pub other : (e : BoxedStr Global × List Version) → IsSpelling (boxed_str_bytes e.0) → starts_with eqb (boxed_str_bytes e.0) p ≡ false → passes (entry_of e) ≡ false
-  other e s h = fails (entry_of e) (sym (begins.is (boxed_str_bytes e.0) s) ∙ h)
+  pub other : (e : List ℕ × List Version) → IsSpelling e.0 → starts_with eqb e.0 p ≡ false → passes (entry_of e) ≡ false
+  other e s h = fails (entry_of e) (sym (begins.is e.0 s) ∙ h)
 
-  pub both_pass : (e : BoxedStr Global × List Version) → IsSpelling (boxed_str_bytes e.0) → f (entry_of e) ≡ true → starts_with eqb (boxed_str_bytes e.0) p ≡ true → passes (entry_of e) ≡ true
-  both_pass e s holds h = ap (λ b. b && g (tuple_of (boxed_str_bytes e.0))) holds ∙ sym (begins.is (boxed_str_bytes e.0) s) ∙ h
+  pub both_pass : (e : List ℕ × List Version) → IsSpelling e.0 → f (entry_of e) ≡ true → starts_with eqb e.0 p ≡ true → passes (entry_of e) ≡ true
+  both_pass e s holds h = ap (λ b. b && g (tuple_of e.0)) holds ∙ sym (begins.is e.0 s) ∙ h
 
   pub first_fails : (e : Tuple × List Version) → f e ≡ false → passes e ≡ false
   first_fails e misses = ap (λ b. b && g e.0) misses
 
   -- none is left out below
-  pub from_all : (least : BoxedStr Global) → boxed_str_bytes least ≡ p → (es : Texts) → AreSpelled es → pick passes (entries_of (from least es)) ≡ pick passes (entries_of es)
-  from_all least reads [] s = refl
-  from_all least reads (e ∷ es) s = by_test (is_from least e.0) refl (from_all least reads es s.1)
+  pub from_all : (es : Texts) → AreSpelled es → pick passes (entries_of (from p es)) ≡ pick passes (entries_of es)
+  from_all [] s = refl
+  from_all (e ∷ es) s = by_test (is_from p e.0) refl (from_all es s.1)
     where
-      starts : is_from least e.0 ≡ false → starts_with eqb (boxed_str_bytes e.0) p ≡ false
+      starts : is_from p e.0 ≡ false → starts_with eqb e.0 p ≡ false
       starts out =
-          never (starts_with eqb (boxed_str_bytes e.0) p) (λ yes.
-          starts_not_below (boxed_str_bytes e.0) p yes (ap (slice_cmp nat_cmp (boxed_str_bytes e.0)) (sym reads) ∙ turned least e.0 ∙ below least (text_cmp least e.0) out))
+          never (starts_with eqb e.0 p) (λ yes.
+          starts_not_below e.0 p yes (turned p e.0 ∙ below p (text_cmp p e.0) out))
 
-      by_test : (b : Bool) → is_from least e.0 ≡ b → pick passes (entries_of (from least es)) ≡ pick passes (entries_of es)
-          → pick passes (entries_of (cond b (e ∷ from least es) (from least es))) ≡ cond (passes (entry_of e)) (tuple_of (boxed_str_bytes e.0) ∷ pick passes (entries_of es)) (pick passes (entries_of es))
-      by_test true out rest = ap (λ ts. cond (passes (entry_of e)) (tuple_of (boxed_str_bytes e.0) ∷ ts) ts) rest
-      by_test false out rest = rest ∙ ap (λ b. cond b (tuple_of (boxed_str_bytes e.0) ∷ pick passes (entries_of es)) (pick passes (entries_of es))) (sym (other e s.0 (starts out)))
+      by_test : (b : Bool) → is_from p e.0 ≡ b → pick passes (entries_of (from p es)) ≡ pick passes (entries_of es)
+          → pick passes (entries_of (cond b (e ∷ from p es) (from p es))) ≡ cond (passes (entry_of e)) (tuple_of e.0 ∷ pick passes (entries_of es)) (pick passes (entries_of es))
+      by_test true out rest = ap (λ ts. cond (passes (entry_of e)) (tuple_of e.0 ∷ ts) ts) rest
+      by_test false out rest = rest ∙ ap (λ b. cond b (tuple_of e.0 ∷ pick passes (entries_of es)) (pick passes (entries_of es))) (sym (other e s.0 (starts out)))
 
   -- after a text that begins otherwise there is none
-  pub none_left : (e : BoxedStr Global × List Version) (es : Texts) → AreSpelled (e ∷ es) → IsStrictlySortedBy text_cmp (keys_of (e ∷ es)) → (slice_cmp nat_cmp (boxed_str_bytes e.0) p ≡ Less → ⊥)
-      → starts_with eqb (boxed_str_bytes e.0) p ≡ false → pick passes (entries_of (e ∷ es)) ≡ []
+  pub none_left : (e : List ℕ × List Version) (es : Texts) → AreSpelled (e ∷ es) → IsStrictlySortedBy text_cmp (keys_of (e ∷ es)) → (slice_cmp nat_cmp e.0 p ≡ Less → ⊥)
+      → starts_with eqb e.0 p ≡ false → pick passes (entries_of (e ∷ es)) ≡ []
   unfolding IsStrictlySortedBy
   none_left e es s sorted above past =
-      ap (λ b. cond b (tuple_of (boxed_str_bytes e.0) ∷ pick passes (entries_of es)) (pick passes (entries_of es))) (other e s.0 past) ∙ later es s.1 sorted.0
+      ap (λ b. cond b (tuple_of e.0 ∷ pick passes (entries_of es)) (pick passes (entries_of es))) (other e s.0 past) ∙ later es s.1 sorted.0
     where
       later : (us : Texts) → AreSpelled us → AllByRecursion (λ k. text_cmp e.0 k ≡ Less) (keys_of us) → pick passes (entries_of us) ≡ []
       later [] x h = refl
       later (u ∷ us) x h =
-          ap (λ b. cond b (tuple_of (boxed_str_bytes u.0) ∷ pick passes (entries_of us)) (pick passes (entries_of us)))
-          (other u x.0 (none_starts_after (boxed_str_bytes e.0) (boxed_str_bytes u.0) p above past h.0))
+          ap (λ b. cond b (tuple_of u.0 ∷ pick passes (entries_of us)) (pick passes (entries_of us)))
+          (other u x.0 (none_starts_after e.0 u.0 p above past h.0))
           ∙ later us x.1 h.1

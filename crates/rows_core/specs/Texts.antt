@@ -1,8 +1,5 @@
 -- The map as it stands in memory: tuples as texts.
-use Rattle.std.specs.Prelude.{List, [], ◌∷◌}
-use Rattle.std.specs.Global.{Global}
-use Rattle.std.specs.Box.{boxed_str_bytes}
-use Rattle.std.specs.declared.boxed.BoxedStr.{BoxedStr}
+use Rattle.std.specs.Prelude.{ℕ, List, [], ◌∷◌}
 use Rattle.names.specs.declared.tuple.Tuple.{Tuple}
 use Rattle.rows_core.specs.declared.version.Version.{Version}
 use Rattle.rows_core.specs.Spelled.{tuple_of, IsSpelling}
@@ -10,10 +7,10 @@ use Rattle.rows_core.specs.Versions.{Entries, HasSame, ChangesAt}
 
 -- texts, each with the versions of the tuple that it spells
 abbrev pub Texts : Type 0
-Texts = List (BoxedStr Global × List Version)
+Texts = List (List ℕ × List Version)
 
-abbrev pub entry_of : BoxedStr Global × List Version → Tuple × List Version
-entry_of e = (tuple_of (boxed_str_bytes e.0), e.1)
+abbrev pub entry_of : List ℕ × List Version → Tuple × List Version
+entry_of e = (tuple_of e.0, e.1)
 
 -- the tuples that the texts spell, with their versions
 abbrev pub entries_of : Texts → Entries
@@ -23,7 +20,7 @@ entries_of (e ∷ es) = entry_of e ∷ entries_of es
 -- each text spells a tuple
 abbrev pub AreSpelled : Texts → Type 0
 AreSpelled [] = Unit {0}
-AreSpelled (e ∷ es) = IsSpelling (boxed_str_bytes e.0) × AreSpelled es
+AreSpelled (e ∷ es) = IsSpelling e.0 × AreSpelled es
 
 -- the same of the texts: the versions of each tuple stay
 abbrev pub TextsStay : Texts → Texts → Type 0

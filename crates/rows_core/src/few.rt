@@ -5,7 +5,7 @@ ghost use Rattle.names.specs.Order.{tuple_cmp};
 ghost use Rattle.rows_core.specs.Versions.{AreRising, keys, is_at, tuples_at};
 
 use crate::lists::push_tuple;
-use crate::tuple_ref::object_text;
+use crate::tuple_ref::Start;
 use crate::version_map::VersionMap;
 use names::{Object, Tuple};
 use std::alloc::{AllocError, Global};
@@ -26,11 +26,11 @@ impl VersionMap {
         ensures ordered { IfOk result (λ o. IsStrictlySortedBy tuple_cmp (keys self.now)) }
     {
         let texts = self.texts();
-        let least = object_text(alloc, object)?;
+        let least = Start::of_object(object);
         let mut tuples = Vec::new(alloc);
         let mut more = most;
-        for (text, versions) in texts.range(&least..) {
-            if !text.as_str().starts_with(least.as_str()) {
+        for (text, versions) in texts.range(least.as_str()) {
+            if !text.starts_with(least.as_str()) {
                 return Ok(Some(tuples));
             }
             if more == 0 {

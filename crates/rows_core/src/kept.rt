@@ -68,11 +68,6 @@ impl KeptEvent {
         self.kind
     }
 
-    /// The text, to be shared.
-    pub(crate) fn text(&self) -> &ArcStr {
-        &self.text
-    }
-
     pub(crate) fn tuple_ref(&self) -> TupleRef<'_>
         ensures { result ≡ self.now.tuple }
     {

@@ -1,18 +1,16 @@
 //! The tuples of a revision, in order.
 ghost use Rattle.std.specs.Prelude.{◌≡◌, ◌++◌, ◌∷◌, [], filter, IfOk, OnOk};
-ghost use Rattle.std.specs.Box.{boxed_str_bytes};
 ghost use Rattle.std.specs.List.{find};
 ghost use Rattle.std.specs.List.Sorted.{IsStrictlySortedBy};
 ghost use Rattle.names.specs.Order.{tuple_cmp};
 ghost use Rattle.rows_core.specs.Spelled.{tuple_of, IsSpelling};
 ghost use Rattle.rows_core.specs.Versions.{AreRising, keys, is_of, tuples_at, newest_tuples, refuses};
 
-use crate::tuple_ref::{TupleRef, node_text};
+use crate::tuple_ref::{Start, TupleRef};
 use crate::version_map::VersionMap;
 use config::Config;
 use names::{Node, Tuple};
 use std::alloc::{AllocError, Global};
-use std::boxed::BoxedStr;
 
 impl VersionMap {
     /// All tuples that stand at a revision.
@@ -39,10 +37,10 @@ impl VersionMap {
         ensures ordered { IfOk result (λ v. IsStrictlySortedBy tuple_cmp (keys self.now)) }
     {
         let texts = self.texts();
-        let least = node_text(alloc, node)?;
+        let least = Start::of_node(node);
         let mut tuples = Vec::new(alloc);
-        for (text, versions) in texts.range(&least..) {
-            if !text.as_str().starts_with(least.as_str()) {
+        for (text, versions) in texts.range(least.as_str()) {
+            if !text.starts_with(least.as_str()) {
                 return Ok(tuples);
             }
             if versions.stands_at(rev) {
@@ -70,20 +68,20 @@ impl VersionMap {
     }
 }
 
-fn read(alloc: Global, text: &BoxedStr) -> Result<Tuple, AllocError>
-    requires { IsSpelling (boxed_str_bytes text.now) }
-    ensures { IfOk result (λ t. t ≡ tuple_of (boxed_str_bytes text.now)) }
+fn read(alloc: Global, text: &str) -> Result<Tuple, AllocError>
+    requires { IsSpelling text.now }
+    ensures { IfOk result (λ t. t ≡ tuple_of text.now) }
 {
-    TupleRef::of(text.as_str()).tuple(alloc)
+    TupleRef::of(text).tuple(alloc)
 }
 
 pub(crate) fn push_tuple(
     alloc: Global,
     tuples: &mut Vec<Tuple>,
-    text: &BoxedStr,
+    text: &str,
 ) -> Result<(), AllocError>
-    requires { IsSpelling (boxed_str_bytes text.now) }
-    ensures { OnOk result (tuples.new.items ≡ tuples.old.items ++ tuple_of (boxed_str_bytes text.now) ∷ []) }
+    requires { IsSpelling text.now }
+    ensures { OnOk result (tuples.new.items ≡ tuples.old.items ++ tuple_of text.now ∷ []) }
 {
     tuples.push(read(alloc, text)?)?;
     Ok(())

@@ -8,7 +8,7 @@ ghost use Rattle.rows_core.specs.Named.{object_in, node_in, objects_in, nodes_in
 ghost use Rattle.rows_core.specs.Spelled.{subject_in};
 ghost use Rattle.rows_core.specs.Versions.{AreRising, keys, is_of, tuples_at};
 
-use crate::tuple_ref::{after, cut, cut_last, name_of, namespace_text, node_text, object_of};
+use crate::tuple_ref::{Start, cut, cut_last, name_of, object_of};
 use crate::version_map::VersionMap;
 use names::{Name, Node, Object};
 use std::alloc::{AllocError, Global};
@@ -26,10 +26,10 @@ impl VersionMap {
         ensures ordered { IfOk result (λ v. IsStrictlySortedBy tuple_cmp (keys self.now)) }
     {
         let texts = self.texts();
-        let least = node_text(alloc, node)?;
+        let least = Start::of_node(node);
         let mut objects = Vec::new(alloc);
-        for (text, versions) in texts.range(&least..) {
-            let Some(subject) = after(least.as_str(), text.as_str()) else {
+        for (text, versions) in texts.range(least.as_str()) {
+            let Some(subject) = least.rest_of(text) else {
                 return Ok(objects);
             };
             if versions.stands_at(rev) {
@@ -55,9 +55,9 @@ impl VersionMap {
         ensures ordered { OnOk result (IsStrictlySortedBy tuple_cmp (keys self.now)) }
     {
         let texts = self.texts();
-        let least = namespace_text(alloc, node, namespace)?;
-        for (text, versions) in texts.range(&least..) {
-            let Some(parts) = after(least.as_str(), text.as_str()) else {
+        let least = Start::of_namespace(node, namespace);
+        for (text, versions) in texts.range(least.as_str()) {
+            let Some(parts) = least.rest_of(text) else {
                 return Ok(());
             };
             if versions.stands_at(rev) {

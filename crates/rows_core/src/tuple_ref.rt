@@ -1,6 +1,5 @@
 //! Tuples as texts.
 ghost use Rattle.std.specs.Prelude.{◌≡◌, ◌≤◌, ◌+◌, ◌++◌, ◌∷◌, [], false, IsTrue, IfOk, IfSome, IfNone, option_map};
-ghost use Rattle.std.specs.Box.{boxed_str_bytes};
 ghost use Rattle.std.specs.List.{starts_with};
 ghost use Rattle.std.proofs.Math.Dec.{eqb};
 ghost use Rattle.std.specs.Arc.{arc_str_bytes};
@@ -13,7 +12,6 @@ ghost use Rattle.rows_core.specs.Spelled.{spelled, spelled_object, spelled_node,
 use arrayvec::ArrayString;
 use names::{Name, Node, Object, ObjectId, Refusal, Subject, Tuple};
 use std::alloc::{AllocError, Global};
-use std::boxed::BoxedStr;
 use std::marker::Model;
 use std::sync::ArcStr;
 
@@ -233,18 +231,7 @@ fn push_subject(text: &mut ArrayString<261>, subject: &Subject)
     }
 }
 
-/// The text of a tuple.
-pub(crate) fn spelled_text(alloc: Global, tuple: &Tuple) -> Result<BoxedStr, AllocError>
-    ensures text { IfOk result (λ b. boxed_str_bytes b ≡ spelled tuple.now) }
-    ensures read { IfOk result (λ b. tuple_of (boxed_str_bytes b) ≡ tuple.now) }
-    ensures spelling { IfOk result (λ b. IsSpelling (boxed_str_bytes b)) }
-    ensures tuple { IfOk result (λ b. tuple_of (boxed_str_bytes b) ≡ tuple.now) }
-{
-    let scratch = Scratch::of(tuple);
-    BoxedStr::from_str(alloc, scratch.tuple_ref().as_str())
-}
-
-/// The same, where it can be shared.
+/// The text of a tuple, where it can be shared.
 pub(crate) fn shared_text(alloc: Global, tuple: &Tuple) -> Result<ArcStr, AllocError>
     ensures spelling { IfOk result (λ b. IsSpelling (arc_str_bytes b)) }
     ensures tuple { IfOk result (λ b. tuple_of (arc_str_bytes b) ≡ tuple.now) }
@@ -253,48 +240,66 @@ pub(crate) fn shared_text(alloc: Global, tuple: &Tuple) -> Result<ArcStr, AllocE
     ArcStr::from_str(alloc, scratch.tuple_ref().as_str())
 }
 
-/// What the texts of an object's tuples begin with.
-pub(crate) fn object_text(alloc: Global, object: &Object) -> Result<BoxedStr, AllocError>
-    ensures text { IfOk result (λ b. boxed_str_bytes b ≡ spelled_object object.now) }
-    ensures is { IfOk result (λ b. IsObject object.now) }
-{
-    let mut text = ArrayString::new();
-    push_object(&mut text, object);
-    text.push_str(" ");
-    BoxedStr::from_str(alloc, text.as_str())
+/// What the texts of some tuples begin with, written where it takes no memory.
+#[derive(Drop)]
+pub(crate) struct Start {
+    text: ArrayString<261>,
 }
 
-/// What the texts of a node's tuples begin with.
-pub(crate) fn node_text(alloc: Global, node: &Node) -> Result<BoxedStr, AllocError>
-    ensures text { IfOk result (λ b. boxed_str_bytes b ≡ spelled_node node.now) }
-    ensures is { IfOk result (λ b. IsNode node.now) }
-{
-    let mut text = ArrayString::new();
-    push_node(&mut text, node);
-    BoxedStr::from_str(alloc, text.as_str())
+impl Model for Start {
+    ghost use Rattle.std.specs.Prelude.{List, ℕ};
+
+    ghost Value = { List ℕ };
+
+    ghost view = { λ s. s.text.bytes };
 }
 
-/// What the texts of those of a node's tuples begin with whose subjects are of a namespace.
-pub(crate) fn namespace_text(
-    alloc: Global,
-    node: &Node,
-    namespace: &Name,
-) -> Result<BoxedStr, AllocError>
-    ensures text { IfOk result (λ b. boxed_str_bytes b ≡ spelled_node node.now ++ (namespace.now ++ 32 ∷ [])) }
-    ensures is { IfOk result (λ b. IsNode node.now) }
-    ensures name { IfOk result (λ b. IsTrue (is_name namespace.now)) }
-{
-    let mut parts = ArrayString::new();
-    push_node(&mut parts, node);
-    push_name(&mut parts, namespace);
-    parts.push_str(" ");
-    BoxedStr::from_str(alloc, parts.as_str())
-}
+impl Start {
+    /// Of an object's tuples.
+    pub(crate) fn of_object(object: &Object) -> Start
+        ensures text { result ≡ spelled_object object.now }
+        ensures is { IsObject object.now }
+    {
+        let mut start = ArrayString::new();
+        push_object(&mut start, object);
+        start.push_str(" ");
+        Start { text: start }
+    }
 
-/// What is after the first text, where the second begins with it.
-pub(crate) fn after<'a>(least: &str, text: &'a str) -> Option<&'a str>
-    ensures some { IfSome result (λ rest. text.now ≡ least.now ++ rest.now) }
-    ensures none { IfNone result (starts_with eqb text.now least.now ≡ false) }
-{
-    text.strip_prefix(least)
+    /// Of a node's tuples.
+    pub(crate) fn of_node(node: &Node) -> Start
+        ensures text { result ≡ spelled_node node.now }
+        ensures is { IsNode node.now }
+    {
+        let mut start = ArrayString::new();
+        push_node(&mut start, node);
+        Start { text: start }
+    }
+
+    /// Of those of a node's tuples whose subjects are of a namespace.
+    pub(crate) fn of_namespace(node: &Node, namespace: &Name) -> Start
+        ensures text { result ≡ spelled_node node.now ++ (namespace.now ++ 32 ∷ []) }
+        ensures is { IsNode node.now }
+        ensures name { IsTrue (is_name namespace.now) }
+    {
+        let mut parts = ArrayString::new();
+        push_node(&mut parts, node);
+        push_name(&mut parts, namespace);
+        parts.push_str(" ");
+        Start { text: parts }
+    }
+
+    pub(crate) fn as_str(&self) -> &str
+        ensures { result.now ≡ self.now }
+    {
+        self.text.as_str()
+    }
+
+    /// What comes after it in a text that begins so.
+    pub(crate) fn rest_of<'a>(&self, text: &'a str) -> Option<&'a str>
+        ensures some { IfSome result (λ rest. text.now ≡ self.now ++ rest.now) }
+        ensures none { IfNone result (starts_with eqb text.now self.now ≡ false) }
+    {
+        text.strip_prefix(self.as_str())
+    }
 }

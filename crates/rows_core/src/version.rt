@@ -9,7 +9,6 @@ use names::EventKind;
 use std::alloc::{AllocError, Global};
 use std::collections::VecDeque;
 use std::marker::Model;
-use std::sync::ArcStr;
 
 /// At this revision a tuple was put, or else taken away. What the floor holds was put at revision 0.
 #[derive(Clone, Copy, Debug, Drop)]
@@ -30,12 +29,10 @@ impl Version {
     }
 }
 
-/// The versions of one tuple, oldest first, with the tuple's text, which the kept events on it share. Contracts
-/// see the versions.
+/// The versions of one tuple, oldest first. Contracts see them as a list.
 #[derive(Drop)]
 pub(crate) struct Versions {
     alloc: Global,
-    text: ArcStr,
     kept: Kept,
 }
 
@@ -60,19 +57,13 @@ impl Model for Versions {
 }
 
 impl Versions {
-    pub(crate) fn one(alloc: Global, text: ArcStr, version: Version) -> Result<Versions, AllocError>
-        ensures { IfOk result (λ m. m ≡ version ∷ []) }
+    pub(crate) fn one(alloc: Global, version: Version) -> Versions
+        ensures { result ≡ version ∷ [] }
     {
-        Ok(Versions {
+        Versions {
             alloc,
-            text,
             kept: Kept::One(version),
-        })
-    }
-
-    /// The text that is shared.
-    pub(crate) fn text(&self) -> &ArcStr {
-        &self.text
+        }
     }
 
     /// Whether the last version up to a revision is a put.

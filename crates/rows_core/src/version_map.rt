@@ -9,8 +9,8 @@ use crate::places::{Texts, pop_version, push_version, put_base, settle_version, 
 use crate::tuple_ref::{Scratch, TupleRef};
 use crate::version::Version;
 use names::{Commit, Event, Node, Object, Tuple};
+use shelf::Shelf;
 use std::alloc::{AllocError, Global};
-use std::collections::BTreeMap;
 use std::marker::Model;
 
 /// The tuples that have versions, in order, each with its versions.
@@ -26,9 +26,9 @@ impl Model for VersionMap {
 
     ghost Value = { Entries };
 
-    ghost view = { λ m. entries_of m.map.entries };
+    ghost view = { λ m. entries_of m.map };
 
-    ghost invariant = { λ m. AreSpelled m.map.entries };
+    ghost invariant = { λ m. AreSpelled m.map };
 }
 
 impl VersionMap {
@@ -38,13 +38,13 @@ impl VersionMap {
     {
         VersionMap {
             alloc,
-            map: BTreeMap::new(alloc),
+            map: Shelf::new(alloc),
         }
     }
 
     pub(crate) fn texts(&self) -> &Texts
-        ensures entries { entries_of result.now.entries ≡ self.now }
-        ensures spelled { AreSpelled result.now.entries }
+        ensures entries { entries_of result.now ≡ self.now }
+        ensures spelled { AreSpelled result.now }
     {
         &self.map
     }
@@ -99,38 +99,22 @@ impl VersionMap {
         }
     }
 
-    /// The event as it is kept. Where its tuple has versions already, the text is theirs.
-    fn keep_one(&self, alloc: Global, event: &Event) -> Result<KeptEvent, AllocError>
-        ensures { IfOk result (λ e. e ≡ event.now) }
-    {
-        let scratch = Scratch::of(&event.tuple);
-        let asked = scratch.tuple_ref();
-        if let Some(versions) = versions_of(self.texts(), &asked) {
-            let text = versions.text();
-            if text.as_str() == asked.as_str() {
-                return KeptEvent::sharing(text, event);
-            }
-        }
-        KeptEvent::of(alloc, event)
-    }
-
-    /// A commit of the events, as it is kept. A tuple's text is shared by the events on it.
+    /// A commit of the events, as it is kept.
     pub fn keep(&self, alloc: Global, events: &[Event]) -> Result<KeptCommit, AllocError>
         ensures { IfOk result (λ c. c ≡ Commit.Tuples events.now) }
     {
         let mut kept = Vec::with_capacity(alloc, events.len())?;
         for event in events {
-            kept.push(self.keep_one(alloc, event)?)?;
+            kept.push(KeptEvent::of(alloc, event)?)?;
         }
         Ok(KeptCommit::of(kept))
     }
 
-    pub(crate) fn push(&mut self, event: &KeptEvent, version: Version) -> Result<(), AllocError>
-        ensures ok { OnOk result (ChangesAt event.now.tuple (with_version version) self.old self.new) }
+    pub(crate) fn push(&mut self, key: &TupleRef<'_>, version: Version) -> Result<(), AllocError>
+        ensures ok { OnOk result (ChangesAt key.now (with_version version) self.old self.new) }
         ensures err { OnErr result (HasSame self.old self.new) }
     {
-        let key = event.tuple_ref();
-        push_version(self.alloc, &mut self.map, &key, event.text(), version)
+        push_version(self.alloc, &mut self.map, key, version)
     }
 
     pub(crate) fn pop(&mut self, key: &TupleRef<'_>)

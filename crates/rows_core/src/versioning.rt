@@ -55,7 +55,7 @@ impl VersionMap {
             let key = event.tuple_ref();
             let version = Version::of(rev, event);
             let was_there = self.holds(&key);
-            match self.push(event, version) {
+            match self.push(&key, version) {
                 Ok(()) => change = change.and(version.put, was_there),
                 Err(e) => {
                     let _ = self.undo(&events[..i]);

@@ -1,8 +1,7 @@
 use Rattle.std.proofs.Common.{ap, sym, ◌∙◌, refl}
 use Rattle.std.specs.Option.{option_copied_mut}
-use Rattle.std.specs.BTreeMap.{BTreeMap}
 use Rattle.rows_core.specs.Versions.{versions_at, drop_last}
-use Rattle.rows_core.specs.Texts.{entries_of}
+use Rattle.rows_core.specs.Texts.{Texts, entries_of}
 use Rattle.rows_core.proofs.Decoding.{written, written_spelled, unwritten}
 use Rattle.rows_core.proofs.places.pop_version.Goals as goal
 
@@ -10,19 +9,19 @@ pub returns-in-Some-clause-spelled : goal.returns-in-Some-clause-spelled
 returns-in-Some-clause-spelled c =
     let m = c.args.map.now in
     let text = c.as_str.result.now in
-    written_spelled text c.as_str.ensures.spelling c.args.key.now c.as_str.ensures.read m.entries c.requires
-    (c.get_mut.follows.lender c.drop_newest.new.self).entries c.drop_newest.new.self (c.get_mut.follows.holds c.drop_newest.new.self).0
+    written_spelled text c.as_str.ensures.spelling c.args.key.now c.as_str.ensures.read m c.requires
+    (c.get_mut.follows.lender c.drop_newest.new.self) c.drop_newest.new.self (c.get_mut.follows.holds c.drop_newest.new.self)
 
 pub returns-in-Some-clause-versions : goal.returns-in-Some-clause-versions
 returns-in-Some-clause-versions c =
     let m = c.args.map.now in
     let text = c.as_str.result.now in
-    written text c.as_str.ensures.spelling c.args.key.now c.as_str.ensures.read m.entries c.requires
-    (c.get_mut.follows.lender c.drop_newest.new.self).entries c.in-Some.versions.now c.drop_newest.new.self drop_last
-    c.in-Some.ensures.value (c.get_mut.follows.holds c.drop_newest.new.self).0 c.drop_newest.ensures
+    written text c.as_str.ensures.spelling c.args.key.now c.as_str.ensures.read m c.requires
+    (c.get_mut.follows.lender c.drop_newest.new.self) c.in-Some.versions.now c.drop_newest.new.self drop_last
+    c.in-Some.ensures.value (c.get_mut.follows.holds c.drop_newest.new.self) c.drop_newest.ensures
 
 pub returns-in_default-clause-versions : goal.returns-in_default-clause-versions
 returns-in_default-clause-versions c = λ q.
-    ap (λ (n : BTreeMap _ _). versions_at (entries_of n.entries) q) c.get_mut.follows.holds-at-none
-    ∙ unwritten c.as_str.result.now c.as_str.ensures.spelling c.args.key.now c.as_str.ensures.read c.args.map.now.entries c.requires q drop_last refl
+    ap (λ (es : Texts). versions_at (entries_of es) q) c.get_mut.follows.holds-at-none
+    ∙ unwritten c.as_str.result.now c.as_str.ensures.spelling c.args.key.now c.as_str.ensures.read c.args.map.now c.requires q drop_last refl
     (ap option_copied_mut (sym c.in_default.is) ∙ c.get_mut.ensures.value)

@@ -6,11 +6,11 @@ use Rattle.rows_core.specs.Versions.{items_or}
 use Rattle.rows_core.proofs.Decoding.{versions_found}
 use Rattle.rows_core.proofs.places.versions_of.Goals as goal
 
-copied : (o : Option (Bor (List Version))) → items_or (option_map (λ versions. versions.now) o) ≡ items_or (option_map (λ (v : List Version). v) (option_copied o))
+copied : (o : Option (Bor (List Version))) → items_or (option_map (λ versions. versions.now) o) ≡ items_or (option_copied o)
 copied None = refl
 copied (Some versions) = refl
 
 pub returns : goal.returns
 returns c =
-    copied c.get.result ∙ ap (λ (o : Option (List Version)). items_or (option_map (λ (v : List Version). v) o)) c.get.ensures.value
-    ∙ versions_found c.as_str.result.now c.as_str.ensures.spelling c.args.key.now c.as_str.ensures.read c.args.map.now.entries c.requires
+    copied c.get.result ∙ ap items_or c.get.ensures
+    ∙ versions_found c.as_str.result.now c.as_str.ensures.spelling c.args.key.now c.as_str.ensures.read c.args.map.now c.requires

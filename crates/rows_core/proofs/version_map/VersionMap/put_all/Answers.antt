@@ -1,4 +1,4 @@
-use Rattle.std.proofs.Common.{◌≡◌, ℕ, ◌+◌, ◌++◌, ◌∷◌, [], take, ap, subst, ◌∙◌, suc, arith}
+use Rattle.std.proofs.Common.{◌≡◌, ℕ, ◌+◌, ◌++◌, ◌∷◌, [], take, ap, ap₂, subst, ◌∙◌, suc, arith}
 use Rattle.std.specs.Prelude.{cond, not, ◌&&◌}
 use Rattle.names.specs.Order.{is_same_tuple}
 use Rattle.names.specs.declared.tuple.Tuple.{Tuple}
@@ -32,7 +32,7 @@ loop-i-preserved c =
       versions = λ q.
           put_one c.args.rev es k e q (before q) (versions_at c.loop-i.self q) (versions_at c.push.new.self q)
           c.loop-i-test.true c.index-events-i.is (c.loop-i.invariant.versions q)
-          (c.in-Ok.ensures.ok q ∙ ap (λ (m : Version). cond (is_same_tuple q e.tuple) (versions_at c.loop-i.self q ++ m ∷ []) (versions_at c.loop-i.self q)) c.of-version.ensures)
+          (c.in-Ok.ensures.ok q ∙ ap₂ (λ (t : Tuple) (m : Version). cond (is_same_tuple q t) (versions_at c.loop-i.self q ++ m ∷ []) (versions_at c.loop-i.self q)) c.tuple_ref-key.ensures c.of-version.ensures)
           ∙ ap (λ (n : ℕ). before q ++ versions_in c.args.rev (take n es) q) next;
       changes = subst (λ n. Changes before (take n es) c.and-change.result) next
           (changes_more before c.args.rev es k e c.loop-i.change c.and-change.result there c.loop-i-test.true c.index-events-i.is

@@ -11,9 +11,9 @@ use Rattle.rows_core.proofs.version_map.VersionMap.tuples_at.Goals as goal
 
 pub loop-text-init : goal.loop-text-init
 loop-text-init c =
-    let es : Texts = c.texts-texts.result.now.entries in
+    let es : Texts = c.texts-texts.result.now in
     let f : Tuple × List Version → Bool = λ e. stands e.1 c.args.rev in
-    let same : es ≡ c.into_iter-text-iterator.result = sym (c.into_iter-text-iterator.ensures.into_iter_gives ∙ c.iter-text-items.ensures.rest) in
+    let same : es ≡ c.into_iter-text-iterator.result = sym (c.into_iter-text-iterator.ensures.into_iter_gives ∙ c.iter-text-items.ensures.all) in
     record {
       spelled = subst AreSpelled same c.texts-texts.ensures.spelled;
       rising = subst AllRising same (all_rising es c.texts-texts.ensures.spelled c.iter-text-items.ensures.ordered c.args.self.now c.texts-texts.ensures.entries c.requires);
@@ -24,10 +24,10 @@ loop-text-init c =
     }
 
 pub returns-in_err-push_tuple-clause-ordered : goal.returns-in_err-push_tuple-clause-ordered
-returns-in_err-push_tuple-clause-ordered c = sorted_view c.texts-texts.result.now.entries c.args.self.now c.texts-texts.ensures.entries c.texts-texts.ensures.spelled c.iter-text-items.ensures.ordered
+returns-in_err-push_tuple-clause-ordered c = sorted_view c.texts-texts.result.now c.args.self.now c.texts-texts.ensures.entries c.texts-texts.ensures.spelled c.iter-text-items.ensures.ordered
 
 pub returns-clause-ordered : goal.returns-clause-ordered
-returns-clause-ordered c = sorted_view c.texts-texts.result.now.entries c.args.self.now c.texts-texts.ensures.entries c.texts-texts.ensures.spelled c.iter-text-items.ensures.ordered
+returns-clause-ordered c = sorted_view c.texts-texts.result.now c.args.self.now c.texts-texts.ensures.entries c.texts-texts.ensures.spelled c.iter-text-items.ensures.ordered
 
 pub returns-clause-found : goal.returns-clause-found
 returns-clause-found c =
@@ -36,4 +36,4 @@ returns-clause-found c =
     sym (append-nil c.loop-text.found.items)
     ∙ ap (λ (es : Texts). c.loop-text.found.items ++ pick f (entries_of es)) (sym none)
     ∙ c.loop-text.invariant.all
-    ∙ picked_is (λ ms. stands ms c.args.rev) c.args.self.now (sorted_view c.texts-texts.result.now.entries c.args.self.now c.texts-texts.ensures.entries c.texts-texts.ensures.spelled c.iter-text-items.ensures.ordered)
+    ∙ picked_is (λ ms. stands ms c.args.rev) c.args.self.now (sorted_view c.texts-texts.result.now c.args.self.now c.texts-texts.ensures.entries c.texts-texts.ensures.spelled c.iter-text-items.ensures.ordered)

@@ -1,8 +1,5 @@
-use Rattle.std.proofs.Common.{List, [], sym, subst, ◌∙◌}
+use Rattle.std.proofs.Common.{ℕ, List, [], ap, sym, subst, ◌∙◌}
 use Rattle.std.specs.Prelude.{Some, filter}
-use Rattle.std.specs.Box.{boxed_str_bytes}
-use Rattle.std.specs.Global.{Global}
-use Rattle.std.specs.declared.boxed.BoxedStr.{BoxedStr}
 use Rattle.names.specs.declared.tuple.Tuple.{Tuple}
 use Rattle.rows_core.specs.declared.version.Version.{Version}
 use Rattle.rows_core.specs.Spelled.{spelled_object}
@@ -10,55 +7,56 @@ use Rattle.rows_core.specs.Versions.{is_at, tuples_at}
 use Rattle.rows_core.proofs.Decoding.{sorted_view}
 use Rattle.rows_core.proofs.Counting.{counted_first, counted_out, counted_more}
 use Rattle.rows_core.proofs.Prefixes.{starts_as, object_begins}
+use Rattle.rows_core.proofs.Together.{from}
 use Rattle.rows_core.proofs.Going.{Left, left_first, left_none, left_past, left_more, left_late, first_rises, all_given}
 use Rattle.rows_core.proofs.version_map.VersionMap.tuples_at_object.Goals as goal
 
 pub loop-text-init : goal.loop-text-init
 loop-text-init c =
     let object = c.args.object.now in
-    let begins = object_begins object c.in_ok-least.ensures.is in
-    let here = sym (c.into_iter-text-iterator.ensures.into_iter_gives ∙ c.range-text-items.ensures.between tt) in
+    let begins = object_begins object c.of_object-least.ensures.is in
+    let here = sym (c.into_iter-text-iterator.ensures.into_iter_gives ∙ c.range-text-items.ensures.between ∙ ap (λ (l : List ℕ). from l c.texts-texts.result.now) (c.as_str.ensures ∙ c.of_object-least.ensures.text)) in
     record {
       left =
           subst (λ (ts : List Tuple). Left Some (spelled_object object) (is_at object) c.args.rev c.args.self.now [] ts c.into_iter-text-iterator.result) (sym c.new-tuples.ensures.items)
-          (left_first Some (spelled_object object) (is_at object) begins c.args.rev c.in_ok-least.least c.in_ok-least.ensures.text c.texts-texts.result.now.entries c.texts-texts.ensures.spelled c.range-text-items.ensures.ordered c.args.self.now c.texts-texts.ensures.entries c.requires c.into_iter-text-iterator.result here []);
-      counted = counted_first (spelled_object object) (is_at object) begins c.in_ok-least.least c.in_ok-least.ensures.text c.texts-texts.result.now.entries c.texts-texts.ensures.spelled c.args.self.now c.texts-texts.ensures.entries c.into_iter-text-iterator.result here c.args.most;
+          (left_first Some (spelled_object object) (is_at object) begins c.args.rev c.texts-texts.result.now c.texts-texts.ensures.spelled c.range-text-items.ensures.ordered c.args.self.now c.texts-texts.ensures.entries c.requires c.into_iter-text-iterator.result here []);
+      counted = counted_first (spelled_object object) (is_at object) begins c.texts-texts.result.now c.texts-texts.ensures.spelled c.args.self.now c.texts-texts.ensures.entries c.into_iter-text-iterator.result here c.args.most;
     }
 
 pub stands_at-requires : goal.stands_at-requires
 stands_at-requires c =
     let object = c.args.object.now in
-    let e : BoxedStr Global × List Version = (c.in-Some.text.now, c.in-Some.versions.now) in
-    first_rises Some (spelled_object object) (is_at object) (object_begins object c.in_ok-least.ensures.is) c.args.rev c.args.self.now [] c.loop-text.tuples.items c.loop-text.text-iterator c.loop-text.invariant.left e c.next.new.self c.in-Some.ensures.steps
+    let e : List ℕ × List Version = (c.in-Some.text.now, c.in-Some.versions.now) in
+    first_rises Some (spelled_object object) (is_at object) (object_begins object c.of_object-least.ensures.is) c.args.rev c.args.self.now [] c.loop-text.tuples.items c.loop-text.text-iterator c.loop-text.invariant.left e c.next.new.self c.in-Some.ensures.steps
 
 pub returns-then-not-starts_with-clause-found : goal.returns-then-not-starts_with-clause-found
 returns-then-not-starts_with-clause-found c =
     let object = c.args.object.now in
-    let e : BoxedStr Global × List Version = (c.in-Some.text.now, c.in-Some.versions.now) in
-    let past = starts_as c.starts_with.result c.as_str-in-loop-text.result.now c.as_str.result.now (boxed_str_bytes e.0) (spelled_object object) c.starts_with.ensures.cases c.as_str.ensures.value (c.as_str-in-loop-text.ensures.value ∙ c.in_ok-least.ensures.text) ∙ c.if-not-starts_with.true in
-    left_past Some (spelled_object object) (is_at object) (object_begins object c.in_ok-least.ensures.is) c.args.rev c.args.self.now [] c.loop-text.tuples.items c.loop-text.text-iterator c.loop-text.invariant.left e c.next.new.self c.in-Some.ensures.steps past
-    (sorted_view c.texts-texts.result.now.entries c.args.self.now c.texts-texts.ensures.entries c.texts-texts.ensures.spelled c.range-text-items.ensures.ordered)
+    let e : List ℕ × List Version = (c.in-Some.text.now, c.in-Some.versions.now) in
+    let past = starts_as c.starts_with.result c.as_str-in-loop-text.result.now e.0 (spelled_object object) c.starts_with.ensures.cases (c.as_str-in-loop-text.ensures ∙ c.of_object-least.ensures.text) ∙ c.if-not-starts_with.true in
+    left_past Some (spelled_object object) (is_at object) (object_begins object c.of_object-least.ensures.is) c.args.rev c.args.self.now [] c.loop-text.tuples.items c.loop-text.text-iterator c.loop-text.invariant.left e c.next.new.self c.in-Some.ensures.steps past
+    (sorted_view c.texts-texts.result.now c.args.self.now c.texts-texts.ensures.entries c.texts-texts.ensures.spelled c.range-text-items.ensures.ordered)
     ∙ all_given (filter (is_at object) (tuples_at c.args.self.now c.args.rev))
 
 pub returns-then-not-starts_with-clause-ordered : goal.returns-then-not-starts_with-clause-ordered
-returns-then-not-starts_with-clause-ordered c = sorted_view c.texts-texts.result.now.entries c.args.self.now c.texts-texts.ensures.entries c.texts-texts.ensures.spelled c.range-text-items.ensures.ordered
+returns-then-not-starts_with-clause-ordered c = sorted_view c.texts-texts.result.now c.args.self.now c.texts-texts.ensures.entries c.texts-texts.ensures.spelled c.range-text-items.ensures.ordered
 
 pub returns-then-more-eq0-clause-few : goal.returns-then-more-eq0-clause-few
 returns-then-more-eq0-clause-few c =
     let object = c.args.object.now in
-    let e : BoxedStr Global × List Version = (c.in-Some.text.now, c.in-Some.versions.now) in
-    let starts = starts_as c.starts_with.result c.as_str-in-loop-text.result.now c.as_str.result.now (boxed_str_bytes e.0) (spelled_object object) c.starts_with.ensures.cases c.as_str.ensures.value (c.as_str-in-loop-text.ensures.value ∙ c.in_ok-least.ensures.text) ∙ c.if-not-starts_with.false in
-    counted_out (spelled_object object) (is_at object) (object_begins object c.in_ok-least.ensures.is) c.args.self.now c.loop-text.text-iterator c.loop-text.invariant.left.spelled c.args.most c.loop-text.more c.loop-text.invariant.counted e c.next.new.self c.in-Some.ensures.steps starts c.if-more-eq0.true
+    let e : List ℕ × List Version = (c.in-Some.text.now, c.in-Some.versions.now) in
+    let starts = starts_as c.starts_with.result c.as_str-in-loop-text.result.now e.0 (spelled_object object) c.starts_with.ensures.cases (c.as_str-in-loop-text.ensures ∙ c.of_object-least.ensures.text) ∙ c.if-not-starts_with.false in
+    counted_out (spelled_object object) (is_at object) (object_begins object c.of_object-least.ensures.is) c.args.self.now c.loop-text.text-iterator c.loop-text.invariant.left.spelled c.args.most c.loop-text.more c.loop-text.invariant.counted e c.next.new.self c.in-Some.ensures.steps starts c.if-more-eq0.true
 
 pub returns-then-more-eq0-clause-ordered : goal.returns-then-more-eq0-clause-ordered
-returns-then-more-eq0-clause-ordered c = sorted_view c.texts-texts.result.now.entries c.args.self.now c.texts-texts.ensures.entries c.texts-texts.ensures.spelled c.range-text-items.ensures.ordered
+returns-then-more-eq0-clause-ordered c = sorted_view c.texts-texts.result.now c.args.self.now c.texts-texts.ensures.entries c.texts-texts.ensures.spelled c.range-text-items.ensures.ordered
 
-pub loop-text-preserved-in-Continue-branch-2 : goal.loop-text-preserved-in-Continue-branch-2
-loop-text-preserved-in-Continue-branch-2 c =
+pub loop-text-preserved-in-Continue-1 : goal.loop-text-preserved-in-Continue-1
+loop-text-preserved-in-Continue-1 c =
     let object = c.args.object.now in
-    let begins = object_begins object c.in_ok-least.ensures.is in
-    let e : BoxedStr Global × List Version = (c.in-Some.text.now, c.in-Some.versions.now) in
-    let starts = starts_as c.starts_with.result c.as_str-in-loop-text.result.now c.as_str.result.now (boxed_str_bytes e.0) (spelled_object object) c.starts_with.ensures.cases c.as_str.ensures.value (c.as_str-in-loop-text.ensures.value ∙ c.in_ok-least.ensures.text) ∙ c.if-not-starts_with.false in
+    let begins = object_begins object c.of_object-least.ensures.is in
+    let e : List ℕ × List Version = (c.in-Some.text.now, c.in-Some.versions.now) in
+    let starts = starts_as c.starts_with.result c.as_str-in-loop-text.result.now e.0 (spelled_object object) c.starts_with.ensures.cases (c.as_str-in-loop-text.ensures ∙ c.of_object-least.ensures.text) ∙ c.if-not-starts_with.false in
     record {
       left = left_more Some (spelled_object object) (is_at object) begins c.args.rev c.args.self.now [] c.loop-text.tuples.items c.loop-text.text-iterator c.loop-text.invariant.left e c.next.new.self c.in-Some.ensures.steps starts (sym c.stands_at.ensures ∙ c.if-stands_at.true) c.push_tuple.new.tuples.items c.in_ok-push_tuple.ensures;
       counted = counted_more (spelled_object object) (is_at object) begins c.args.self.now c.loop-text.text-iterator c.loop-text.invariant.left.spelled c.args.most c.loop-text.more c.loop-text.invariant.counted e c.next.new.self c.in-Some.ensures.steps starts c.if-more-eq0.false;
@@ -67,9 +65,9 @@ loop-text-preserved-in-Continue-branch-2 c =
 pub loop-text-preserved : goal.loop-text-preserved
 loop-text-preserved c =
     let object = c.args.object.now in
-    let begins = object_begins object c.in_ok-least.ensures.is in
-    let e : BoxedStr Global × List Version = (c.in-Some.text.now, c.in-Some.versions.now) in
-    let starts = starts_as c.starts_with.result c.as_str-in-loop-text.result.now c.as_str.result.now (boxed_str_bytes e.0) (spelled_object object) c.starts_with.ensures.cases c.as_str.ensures.value (c.as_str-in-loop-text.ensures.value ∙ c.in_ok-least.ensures.text) ∙ c.if-not-starts_with.false in
+    let begins = object_begins object c.of_object-least.ensures.is in
+    let e : List ℕ × List Version = (c.in-Some.text.now, c.in-Some.versions.now) in
+    let starts = starts_as c.starts_with.result c.as_str-in-loop-text.result.now e.0 (spelled_object object) c.starts_with.ensures.cases (c.as_str-in-loop-text.ensures ∙ c.of_object-least.ensures.text) ∙ c.if-not-starts_with.false in
     record {
       left = left_late Some (spelled_object object) (is_at object) begins c.args.rev c.args.self.now [] c.loop-text.tuples.items c.loop-text.text-iterator c.loop-text.invariant.left e c.next.new.self c.in-Some.ensures.steps (sym c.stands_at.ensures ∙ c.if-stands_at.false);
       counted = counted_more (spelled_object object) (is_at object) begins c.args.self.now c.loop-text.text-iterator c.loop-text.invariant.left.spelled c.args.most c.loop-text.more c.loop-text.invariant.counted e c.next.new.self c.in-Some.ensures.steps starts c.if-more-eq0.false;
@@ -78,9 +76,9 @@ loop-text-preserved c =
 pub returns-clause-found : goal.returns-clause-found
 returns-clause-found c =
     let object = c.args.object.now in
-    left_none Some (spelled_object object) (is_at object) (object_begins object c.in_ok-least.ensures.is) c.args.rev c.args.self.now [] c.loop-text.tuples.items c.loop-text.text-iterator c.loop-text.invariant.left c.in-None.ensures.steps.0
-    (sorted_view c.texts-texts.result.now.entries c.args.self.now c.texts-texts.ensures.entries c.texts-texts.ensures.spelled c.range-text-items.ensures.ordered)
+    left_none Some (spelled_object object) (is_at object) (object_begins object c.of_object-least.ensures.is) c.args.rev c.args.self.now [] c.loop-text.tuples.items c.loop-text.text-iterator c.loop-text.invariant.left c.in-None.ensures.steps.0
+    (sorted_view c.texts-texts.result.now c.args.self.now c.texts-texts.ensures.entries c.texts-texts.ensures.spelled c.range-text-items.ensures.ordered)
     ∙ all_given (filter (is_at object) (tuples_at c.args.self.now c.args.rev))
 
 pub returns-clause-ordered : goal.returns-clause-ordered
-returns-clause-ordered c = sorted_view c.texts-texts.result.now.entries c.args.self.now c.texts-texts.ensures.entries c.texts-texts.ensures.spelled c.range-text-items.ensures.ordered
+returns-clause-ordered c = sorted_view c.texts-texts.result.now c.args.self.now c.texts-texts.ensures.entries c.texts-texts.ensures.spelled c.range-text-items.ensures.ordered

@@ -1,14 +1,12 @@
-use Rattle.std.proofs.Common.{List, [], sym, subst, ◌∙◌}
+use Rattle.std.proofs.Common.{ℕ, List, [], ap, sym, subst, ◌∙◌}
 use Rattle.std.specs.Prelude.{Some, filter}
-use Rattle.std.specs.Box.{boxed_str_bytes}
-use Rattle.std.specs.Global.{Global}
-use Rattle.std.specs.declared.boxed.BoxedStr.{BoxedStr}
 use Rattle.names.specs.declared.tuple.Tuple.{Tuple}
 use Rattle.rows_core.specs.declared.version.Version.{Version}
 use Rattle.rows_core.specs.Spelled.{spelled_node}
 use Rattle.rows_core.specs.Versions.{is_of, tuples_at}
 use Rattle.rows_core.proofs.Decoding.{sorted_view}
 use Rattle.rows_core.proofs.Prefixes.{starts_as, node_begins}
+use Rattle.rows_core.proofs.Together.{from}
 use Rattle.rows_core.proofs.Going.{Left, left_first, left_none, left_past, left_more, left_late, first_rises, all_given}
 use Rattle.rows_core.proofs.version_map.VersionMap.tuples_of.Goals as goal
 
@@ -16,43 +14,43 @@ pub loop-text-init : goal.loop-text-init
 loop-text-init c =
     let node = c.args.node.now in
     subst (λ (ts : List Tuple). Left Some (spelled_node node) (is_of node) c.args.rev c.args.self.now [] ts c.into_iter-text-iterator.result) (sym c.new-tuples.ensures.items)
-    (left_first Some (spelled_node node) (is_of node) (node_begins node c.in_ok-least.ensures.is) c.args.rev c.in_ok-least.least c.in_ok-least.ensures.text c.texts-texts.result.now.entries c.texts-texts.ensures.spelled c.range-text-items.ensures.ordered c.args.self.now c.texts-texts.ensures.entries c.requires c.into_iter-text-iterator.result (sym (c.into_iter-text-iterator.ensures.into_iter_gives ∙ c.range-text-items.ensures.between tt)) [])
+    (left_first Some (spelled_node node) (is_of node) (node_begins node c.of_node-least.ensures.is) c.args.rev c.texts-texts.result.now c.texts-texts.ensures.spelled c.range-text-items.ensures.ordered c.args.self.now c.texts-texts.ensures.entries c.requires c.into_iter-text-iterator.result (sym (c.into_iter-text-iterator.ensures.into_iter_gives ∙ c.range-text-items.ensures.between ∙ ap (λ (l : List ℕ). from l c.texts-texts.result.now) (c.as_str.ensures ∙ c.of_node-least.ensures.text))) [])
 
 pub stands_at-requires : goal.stands_at-requires
 stands_at-requires c =
     let node = c.args.node.now in
-    let e : BoxedStr Global × List Version = (c.in-Some.text.now, c.in-Some.versions.now) in
-    first_rises Some (spelled_node node) (is_of node) (node_begins node c.in_ok-least.ensures.is) c.args.rev c.args.self.now [] c.loop-text.tuples.items c.loop-text.text-iterator c.loop-text.invariant e c.next.new.self c.in-Some.ensures.steps
+    let e : List ℕ × List Version = (c.in-Some.text.now, c.in-Some.versions.now) in
+    first_rises Some (spelled_node node) (is_of node) (node_begins node c.of_node-least.ensures.is) c.args.rev c.args.self.now [] c.loop-text.tuples.items c.loop-text.text-iterator c.loop-text.invariant e c.next.new.self c.in-Some.ensures.steps
 
 pub returns-then-not-starts_with : goal.returns-then-not-starts_with
 returns-then-not-starts_with c =
     let node = c.args.node.now in
-    let e : BoxedStr Global × List Version = (c.in-Some.text.now, c.in-Some.versions.now) in
-    let ordered = sorted_view c.texts-texts.result.now.entries c.args.self.now c.texts-texts.ensures.entries c.texts-texts.ensures.spelled c.range-text-items.ensures.ordered in
-    let past = starts_as c.starts_with.result c.as_str-in-loop-text.result.now c.as_str.result.now (boxed_str_bytes e.0) (spelled_node node) c.starts_with.ensures.cases c.as_str.ensures.value (c.as_str-in-loop-text.ensures.value ∙ c.in_ok-least.ensures.text) ∙ c.if-not-starts_with.true in
+    let e : List ℕ × List Version = (c.in-Some.text.now, c.in-Some.versions.now) in
+    let ordered = sorted_view c.texts-texts.result.now c.args.self.now c.texts-texts.ensures.entries c.texts-texts.ensures.spelled c.range-text-items.ensures.ordered in
+    let past = starts_as c.starts_with.result c.as_str-in-loop-text.result.now e.0 (spelled_node node) c.starts_with.ensures.cases (c.as_str-in-loop-text.ensures ∙ c.of_node-least.ensures.text) ∙ c.if-not-starts_with.true in
     record {
-      found = left_past Some (spelled_node node) (is_of node) (node_begins node c.in_ok-least.ensures.is) c.args.rev c.args.self.now [] c.loop-text.tuples.items c.loop-text.text-iterator c.loop-text.invariant e c.next.new.self c.in-Some.ensures.steps past ordered ∙ all_given (filter (is_of node) (tuples_at c.args.self.now c.args.rev));
+      found = left_past Some (spelled_node node) (is_of node) (node_begins node c.of_node-least.ensures.is) c.args.rev c.args.self.now [] c.loop-text.tuples.items c.loop-text.text-iterator c.loop-text.invariant e c.next.new.self c.in-Some.ensures.steps past ordered ∙ all_given (filter (is_of node) (tuples_at c.args.self.now c.args.rev));
       ordered = ordered;
     }
 
-pub loop-text-preserved-in-Continue-branch-2 : goal.loop-text-preserved-in-Continue-branch-2
-loop-text-preserved-in-Continue-branch-2 c =
+pub loop-text-preserved-in-Continue-1 : goal.loop-text-preserved-in-Continue-1
+loop-text-preserved-in-Continue-1 c =
     let node = c.args.node.now in
-    let e : BoxedStr Global × List Version = (c.in-Some.text.now, c.in-Some.versions.now) in
-    let starts = starts_as c.starts_with.result c.as_str-in-loop-text.result.now c.as_str.result.now (boxed_str_bytes e.0) (spelled_node node) c.starts_with.ensures.cases c.as_str.ensures.value (c.as_str-in-loop-text.ensures.value ∙ c.in_ok-least.ensures.text) ∙ c.if-not-starts_with.false in
-    left_more Some (spelled_node node) (is_of node) (node_begins node c.in_ok-least.ensures.is) c.args.rev c.args.self.now [] c.loop-text.tuples.items c.loop-text.text-iterator c.loop-text.invariant e c.next.new.self c.in-Some.ensures.steps starts (sym c.stands_at.ensures ∙ c.if-stands_at.true) c.push_tuple.new.tuples.items c.in_ok-push_tuple.ensures
+    let e : List ℕ × List Version = (c.in-Some.text.now, c.in-Some.versions.now) in
+    let starts = starts_as c.starts_with.result c.as_str-in-loop-text.result.now e.0 (spelled_node node) c.starts_with.ensures.cases (c.as_str-in-loop-text.ensures ∙ c.of_node-least.ensures.text) ∙ c.if-not-starts_with.false in
+    left_more Some (spelled_node node) (is_of node) (node_begins node c.of_node-least.ensures.is) c.args.rev c.args.self.now [] c.loop-text.tuples.items c.loop-text.text-iterator c.loop-text.invariant e c.next.new.self c.in-Some.ensures.steps starts (sym c.stands_at.ensures ∙ c.if-stands_at.true) c.push_tuple.new.tuples.items c.in_ok-push_tuple.ensures
 
 pub loop-text-preserved : goal.loop-text-preserved
 loop-text-preserved c =
     let node = c.args.node.now in
-    let e : BoxedStr Global × List Version = (c.in-Some.text.now, c.in-Some.versions.now) in
-    left_late Some (spelled_node node) (is_of node) (node_begins node c.in_ok-least.ensures.is) c.args.rev c.args.self.now [] c.loop-text.tuples.items c.loop-text.text-iterator c.loop-text.invariant e c.next.new.self c.in-Some.ensures.steps (sym c.stands_at.ensures ∙ c.if-stands_at.false)
+    let e : List ℕ × List Version = (c.in-Some.text.now, c.in-Some.versions.now) in
+    left_late Some (spelled_node node) (is_of node) (node_begins node c.of_node-least.ensures.is) c.args.rev c.args.self.now [] c.loop-text.tuples.items c.loop-text.text-iterator c.loop-text.invariant e c.next.new.self c.in-Some.ensures.steps (sym c.stands_at.ensures ∙ c.if-stands_at.false)
 
 pub returns : goal.returns
 returns c =
     let node = c.args.node.now in
-    let ordered = sorted_view c.texts-texts.result.now.entries c.args.self.now c.texts-texts.ensures.entries c.texts-texts.ensures.spelled c.range-text-items.ensures.ordered in
+    let ordered = sorted_view c.texts-texts.result.now c.args.self.now c.texts-texts.ensures.entries c.texts-texts.ensures.spelled c.range-text-items.ensures.ordered in
     record {
-      found = left_none Some (spelled_node node) (is_of node) (node_begins node c.in_ok-least.ensures.is) c.args.rev c.args.self.now [] c.loop-text.tuples.items c.loop-text.text-iterator c.loop-text.invariant c.in-None.ensures.steps.0 ordered ∙ all_given (filter (is_of node) (tuples_at c.args.self.now c.args.rev));
+      found = left_none Some (spelled_node node) (is_of node) (node_begins node c.of_node-least.ensures.is) c.args.rev c.args.self.now [] c.loop-text.tuples.items c.loop-text.text-iterator c.loop-text.invariant c.in-None.ensures.steps.0 ordered ∙ all_given (filter (is_of node) (tuples_at c.args.self.now c.args.rev));
       ordered = ordered;
     }
