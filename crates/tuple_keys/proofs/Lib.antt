@@ -1,0 +1,5 @@
+pub mod Cutting
+pub mod Joining
+pub mod Parts
+pub mod Prefixes
+pub mod Spellings

@@ -1,0 +1,54 @@
+//! The parts of a text.
+ghost use Rattle.std.specs.Prelude.{◌≡◌, IsTrue, IfOk};
+ghost use Rattle.std.specs.Option.{option_map};
+ghost use Rattle.names.specs.Names.{is_name, is_id};
+ghost use Rattle.tuple_keys.specs.Spelled.{before_space, after_space, last_part};
+
+use names::{Name, Object, Refusal};
+use std::alloc::{AllocError, Global};
+
+/// What is before the first space, and what is after it.
+pub(crate) fn cut(text: &str) -> (&str, &str)
+    ensures before { result.0.now ≡ before_space text.now }
+    ensures after { result.1.now ≡ after_space text.now }
+{
+    match text.split_once(' ') {
+        Some((before, after)) => (before, after),
+        None => (text, ""),
+    }
+}
+
+/// The same, where there may be no space.
+pub(crate) fn cut_last(text: &str) -> (&str, Option<&str>)
+    ensures before { result.0.now ≡ before_space text.now }
+    ensures after { option_map (λ x. x.now) result.1 ≡ last_part text.now }
+{
+    match text.split_once(' ') {
+        Some((before, after)) => (before, Some(after)),
+        None => (text, None),
+    }
+}
+
+pub(crate) fn name_of(alloc: Global, text: &str) -> Result<Name, AllocError>
+    requires { IsTrue (is_name text.now) }
+    ensures { IfOk result (λ n. n ≡ text.now) }
+{
+    match Name::parse(alloc, text) {
+        Ok(name) => Ok(name),
+        Err(Refusal::Memory) => Err(AllocError),
+        Err(_) => unreachable!(),
+    }
+}
+
+pub(crate) fn object_of(alloc: Global, namespace: &str, id: &str) -> Result<Object, AllocError>
+    requires namespace { IsTrue (is_name namespace.now) }
+    requires id { IsTrue (is_id id.now) }
+    ensures { IfOk result (λ o. (o.namespace ≡ namespace.now) × (o.id ≡ id.now)) }
+{
+    let namespace = name_of(alloc, namespace)?;
+    match Object::of(alloc, namespace, id) {
+        Ok(object) => Ok(object),
+        Err(Refusal::Memory) => Err(AllocError),
+        Err(_) => unreachable!(),
+    }
+}

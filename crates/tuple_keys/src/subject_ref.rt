@@ -1,0 +1,107 @@
+//! Subjects, borrowed as texts.
+ghost use Rattle.std.specs.Prelude.{◌≡◌, IsTrue, IfOk, IfSome};
+ghost use Rattle.std.specs.Option.{option_map};
+ghost use Rattle.names.specs.Names.{is_name, is_id};
+ghost use Rattle.tuple_keys.specs.Named.{node_in};
+ghost use Rattle.tuple_keys.specs.Spelled.{spelled_subject, subject_in, IsSubjectSpelling};
+
+use crate::cuts::{cut, cut_last, name_of, object_of};
+use names::{Node, Object, Subject};
+use std::alloc::{AllocError, Global};
+use std::marker::Model;
+
+/// Whom a tuple names, as the text that is the last part of the tuple's.
+#[derive(Drop)]
+pub struct SubjectRef<'a> {
+    text: &'a str,
+}
+
+impl<'a> Model for SubjectRef<'a> {
+    ghost use Rattle.names.specs.declared.subject.Subject.{Subject as SubjectValue};
+    ghost use Rattle.tuple_keys.specs.Spelled.{subject_in, IsSubjectSpelling};
+
+    ghost Value = { SubjectValue };
+
+    ghost view = { λ s. subject_in s.text.now };
+
+    ghost invariant = { λ s. IsSubjectSpelling s.text.now };
+}
+
+impl<'a> SubjectRef<'a> {
+    /// The subject that the text spells. It is not read here, nor copied.
+    pub fn of(text: &'a str) -> SubjectRef<'a>
+        requires { IsSubjectSpelling text.now }
+        ensures { result ≡ subject_in text.now }
+    {
+        SubjectRef { text }
+    }
+
+    pub fn as_str(&self) -> &'a str
+        ensures text { result.now ≡ spelled_subject self.now }
+        ensures read { subject_in result.now ≡ self.now }
+        ensures spelling { IsSubjectSpelling result.now }
+    {
+        self.text
+    }
+
+    pub fn namespace(&self) -> &'a str
+        ensures text { result.now ≡ self.now.object.namespace }
+        ensures is { IsTrue (is_name result.now) }
+    {
+        let (namespace, _) = cut(self.text);
+        namespace
+    }
+
+    pub fn id(&self) -> &'a str
+        ensures text { result.now ≡ self.now.object.id }
+        ensures is { IsTrue (is_id result.now) }
+    {
+        let (_, from_id) = cut(self.text);
+        let (id, _) = cut_last(from_id);
+        id
+    }
+
+    /// The relation, where the subject is the members of a node.
+    pub fn relation(&self) -> Option<&'a str>
+        ensures text { option_map (λ relation. relation.now) result ≡ self.now.relation }
+        ensures is { IfSome result (λ relation. IsTrue (is_name relation.now)) }
+    {
+        let (_, from_id) = cut(self.text);
+        let (_, relation) = cut_last(from_id);
+        relation
+    }
+
+    /// The object, which may be that of a node.
+    pub fn object(&self, alloc: Global) -> Result<Object, AllocError>
+        ensures { IfOk result (λ o. o ≡ self.now.object) }
+    {
+        object_of(alloc, self.namespace(), self.id())
+    }
+
+    /// The node whose members the subject is, unless it is an object.
+    pub fn node(&self, alloc: Global) -> Result<Option<Node>, AllocError>
+        ensures { IfOk result (λ n. n ≡ node_in self.now) }
+    {
+        let Some(relation) = self.relation() else {
+            return Ok(None);
+        };
+        let object = self.object(alloc)?;
+        let relation = name_of(alloc, relation)?;
+        Ok(Some(Node { object, relation }))
+    }
+
+    /// The subject, read from its text.
+    pub fn subject(&self, alloc: Global) -> Result<Subject, AllocError>
+        ensures { IfOk result (λ s. s ≡ self.now) }
+    {
+        let object = self.object(alloc)?;
+        let Some(relation) = self.relation() else {
+            return Ok(Subject::one(object));
+        };
+        let relation = name_of(alloc, relation)?;
+        Ok(Subject {
+            object,
+            relation: Some(relation),
+        })
+    }
+}

@@ -1,0 +1,71 @@
+//! Tuples, borrowed as texts.
+ghost use Rattle.std.specs.Prelude.{◌≡◌, IfOk};
+ghost use Rattle.tuple_keys.specs.Spelled.{spelled, tuple_of, IsSpelling};
+
+use crate::cuts::{cut, name_of, object_of};
+use crate::subject_ref::SubjectRef;
+use names::{Node, Tuple};
+use std::alloc::{AllocError, Global};
+use std::marker::Model;
+
+/// A tuple, as its text.
+#[derive(Drop)]
+pub struct TupleRef<'a> {
+    text: &'a str,
+}
+
+impl<'a> Model for TupleRef<'a> {
+    ghost use Rattle.names.specs.declared.tuple.Tuple.{Tuple as TupleValue};
+    ghost use Rattle.meaning.specs.inside.Codes.{coded_tuple};
+    ghost use Rattle.tuple_keys.specs.Spelled.{tuple_of, IsSpelling};
+
+    ghost Value = { TupleValue };
+
+    ghost coded = { coded_tuple };
+
+    ghost view = { λ s. tuple_of s.text.now };
+
+    ghost invariant = { λ s. IsSpelling s.text.now };
+}
+
+impl<'a> TupleRef<'a> {
+    /// The tuple that the text spells. It is not read here, nor copied.
+    pub fn of(text: &'a str) -> TupleRef<'a>
+        requires { IsSpelling text.now }
+        ensures { result ≡ tuple_of text.now }
+    {
+        TupleRef { text }
+    }
+
+    pub fn as_str(&self) -> &'a str
+        ensures text { result.now ≡ spelled self.now }
+        ensures read { tuple_of result.now ≡ self.now }
+        ensures spelling { IsSpelling result.now }
+    {
+        self.text
+    }
+
+    /// The tuple, read from its text.
+    pub fn tuple(&self, alloc: Global) -> Result<Tuple, AllocError>
+        ensures { IfOk result (λ t. t ≡ self.now) }
+    {
+        let (namespace, from_id) = cut(self.text);
+        let (id, from_relation) = cut(from_id);
+        let (relation, _) = cut(from_relation);
+        let object = object_of(alloc, namespace, id)?;
+        let relation = name_of(alloc, relation)?;
+        let node = Node { object, relation };
+        let subject = self.subject().subject(alloc)?;
+        Ok(Tuple { node, subject })
+    }
+
+    /// Whom the tuple names.
+    pub fn subject(&self) -> SubjectRef<'a>
+        ensures { result ≡ self.now.subject }
+    {
+        let (_, from_id) = cut(self.text);
+        let (_, from_relation) = cut(from_id);
+        let (_, subject) = cut(from_relation);
+        SubjectRef::of(subject)
+    }
+}
