@@ -1,5 +1,6 @@
 pub mod Cutting
 pub mod Joining
+pub mod Packing
 pub mod Parts
 pub mod Prefixes
 pub mod Spellings

@@ -1,3 +1,5 @@
 pub mod Spelled
 pub mod Named
 pub mod Texts
+pub mod Packed
+pub mod Contents

@@ -6,12 +6,19 @@
 #![tactic(auto)]
 
 mod cuts;
+mod kept_commit;
+mod kept_event;
+mod kept_events;
+mod lens;
 mod pushes;
 mod scratch;
 mod start;
 mod subject_ref;
 mod tuple_ref;
 
+pub use kept_commit::KeptCommit;
+pub use kept_event::KeptEvent;
+pub use kept_events::KeptEvents;
 pub use scratch::Scratch;
 pub use start::Start;
 pub use subject_ref::SubjectRef;
