@@ -1,6 +1,6 @@
 -- What the texts of an object's tuples begin with, and of a node's, and those of these whose subjects are of one namespace.
 -- What is after it.
-use Rattle.std.proofs.Common.{◌≡◌, ℕ, ◌++◌, Bool, true, false, List, [], ◌∷◌, refl, sym, ap, ◌∙◌, append_assoc, IsTrue}
+use Rattle.std.proofs.Common.{◌≡◌, ℕ, ◌++◌, Bool, true, false, List, [], ◌∷◌, refl, sym, ap, subst, ◌∙◌, append_assoc, IsTrue}
 use Rattle.std.specs.Prelude.{◌&&◌, nat_eq}
 use Rattle.std.specs.List.{starts_with}
 use Rattle.std.specs.Bool.{one_answer}
@@ -15,12 +15,12 @@ use Rattle.names.specs.Spelling.{IsObject, IsNode}
 use Rattle.names.specs.declared.object.Object.{Object}
 use Rattle.names.specs.declared.node.Node.{Node}
 use Rattle.names.specs.declared.subject.Subject.{Subject}
-use Rattle.tuple_keys.specs.Spelled.{spelled_object, spelled_node, spelled_namespace, spelled_relation, spelled_subject, subject_in, tuple_of, IsSpelling}
+use Rattle.tuple_keys.specs.Spelled.{spelled_object, spelled_node, spelled_namespace, spelled_relation, spelled_subject, after_space, subject_in, tuple_of, IsSubjectSpelling, IsSpelling}
 use Rattle.tuple_keys.specs.Named.{is_at, is_of, is_within}
 use Rattle.tuple_keys.specs.Texts.{IsStartOf}
 use Rattle.tuple_keys.proofs.Parts.{before_joined, after_joined}
 use Rattle.tuple_keys.proofs.Joining.{name_above, id_above, above_lacks}
-use Rattle.tuple_keys.proofs.Spellings.{starts_of_node, same_object, object_itself, same_node, node_itself, node_of_joined, subject_of_joined, node_above, node_joined}
+use Rattle.tuple_keys.proofs.Spellings.{starts_of_node, same_object, object_itself, same_node, node_itself, node_of_joined, subject_of_joined, node_above, node_joined, subject_spelling}
 
 -- ---- the tuples of one object
 
@@ -61,6 +61,21 @@ node_begins n is = λ a s. starts_of_node a s n is
 -- what is after a node's text is the subject's
 pub subject_after : (n : Node) → IsNode n → (a rest : List ℕ) → a ≡ spelled_node n ++ rest → (tuple_of a).subject ≡ subject_in rest
 subject_after n is a rest e = ap (λ (l : List ℕ). (tuple_of l).subject) e ∙ subject_of_joined n (node_above n is) rest
+
+rest_of_joined : (n : Node) → IsNode n → (rest : List ℕ) → after_space (after_space (after_space (spelled_node n ++ rest))) ≡ rest
+rest_of_joined n is rest =
+    let a = node_above n is in
+    ap (λ l. after_space (after_space (after_space l))) (node_joined n rest)
+    ∙ ap (λ l. after_space (after_space l)) (after_joined 32 n.object.namespace (n.object.id ++ 32 ∷ (n.relation ++ 32 ∷ rest)) (above_lacks _ a.namespace))
+    ∙ ap after_space (after_joined 32 n.object.id (n.relation ++ 32 ∷ rest) (above_lacks _ a.id))
+    ∙ after_joined 32 n.relation rest (above_lacks _ a.relation)
+
+-- and it spells the subject
+pub subject_follows : (n : Node) (text rest : List ℕ) → IsNode n → IsSpelling text → text ≡ spelled_node n ++ rest → IsSubjectSpelling rest × (subject_in rest ≡ (tuple_of text).subject)
+subject_follows n text rest is x e = (
+  subst IsSubjectSpelling (ap (λ l. after_space (after_space (after_space l))) e ∙ rest_of_joined n is rest) (subject_spelling text x),
+  sym (subject_after n is text rest e),
+)
 
 -- ---- the subjects of one namespace
 

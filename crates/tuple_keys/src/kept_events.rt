@@ -1,7 +1,7 @@
 //! The events of a commit, as they are kept.
-ghost use Rattle.std.specs.Prelude.{◌≡◌, ◌<◌, ◌≤◌, ◌++◌, ◌∷◌, [], ◌==◌, length, slice_index, slice_index_or, string_bytes, IfOk, OnOk};
+ghost use Rattle.std.specs.Prelude.{◌≡◌, ◌<◌, ◌≤◌, ◌-◌, ◌^◌, ◌++◌, ◌∷◌, [], ◌==◌, length, min, slice_index, slice_index_or, string_bytes, IfOk, OnOk};
 ghost use Rattle.names.specs.Spelling.{IsTuple};
-ghost use Rattle.tuple_keys.specs.Packed.{sign_of, kind_of, event_text};
+ghost use Rattle.tuple_keys.specs.Packed.{sign_of, kind_of, event_text, text_of};
 
 use crate::kept_event::KeptEvent;
 use crate::lens::tuple_len;
@@ -86,10 +86,12 @@ impl KeptEvents {
 }
 
 /// As many bytes as the events' texts have.
-fn room_of(events: &[Event]) -> usize {
+fn room_of(events: &[Event]) -> usize
+    ensures { result ≡ min (length (text_of events.now)) (2 ^ 64 - 1) }
+{
     let mut room: usize = 0;
-    for event in events {
-        room = room.saturating_add(1 + tuple_len(&event.tuple));
+    for one in events {
+        room = room.saturating_add(1 + tuple_len(&one.tuple));
     }
     room
 }

@@ -9,6 +9,7 @@ mod cuts;
 mod kept_commit;
 mod kept_event;
 mod kept_events;
+mod law;
 mod lens;
 mod pushes;
 mod scratch;
@@ -19,6 +20,12 @@ mod tuple_ref;
 pub use kept_commit::KeptCommit;
 pub use kept_event::KeptEvent;
 pub use kept_events::KeptEvents;
+pub use law::{
+    a_namespaces_texts_begin_with_its_text, a_nodes_texts_begin_with_its_text,
+    a_subjects_text_follows_its_nodes, an_objects_texts_begin_with_its_text, each_tuple_has_a_text,
+    texts_are_not_below_their_start, texts_are_ordered_as_tuples,
+    texts_that_begin_alike_stand_together,
+};
 pub use scratch::Scratch;
 pub use start::Start;
 pub use subject_ref::SubjectRef;

@@ -52,11 +52,11 @@ impl Start {
         ensures is { IsNode node.now }
         ensures name { IsTrue (is_name namespace.now) }
     {
-        let mut text = ArrayString::new();
-        push_node(&mut text, node);
-        push_name(&mut text, namespace);
-        text.push_str(" ");
-        Start { text }
+        let mut parts = ArrayString::new();
+        push_node(&mut parts, node);
+        push_name(&mut parts, namespace);
+        parts.push_str(" ");
+        Start { text: parts }
     }
 
     pub fn as_str(&self) -> &str
