@@ -1,11 +1,10 @@
 //! The parts of a text.
-ghost use Rattle.std.specs.Prelude.{◌≡◌, IsTrue, IfOk};
+ghost use Rattle.std.specs.Prelude.{◌≡◌, IsTrue};
 ghost use Rattle.std.specs.Option.{option_map};
 ghost use Rattle.names.specs.Names.{is_name, is_id};
 ghost use Rattle.tuple_keys.specs.Spelled.{before_space, after_space, last_part};
 
-use names::{Name, Object, Refusal};
-use std::alloc::{AllocError, Global};
+use names::{Name, Object};
 
 /// What is before the first space, and what is after it.
 pub(crate) fn cut(text: &str) -> (&str, &str)
@@ -29,26 +28,23 @@ pub(crate) fn cut_last(text: &str) -> (&str, Option<&str>)
     }
 }
 
-pub(crate) fn name_of(alloc: Global, text: &str) -> Result<Name, AllocError>
+pub(crate) fn name_of(text: &str) -> Name
     requires { IsTrue (is_name text.now) }
-    ensures { IfOk result (λ n. n ≡ text.now) }
+    ensures { result ≡ text.now }
 {
-    match Name::parse(alloc, text) {
-        Ok(name) => Ok(name),
-        Err(Refusal::Memory) => Err(AllocError),
+    match Name::parse(text) {
+        Ok(name) => name,
         Err(_) => unreachable!(),
     }
 }
 
-pub(crate) fn object_of(alloc: Global, namespace: &str, id: &str) -> Result<Object, AllocError>
+pub(crate) fn object_of(namespace: &str, id: &str) -> Object
     requires namespace { IsTrue (is_name namespace.now) }
     requires id { IsTrue (is_id id.now) }
-    ensures { IfOk result (λ o. (o.namespace ≡ namespace.now) × (o.id ≡ id.now)) }
+    ensures { (result.namespace ≡ namespace.now) × (result.id ≡ id.now) }
 {
-    let namespace = name_of(alloc, namespace)?;
-    match Object::of(alloc, namespace, id) {
-        Ok(object) => Ok(object),
-        Err(Refusal::Memory) => Err(AllocError),
+    match Object::of(name_of(namespace), id) {
+        Ok(object) => object,
         Err(_) => unreachable!(),
     }
 }

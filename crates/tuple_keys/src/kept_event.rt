@@ -1,10 +1,9 @@
 //! One event, as it is kept.
-ghost use Rattle.std.specs.Prelude.{◌≡◌, IfOk};
+ghost use Rattle.std.specs.Prelude.{◌≡◌};
 ghost use Rattle.tuple_keys.specs.Spelled.{tuple_of, IsSpelling};
 
 use crate::tuple_ref::TupleRef;
 use names::{Event, EventKind};
-use std::alloc::{AllocError, Global};
 use std::marker::Model;
 
 /// An event, whose tuple is a borrowed text.
@@ -47,13 +46,12 @@ impl<'a> KeptEvent<'a> {
     }
 
     /// The event, with its tuple read from the text.
-    pub fn event(&self, alloc: Global) -> Result<Event, AllocError>
-        ensures { IfOk result (λ e. e ≡ self.now) }
+    pub fn event(&self) -> Event
+        ensures { result ≡ self.now }
     {
-        let tuple = self.tuple.tuple(alloc)?;
-        Ok(Event {
-            tuple,
+        Event {
+            tuple: self.tuple.tuple(),
             kind: self.kind,
-        })
+        }
     }
 }

@@ -79,7 +79,7 @@ impl KeptEvents {
         let count = self.len();
         let mut events = Vec::with_capacity(alloc, count)?;
         for i in 0..count {
-            events.push(self.event(i).event(alloc)?)?;
+            events.push(self.event(i).event())?;
         }
         Ok(events)
     }

@@ -1,5 +1,5 @@
 //! Subjects, borrowed as texts.
-ghost use Rattle.std.specs.Prelude.{◌≡◌, IsTrue, IfOk, IfSome};
+ghost use Rattle.std.specs.Prelude.{◌≡◌, IsTrue, IfSome};
 ghost use Rattle.std.specs.Option.{option_map};
 ghost use Rattle.names.specs.Names.{is_name, is_id};
 ghost use Rattle.tuple_keys.specs.Named.{node_in};
@@ -7,7 +7,6 @@ ghost use Rattle.tuple_keys.specs.Spelled.{spelled_subject, subject_in, IsSubjec
 
 use crate::cuts::{cut, cut_last, name_of, object_of};
 use names::{Node, Object, Subject};
-use std::alloc::{AllocError, Global};
 use std::marker::Model;
 
 /// Whom a tuple names, as the text that is the last part of the tuple's.
@@ -72,36 +71,32 @@ impl<'a> SubjectRef<'a> {
     }
 
     /// The object, which may be that of a node.
-    pub fn object(&self, alloc: Global) -> Result<Object, AllocError>
-        ensures { IfOk result (λ o. o ≡ self.now.object) }
+    pub fn object(&self) -> Object
+        ensures { result ≡ self.now.object }
     {
-        object_of(alloc, self.namespace(), self.id())
+        object_of(self.namespace(), self.id())
     }
 
     /// The node whose members the subject is, unless it is an object.
-    pub fn node(&self, alloc: Global) -> Result<Option<Node>, AllocError>
-        ensures { IfOk result (λ n. n ≡ node_in self.now) }
+    pub fn node(&self) -> Option<Node>
+        ensures { result ≡ node_in self.now }
     {
-        let Some(relation) = self.relation() else {
-            return Ok(None);
-        };
-        let object = self.object(alloc)?;
-        let relation = name_of(alloc, relation)?;
-        Ok(Some(Node { object, relation }))
+        let relation = name_of(self.relation()?);
+        let object = self.object();
+        Some(Node { object, relation })
     }
 
     /// The subject, read from its text.
-    pub fn subject(&self, alloc: Global) -> Result<Subject, AllocError>
-        ensures { IfOk result (λ s. s ≡ self.now) }
+    pub fn subject(&self) -> Subject
+        ensures { result ≡ self.now }
     {
-        let object = self.object(alloc)?;
+        let object = self.object();
         let Some(relation) = self.relation() else {
-            return Ok(Subject::one(object));
+            return Subject::one(object);
         };
-        let relation = name_of(alloc, relation)?;
-        Ok(Subject {
+        Subject {
             object,
-            relation: Some(relation),
-        })
+            relation: Some(name_of(relation)),
+        }
     }
 }

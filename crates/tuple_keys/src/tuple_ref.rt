@@ -1,11 +1,10 @@
 //! Tuples, borrowed as texts.
-ghost use Rattle.std.specs.Prelude.{◌≡◌, IfOk};
+ghost use Rattle.std.specs.Prelude.{◌≡◌};
 ghost use Rattle.tuple_keys.specs.Spelled.{spelled, tuple_of, IsSpelling};
 
 use crate::cuts::{cut, name_of, object_of};
 use crate::subject_ref::SubjectRef;
 use names::{Node, Tuple};
-use std::alloc::{AllocError, Global};
 use std::marker::Model;
 
 /// A tuple, as its text.
@@ -46,17 +45,17 @@ impl<'a> TupleRef<'a> {
     }
 
     /// The tuple, read from its text.
-    pub fn tuple(&self, alloc: Global) -> Result<Tuple, AllocError>
-        ensures { IfOk result (λ t. t ≡ self.now) }
+    pub fn tuple(&self) -> Tuple
+        ensures { result ≡ self.now }
     {
         let (namespace, from_id) = cut(self.text);
         let (id, from_relation) = cut(from_id);
         let (relation, _) = cut(from_relation);
-        let object = object_of(alloc, namespace, id)?;
-        let relation = name_of(alloc, relation)?;
+        let object = object_of(namespace, id);
+        let relation = name_of(relation);
         let node = Node { object, relation };
-        let subject = self.subject().subject(alloc)?;
-        Ok(Tuple { node, subject })
+        let subject = self.subject().subject();
+        Tuple { node, subject }
     }
 
     /// Whom the tuple names.
