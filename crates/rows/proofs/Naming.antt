@@ -18,8 +18,9 @@ use Rattle.meaning.specs.Config.{Configured, Defined, rel_of}
 use Rattle.meaning.specs.Snap.{one, set_of}
 use Rattle.meaning.proofs.Lists.{contains_here, contains_there, contains_cases, contains_none}
 use Rattle.meaning.proofs.TupleSets.{exact_nodes, nodes_total}
-use Rattle.rows_core.specs.Versions.{is_of}
-use Rattle.rows_core.specs.Named.{user_tuple, without, object_in, node_in, objects_in, nodes_in, is_within}
+use Rattle.tuple_keys.specs.Named.{is_of}
+use Rattle.rows_core.specs.Named.{objects_in, nodes_in}
+use Rattle.tuple_keys.specs.Named.{user_tuple, without, object_in, node_in, is_within}
 use Rattle.rows.specs.Lookups.{IsOfNodes, DeclaresNodes, IsRepeated}
 use Rattle.names.specs.declared.relation.SubjectType.{SubjectType}
 use Rattle.meaning.specs.Admits.{Admits}

@@ -7,8 +7,8 @@ ghost use Rattle.rows.specs.Retained.{last_config};
 
 use config::Config;
 use names::{Commit, EventKind};
-use rows_core::{KeptCommit, KeptEvent};
 use std::alloc::{AllocError, Global};
+use tuple_keys::{KeptCommit, KeptEvents};
 
 pub(crate) fn push_commit(
     commits: &mut Vec<KeptCommit>,
@@ -26,25 +26,6 @@ pub(crate) fn drop_newest(commits: &mut Vec<KeptCommit>)
     ensures { commits.new.items ≡ take (length commits.old.items - 1) commits.old.items }
 {
     let _ = commits.pop();
-}
-
-/// The events of the newest commit, where it is one of events.
-pub(crate) fn newest_events(commits: &[KeptCommit]) -> &[KeptEvent]
-    ensures { (h : History) (events : List Event) → commits.now ≡ h ++ Commit.Tuples events ∷ [] → result.now ≡ events }
-{
-    match commits.last() {
-        Some(commit) => events_or_none(commit),
-        None => &[],
-    }
-}
-
-fn events_or_none(commit: &KeptCommit) -> &[KeptEvent]
-    ensures { (events : List Event) → commit.now ≡ Commit.Tuples events → result.now ≡ events }
-{
-    match commit.events() {
-        Some(events) => events,
-        None => &[],
-    }
 }
 
 /// The commits as they are outside.
@@ -78,14 +59,14 @@ pub(crate) fn last_config(base: u64, rev: u64, commits: &[KeptCommit]) -> u64
 }
 
 /// How many rows the events make.
-pub(crate) fn puts_in(events: &[KeptEvent]) -> u64
+pub(crate) fn puts_in(events: &KeptEvents) -> u64
     requires { puts_in events.now ≤ MAX_ROWS }
     ensures puts { result ≡ puts_in events.now }
     ensures in_memory { length events.now < 2 ^ 63 }
 {
     let mut puts = 0;
-    for event in events {
-        match event.kind() {
+    for i in 0..events.len() {
+        match events.event(i).kind() {
             EventKind::Put => puts += 1,
             EventKind::Del => {}
         }

@@ -1,7 +1,8 @@
 //! What a history is made from, and how large it is.
 
 use config::Config;
-use names::{Commit, Items, Tuple};
+use names::{Items, Tuple};
+use tuple_keys::KeptCommit;
 
 /// What tables held when they were opened.
 #[derive(Debug, Drop)]
@@ -15,7 +16,7 @@ pub struct Loaded {
     /// The tuples at the floor, in order.
     pub tuples: Items<Tuple>,
     /// The commits above the floor, oldest first.
-    pub commits: Items<Commit<Config>>,
+    pub commits: Items<KeptCommit>,
 }
 
 /// How large a history is.

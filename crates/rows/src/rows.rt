@@ -5,21 +5,22 @@ ghost use Rattle.names.specs.declared.limits.TheConstants.{MAX_REV, MAX_ROWS};
 ghost use Rattle.names.specs.declared.tuple.Tuple.{Tuple};
 ghost use Rattle.meaning.specs.TupleSet as set;
 ghost use Rattle.rows.specs.Retained.{newest, empty_store, IsRetained, snap_at, spans_of, newest_of, with_commit, without_newest, after_trim, HasRoom, AreAdmitted, IsAdmitted, commits_between, is_touched_after, last_config};
-ghost use Rattle.rows_core.specs.Named.{user_tuple, objects_in, nodes_in, is_within};
-ghost use Rattle.rows_core.specs.Versions.{is_at, is_of, refuses};
+ghost use Rattle.rows_core.specs.Named.{objects_in, nodes_in};
+ghost use Rattle.tuple_keys.specs.Named.{user_tuple, is_within};
+ghost use Rattle.rows_core.specs.Versions.{refuses};
+ghost use Rattle.tuple_keys.specs.Named.{is_at, is_of};
 ghost use Rattle.rows.specs.Loads.{retained_of, loaded_to, IsWithin};
 
-use crate::committed::{
-    copies, drop_commits, drop_newest, last_config, newest_events, push_commit, puts_in,
-};
+use crate::committed::{copies, drop_commits, drop_newest, last_config, push_commit, puts_in};
 use crate::config_at::{ConfigAt, config_up_to, drop_config, push_config, settle_configs};
 use crate::loaded::{Counts, Loaded};
 use crate::view::View;
 use config::Config;
 use names::{Commit, Event, Name, Node, Object, Tuple};
-use rows_core::{KeptCommit, VersionMap};
+use rows_core::VersionMap;
 use std::alloc::{AllocError, Global};
 use std::marker::Model;
+use tuple_keys::{KeptCommit, KeptEvents};
 
 /// The history from the floor on.
 #[derive(Drop)]
@@ -73,7 +74,7 @@ impl Rows {
         let commits = loaded.commits.as_slice();
         let mut rows = Rows::with_base(alloc, loaded)?;
         for i in 0..commits.len() {
-            rows.commit(&commits[i])?;
+            rows.absorb(&commits[i])?;
         }
         Ok(rows)
     }
@@ -294,21 +295,34 @@ impl Rows {
         ensures ok { OnOk result (self.new ≡ with_commit self.old commit.now) }
         ensures err { OnErr result (self.new ≡ self.old) }
     {
-        match commit {
-            Commit::Tuples(events) => self.commit_events(events.as_slice()),
-            Commit::Config(config) => self.commit_config(config),
+        let kept = KeptCommit::of(self.alloc, commit)?;
+        self.absorb(&kept)
+    }
+
+    /// Adds a commit, which is shared: nothing of it is copied but the texts of new tuples. For want of memory
+    /// it changes nothing.
+    pub fn absorb(&mut self, commit: &KeptCommit) -> Result<(), AllocError>
+        requires { HasRoom self.old commit.now }
+        ensures ok { OnOk result (self.new ≡ with_commit self.old commit.now) }
+        ensures err { OnErr result (self.new ≡ self.old) }
+    {
+        match commit.events() {
+            Some(events) => self.absorb_events(commit, events),
+            None => match commit.config() {
+                Some(config) => self.absorb_config(commit, config),
+                None => unreachable!(),
+            },
         }
     }
 
-    fn commit_events(&mut self, events: &[Event]) -> Result<(), AllocError>
-        requires { HasRoom self.old (Commit.Tuples events.now) }
-        ensures ok { OnOk result (self.new ≡ with_commit self.old (Commit.Tuples events.now)) }
+    fn absorb_events(&mut self, commit: &KeptCommit, events: &KeptEvents) -> Result<(), AllocError>
+        requires are { commit.now ≡ Commit.Tuples events.now }
+        requires room { HasRoom self.old commit.now }
+        ensures ok { OnOk result (self.new ≡ with_commit self.old commit.now) }
         ensures err { OnErr result (self.new ≡ self.old) }
     {
         let rev = self.newest() + 1;
-        let kept = self.tuples.keep(self.alloc, events)?;
-        push_commit(&mut self.commits, kept)?;
-        let events = newest_events(&self.commits);
+        push_commit(&mut self.commits, commit.again()?)?;
         match self.tuples.put_all(events, rev) {
             Ok(change) => {
                 self.counts.rows += puts_in(events);
@@ -323,9 +337,10 @@ impl Rows {
         }
     }
 
-    fn commit_config(&mut self, config: &Config) -> Result<(), AllocError>
-        requires { HasRoom self.old (Commit.Config config.now) }
-        ensures ok { OnOk result (self.new ≡ with_commit self.old (Commit.Config config.now)) }
+    fn absorb_config(&mut self, commit: &KeptCommit, config: &Config) -> Result<(), AllocError>
+        requires is { commit.now ≡ Commit.Config config.now }
+        requires room { HasRoom self.old commit.now }
+        ensures ok { OnOk result (self.new ≡ with_commit self.old commit.now) }
         ensures err { OnErr result (self.new ≡ self.old) }
     {
         let rev = self.newest() + 1;
@@ -333,8 +348,7 @@ impl Rows {
             rev,
             config: config.again(self.alloc)?,
         };
-        let again = config.again(self.alloc)?;
-        let kept = KeptCommit::of_config(self.alloc, again)?;
+        let kept = commit.again()?;
         push_config(&mut self.configs, config_at)?;
         match push_commit(&mut self.commits, kept) {
             Ok(()) => Ok(()),

@@ -3,7 +3,7 @@ ghost use Rattle.std.specs.Prelude.{◌≡◌, ◌<◌, ◌↔◌, true, false, 
 ghost use Rattle.meaning.specs.Config.{Has, rel_of};
 ghost use Rattle.meaning.specs.Membership.{HasOne, HasSet};
 ghost use Rattle.meaning.specs.TupleSet as set;
-ghost use Rattle.rows_core.specs.Versions.{is_at, is_of};
+ghost use Rattle.tuple_keys.specs.Named.{is_at, is_of};
 ghost use Rattle.rows.specs.Lookups.{DeclaresNodes, IsRepeated};
 ghost use Rattle.rows.specs.Retained.{IsRetained, snap_at, AreAdmitted};
 

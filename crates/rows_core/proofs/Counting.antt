@@ -5,11 +5,12 @@ use Rattle.std.specs.List.{starts_with}
 use Rattle.std.proofs.Math.Dec.{eqb}
 use Rattle.names.specs.declared.tuple.Tuple.{Tuple}
 use Rattle.rows_core.specs.declared.version.Version.{Version}
-use Rattle.rows_core.specs.Spelled.{tuple_of}
+use Rattle.tuple_keys.specs.Spelled.{tuple_of}
 use Rattle.rows_core.specs.Versions.{Entries, keys}
 use Rattle.rows_core.specs.Texts.{Texts, entries_of, AreSpelled}
 use Rattle.rows_core.proofs.Picking.{pick}
-use Rattle.rows_core.proofs.Together.{Begins, from, from_all}
+use Rattle.rows_core.proofs.Together.{from, from_all}
+use Rattle.tuple_keys.specs.Texts.{IsStartOf}
 
 abbrev count : (Tuple → Bool) → Entries → ℕ
 count g es = length (pick (λ e. g e.0) es)
@@ -22,7 +23,7 @@ picked_keys g (e ∷ es) = ap (λ (ts : List Tuple). cond (g e.0) (e.0 ∷ ts) t
 pub record Counted (g : Tuple → Bool) (m : Entries) (it : Texts) (most more : ℕ) : Type 0 where
   pub all : count g (entries_of it) + most ≡ length (filter g (keys m)) + more
 
-pub counted_first : (p : List ℕ) (g : Tuple → Bool) → Begins p g → (es : Texts) → AreSpelled es → (m : Entries) → entries_of es ≡ m
+pub counted_first : (p : List ℕ) (g : Tuple → Bool) → IsStartOf p g → (es : Texts) → AreSpelled es → (m : Entries) → entries_of es ≡ m
     → (it : Texts) → from p es ≡ it → (most : ℕ) → Counted g m it most most
 counted_first p g begins es s m is it same most = record {
   all =
@@ -33,13 +34,13 @@ counted_first p g begins es s m is it same most = record {
 }
 
 -- one that passes is next
-module _ (p : List ℕ) (g : Tuple → Bool) (begins : Begins p g) (m : Entries) (it : Texts) (spelled : AreSpelled it) (most more : ℕ) (counted : Counted g m it most more)
+module _ (p : List ℕ) (g : Tuple → Bool) (begins : IsStartOf p g) (m : Entries) (it : Texts) (spelled : AreSpelled it) (most more : ℕ) (counted : Counted g m it most more)
     (e : List ℕ × List Version) (rest : Texts) (steps : it ≡ e ∷ rest) (starts : starts_with eqb e.0 p ≡ true)
   where
     one_of_them : count g (entries_of it) ≡ suc (count g (entries_of rest))
     one_of_them =
         let others = pick (λ x. g x.0) (entries_of rest) in
-        let passes = sym (begins.is e.0 (subst AreSpelled steps spelled).0) ∙ starts in
+        let passes = sym (begins e.0 (subst AreSpelled steps spelled).0) ∙ starts in
         ap (λ (us : Texts). count g (entries_of us)) steps ∙ ap (λ b. length (cond b (tuple_of e.0 ∷ others) others)) passes
 
     -- but no more may be

@@ -13,10 +13,10 @@ use Rattle.shelf.specs.Texts.{text_cmp, is_text}
 use Rattle.names.specs.Order.{tuple_cmp, is_same_tuple}
 use Rattle.names.specs.declared.tuple.Tuple.{Tuple}
 use Rattle.rows_core.specs.declared.version.Version.{Version}
-use Rattle.rows_core.specs.Spelled.{tuple_of, IsSpelling}
+use Rattle.tuple_keys.specs.Spelled.{tuple_of, IsSpelling}
 use Rattle.rows_core.specs.Versions.{Entries, versions_at, items_or, keys}
 use Rattle.rows_core.specs.Texts.{Texts, entry_of, entries_of, AreSpelled}
-use Rattle.rows_core.proofs.Spellings.{texts_order}
+use Rattle.tuple_keys.proofs.Spellings.{texts_order}
 use Rattle.rows_core.proofs.Placing.{placed, set_at, inserted_at, nothing_changed}
 
 same_text : (a b : List ℕ) → IsSpelling a → IsSpelling b → is_eq (slice_cmp nat_cmp a b) ≡ is_same_tuple (tuple_of a) (tuple_of b)

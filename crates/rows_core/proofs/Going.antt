@@ -12,13 +12,14 @@ use Rattle.std.proofs.lemmas.Map.Keys.{sorted_tail}
 use Rattle.names.specs.Order.{tuple_cmp}
 use Rattle.names.specs.declared.tuple.Tuple.{Tuple}
 use Rattle.rows_core.specs.declared.version.Version.{Version}
-use Rattle.rows_core.specs.Spelled.{tuple_of}
+use Rattle.tuple_keys.specs.Texts.{IsStartOf}
+use Rattle.tuple_keys.specs.Spelled.{tuple_of}
 use Rattle.rows_core.specs.Versions.{Entries, keys, stands, tuples_at, IsRising, AreRising}
 use Rattle.rows_core.specs.Texts.{Texts, entry_of, entries_of, AreSpelled}
 use Rattle.shelf.specs.Texts.{text_cmp}
 use Rattle.rows_core.proofs.Rising.{AllRising, all_rising, from_rising}
 use Rattle.rows_core.proofs.Picking.{pick, picked_is, picked_both, one_left}
-use Rattle.rows_core.proofs.Together.{AreFrom, Begins, from, from_spelled, from_sorted, from_above, from_all, none_left, both_pass, first_fails}
+use Rattle.rows_core.proofs.Together.{AreFrom, from, from_spelled, from_sorted, from_above, from_all, none_left, both_pass, first_fails}
 
 -- the tuple stands at the revision
 abbrev pub stands_then : ℕ → Tuple × List Version → Bool
@@ -49,7 +50,7 @@ onto : {X : Type 0} (o : Option X) (xs : List X) → option_to_list o ++ xs ≡ 
 onto (Some x) xs = refl
 onto None xs = refl
 
-module _ {X : Type 0} (h : Tuple → Option X) (p : List ℕ) (g : Tuple → Bool) (begins : Begins p g) (rev : ℕ) where
+module _ {X : Type 0} (h : Tuple → Option X) (p : List ℕ) (g : Tuple → Bool) (begins : IsStartOf p g) (rev : ℕ) where
   pub left_first : (es : Texts) → AreSpelled es → IsStrictlySortedBy text_cmp (keys_of es) → (m : Entries) → entries_of es ≡ m → AreRising m
       → (it : Texts) → from p es ≡ it → (start : List X) → Left h p g rev m start start it
   left_first es s sorted m is r it same start = record {

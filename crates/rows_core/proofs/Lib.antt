@@ -1,6 +1,3 @@
-pub mod Joining
-pub mod Cutting
-pub mod Spellings
 pub mod Admitted
 pub mod Bases
 pub mod Basing
@@ -14,6 +11,5 @@ pub mod Placing
 pub mod Settling
 pub mod Steps
 pub mod Together
-pub mod Prefixes
 pub mod Going
 pub mod Rising

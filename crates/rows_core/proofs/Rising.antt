@@ -5,7 +5,7 @@ use Rattle.std.specs.Map.{keys_of}
 use Rattle.std.specs.List.Sorted.{IsStrictlySortedBy}
 use Rattle.std.specs.BTreeMap.Range.{range_contains}
 use Rattle.std.specs.declared.ops.Bound.TheVariants.{Included, Unbounded}
-use Rattle.rows_core.specs.Spelled.{tuple_of}
+use Rattle.tuple_keys.specs.Spelled.{tuple_of}
 use Rattle.rows_core.specs.Versions.{Entries, items_or, IsRising, AreRising}
 use Rattle.rows_core.specs.Texts.{Texts, entries_of, AreSpelled}
 use Rattle.shelf.specs.Texts.{text_cmp}

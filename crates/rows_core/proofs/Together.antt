@@ -15,9 +15,10 @@ use Rattle.std.specs.declared.cmp.Ordering.TheVariants.{Less, Equal, Greater}
 use Rattle.std.proofs.lemmas.List.Kept.{IsStrictlySortedBy-filter}
 use Rattle.names.specs.declared.tuple.Tuple.{Tuple}
 use Rattle.rows_core.specs.declared.version.Version.{Version}
-use Rattle.rows_core.specs.Spelled.{tuple_of, IsSpelling}
+use Rattle.tuple_keys.specs.Texts.{IsStartOf}
+use Rattle.tuple_keys.specs.Spelled.{tuple_of, IsSpelling}
 use Rattle.rows_core.specs.Texts.{Texts, entry_of, entries_of, AreSpelled}
-use Rattle.rows_core.proofs.Spellings.{starts_not_below, none_starts_after}
+use Rattle.tuple_keys.proofs.Spellings.{starts_not_below, none_starts_after}
 use Rattle.shelf.specs.Texts.{text_cmp}
 use Rattle.rows_core.proofs.Picking.{pick}
 
@@ -78,12 +79,8 @@ module _ (least : List ℕ) where
   pub from_sorted : (es : Texts) → IsStrictlySortedBy text_cmp (keys_of es) → IsStrictlySortedBy text_cmp (keys_of (from es))
   from_sorted es sorted = subst (IsStrictlySortedBy text_cmp) (sym (keys_from es)) (IsStrictlySortedBy-filter text_cmp is_from (keys_of es) sorted)
 
--- a text begins so exactly where its tuple passes the test
-pub record Begins (p : List ℕ) (g : Tuple → Bool) : Type 0 where
-  pub is : (a : List ℕ) → IsSpelling a → starts_with eqb a p ≡ g (tuple_of a)
-
 -- Those that begin so.
-module _ (p : List ℕ) (g : Tuple → Bool) (begins : Begins p g) (f : Tuple × List Version → Bool) where
+module _ (p : List ℕ) (g : Tuple → Bool) (begins : IsStartOf p g) (f : Tuple × List Version → Bool) where
   abbrev pub passes : Tuple × List Version → Bool
   passes e = f e && g e.0
 
@@ -95,10 +92,10 @@ module _ (p : List ℕ) (g : Tuple → Bool) (begins : Begins p g) (f : Tuple ×
       by_test false b h = refl
 
   pub other : (e : List ℕ × List Version) → IsSpelling e.0 → starts_with eqb e.0 p ≡ false → passes (entry_of e) ≡ false
-  other e s h = fails (entry_of e) (sym (begins.is e.0 s) ∙ h)
+  other e s h = fails (entry_of e) (sym (begins e.0 s) ∙ h)
 
   pub both_pass : (e : List ℕ × List Version) → IsSpelling e.0 → f (entry_of e) ≡ true → starts_with eqb e.0 p ≡ true → passes (entry_of e) ≡ true
-  both_pass e s holds h = ap (λ b. b && g (tuple_of e.0)) holds ∙ sym (begins.is e.0 s) ∙ h
+  both_pass e s holds h = ap (λ b. b && g (tuple_of e.0)) holds ∙ sym (begins e.0 s) ∙ h
 
   pub first_fails : (e : Tuple × List Version) → f e ≡ false → passes e ≡ false
   first_fails e misses = ap (λ b. b && g e.0) misses

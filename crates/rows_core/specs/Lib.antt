@@ -1,5 +1,3 @@
-pub mod Contents
-pub mod Spelled
 pub mod Versions
 pub mod Texts
 pub mod Named

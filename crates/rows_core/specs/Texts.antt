@@ -2,7 +2,7 @@
 use Rattle.std.specs.Prelude.{ℕ, List, [], ◌∷◌}
 use Rattle.names.specs.declared.tuple.Tuple.{Tuple}
 use Rattle.rows_core.specs.declared.version.Version.{Version}
-use Rattle.rows_core.specs.Spelled.{tuple_of, IsSpelling}
+use Rattle.tuple_keys.specs.Spelled.{tuple_of, IsSpelling}
 use Rattle.rows_core.specs.Versions.{Entries, HasSame, ChangesAt}
 
 -- texts, each with the versions of the tuple that it spells

@@ -203,11 +203,3 @@ newest_tuples m = filter (λ t. is_there (versions_at m t)) (keys m)
 -- the configuration does not admit the tuple
 abbrev pub refuses : Configured → Tuple → Bool
 refuses config t = not (admits config t)
-
--- the tuple is of the node
-abbrev pub is_of : Node → Tuple → Bool
-is_of node t = eq_by_cmp node_cmp t.node node
-
--- the tuple is of a node of the object
-abbrev pub is_at : Object → Tuple → Bool
-is_at object t = eq_by_cmp object_cmp t.node.object object

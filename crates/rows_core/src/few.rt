@@ -2,13 +2,14 @@
 ghost use Rattle.std.specs.Prelude.{◌≡◌, ◌<◌, filter, length, IfOk, IfSome, IfNone};
 ghost use Rattle.std.specs.List.Sorted.{IsStrictlySortedBy};
 ghost use Rattle.names.specs.Order.{tuple_cmp};
-ghost use Rattle.rows_core.specs.Versions.{AreRising, keys, is_at, tuples_at};
+ghost use Rattle.rows_core.specs.Versions.{AreRising, keys, tuples_at};
+ghost use Rattle.tuple_keys.specs.Named.{is_at};
 
 use crate::lists::push_tuple;
-use crate::tuple_ref::Start;
 use crate::version_map::VersionMap;
 use names::{Object, Tuple};
 use std::alloc::{AllocError, Global};
+use tuple_keys::Start;
 
 impl VersionMap {
     /// The tuples of the object that stand at a revision, or `None` where the map has more than `most` of its
@@ -30,15 +31,15 @@ impl VersionMap {
         let mut tuples = Vec::new(alloc);
         let mut more = most;
         for (text, versions) in texts.range(least.as_str()) {
-            if !text.starts_with(least.as_str()) {
+            let Some(_) = least.rest_of(text) else {
                 return Ok(Some(tuples));
-            }
+            };
             if more == 0 {
                 return Ok(None);
             }
             more -= 1;
             if versions.stands_at(rev) {
-                push_tuple(alloc, &mut tuples, text)?;
+                push_tuple(&mut tuples, text)?;
             }
         }
         Ok(Some(tuples))

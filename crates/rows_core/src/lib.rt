@@ -3,16 +3,13 @@
 
 mod change;
 mod few;
-mod kept;
 mod lists;
 mod named;
 mod places;
-mod tuple_ref;
 mod version;
 mod version_map;
 mod versioning;
 
 pub use change::Change;
-pub use kept::{KeptCommit, KeptEvent};
 pub use version::Version;
 pub use version_map::VersionMap;

@@ -3,14 +3,15 @@ ghost use Rattle.std.specs.Prelude.{◌≡◌, ◌++◌, ◌∷◌, [], filter, 
 ghost use Rattle.std.specs.List.{find};
 ghost use Rattle.std.specs.List.Sorted.{IsStrictlySortedBy};
 ghost use Rattle.names.specs.Order.{tuple_cmp};
-ghost use Rattle.rows_core.specs.Spelled.{tuple_of, IsSpelling};
-ghost use Rattle.rows_core.specs.Versions.{AreRising, keys, is_of, tuples_at, newest_tuples, refuses};
+ghost use Rattle.tuple_keys.specs.Spelled.{tuple_of, IsSpelling};
+ghost use Rattle.rows_core.specs.Versions.{AreRising, keys, tuples_at, newest_tuples, refuses};
+ghost use Rattle.tuple_keys.specs.Named.{is_of};
 
-use crate::tuple_ref::{Start, TupleRef};
 use crate::version_map::VersionMap;
 use config::Config;
 use names::{Node, Tuple};
 use std::alloc::{AllocError, Global};
+use tuple_keys::{Start, TupleRef};
 
 impl VersionMap {
     /// All tuples that stand at a revision.
@@ -23,7 +24,7 @@ impl VersionMap {
         let mut found = Vec::new(alloc);
         for (text, versions) in texts.iter() {
             if versions.stands_at(rev) {
-                push_tuple(alloc, &mut found, text)?;
+                push_tuple(&mut found, text)?;
             }
         }
         Ok(found)
@@ -40,11 +41,11 @@ impl VersionMap {
         let least = Start::of_node(node);
         let mut tuples = Vec::new(alloc);
         for (text, versions) in texts.range(least.as_str()) {
-            if !text.starts_with(least.as_str()) {
+            let Some(_) = least.rest_of(text) else {
                 return Ok(tuples);
-            }
+            };
             if versions.stands_at(rev) {
-                push_tuple(alloc, &mut tuples, text)?;
+                push_tuple(&mut tuples, text)?;
             }
         }
         Ok(tuples)
@@ -58,7 +59,7 @@ impl VersionMap {
         let texts = self.texts();
         for (text, versions) in texts.iter() {
             if versions.is_there() {
-                let tuple = read(alloc, text)?;
+                let tuple = TupleRef::of(text).tuple();
                 if !config.allows(&tuple) {
                     return Ok(Some(tuple));
                 }
@@ -68,21 +69,10 @@ impl VersionMap {
     }
 }
 
-fn read(alloc: Global, text: &str) -> Result<Tuple, AllocError>
-    requires { IsSpelling text.now }
-    ensures { IfOk result (λ t. t ≡ tuple_of text.now) }
-{
-    TupleRef::of(text).tuple(alloc)
-}
-
-pub(crate) fn push_tuple(
-    alloc: Global,
-    tuples: &mut Vec<Tuple>,
-    text: &str,
-) -> Result<(), AllocError>
+pub(crate) fn push_tuple(tuples: &mut Vec<Tuple>, text: &str) -> Result<(), AllocError>
     requires { IsSpelling text.now }
     ensures { OnOk result (tuples.new.items ≡ tuples.old.items ++ tuple_of text.now ∷ []) }
 {
-    tuples.push(read(alloc, text)?)?;
+    tuples.push(TupleRef::of(text).tuple())?;
     Ok(())
 }

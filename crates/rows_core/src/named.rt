@@ -3,15 +3,15 @@ ghost use Rattle.std.specs.Prelude.{◌≡◌, ◌++◌, filter, IfOk, OnOk};
 ghost use Rattle.std.specs.List.Sorted.{IsStrictlySortedBy};
 ghost use Rattle.std.specs.Option.{option_to_list};
 ghost use Rattle.names.specs.Order.{tuple_cmp};
-ghost use Rattle.names.specs.Spelling.{IsSubject};
-ghost use Rattle.rows_core.specs.Named.{object_in, node_in, objects_in, nodes_in, is_within, subject_from};
-ghost use Rattle.rows_core.specs.Spelled.{subject_in};
-ghost use Rattle.rows_core.specs.Versions.{AreRising, keys, is_of, tuples_at};
+ghost use Rattle.rows_core.specs.Named.{objects_in, nodes_in};
+ghost use Rattle.tuple_keys.specs.Named.{object_in, node_in, is_within};
+ghost use Rattle.rows_core.specs.Versions.{AreRising, keys, tuples_at};
+ghost use Rattle.tuple_keys.specs.Named.{is_of};
 
-use crate::tuple_ref::{Start, cut, cut_last, name_of, object_of};
 use crate::version_map::VersionMap;
 use names::{Name, Node, Object};
 use std::alloc::{AllocError, Global};
+use tuple_keys::{Start, TupleRef};
 
 impl VersionMap {
     /// The objects that the node's tuples name which stand at a revision.
@@ -29,11 +29,11 @@ impl VersionMap {
         let least = Start::of_node(node);
         let mut objects = Vec::new(alloc);
         for (text, versions) in texts.range(least.as_str()) {
-            let Some(subject) = least.rest_of(text) else {
+            let Some(_) = least.rest_of(text) else {
                 return Ok(objects);
             };
             if versions.stands_at(rev) {
-                push_object(alloc, &mut objects, subject)?;
+                push_object(&mut objects, &TupleRef::of(text))?;
             }
         }
         Ok(objects)
@@ -57,45 +57,36 @@ impl VersionMap {
         let texts = self.texts();
         let least = Start::of_namespace(node, namespace);
         for (text, versions) in texts.range(least.as_str()) {
-            let Some(parts) = least.rest_of(text) else {
+            let Some(_) = least.rest_of(text) else {
                 return Ok(());
             };
             if versions.stands_at(rev) {
-                push_node(alloc, nodes, namespace, parts)?;
+                push_node(nodes, &TupleRef::of(text))?;
             }
         }
         Ok(())
     }
 }
 
-/// Adds the object that the subject's text spells, where it is one.
-fn push_object(alloc: Global, objects: &mut Vec<Object>, subject: &str) -> Result<(), AllocError>
-    requires { IsSubject (subject_in subject.now) }
+/// Adds the object that the tuple names, where it names one.
+fn push_object(objects: &mut Vec<Object>, tuple: &TupleRef<'_>) -> Result<(), AllocError>
     ensures { OnOk result (objects.new.items ≡ objects.old.items
-        ++ option_to_list (object_in (subject_in subject.now))) }
+        ++ option_to_list (object_in tuple.now.subject)) }
 {
-    let (namespace, parts) = cut(subject);
-    if let (id, None) = cut_last(parts) {
-        objects.push(object_of(alloc, namespace, id)?)?;
+    let subject = tuple.subject();
+    if subject.relation().is_none() {
+        objects.push(subject.object())?;
     }
     Ok(())
 }
 
-/// Adds the node of the namespace that the other parts spell, where they have a relation.
-fn push_node(
-    alloc: Global,
-    nodes: &mut Vec<Node>,
-    namespace: &Name,
-    parts: &str,
-) -> Result<(), AllocError>
-    requires { IsSubject (subject_from namespace.now parts.now) }
+/// Adds the node whose members the tuple names, where it names those of one.
+fn push_node(nodes: &mut Vec<Node>, tuple: &TupleRef<'_>) -> Result<(), AllocError>
     ensures { OnOk result (nodes.new.items ≡ nodes.old.items
-        ++ option_to_list (node_in (subject_from namespace.now parts.now))) }
+        ++ option_to_list (node_in tuple.now.subject)) }
 {
-    if let (id, Some(relation)) = cut_last(parts) {
-        let object = object_of(alloc, namespace.as_str(), id)?;
-        let relation = name_of(alloc, relation)?;
-        nodes.push(Node { object, relation })?;
+    if let Some(node) = tuple.subject().node() {
+        nodes.push(node)?;
     }
     Ok(())
 }

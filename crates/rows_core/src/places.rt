@@ -4,11 +4,11 @@ ghost use Rattle.std.specs.Option.{option_map};
 ghost use Rattle.rows_core.specs.Versions.{items_or, versions_at, is_based, with_version, drop_last, after_settle, base_versions};
 ghost use Rattle.rows_core.specs.Texts.{entries_of, AreSpelled, TextsStay, TextsChangeAt};
 
-use crate::tuple_ref::{Scratch, TupleRef};
 use crate::version::{Version, Versions};
 use names::Tuple;
 use shelf::Shelf;
 use std::alloc::{AllocError, Global};
+use tuple_keys::{Scratch, TupleRef};
 
 /// The tuples that have versions, as their texts, each with its versions.
 pub(crate) type Texts = Shelf<Versions>;

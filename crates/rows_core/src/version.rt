@@ -4,11 +4,11 @@ ghost use Rattle.std.specs.List.{AllWithin};
 ghost use Rattle.rows_core.specs.Versions.{is_put, version_of, stands, IsRising, is_there, is_based, last_rev, drop_last, after_settle, after_settle_first};
 ghost use Rattle.rows_core.specs.Inline.{kept_versions};
 
-use crate::kept::KeptEvent;
 use names::EventKind;
 use std::alloc::{AllocError, Global};
 use std::collections::VecDeque;
 use std::marker::Model;
+use tuple_keys::KeptEvent;
 
 /// At this revision a tuple was put, or else taken away. What the floor holds was put at revision 0.
 #[derive(Clone, Copy, Debug, Drop)]
@@ -19,7 +19,7 @@ pub struct Version {
 
 impl Version {
     /// The version of an event.
-    pub(crate) fn of(rev: u64, event: &KeptEvent) -> Version
+    pub(crate) fn of(rev: u64, event: &KeptEvent<'_>) -> Version
         ensures { result ≡ version_of rev event.now }
     {
         Version {

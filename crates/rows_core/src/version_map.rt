@@ -1,17 +1,16 @@
 //! The versions of every tuple.
 ghost use Rattle.std.specs.Prelude.{◌≡◌, true, [], OnOk, OnErr, IfOk};
 ghost use Rattle.rows_core.specs.Versions.{IsRising, versions_at, is_there, is_based, last_rev, stands, with_version, drop_last, after_settle, base_versions, HasSame, ChangesAt};
-ghost use Rattle.rows_core.specs.Named.{user_tuple};
+ghost use Rattle.tuple_keys.specs.Named.{user_tuple};
 ghost use Rattle.rows_core.specs.Texts.{entries_of, AreSpelled};
 
-use crate::kept::{KeptCommit, KeptEvent};
 use crate::places::{Texts, pop_version, push_version, put_base, settle_version, versions_of};
-use crate::tuple_ref::{Scratch, TupleRef};
 use crate::version::Version;
-use names::{Commit, Event, Node, Object, Tuple};
+use names::{Node, Object, Tuple};
 use shelf::Shelf;
 use std::alloc::{AllocError, Global};
 use std::marker::Model;
+use tuple_keys::{Scratch, TupleRef};
 
 /// The tuples that have versions, in order, each with its versions.
 #[derive(Drop)]
@@ -97,17 +96,6 @@ impl VersionMap {
             Some(versions) => versions.stands_at(rev),
             None => false,
         }
-    }
-
-    /// A commit of the events, as it is kept.
-    pub fn keep(&self, alloc: Global, events: &[Event]) -> Result<KeptCommit, AllocError>
-        ensures { IfOk result (λ c. c ≡ Commit.Tuples events.now) }
-    {
-        let mut kept = Vec::with_capacity(alloc, events.len())?;
-        for event in events {
-            kept.push(KeptEvent::of(alloc, event)?)?;
-        }
-        Ok(KeptCommit::of(kept))
     }
 
     pub(crate) fn push(&mut self, key: &TupleRef<'_>, version: Version) -> Result<(), AllocError>

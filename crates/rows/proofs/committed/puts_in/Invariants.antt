@@ -3,5 +3,5 @@ use Rattle.meaning.specs.History.{puts_in}
 use Rattle.rows.proofs.committed.puts_in.Given as goal
 
 -- what is counted and what is left are all
-abbrev pub invariant-loop-event : goal.invariant-loop-event
-invariant-loop-event l = l.puts + puts_in (drop l.event-index l.events) ≡ puts_in l.events
+abbrev pub invariant-loop-i : goal.invariant-loop-i
+invariant-loop-i l = l.puts + puts_in (drop l.i l.events) ≡ puts_in l.events

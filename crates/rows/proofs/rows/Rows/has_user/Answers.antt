@@ -2,7 +2,7 @@ use Rattle.std.proofs.Common.{◌≤◌, subst, ap, sym, ◌∙◌}
 use Rattle.meaning.specs.TupleSet as set
 use Rattle.rows.specs.Retained.{Retained, snap_at}
 use Rattle.rows.specs.Representation.{as_retained}
-use Rattle.rows_core.specs.Named.{user_tuple}
+use Rattle.tuple_keys.specs.Named.{user_tuple}
 use Rattle.rows.proofs.Retaining.{stands_at, rising}
 use Rattle.rows.proofs.rows.Rows.has_user.Goals as goal
 

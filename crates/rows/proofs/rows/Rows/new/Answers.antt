@@ -5,8 +5,8 @@ use Rattle.rows.specs.Retained.{Retained, HasRoom, with_commit}
 use Rattle.rows.proofs.Loading.{has_room, next_loaded}
 use Rattle.rows.proofs.rows.Rows.new.Goals as goal
 
-pub commit-requires : goal.commit-requires
-commit-requires c =
+pub absorb-requires : goal.absorb-requires
+absorb-requires c =
     let l : Loaded = c.args.loaded.now in
     let same : c.as_slice-commits.result.now ≡ l.commits = c.as_slice-commits.ensures in
     let small : c.loop-i.i < length l.commits = subst (λ (h : History). c.loop-i.i < length h) same c.loop-i-test.true in
@@ -19,4 +19,4 @@ loop-i-preserved c =
     let same : c.as_slice-commits.result.now ≡ l.commits = c.as_slice-commits.ensures in
     let small : c.loop-i.i < length l.commits = subst (λ (h : History). c.loop-i.i < length h) same c.loop-i-test.true in
     let at : c.index-commits-i.result ≡ get_or l.commits c.loop-i.i c.index-commits-i.result = subst (λ (h : History). c.index-commits-i.result ≡ get_or h c.loop-i.i c.index-commits-i.result) same c.index-commits-i.is in
-    c.in_ok-commit.ensures.ok ∙ ap (λ (r : Retained). with_commit r c.index-commits-i.result) c.loop-i.invariant ∙ next_loaded l c.loop-i.i c.index-commits-i.result small at
+    c.in_ok-absorb.ensures.ok ∙ ap (λ (r : Retained). with_commit r c.index-commits-i.result) c.loop-i.invariant ∙ next_loaded l c.loop-i.i c.index-commits-i.result small at

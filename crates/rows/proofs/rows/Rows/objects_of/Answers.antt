@@ -2,7 +2,7 @@ use Rattle.std.proofs.Common.{◌≤◌, List, ap, sym, subst, ◌∙◌, refl}
 use Rattle.std.specs.Prelude.{filter}
 use Rattle.std.proofs.lemmas.Result.{IfOk-weaker}
 use Rattle.meaning.specs.TupleSet as set
-use Rattle.rows_core.specs.Versions.{is_of}
+use Rattle.tuple_keys.specs.Named.{is_of}
 use Rattle.names.specs.declared.tuple.Tuple.{Tuple}
 use Rattle.rows_core.specs.Named.{objects_in}
 use Rattle.rows.specs.Retained.{Retained, snap_at}

@@ -2,7 +2,7 @@ use Rattle.std.proofs.Common.{◌≤◌, ap, sym, subst, ◌∙◌, refl}
 use Rattle.std.specs.Prelude.{filter}
 use Rattle.std.proofs.lemmas.Result.{IfOk-weaker}
 use Rattle.meaning.specs.TupleSet as set
-use Rattle.rows_core.specs.Versions.{is_of}
+use Rattle.tuple_keys.specs.Named.{is_of}
 use Rattle.rows.specs.Retained.{Retained, snap_at}
 use Rattle.rows_core.specs.Versions.{stands}
 use Rattle.rows.specs.Representation.{as_retained}

@@ -3,7 +3,8 @@ use Rattle.std.specs.Prelude.{filter}
 use Rattle.names.specs.declared.tuple.Tuple.{Tuple}
 use Rattle.meaning.specs.TupleSet as set
 use Rattle.rows_core.specs.Versions.{stands}
-use Rattle.rows_core.specs.Named.{nodes_in, is_within}
+use Rattle.rows_core.specs.Named.{nodes_in}
+use Rattle.tuple_keys.specs.Named.{is_within}
 use Rattle.rows_core.proofs.Listing.{items_by, on_ok}
 use Rattle.rows.specs.Retained.{Retained, snap_at}
 use Rattle.rows.specs.Representation.{as_retained}

@@ -2,7 +2,7 @@ use Rattle.std.proofs.Common.{◌≡◌, ap, sym, ◌∙◌}
 use Rattle.meaning.specs.TupleSet as set
 use Rattle.meaning.specs.Snap.{Snap}
 use Rattle.meaning.proofs.TupleSets.{contains_iff}
-use Rattle.rows_core.specs.Named.{user_tuple}
+use Rattle.tuple_keys.specs.Named.{user_tuple}
 use Rattle.rows.proofs.view.View.has.Goals as goal
 
 pub returns : goal.returns

@@ -14,7 +14,8 @@ use Rattle.meaning.specs.Snap.{Snap, set_of}
 use Rattle.meaning.proofs.AdmitsLemmas.{told_admitted}
 use Rattle.meaning.proofs.Lists.{contains_none}
 use Rattle.meaning.proofs.TupleSets.{contains_iff}
-use Rattle.rows_core.specs.Named.{nodes_in, is_within}
+use Rattle.rows_core.specs.Named.{nodes_in}
+use Rattle.tuple_keys.specs.Named.{is_within}
 use Rattle.rows.specs.Lookups.{DeclaresNodes}
 use Rattle.rows.proofs.Naming.{declared_none, declared_all, more_only, more_all, same_only, same_all}
 use Rattle.rows.proofs.view.View.usersets_of.Goals as goal

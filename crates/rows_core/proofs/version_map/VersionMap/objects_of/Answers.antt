@@ -8,12 +8,12 @@ use Rattle.names.specs.declared.object.Object.{Object}
 use Rattle.names.specs.declared.subject.Subject.{Subject}
 use Rattle.names.specs.declared.tuple.Tuple.{Tuple}
 use Rattle.rows_core.specs.declared.version.Version.{Version}
-use Rattle.rows_core.specs.Spelled.{spelled_node}
-use Rattle.rows_core.specs.Versions.{is_of}
-use Rattle.rows_core.specs.Named.{object_in}
+use Rattle.tuple_keys.specs.Spelled.{spelled_node}
+use Rattle.tuple_keys.specs.Named.{is_of}
+use Rattle.tuple_keys.specs.Named.{object_in}
 use Rattle.rows_core.specs.Texts.{AreSpelled}
 use Rattle.rows_core.proofs.Decoding.{sorted_view}
-use Rattle.rows_core.proofs.Prefixes.{node_begins, subject_after}
+use Rattle.tuple_keys.proofs.Prefixes.{node_begins, subject_after}
 use Rattle.rows_core.proofs.Together.{from}
 use Rattle.rows_core.proofs.Going.{Left, left_first, left_none, left_past, left_more, left_late, first_rises, joined_starts}
 use Rattle.rows_core.proofs.version_map.VersionMap.objects_of.Goals as goal
@@ -48,24 +48,15 @@ stands_at-requires c =
     let e : List ℕ × List Version = (c.in-Some.text.now, c.in-Some.versions.now) in
     first_rises h p (is_of node) (node_begins node c.of_node-least.ensures.is) c.args.rev c.args.self.now [] c.loop-text.objects.items c.loop-text.text-iterator c.loop-text.invariant e c.next.new.self c.in-Some.ensures.steps
 
-pub push_object-requires : goal.push_object-requires
-push_object-requires c =
-    let node = c.args.node.now in
-    let h : Tuple → Option Object = λ t. object_in t.subject in
-    let p : List ℕ = spelled_node node in
-    let e : List ℕ × List Version = (c.in-Some.text.now, c.in-Some.versions.now) in
-    let reads : e.0 ≡ p ++ c.in-Some-rest_of.subject.now = c.in-Some-rest_of.ensures.some ∙ ap (λ (l : List ℕ). l ++ c.in-Some-rest_of.subject.now) c.of_node-least.ensures.text in
-    subst IsSubject (subject_after node c.of_node-least.ensures.is e.0 c.in-Some-rest_of.subject.now reads) (subst AreSpelled c.in-Some.ensures.steps c.loop-text.invariant.spelled).0.is.1
-
 pub loop-text-preserved-in-Continue-1 : goal.loop-text-preserved-in-Continue-1
 loop-text-preserved-in-Continue-1 c =
     let node = c.args.node.now in
     let h : Tuple → Option Object = λ t. object_in t.subject in
     let p : List ℕ = spelled_node node in
     let e : List ℕ × List Version = (c.in-Some.text.now, c.in-Some.versions.now) in
-    let reads : e.0 ≡ p ++ c.in-Some-rest_of.subject.now = c.in-Some-rest_of.ensures.some ∙ ap (λ (l : List ℕ). l ++ c.in-Some-rest_of.subject.now) c.of_node-least.ensures.text in
-    left_more h p (is_of node) (node_begins node c.of_node-least.ensures.is) c.args.rev c.args.self.now [] c.loop-text.objects.items c.loop-text.text-iterator c.loop-text.invariant e c.next.new.self c.in-Some.ensures.steps (joined_starts e.0 p c.in-Some-rest_of.subject.now reads) (sym c.stands_at.ensures ∙ c.if-stands_at.true) c.push_object.new.objects.items
-    (c.in_ok-push_object.ensures ∙ ap (λ (s : Subject). c.loop-text.objects.items ++ option_to_list (object_in s)) (sym (subject_after node c.of_node-least.ensures.is e.0 c.in-Some-rest_of.subject.now reads)))
+    let reads : e.0 ≡ p ++ c.in-Some-rest_of.field-0.now = c.in-Some-rest_of.ensures.some ∙ ap (λ (l : List ℕ). l ++ c.in-Some-rest_of.field-0.now) c.of_node-least.ensures.text in
+    left_more h p (is_of node) (node_begins node c.of_node-least.ensures.is) c.args.rev c.args.self.now [] c.loop-text.objects.items c.loop-text.text-iterator c.loop-text.invariant e c.next.new.self c.in-Some.ensures.steps (joined_starts e.0 p c.in-Some-rest_of.field-0.now reads) (sym c.stands_at.ensures ∙ c.if-stands_at.true) c.push_object.new.objects.items
+    (c.in_ok-push_object.ensures ∙ ap (λ (t : Tuple). c.loop-text.objects.items ++ option_to_list (object_in t.subject)) (c.of.ensures))
 
 pub loop-text-preserved : goal.loop-text-preserved
 loop-text-preserved c =

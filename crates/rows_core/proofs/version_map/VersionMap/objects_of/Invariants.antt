@@ -1,7 +1,7 @@
 use Rattle.std.proofs.Common.{[]}
-use Rattle.rows_core.specs.Spelled.{spelled_node}
-use Rattle.rows_core.specs.Versions.{is_of}
-use Rattle.rows_core.specs.Named.{object_in}
+use Rattle.tuple_keys.specs.Spelled.{spelled_node}
+use Rattle.tuple_keys.specs.Named.{is_of}
+use Rattle.tuple_keys.specs.Named.{object_in}
 use Rattle.rows_core.proofs.Going.{Left}
 use Rattle.rows_core.proofs.version_map.VersionMap.objects_of.Given as goal
 

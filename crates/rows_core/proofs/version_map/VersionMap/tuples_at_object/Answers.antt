@@ -1,14 +1,17 @@
-use Rattle.std.proofs.Common.{ℕ, List, [], ap, sym, subst, ◌∙◌}
-use Rattle.std.specs.Prelude.{Some, filter}
+use Rattle.std.proofs.Common.{◌≡◌, ◌++◌, ℕ, List, [], ap, sym, subst, ◌∙◌}
+use Rattle.std.specs.Prelude.{Some, false, filter}
+use Rattle.std.specs.List.{starts_with}
+use Rattle.std.proofs.Math.Dec.{eqb}
 use Rattle.names.specs.declared.tuple.Tuple.{Tuple}
 use Rattle.rows_core.specs.declared.version.Version.{Version}
-use Rattle.rows_core.specs.Spelled.{spelled_object}
-use Rattle.rows_core.specs.Versions.{is_at, tuples_at}
+use Rattle.tuple_keys.specs.Spelled.{spelled_object}
+use Rattle.rows_core.specs.Versions.{tuples_at}
+use Rattle.tuple_keys.specs.Named.{is_at}
 use Rattle.rows_core.proofs.Decoding.{sorted_view}
 use Rattle.rows_core.proofs.Counting.{counted_first, counted_out, counted_more}
-use Rattle.rows_core.proofs.Prefixes.{starts_as, object_begins}
+use Rattle.tuple_keys.proofs.Prefixes.{object_begins}
 use Rattle.rows_core.proofs.Together.{from}
-use Rattle.rows_core.proofs.Going.{Left, left_first, left_none, left_past, left_more, left_late, first_rises, all_given}
+use Rattle.rows_core.proofs.Going.{Left, left_first, left_none, left_past, left_more, left_late, first_rises, joined_starts, all_given}
 use Rattle.rows_core.proofs.version_map.VersionMap.tuples_at_object.Goals as goal
 
 pub loop-text-init : goal.loop-text-init
@@ -29,23 +32,23 @@ stands_at-requires c =
     let e : List ℕ × List Version = (c.in-Some.text.now, c.in-Some.versions.now) in
     first_rises Some (spelled_object object) (is_at object) (object_begins object c.of_object-least.ensures.is) c.args.rev c.args.self.now [] c.loop-text.tuples.items c.loop-text.text-iterator c.loop-text.invariant.left e c.next.new.self c.in-Some.ensures.steps
 
-pub returns-then-not-starts_with-clause-found : goal.returns-then-not-starts_with-clause-found
-returns-then-not-starts_with-clause-found c =
+pub returns-in_default-clause-found : goal.returns-in_default-clause-found
+returns-in_default-clause-found c =
     let object = c.args.object.now in
     let e : List ℕ × List Version = (c.in-Some.text.now, c.in-Some.versions.now) in
-    let past = starts_as c.starts_with.result c.as_str-in-loop-text.result.now e.0 (spelled_object object) c.starts_with.ensures.cases (c.as_str-in-loop-text.ensures ∙ c.of_object-least.ensures.text) ∙ c.if-not-starts_with.true in
+    let past : starts_with eqb e.0 (spelled_object object) ≡ false = sym (ap (starts_with eqb e.0) c.of_object-least.ensures.text) ∙ c.in_default.ensures.none in
     left_past Some (spelled_object object) (is_at object) (object_begins object c.of_object-least.ensures.is) c.args.rev c.args.self.now [] c.loop-text.tuples.items c.loop-text.text-iterator c.loop-text.invariant.left e c.next.new.self c.in-Some.ensures.steps past
     (sorted_view c.texts-texts.result.now c.args.self.now c.texts-texts.ensures.entries c.texts-texts.ensures.spelled c.range-text-items.ensures.ordered)
     ∙ all_given (filter (is_at object) (tuples_at c.args.self.now c.args.rev))
 
-pub returns-then-not-starts_with-clause-ordered : goal.returns-then-not-starts_with-clause-ordered
-returns-then-not-starts_with-clause-ordered c = sorted_view c.texts-texts.result.now c.args.self.now c.texts-texts.ensures.entries c.texts-texts.ensures.spelled c.range-text-items.ensures.ordered
+pub returns-in_default-clause-ordered : goal.returns-in_default-clause-ordered
+returns-in_default-clause-ordered c = sorted_view c.texts-texts.result.now c.args.self.now c.texts-texts.ensures.entries c.texts-texts.ensures.spelled c.range-text-items.ensures.ordered
 
 pub returns-then-more-eq0-clause-few : goal.returns-then-more-eq0-clause-few
 returns-then-more-eq0-clause-few c =
     let object = c.args.object.now in
     let e : List ℕ × List Version = (c.in-Some.text.now, c.in-Some.versions.now) in
-    let starts = starts_as c.starts_with.result c.as_str-in-loop-text.result.now e.0 (spelled_object object) c.starts_with.ensures.cases (c.as_str-in-loop-text.ensures ∙ c.of_object-least.ensures.text) ∙ c.if-not-starts_with.false in
+    let starts = joined_starts e.0 (spelled_object object) c.in-Some-rest_of.field-0.now (c.in-Some-rest_of.ensures.some ∙ ap (λ (l : List ℕ). l ++ c.in-Some-rest_of.field-0.now) c.of_object-least.ensures.text) in
     counted_out (spelled_object object) (is_at object) (object_begins object c.of_object-least.ensures.is) c.args.self.now c.loop-text.text-iterator c.loop-text.invariant.left.spelled c.args.most c.loop-text.more c.loop-text.invariant.counted e c.next.new.self c.in-Some.ensures.steps starts c.if-more-eq0.true
 
 pub returns-then-more-eq0-clause-ordered : goal.returns-then-more-eq0-clause-ordered
@@ -56,7 +59,7 @@ loop-text-preserved-in-Continue-1 c =
     let object = c.args.object.now in
     let begins = object_begins object c.of_object-least.ensures.is in
     let e : List ℕ × List Version = (c.in-Some.text.now, c.in-Some.versions.now) in
-    let starts = starts_as c.starts_with.result c.as_str-in-loop-text.result.now e.0 (spelled_object object) c.starts_with.ensures.cases (c.as_str-in-loop-text.ensures ∙ c.of_object-least.ensures.text) ∙ c.if-not-starts_with.false in
+    let starts = joined_starts e.0 (spelled_object object) c.in-Some-rest_of.field-0.now (c.in-Some-rest_of.ensures.some ∙ ap (λ (l : List ℕ). l ++ c.in-Some-rest_of.field-0.now) c.of_object-least.ensures.text) in
     record {
       left = left_more Some (spelled_object object) (is_at object) begins c.args.rev c.args.self.now [] c.loop-text.tuples.items c.loop-text.text-iterator c.loop-text.invariant.left e c.next.new.self c.in-Some.ensures.steps starts (sym c.stands_at.ensures ∙ c.if-stands_at.true) c.push_tuple.new.tuples.items c.in_ok-push_tuple.ensures;
       counted = counted_more (spelled_object object) (is_at object) begins c.args.self.now c.loop-text.text-iterator c.loop-text.invariant.left.spelled c.args.most c.loop-text.more c.loop-text.invariant.counted e c.next.new.self c.in-Some.ensures.steps starts c.if-more-eq0.false;
@@ -67,7 +70,7 @@ loop-text-preserved c =
     let object = c.args.object.now in
     let begins = object_begins object c.of_object-least.ensures.is in
     let e : List ℕ × List Version = (c.in-Some.text.now, c.in-Some.versions.now) in
-    let starts = starts_as c.starts_with.result c.as_str-in-loop-text.result.now e.0 (spelled_object object) c.starts_with.ensures.cases (c.as_str-in-loop-text.ensures ∙ c.of_object-least.ensures.text) ∙ c.if-not-starts_with.false in
+    let starts = joined_starts e.0 (spelled_object object) c.in-Some-rest_of.field-0.now (c.in-Some-rest_of.ensures.some ∙ ap (λ (l : List ℕ). l ++ c.in-Some-rest_of.field-0.now) c.of_object-least.ensures.text) in
     record {
       left = left_late Some (spelled_object object) (is_at object) begins c.args.rev c.args.self.now [] c.loop-text.tuples.items c.loop-text.text-iterator c.loop-text.invariant.left e c.next.new.self c.in-Some.ensures.steps (sym c.stands_at.ensures ∙ c.if-stands_at.false);
       counted = counted_more (spelled_object object) (is_at object) begins c.args.self.now c.loop-text.text-iterator c.loop-text.invariant.left.spelled c.args.most c.loop-text.more c.loop-text.invariant.counted e c.next.new.self c.in-Some.ensures.steps starts c.if-more-eq0.false;

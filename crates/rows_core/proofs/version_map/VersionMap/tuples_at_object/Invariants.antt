@@ -1,7 +1,7 @@
 use Rattle.std.proofs.Common.{[]}
 use Rattle.std.specs.Prelude.{Some}
-use Rattle.rows_core.specs.Spelled.{spelled_object}
-use Rattle.rows_core.specs.Versions.{is_at}
+use Rattle.tuple_keys.specs.Spelled.{spelled_object}
+use Rattle.tuple_keys.specs.Named.{is_at}
 use Rattle.rows_core.proofs.Going.{Left}
 use Rattle.rows_core.proofs.Counting.{Counted}
 use Rattle.rows_core.proofs.version_map.VersionMap.tuples_at_object.Given as goal

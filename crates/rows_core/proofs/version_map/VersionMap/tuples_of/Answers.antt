@@ -1,13 +1,16 @@
-use Rattle.std.proofs.Common.{ℕ, List, [], ap, sym, subst, ◌∙◌}
-use Rattle.std.specs.Prelude.{Some, filter}
+use Rattle.std.proofs.Common.{◌≡◌, ◌++◌, ℕ, List, [], ap, sym, subst, ◌∙◌}
+use Rattle.std.specs.Prelude.{Some, false, filter}
+use Rattle.std.specs.List.{starts_with}
+use Rattle.std.proofs.Math.Dec.{eqb}
 use Rattle.names.specs.declared.tuple.Tuple.{Tuple}
 use Rattle.rows_core.specs.declared.version.Version.{Version}
-use Rattle.rows_core.specs.Spelled.{spelled_node}
-use Rattle.rows_core.specs.Versions.{is_of, tuples_at}
+use Rattle.tuple_keys.specs.Spelled.{spelled_node}
+use Rattle.rows_core.specs.Versions.{tuples_at}
+use Rattle.tuple_keys.specs.Named.{is_of}
 use Rattle.rows_core.proofs.Decoding.{sorted_view}
-use Rattle.rows_core.proofs.Prefixes.{starts_as, node_begins}
+use Rattle.tuple_keys.proofs.Prefixes.{node_begins}
 use Rattle.rows_core.proofs.Together.{from}
-use Rattle.rows_core.proofs.Going.{Left, left_first, left_none, left_past, left_more, left_late, first_rises, all_given}
+use Rattle.rows_core.proofs.Going.{Left, left_first, left_none, left_past, left_more, left_late, first_rises, joined_starts, all_given}
 use Rattle.rows_core.proofs.version_map.VersionMap.tuples_of.Goals as goal
 
 pub loop-text-init : goal.loop-text-init
@@ -22,12 +25,12 @@ stands_at-requires c =
     let e : List ℕ × List Version = (c.in-Some.text.now, c.in-Some.versions.now) in
     first_rises Some (spelled_node node) (is_of node) (node_begins node c.of_node-least.ensures.is) c.args.rev c.args.self.now [] c.loop-text.tuples.items c.loop-text.text-iterator c.loop-text.invariant e c.next.new.self c.in-Some.ensures.steps
 
-pub returns-then-not-starts_with : goal.returns-then-not-starts_with
-returns-then-not-starts_with c =
+pub returns-in_default : goal.returns-in_default
+returns-in_default c =
     let node = c.args.node.now in
     let e : List ℕ × List Version = (c.in-Some.text.now, c.in-Some.versions.now) in
     let ordered = sorted_view c.texts-texts.result.now c.args.self.now c.texts-texts.ensures.entries c.texts-texts.ensures.spelled c.range-text-items.ensures.ordered in
-    let past = starts_as c.starts_with.result c.as_str-in-loop-text.result.now e.0 (spelled_node node) c.starts_with.ensures.cases (c.as_str-in-loop-text.ensures ∙ c.of_node-least.ensures.text) ∙ c.if-not-starts_with.true in
+    let past : starts_with eqb e.0 (spelled_node node) ≡ false = sym (ap (starts_with eqb e.0) c.of_node-least.ensures.text) ∙ c.in_default.ensures.none in
     record {
       found = left_past Some (spelled_node node) (is_of node) (node_begins node c.of_node-least.ensures.is) c.args.rev c.args.self.now [] c.loop-text.tuples.items c.loop-text.text-iterator c.loop-text.invariant e c.next.new.self c.in-Some.ensures.steps past ordered ∙ all_given (filter (is_of node) (tuples_at c.args.self.now c.args.rev));
       ordered = ordered;
@@ -37,7 +40,7 @@ pub loop-text-preserved-in-Continue-1 : goal.loop-text-preserved-in-Continue-1
 loop-text-preserved-in-Continue-1 c =
     let node = c.args.node.now in
     let e : List ℕ × List Version = (c.in-Some.text.now, c.in-Some.versions.now) in
-    let starts = starts_as c.starts_with.result c.as_str-in-loop-text.result.now e.0 (spelled_node node) c.starts_with.ensures.cases (c.as_str-in-loop-text.ensures ∙ c.of_node-least.ensures.text) ∙ c.if-not-starts_with.false in
+    let starts = joined_starts e.0 (spelled_node node) c.in-Some-rest_of.field-0.now (c.in-Some-rest_of.ensures.some ∙ ap (λ (l : List ℕ). l ++ c.in-Some-rest_of.field-0.now) c.of_node-least.ensures.text) in
     left_more Some (spelled_node node) (is_of node) (node_begins node c.of_node-least.ensures.is) c.args.rev c.args.self.now [] c.loop-text.tuples.items c.loop-text.text-iterator c.loop-text.invariant e c.next.new.self c.in-Some.ensures.steps starts (sym c.stands_at.ensures ∙ c.if-stands_at.true) c.push_tuple.new.tuples.items c.in_ok-push_tuple.ensures
 
 pub loop-text-preserved : goal.loop-text-preserved

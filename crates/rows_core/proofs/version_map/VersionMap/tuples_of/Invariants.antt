@@ -1,7 +1,7 @@
 use Rattle.std.proofs.Common.{[]}
 use Rattle.std.specs.Prelude.{Some}
-use Rattle.rows_core.specs.Spelled.{spelled_node}
-use Rattle.rows_core.specs.Versions.{is_of}
+use Rattle.tuple_keys.specs.Spelled.{spelled_node}
+use Rattle.tuple_keys.specs.Named.{is_of}
 use Rattle.rows_core.proofs.Going.{Left}
 use Rattle.rows_core.proofs.version_map.VersionMap.tuples_of.Given as goal
 

@@ -1,51 +1,13 @@
-use Rattle.std.proofs.Common.{◌≡◌, ℕ, List, ◌+◌, ◌-◌, ◌<◌, ◌++◌, length, take, ap, subst, ◌∙◌, suc, arith}
-use Rattle.std.specs.Prelude.{cond, not, ◌&&◌}
-use Rattle.names.specs.Order.{is_same_tuple}
-use Rattle.names.specs.declared.tuple.Tuple.{Tuple}
-use Rattle.rows_core.specs.declared.version.Version.{Version}
-use Rattle.rows_core.specs.Versions.{drop_last, versions_at, versions_in, is_there, GoesOn}
-use Rattle.rows_core.proofs.Steps.{off_one, off_all}
-use Rattle.rows_core.proofs.Coming.{ChangedFrom, changed_more, changed_all, one, one_most}
+use Rattle.std.proofs.Common.{List, subst}
+use Rattle.names.specs.declared.commit.Event.{Event}
+use Rattle.rows_core.specs.Versions.{TakesOff, HasChanged}
+use Rattle.rows_core.proofs.Settling.{take_all}
 use Rattle.rows_core.proofs.version_map.VersionMap.undo.Goals as goal
 
-pub loop-left-preserved : goal.loop-left-preserved
-loop-left-preserved c =
-    let es = c.args.events.now in
-    let k : ℕ = c.loop-left.left - 1 in
-    let e = c.index-events-left.result in
-    let less : c.loop-left.left ≡ suc k = omega (arith, c.loop-left-test.true) in
-    let within = c.loop-left.invariant.within in
-    let small : k < length es = omega (arith, c.loop-left-test.true, within) in
-    let rest : (before : Tuple → List Version) (rev : ℕ) → GoesOn before c.args.self.now rev es → GoesOn before c.pop.new.self rev (take k es) = λ before rev h q. off_one rev es k e q (before q) (versions_at c.loop-left.self q) (versions_at c.pop.new.self q) small c.index-events-left.is
-    (c.loop-left.invariant.rest before rev h q ∙ ap (λ (n : ℕ). before q ++ versions_in rev (take n es) q) less)
-    (c.pop.ensures q ∙ ap (λ (t : Tuple). cond (is_same_tuple q t) (drop_last (versions_at c.loop-left.self q)) (versions_at c.loop-left.self q)) c.tuple_ref-key.ensures) in
-    let put = ap (λ (m : Version). m.put) c.of.ensures in
-    let come = c.and-change.ensures.come in
-    let gone = c.and-change.ensures.gone in
-    let come_before = c.loop-left.invariant.come in
-    let gone_before = c.loop-left.invariant.gone in
-    let come_most = one_most (c.of.result.put && not c.holds.result) in
-    let gone_most = one_most (not c.of.result.put && c.holds.result) in
-    record {
-      within = omega (arith, within);
-      come = omega (arith, c.loop-left-test.true, come, come_before, come_most);
-      gone = omega (arith, c.loop-left-test.true, gone, gone_before, gone_most);
-      rest = rest;
-      changed = λ before rev h. changed_more before rev es k e c.loop-left.change c.and-change.result c.holds.result small c.index-events-left.is
-          (c.holds.ensures ∙ ap (λ (t : Tuple). is_there (versions_at c.pop.new.self t)) c.tuple_ref-key.ensures ∙ ap is_there (rest before rev h e.tuple))
-          (come ∙ ap (λ b. c.loop-left.change.come + one (b && not c.holds.result)) put)
-          (gone ∙ ap (λ b. c.loop-left.change.gone + one (not b && c.holds.result)) put)
-          (subst (λ n. ChangedFrom before es n c.loop-left.change) less (c.loop-left.invariant.changed before rev h));
-    }
-
 pub returns-clause-versions : goal.returns-clause-versions
-returns-clause-versions c = λ before rev h q.
-    let none : c.loop-left.left ≡ 0 = omega (arith, c.loop-left-test.false) in
-    c.loop-left.invariant.rest before rev h q
-    ∙ ap (λ (k : ℕ). before q ++ versions_in rev (take k c.args.events.now) q) none
-    ∙ off_all rev c.args.events.now q (before q)
+returns-clause-versions c =
+    subst (λ (es : List Event). TakesOff c.args.self.now es c.undo_first.new.self) (take_all c.args.events.now c.len.result c.len.ensures.len) c.undo_first.ensures.versions
 
 pub returns-clause-change : goal.returns-clause-change
-returns-clause-change c = λ before rev h.
-    let none : c.loop-left.left ≡ 0 = omega (arith, c.loop-left-test.false) in
-    changed_all before c.args.events.now c.loop-left.change (subst (λ n. ChangedFrom before c.args.events.now n c.loop-left.change) none (c.loop-left.invariant.changed before rev h))
+returns-clause-change c =
+    subst (λ (es : List Event). HasChanged c.args.self.now es c.undo_first.result) (take_all c.args.events.now c.len.result c.len.ensures.len) c.undo_first.ensures.change

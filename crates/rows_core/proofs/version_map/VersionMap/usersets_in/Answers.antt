@@ -8,11 +8,11 @@ use Rattle.names.specs.declared.node.Node.{Node}
 use Rattle.names.specs.declared.subject.Subject.{Subject}
 use Rattle.names.specs.declared.tuple.Tuple.{Tuple}
 use Rattle.rows_core.specs.declared.version.Version.{Version}
-use Rattle.rows_core.specs.Spelled.{spelled_node}
-use Rattle.rows_core.specs.Named.{node_in, is_within}
+use Rattle.tuple_keys.specs.Spelled.{spelled_node}
+use Rattle.tuple_keys.specs.Named.{node_in, is_within}
 use Rattle.rows_core.specs.Texts.{AreSpelled}
 use Rattle.rows_core.proofs.Decoding.{sorted_view}
-use Rattle.rows_core.proofs.Prefixes.{namespace_begins, subject_within}
+use Rattle.tuple_keys.proofs.Prefixes.{namespace_begins}
 use Rattle.rows_core.proofs.Together.{from}
 use Rattle.rows_core.proofs.Going.{left_first, left_none, left_past, left_more, left_late, first_rises, joined_starts}
 use Rattle.rows_core.proofs.version_map.VersionMap.usersets_in.Goals as goal
@@ -46,24 +46,15 @@ stands_at-requires c =
     let e : List ℕ × List Version = (c.in-Some.text.now, c.in-Some.versions.now) in
     first_rises h p (is_within node c.args.namespace.now) (namespace_begins node c.of_namespace-least.ensures.is c.args.namespace.now c.of_namespace-least.ensures.name) c.args.rev c.args.self.now c.args.nodes.now.items c.loop-text.nodes.items c.loop-text.text-iterator c.loop-text.invariant e c.next.new.self c.in-Some.ensures.steps
 
-pub push_node-requires : goal.push_node-requires
-push_node-requires c =
-    let node = c.args.node.now in
-    let h : Tuple → Option Node = λ t. node_in t.subject in
-    let p : List ℕ = spelled_node node ++ (c.args.namespace.now ++ 32 ∷ []) in
-    let e : List ℕ × List Version = (c.in-Some.text.now, c.in-Some.versions.now) in
-    let reads : e.0 ≡ p ++ c.in-Some-rest_of.parts.now = c.in-Some-rest_of.ensures.some ∙ ap (λ (l : List ℕ). l ++ c.in-Some-rest_of.parts.now) c.of_namespace-least.ensures.text in
-    subst IsSubject (subject_within node c.of_namespace-least.ensures.is c.args.namespace.now c.of_namespace-least.ensures.name e.0 c.in-Some-rest_of.parts.now reads) (subst AreSpelled c.in-Some.ensures.steps c.loop-text.invariant.spelled).0.is.1
-
 pub loop-text-preserved-in-Continue-1 : goal.loop-text-preserved-in-Continue-1
 loop-text-preserved-in-Continue-1 c =
     let node = c.args.node.now in
     let h : Tuple → Option Node = λ t. node_in t.subject in
     let p : List ℕ = spelled_node node ++ (c.args.namespace.now ++ 32 ∷ []) in
     let e : List ℕ × List Version = (c.in-Some.text.now, c.in-Some.versions.now) in
-    let reads : e.0 ≡ p ++ c.in-Some-rest_of.parts.now = c.in-Some-rest_of.ensures.some ∙ ap (λ (l : List ℕ). l ++ c.in-Some-rest_of.parts.now) c.of_namespace-least.ensures.text in
-    left_more h p (is_within node c.args.namespace.now) (namespace_begins node c.of_namespace-least.ensures.is c.args.namespace.now c.of_namespace-least.ensures.name) c.args.rev c.args.self.now c.args.nodes.now.items c.loop-text.nodes.items c.loop-text.text-iterator c.loop-text.invariant e c.next.new.self c.in-Some.ensures.steps (joined_starts e.0 p c.in-Some-rest_of.parts.now reads) (sym c.stands_at.ensures ∙ c.if-stands_at.true) c.push_node.new.nodes.items
-    (c.in_ok-push_node.ensures ∙ ap (λ (s : Subject). c.loop-text.nodes.items ++ option_to_list (node_in s)) (sym (subject_within node c.of_namespace-least.ensures.is c.args.namespace.now c.of_namespace-least.ensures.name e.0 c.in-Some-rest_of.parts.now reads)))
+    let reads : e.0 ≡ p ++ c.in-Some-rest_of.field-0.now = c.in-Some-rest_of.ensures.some ∙ ap (λ (l : List ℕ). l ++ c.in-Some-rest_of.field-0.now) c.of_namespace-least.ensures.text in
+    left_more h p (is_within node c.args.namespace.now) (namespace_begins node c.of_namespace-least.ensures.is c.args.namespace.now c.of_namespace-least.ensures.name) c.args.rev c.args.self.now c.args.nodes.now.items c.loop-text.nodes.items c.loop-text.text-iterator c.loop-text.invariant e c.next.new.self c.in-Some.ensures.steps (joined_starts e.0 p c.in-Some-rest_of.field-0.now reads) (sym c.stands_at.ensures ∙ c.if-stands_at.true) c.push_node.new.nodes.items
+    (c.in_ok-push_node.ensures ∙ ap (λ (t : Tuple). c.loop-text.nodes.items ++ option_to_list (node_in t.subject)) (c.of.ensures))
 
 pub loop-text-preserved : goal.loop-text-preserved
 loop-text-preserved c =

@@ -1,6 +1,6 @@
 use Rattle.std.proofs.Common.{◌++◌, ◌∷◌, []}
-use Rattle.rows_core.specs.Spelled.{spelled_node}
-use Rattle.rows_core.specs.Named.{node_in, is_within}
+use Rattle.tuple_keys.specs.Spelled.{spelled_node}
+use Rattle.tuple_keys.specs.Named.{node_in, is_within}
 use Rattle.rows_core.proofs.Going.{Left}
 use Rattle.rows_core.proofs.version_map.VersionMap.usersets_in.Given as goal
 

@@ -1,4 +1,4 @@
-use Rattle.std.proofs.Common.{◌≡◌, ℕ, List, [], ◌∷◌, ◌++◌, ◌+◌, ◌-◌, length, take, ap, sym, subst, ◌∙◌, arith, refl}
+use Rattle.std.proofs.Common.{◌≡◌, ℕ, List, [], ◌∷◌, ◌++◌, ◌+◌, ◌-◌, length, take, ap, ap₂, sym, subst, ◌∙◌, arith, refl}
 use Rattle.names.specs.declared.commit.Event.{Event}
 use Rattle.names.specs.declared.commit.Commit.{Commit}
 use Rattle.names.specs.declared.commit.Commit.TheVariants as kinds
@@ -11,8 +11,8 @@ use Rattle.rows.specs.declared.loaded.Counts.{Counts}
 use Rattle.rows.specs.Retained.{Retained, newest, with_commit, HasRoom}
 use Rattle.rows.specs.Representation.{as_retained, IsConsistent}
 use Rattle.rows.proofs.Committing.{consistent_events, consistent_same, consistent_as, as_retained_is, newest_these, tuples_within, last_off}
-use Rattle.rows.proofs.rows.Rows.commit_events.Goals as goal
-use Rattle.rows.proofs.rows.Rows.commit_events.Goals.{After-put_all}
+use Rattle.rows.proofs.rows.Rows.absorb_events.Goals as goal
+use Rattle.rows.proofs.rows.Rows.absorb_events.Goals.{After-put_all}
 
 -- what was retained, and the events that come
 abbrev old : After-put_all → Retained
@@ -22,35 +22,29 @@ abbrev events : After-put_all → List Event
 events c = c.args.events.now
 
 commits : (c : After-put_all) → c.push_commit.new.commits.items ≡ c.self.inside.commits.items ++ kinds.Tuples (events c) ∷ []
-commits c = c.in_ok-push_commit.ensures.ok ∙ ap (λ (x : Commit Configured). c.self.inside.commits.items ++ x ∷ []) c.in_ok-kept.ensures
-
-same : (c : After-put_all) → c.newest_events-events.result.now ≡ events c
-same c = c.newest_events-events.ensures c.self.inside.commits.items (events c) (c.deref.ensures.value ∙ commits c)
+commits c = c.in_ok-push_commit.ensures.ok ∙ ap (λ (x : Commit Configured). c.self.inside.commits.items ++ x ∷ []) (c.in_ok-again.ensures ∙ c.requires.are)
 
 -- with the events
 abbrev counts : After-put_all → Change → ℕ → Counts
 counts c change puts = record { rows = c.self.inside.counts.rows + puts; tuples = c.self.inside.counts.tuples + change.come - change.gone }
 
-changes : (c : After-put_all) (change : Change) → Changes (versions_at c.self.inside.tuples) c.newest_events-events.result.now change → Changes (versions_at c.self.inside.tuples) (events c) change
-changes c change are = subst (λ (es : List Event). Changes (versions_at c.self.inside.tuples) es change) (same c) are
-
-goes : (c : After-put_all) → GoesOn (versions_at c.self.inside.tuples) c.put_all.new.self (c.newest-rev.result + 1) c.newest_events-events.result.now
+goes : (c : After-put_all) → GoesOn (versions_at c.self.inside.tuples) c.put_all.new.self (c.newest-rev.result + 1) (events c)
     → GoesOn (versions_at c.self.inside.tuples) c.put_all.new.self (newest (old c) + 1) (events c)
 goes c on =
-    let s = c.self.inside in
     let rev : c.newest-rev.result + 1 ≡ newest (old c) + 1 = ap (λ (n : ℕ). n + 1) (c.newest-rev.ensures.newest ∙ ap newest (sym c.self.view_is)) in
-    subst (λ (n : ℕ). GoesOn (versions_at s.tuples) c.put_all.new.self n (events c)) rev
-    (subst (λ (es : List Event). GoesOn (versions_at s.tuples) c.put_all.new.self (c.newest-rev.result + 1) es) (same c) on)
+    subst (λ (n : ℕ). GoesOn (versions_at c.self.inside.tuples) c.put_all.new.self n (events c)) rev on
+
+room : (c : After-put_all) → HasRoom (old c) (kinds.Tuples (events c))
+room c = subst (λ (x : Commit Configured). HasRoom (old c) x) c.requires.are (subst (λ (r : Retained). HasRoom r c.args.commit.now) (sym c.self.view_is) c.requires.room)
 
 consistent : (c : After-put_all) (change : Change) (puts : ℕ)
-    → GoesOn (versions_at c.self.inside.tuples) c.put_all.new.self (c.newest-rev.result + 1) c.newest_events-events.result.now
-    → Changes (versions_at c.self.inside.tuples) c.newest_events-events.result.now change → puts ≡ puts_in c.newest_events-events.result.now
+    → GoesOn (versions_at c.self.inside.tuples) c.put_all.new.self (c.newest-rev.result + 1) (events c)
+    → Changes (versions_at c.self.inside.tuples) (events c) change → puts ≡ puts_in (events c)
     → IsConsistent (with_commit (old c) (kinds.Tuples (events c))) c.put_all.new.self c.self.inside.configs.items (counts c change puts)
 consistent c change puts on are is =
     let s = c.self.inside in
-    let room : HasRoom (old c) (kinds.Tuples (events c)) = subst (λ (r : Retained). HasRoom r (kinds.Tuples (events c))) (sym c.self.view_is) c.requires in
-    consistent_events (old c) s.tuples c.put_all.new.self s.configs.items s.counts (counts c change puts) (events c) change c.self.invariant room (goes c on) (changes c change are)
-    (ap (λ (n : ℕ). s.counts.rows + n) (is ∙ ap (λ (es : List Event). puts_in es) (same c))) refl
+    consistent_events (old c) s.tuples c.put_all.new.self s.configs.items s.counts (counts c change puts) (events c) change c.self.invariant (room c) (goes c on) are
+    (ap (λ (n : ℕ). s.counts.rows + n) is) refl
 
 -- where there was no memory
 unchanged : (c : After-put_all) → HasSame c.self.inside.tuples c.put_all.new.self → IsConsistent (old c) c.put_all.new.self c.self.inside.configs.items c.self.inside.counts
@@ -73,7 +67,7 @@ overflow_sub-self x =
     let c = (goal.at.overflow_sub-self x).After-put_all in
     let s = c.self.inside in
     let more : set.len (replay (after_commits (old c).base (old c).commits).tuples (events c)) + x.in-Ok.change.gone ≡ s.counts.tuples + x.in-Ok.change.come =
-    changes c x.in-Ok.change x.in-Ok.ensures.change (after_commits (old c).base (old c).commits).tuples (newest_these (old c) s.tuples c.self.invariant.versions)
+    x.in-Ok.ensures.change (after_commits (old c).base (old c).commits).tuples (newest_these (old c) s.tuples c.self.invariant.versions)
     ∙ ap (λ (n : ℕ). n + x.in-Ok.change.come) (sym c.self.invariant.tuples) in
     omega (arith, more)
 
@@ -93,7 +87,7 @@ returns-in-Ok-clause-ok x =
     ap (λ (h : History). as_retained s.number s.floor s.config c.put_all.new.self h) (commits c)
     ∙ as_retained_is s.number s.floor s.config c.put_all.new.self (old c).base.tuples (s.commits.items ++ kinds.Tuples (events c) ∷ [])
     (consistent c x.in-Ok.change x.puts_in.result x.in-Ok.ensures.ok x.in-Ok.ensures.change x.puts_in.ensures.puts).versions
-    ∙ ap (λ (r : Retained). with_commit r (kinds.Tuples (events c))) c.self.view_is
+    ∙ ap₂ (λ (r : Retained) (x : Commit Configured). with_commit r x) c.self.view_is (sym c.requires.are)
 
 pub invariant_of-self-in-Err : goal.invariant_of-self-in-Err
 invariant_of-self-in-Err x =
