@@ -16,3 +16,4 @@ pub mod LoadLemmas
 pub mod Found
 pub mod Sorting
 pub mod LeavesLemmas
+pub mod Streaming

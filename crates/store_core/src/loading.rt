@@ -54,16 +54,6 @@ fn read_entry(row: &Row) -> Result<StoredEntry, Error>
     })
 }
 
-fn read_spans(alloc: Global, rows: &[Row]) -> Result<Vec<StoredSpan>, Error>
-    ensures { IfOk result (λ spans. map six rows.now ≡ map span_cells (map span_in spans.items)) }
-{
-    let mut spans = Vec::new(alloc);
-    for row in rows {
-        spans.push(read_span(row)?)?;
-    }
-    Ok(spans)
-}
-
 fn read_configs(alloc: Global, rows: &[Row]) -> Result<Vec<StoredConfig>, Error>
     ensures { IfOk result (λ configs. map two rows.now ≡ map config_cells (map config_row_in configs.items)) }
 {
@@ -137,18 +127,26 @@ fn check_tables<S: Alter>(alloc: Global, conn: &mut Connection<S>) -> Result<(),
 
 // ---- the rows
 
-// The spans in the order of their keys.
+// The spans in the order of their keys, read one row at a time.
 fn load_spans<S: Alter>(alloc: Global, conn: &mut Connection<S>) -> Result<Vec<StoredSpan>, Error>
     ensures mode { conn.old.in_transaction ≡ false → conn.new.in_transaction ≡ false }
     ensures found { Finds S.Store conn.old conn.new result (λ trees v. AreSpans trees (map span_in v.items)) }
     ensures same { OverFormat S.Store conn.old conn.new (OnOk result (IsSame S.Store conn.old conn.new)) }
     ensures crash { LeavesAsRead S.Store conn.old conn.new }
 {
-    let rows = conn.query_all(
+    let mut spans = Vec::new(alloc);
+    let mut rows = conn.query(
         "SELECT namespace, object, relation, subject, added, removed FROM row ORDER BY namespace, object, relation, subject, added",
         &[],
     )?;
-    read_spans(alloc, rows.as_slice())
+    'rows: for _ in 0..u64::MAX {
+        rows.advance()?;
+        let Some(row) = rows.get() else {
+            return Ok(spans);
+        };
+        spans.push(read_span(row)?)?;
+    }
+    Err(Error::SqliteFailure(ErrorCode::TooBig))
 }
 
 // The configurations by revision.
