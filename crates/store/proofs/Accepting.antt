@@ -1,26 +1,23 @@
 -- A configuration's text that is accepted is not refused, and one text is of one configuration.
-use Rattle.std.proofs.Common.{◌≡◌, ℕ, ◌≤◌, List, [], ◌∷◌, suc, refl, ap, sym, subst, ◌∙◌, arith}
-use Rattle.std.specs.Prelude.{Bool, true, false, not, bytes_eq, ◌&&◌, ◌||◌, Some, None, Contains}
-use Rattle.std.specs.List.{list_any, list_all}
-use Rattle.std.proofs.lemmas.Bool.{true≢false, or_parts}
+use Rattle.std.proofs.Common.{◌≡◌, ℕ, ◌≤◌, List, [], ◌∷◌, suc, ap, sym, subst, ◌∙◌, arith}
+use Rattle.std.specs.Prelude.{Bool, true, false, not, bytes_eq, Some, None, Contains}
+use Rattle.std.specs.List.{list_all}
+use Rattle.std.proofs.lemmas.Bool.{true≢false}
 use Rattle.std.proofs.lemmas.Slice.Eq.{bytes_eq-Decides}
 use Rattle.names.specs.Refusals.{ReadCause}
-use Rattle.names.specs.declared.tuple.Tuple.{Tuple}
 use Rattle.names.specs.declared.cause.Cause.{Cause}
 use Rattle.names.specs.declared.cause.Cause.TheVariants as causes
 use Rattle.names.specs.declared.cause.CycleStep.{CycleStep}
 use Rattle.names.specs.declared.relation.RelationName.{RelationName}
 use Rattle.names.specs.declared.refusal.Refusal.{Refusal}
 use Rattle.names.specs.declared.refusal.Refusal.TheVariants as refusals
-use Rattle.meaning.specs.Admits.{admits, has_relation, is_relation, declares}
-use Rattle.meaning.specs.Config.{Configured, Defined, Step, rel_of}
+use Rattle.meaning.specs.Config.{Configured, Defined, Step}
 use Rattle.meaning.specs.Levels.{Path, plain, subtracted, IsLevel}
 use Rattle.config_core.specs.Reading.{Describes}
 use Rattle.config_core.specs.Shape.{config_read}
 use Rattle.config_core.specs.Spelling.{Spells}
 use Rattle.config_core.specs.Texts.{ConfigTexts}
 use Rattle.config.specs.Causes.{Accepts, IsCause, ConfigCause}
-use Rattle.config.specs.Refused.{AdmitCause}
 use Rattle.config.specs.Cycles.{IsChain, IsCertificate}
 use Rattle.config.specs.Valid.{IsValid, cause_of, unless, types_stand, types_used, computes, has_tuplesets, is_indexable}
 use Rattle.store.specs.Refused.{DeservedBy, unread_of}

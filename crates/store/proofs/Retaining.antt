@@ -1,11 +1,10 @@
 -- Each retained revision's tuples are admitted.
 use Rattle.std.proofs.Common.{◌≡◌, ℕ, ◌-◌, ◌≤◌, sym, ap, subst, ◌∙◌, arith}
-use Rattle.std.specs.Prelude.{true, ◌&&◌, All}
+use Rattle.std.specs.Prelude.{true, All}
 use Rattle.std.proofs.lemmas.Bool.{and_parts}
 use Rattle.names.specs.Order.{is_same_tuple}
-use Rattle.names.specs.declared.tuple.Tuple.{Tuple}
 use Rattle.meaning.specs.Admits.{admits}
-use Rattle.rows.specs.Retained.{newest, AreAdmitted, IsAdmitted}
+use Rattle.rows.specs.Retained.{AreAdmitted, IsAdmitted}
 use Rattle.store.specs.Written.{TupleSpan, Written, is_alive, config_up_to, history_of}
 use Rattle.store.proofs.Picking.{In, found, all_in}
 use Rattle.store.proofs.Living.{is_of, one_tuple, contains_of}

@@ -1,5 +1,5 @@
 -- A step of a loop that reads rows one by one.
-use Rattle.std.proofs.Common.{◌≡◌, ℕ, ◌+◌, ◌<◌, ◌≤◌, ◌⊎◌, inl, inr, List, [], ◌∷◌, ◌++◌, length, get_or, take, drop, drop-cons, suc, refl, ap, sym, subst, ◌∙◌, arith}
+use Rattle.std.proofs.Common.{◌≡◌, ℕ, ◌+◌, ◌<◌, ◌≤◌, ◌⊎◌, inl, inr, List, [], ◌∷◌, ◌++◌, length, get_or, take, drop, drop-cons, suc, refl, ap, sym, subst, ◌∙◌, append_assoc, arith}
 use Rattle.std.proofs.lemmas.Bool.{cases_lt}
 use Rattle.std.specs.Prelude.{map, All}
 use Rattle.std.proofs.lemmas.List.{take_more, map-append, get_or_default}
@@ -15,6 +15,17 @@ map_more f g h xs ys zs i x z pushed lt is one so_far =
     ∙ ap (λ c. map h (take i zs) ++ c ∷ []) (one ∙ ap h is)
     ∙ sym (map-append h (take i zs) (get_or zs i z ∷ []))
     ∙ ap (map h) (sym (take_more zs i z lt))
+
+-- what is read and what is left are all
+pub map_on : {A B C D : Type 0} (f : A → B) (g : B → C) (h : D → C) (xs ys : List A) (x : A) (z : D) (zs : List D) (all : List C)
+    → ys ≡ xs ++ x ∷ [] → g (f x) ≡ h z → map g (map f xs) ++ map h (z ∷ zs) ≡ all → map g (map f ys) ++ map h zs ≡ all
+map_on f g h xs ys x z zs all pushed one so_far =
+    ap (λ l. map g (map f l) ++ map h zs) pushed
+    ∙ ap (λ l. map g l ++ map h zs) (map-append f xs (x ∷ []))
+    ∙ ap (λ l. l ++ map h zs) (map-append g (map f xs) (f x ∷ []))
+    ∙ append_assoc (map g (map f xs)) (g (f x) ∷ []) (map h zs)
+    ∙ ap (λ c. map g (map f xs) ++ c ∷ map h zs) one
+    ∙ so_far
 
 pub all_more : {A : Type 0} (P : A → Type 0) (xs ys : List A) (x : A) → ys ≡ xs ++ x ∷ [] → All P xs → P x → All P ys
 all_more {A} P xs ys x pushed all one = let Q : List A → Type 0 = λ l. All P l in subst Q (sym pushed) (All-push P xs x all one)

@@ -1,15 +1,23 @@
 -- Lists of events, one for each revision.
-use Rattle.std.proofs.Common.{◌≡◌, ◌≢◌, ℕ, ◌+◌, ◌-◌, ◌<◌, ◌≤◌, List, [], ◌∷◌, ◌++◌, length, get_or, set, take, drop, zero, suc, refl, ap, sym, ◌∙◌, append_assoc, length-append, length-drop, arith}
-use Rattle.std.specs.Prelude.{Bool, true, false, not, ◌&&◌, ◌==◌, map}
+use Rattle.std.proofs.Common.{◌≡◌, ◌≢◌, ℕ, ◌+◌, ◌-◌, ◌<◌, ◌≤◌, List, [], ◌∷◌, ◌++◌, length, get_or, set, zero, suc, refl, ap, sym, ◌∙◌, append_assoc, append-nil, length-append, arith}
+use Rattle.std.specs.Prelude.{Bool, true, false, cond, not, ◌&&◌, ◌||◌, ◌==◌, filter, map, nat_le, nat_lt, Option, Some, None}
+use Rattle.std.specs.Borrow.{Bor}
+use Rattle.std.specs.Option.{is_some, option_copied, option_to_list, unwrap_or}
+use Rattle.std.specs.Slice.{IsItemAt}
+use Rattle.std.proofs.lemmas.Bool.{and_parts, leb-true, ltb-false}
+use Rattle.std.proofs.lemmas.List.{map-append}
+use Rattle.std.proofs.lemmas.List.Elements.{filter-append}
+use Rattle.names.specs.declared.tuple.Tuple.{Tuple}
+use Rattle.store.specs.Written.{TupleSpan, is_alive, tuples_alive}
 use mathlib.Core.Bool.{true≢false}
 use Rattle.std.specs.Global.{Vec}
 use Rattle.std.proofs.lemmas.Bool.{eqb-true, eq-eqb}
 use Rattle.std.proofs.lemmas.Bool.Decides.{nat_tests}
 use Rattle.names.specs.declared.commit.Event.{Event}
+use Rattle.names.specs.declared.commit.EventKind.TheVariants.{Del}
 use Rattle.store.specs.inside.Moves.{slot, event_if, moves, goes_on, put_of, del_of}
 use Rattle.store.specs.declared.parts.ReadSpan.{ReadSpan}
 use Rattle.store.specs.inside.Reading.{as_span}
-use Rattle.store.proofs.RowSteps.{drop_next}
 
 pub slot_pushed : (vs : List (Vec Event)) (v : Vec Event) → v.items ≡ [] → ((k : ℕ) → slot vs k ≡ []) → (k : ℕ) → slot (vs ++ v ∷ []) k ≡ []
 slot_pushed [] v e h zero = e
@@ -72,30 +80,64 @@ and_true : (r : Bool) → r ≡ (r && true)
 and_true true = refl
 and_true false = refl
 
-pub goes_on_there : (new old : List Event) (r on : Bool) (e : Event) → on ≡ true → new ≡ old → new ≡ old ++ event_if (r && not on) e
-goes_on_there new old r on e is same = same ∙ no_event (r && not on) e old (ap (λ o. r && not o) is ∙ and_false r)
+-- a span that ends above the floor, where the tuple does not go on, and one that does not
+pub ends_there : (new mid old : List Event) (r on later : Bool) (t u : Tuple) → Some u ≡ cond (not on && later) (Some t) None → mid ≡ old
+    → new ≡ mid ++ event_if r (record { tuple = u; kind = Del }) → new ≡ old ++ event_if (r && not on) (record { tuple = t; kind = Del })
+ends_there new mid old r true later t u is first second = absurd (true≢false (ap is_some is))
+ends_there new mid old r false false t u is first second = absurd (true≢false (ap is_some is))
+ends_there new mid old r false true t u is first second =
+    second ∙ ap (λ l. l ++ event_if r (record { tuple = u; kind = Del })) first
+    ∙ ap (λ b. old ++ event_if b (record { tuple = u; kind = Del })) (and_true r)
+    ∙ ap (λ (v : Tuple). old ++ event_if (r && true) (record { tuple = v; kind = Del })) (ap (λ o. unwrap_or o t) is)
 
-pub ends_there : (new mid old : List Event) (r on : Bool) (e : Event) → on ≡ false → mid ≡ old → new ≡ mid ++ event_if r e → new ≡ old ++ event_if (r && not on) e
-ends_there new mid old r on e is first second =
-    second ∙ ap (λ l. l ++ event_if r e) first ∙ ap (λ b. old ++ event_if b e) (and_true r ∙ ap (λ o. r && not o) (sym is))
+pub ends_not : (floor k removed : ℕ) (on : Bool) (t : Tuple) (e : Event) (new old : List Event) → None ≡ cond (not on && nat_lt floor removed) (Some t) None → new ≡ old → new ≡ old ++ event_if ((removed == floor + (k + 1)) && not on) e
+ends_not floor k removed true t e new old is same = same ∙ no_event ((removed == floor + (k + 1)) && false) e old (and_false (removed == floor + (k + 1)))
+ends_not floor k removed false t e new old is same =
+    same ∙ no_event ((removed == floor + (k + 1)) && true) e old (sym (and_true (removed == floor + (k + 1))) ∙ below_floor removed floor k (ltb-false floor removed (no_later (nat_lt floor removed) is)))
+  where
+    no_later : (b : Bool) → None ≡ cond b (Some t) None → b ≡ false
+    no_later true h = absurd (true≢false (sym (ap is_some h)))
+    no_later false h = refl
 
 pub length_pushed : {A : Type 0} (xs ys : List A) (x : A) → ys ≡ xs ++ x ∷ [] → length ys ≡ length xs + 1
 length_pushed xs ys x e = ap length e ∙ length-append xs (x ∷ [])
 
-take_all : {A : Type 0} (xs : List A) → take (length xs) xs ≡ xs
-take_all [] = refl
-take_all (x ∷ xs) = ap (λ l. x ∷ l) (take_all xs)
+-- only the next of the spans decides
+pub goes_ahead : (l : TupleSpan) (rest : List ReadSpan) (next : Option (Bor ReadSpan)) → IsItemAt rest 0 next → goes_on l (map as_span (option_to_list (option_copied next))) ≡ goes_on l (map as_span rest)
+goes_ahead l [] None is = refl
+goes_ahead l [] (Some x) is = absurd (true≢false is.0)
+goes_ahead l (m ∷ ms) None is = absurd (true≢false (sym (is.2 (let first : 0 < length (m ∷ ms) = omega arith in first))))
+goes_ahead l (m ∷ ms) (Some x) is = ap (λ (s : ReadSpan). goes_on l (as_span s ∷ [])) is.1
 
-rest_all : {A : Type 0} (xs : List A) (n : ℕ) → take (length xs - n) (drop n xs) ≡ drop n xs
-rest_all xs n = ap (λ m. take m (drop n xs)) (sym (length-drop n xs)) ∙ take_all (drop n xs)
+pub none_left : {A : Type 0} (xs : List A) → length xs ≡ 0 → xs ≡ []
+none_left [] h = refl
+none_left (x ∷ xs) h = absurd (omega (arith, h))
 
-pub step_over : (rev : ℕ) (spans : List ReadSpan) (i : ℕ) (x : ReadSpan) (on : Bool) (new old all : List Event) → i < length spans → x ≡ get_or spans i x
-    → on ≡ goes_on (as_span x) (map as_span (take (length spans - (i + 1)) (drop (i + 1) spans)))
+-- a step over the spans
+pub step_over : (rev : ℕ) (x : ReadSpan) (rest : List ReadSpan) (on : Bool) (new old all : List Event) → on ≡ goes_on (as_span x) (map as_span rest)
     → new ≡ (old ++ event_if (x.added == rev) (put_of (as_span x))) ++ event_if ((x.removed == rev) && not on) (del_of (as_span x))
-    → old ++ moves rev (map as_span (drop i spans)) ≡ all → new ++ moves rev (map as_span (drop (i + 1) spans)) ≡ all
-step_over rev spans i x on new old all lt is goes grown so_far =
-    let rest = map as_span (drop (i + 1) spans) in
-    let goes_is : on ≡ goes_on (as_span x) rest = goes ∙ ap (λ l. goes_on (as_span x) (map as_span l)) (rest_all spans (i + 1)) in
-    placed_more new old (event_if (x.added == rev) (put_of (as_span x))) (event_if ((x.removed == rev) && not (goes_on (as_span x) rest)) (del_of (as_span x))) (moves rev rest) all
-    (grown ∙ ap (λ b. (old ++ event_if (x.added == rev) (put_of (as_span x))) ++ event_if ((x.removed == rev) && not b) (del_of (as_span x))) goes_is)
-    (ap (λ l. old ++ moves rev (map as_span l)) (sym (drop_next spans i x lt is)) ∙ so_far)
+    → old ++ moves rev (map as_span (x ∷ rest)) ≡ all → new ++ moves rev (map as_span rest) ≡ all
+step_over rev x rest on new old all goes grown so_far =
+    let later = map as_span rest in
+    placed_more new old (event_if (x.added == rev) (put_of (as_span x))) (event_if ((x.removed == rev) && not (goes_on (as_span x) later)) (del_of (as_span x))) (moves rev later) all
+    (grown ∙ ap (λ b. (old ++ event_if (x.added == rev) (put_of (as_span x))) ++ event_if ((x.removed == rev) && not b) (del_of (as_span x))) goes) so_far
+
+-- ---- the tuples at the floor
+
+pub alive_there : (rev : ℕ) (l : TupleSpan) → is_alive rev l ≡ true → l.tuple ∷ [] ≡ tuples_alive rev (l ∷ [])
+alive_there rev l is = ap (λ b. map (λ (m : TupleSpan). m.tuple) (cond b (l ∷ []) [])) (sym is)
+
+pub not_alive : (rev : ℕ) (l : TupleSpan) (old : List Tuple) → is_alive rev l ≡ false → old ≡ old ++ tuples_alive rev (l ∷ [])
+not_alive rev l old is = sym (append-nil old) ∙ ap (λ b. old ++ map (λ (m : TupleSpan). m.tuple) (cond b (l ∷ []) [])) (sym is)
+
+-- such a span is not put above the floor
+pub not_put : (floor k : ℕ) (l : TupleSpan) (e : Event) (old : List Event) → is_alive floor l ≡ true → old ≡ old ++ event_if (l.added == floor + (k + 1)) e
+not_put floor k l e old is =
+    no_event (l.added == floor + (k + 1)) e old (below_floor l.added floor k (leb-true l.added floor (and_parts (nat_le l.added floor) ((l.removed == 0) || nat_lt floor l.removed) is).0))
+
+pub alive_more : (rev : ℕ) (l : TupleSpan) (rest : List TupleSpan) (new old all : List Tuple) → new ≡ old ++ tuples_alive rev (l ∷ []) → old ++ tuples_alive rev (l ∷ rest) ≡ all → new ++ tuples_alive rev rest ≡ all
+alive_more rev l rest new old all grown so_far =
+    ap (λ ts. ts ++ tuples_alive rev rest) grown
+    ∙ append_assoc old (tuples_alive rev (l ∷ [])) (tuples_alive rev rest)
+    ∙ ap (λ ts. old ++ ts) (sym (map-append (λ (m : TupleSpan). m.tuple) (filter (is_alive rev) (l ∷ [])) (filter (is_alive rev) rest)) ∙ ap (map (λ (m : TupleSpan). m.tuple)) (sym (filter-append (is_alive rev) (l ∷ []) rest)))
+    ∙ so_far

@@ -10,7 +10,6 @@ use Rattle.names.specs.Order.{tuple_cmp}
 use Rattle.names.specs.declared.tuple.Tuple.{Tuple}
 use Rattle.names.specs.declared.commit.Commit.{Commit}
 use Rattle.meaning.specs.Config.{Configured}
-use Rattle.meaning.specs.Admits.{admits}
 use Rattle.meaning.specs.TupleSet as set
 use Rattle.meaning.specs.History.{rows_of}
 use Rattle.meaning.proofs.TupleSets.{len_items, items_from_list}
@@ -23,7 +22,7 @@ use Rattle.store_core.specs.declared.stored.Stored.{Stored}
 use Rattle.store_core.specs.declared.stored.StoredSpan.{StoredSpan}
 use Rattle.store_core.specs.declared.stored.StoredConfig.{StoredConfig}
 use Rattle.store_core.specs.declared.stored.StoredEntry.{StoredEntry}
-use Rattle.store.specs.Written.{TupleSpan, Written, IsSpan, IsConfigAt, IsSound, IsHistory, history_of, commits_above, brings_one, is_alive, config_up_to, span_of, config_row_of, entries_of}
+use Rattle.store.specs.Written.{TupleSpan, Written, IsSpan, IsConfigAt, IsSound, IsHistory, history_of, commits_above, brings_one, is_alive, span_of, config_row_of, entries_of}
 use Rattle.store.specs.inside.Reading.{as_span, as_config, as_written, current, IsHead, ArePlaced}
 use Rattle.store.specs.declared.parts.ReadSpan.{ReadSpan}
 use Rattle.store.specs.declared.parts.ReadConfig.{ReadConfig}

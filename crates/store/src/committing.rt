@@ -1,21 +1,20 @@
-//! The commits above the floor, from rows.
-ghost use Rattle.std.specs.Prelude.{◌≡◌, ◌≤◌, ◌<◌, ◌+◌, ◌++◌, ◌∷◌, [], nat_le, OnOk, map, length, IfOk, IfErr, All};
+//! The tuples at the floor and the commits above it, from rows.
+ghost use Rattle.std.specs.Prelude.{◌≡◌, ◌≤◌, ◌<◌, ◌+◌, nat_le, map, length, IfOk, IfErr, All};
 ghost use Rattle.std.specs.List.Sorted.{IsStrictlySortedBy};
 ghost use Rattle.names.specs.Order.{tuple_cmp};
 ghost use Rattle.meaning.specs.History.{rows_of, commit_rows, puts_in};
-ghost use Rattle.store.specs.Written.{IsSpan, commits_of, config_at, is_alive, tuples_alive};
+ghost use Rattle.store.specs.Written.{IsSpan, commits_of, config_at, tuples_alive};
 ghost use Rattle.store.specs.inside.Moves.{tuples_in, IsCommitAt, IsCommitOf};
 ghost use Rattle.store.specs.inside.Reading.{as_written, as_span, as_config, AreInTurn};
 ghost use Rattle.store.specs.Refused.{DeservedBy, IsWholeAbove, IsWholeAt};
-ghost use Rattle.store.specs.declared.unread.Unread.TheVariants.{Memory};
 
 use crate::configs::config_at;
-use crate::parts::{Head, ReadConfig, ReadSpan};
-use crate::placing::{events_by_revision, take_events};
+use crate::parts::{Head, Parts, Placed, ReadConfig, ReadSpan};
+use crate::placing::{place_spans, take_events};
 use crate::unread::Unread;
 use config::Config;
 use names::limits::MAX_ROWS;
-use names::{Commit, Event, EventKind, Items, Tuple};
+use names::{Commit, Event, EventKind, Items};
 use std::alloc::Global;
 
 fn config_commit(alloc: Global, config: &Config, events: &[Event]) -> Result<Commit<Config>, Unread>
@@ -56,56 +55,29 @@ fn commit_at(
     }
 }
 
-/// One commit for each revision above the floor.
-pub(crate) fn read_commits(
+/// The tuples at the floor, and one commit for each revision above it.
+pub(crate) fn read_parts(
     alloc: Global,
     head: Head,
     configs: &[ReadConfig],
-    spans: &[ReadSpan],
-) -> Result<Vec<Commit<Config>>, Unread>
+    spans: Vec<ReadSpan>,
+) -> Result<Parts, Unread>
     requires order { head.floor ≤ head.newest }
-    requires spans { All (λ s. IsSpan head.floor head.newest (as_span s)) spans.now }
-    requires apart { AreInTurn spans.now }
-    ensures commits { IfOk result (λ v. v.items ≡ commits_of (as_written head spans.now configs.now)) }
-    ensures whole { IfOk result (λ _. IsWholeAbove (as_written head spans.now configs.now)) }
-    ensures fault { IfErr result (DeservedBy (IsWholeAbove (as_written head spans.now configs.now))) }
+    requires spans { All (λ s. IsSpan head.floor head.newest (as_span s)) spans.items }
+    requires apart { AreInTurn spans.items }
+    ensures tuples { IfOk result (λ p. p.tuples.items ≡ tuples_alive head.floor (map as_span spans.items)) }
+    ensures commits { IfOk result (λ p. p.commits.items ≡ commits_of (as_written head spans.items configs.now)) }
+    ensures whole { IfOk result (λ _. IsWholeAbove (as_written head spans.items configs.now)) }
+    ensures fault { IfErr result (DeservedBy (IsWholeAbove (as_written head spans.items configs.now))) }
 {
-    let mut slots = events_by_revision(alloc, head, spans)?;
+    let Placed { tuples, mut slots } = place_spans(alloc, head, spans)?;
     let mut commits = Vec::new(alloc);
     for i in 0..(head.newest - head.floor) as usize {
         let events = take_events(alloc, &mut slots, i);
         let rev = head.floor + (i as u64 + 1);
         commits.push(commit_at(alloc, configs, rev, events)?)?;
     }
-    Ok(commits)
-}
-
-fn is_alive(span: &ReadSpan, rev: u64) -> bool
-    ensures { result ≡ is_alive rev (as_span span.now) }
-{
-    span.added <= rev && (span.removed == 0 || rev < span.removed)
-}
-
-fn push_copy(tuples: &mut Vec<Tuple>, tuple: &Tuple) -> Result<(), Unread>
-    ensures pushed { OnOk result (tuples.new.items ≡ tuples.old.items ++ tuple.now ∷ []) }
-    ensures fault { IfErr result (λ e. e ≡ Memory) }
-{
-    tuples.push(tuple.clone()?)?;
-    Ok(())
-}
-
-/// The tuples that are there at a revision.
-pub(crate) fn tuples_at(alloc: Global, spans: &[ReadSpan], rev: u64) -> Result<Vec<Tuple>, Unread>
-    ensures are { IfOk result (λ v. v.items ≡ tuples_alive rev (map as_span spans.now)) }
-    ensures fault { IfErr result (λ e. e ≡ Memory) }
-{
-    let mut tuples = Vec::new(alloc);
-    for span in spans {
-        if is_alive(span, rev) {
-            push_copy(&mut tuples, &span.tuple)?;
-        }
-    }
-    Ok(tuples)
+    Ok(Parts { tuples, commits })
 }
 
 fn puts_in(events: &[Event]) -> usize

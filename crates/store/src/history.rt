@@ -142,5 +142,5 @@ pub(crate) fn load_history<S: Alter>(
         Err(error) => return Err(why(conn, &error)),
     };
     see_settled(conn);
-    read(alloc, &stored)
+    read(alloc, stored)
 }

@@ -1,7 +1,7 @@
 //! Rows, read.
 
 use config::Config;
-use names::Tuple;
+use names::{Commit, Event, Tuple};
 
 /// The revisions from which and before which a tuple is there; `removed` is 0 while it still is.
 #[derive(Debug, PartialEq, Eq, PartialOrd, Ord, Drop)]
@@ -9,6 +9,20 @@ pub(crate) struct ReadSpan {
     pub(crate) tuple: Tuple,
     pub(crate) added: u64,
     pub(crate) removed: u64,
+}
+
+/// Spans, taken apart: the tuples at the floor, and the events of each revision above it, oldest first.
+#[derive(Debug, Drop)]
+pub(crate) struct Placed {
+    pub(crate) tuples: Vec<Tuple>,
+    pub(crate) slots: Vec<Vec<Event>>,
+}
+
+/// The tuples at the floor, and the commits above it, oldest first.
+#[derive(Debug, Drop)]
+pub(crate) struct Parts {
+    pub(crate) tuples: Vec<Tuple>,
+    pub(crate) commits: Vec<Commit<Config>>,
 }
 
 /// A configuration, and the revision that it has been in force from.

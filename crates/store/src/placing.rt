@@ -1,13 +1,17 @@
-//! The events of each revision above the floor.
-ghost use Rattle.std.specs.Prelude.{◌≡◌, ◌≤◌, ◌<◌, ◌≢◌, ◌-◌, ◌==◌, ◌++◌, ◌∷◌, [], ℕ, map, length, IfOk, IfErr, OnOk};
+//! The tuples at the floor, and the events of each revision above it.
+ghost use Rattle.std.specs.Prelude.{◌≡◌, ◌≤◌, ◌<◌, ◌≢◌, ◌-◌, ◌==◌, ◌++◌, ◌∷◌, [], ℕ, Some, None, cond, not, ◌&&◌, nat_lt, map, length, IfOk, IfErr, OnOk};
+ghost use Rattle.std.specs.Option.{option_copied, option_to_list};
+ghost use Rattle.names.specs.declared.commit.EventKind.TheVariants.{Put};
+ghost use Rattle.store.specs.Written.{is_alive, tuples_alive};
 ghost use Rattle.store.specs.inside.Moves.{slot, event_if, event_at_place, goes_on, Adds, AddsSpan, HasMoves};
 ghost use Rattle.store.specs.inside.Reading.{as_span};
 ghost use Rattle.store.specs.declared.unread.Unread.TheVariants.{Memory};
 
-use crate::parts::{Head, ReadSpan};
+use crate::parts::{Head, Placed, ReadSpan};
 use crate::unread::Unread;
 use names::{Event, EventKind, Tuple};
-use std::alloc::{AllocError, Global};
+use std::alloc::Global;
+use std::collections::VecDeque;
 use std::mem;
 
 fn no_events(alloc: Global, count: usize) -> Result<Vec<Vec<Event>>, Unread>
@@ -42,78 +46,117 @@ fn push_at(slots: &mut Vec<Vec<Event>>, at: usize, event: Event) -> Result<(), U
     Ok(())
 }
 
-fn copy(tuple: &Tuple) -> Result<Tuple, AllocError>
-    ensures { IfOk result (λ t. t ≡ tuple.now) }
-{
-    tuple.clone()
-}
-
 // Above the floor, the event goes to its revision.
-fn place(
-    slots: &mut Vec<Vec<Event>>,
-    floor: u64,
-    rev: u64,
-    tuple: &Tuple,
-    kind: EventKind,
-) -> Result<(), Unread>
+fn place(slots: &mut Vec<Vec<Event>>, floor: u64, rev: u64, event: Event) -> Result<(), Unread>
     ensures len { OnOk result (length slots.new.items ≡ length slots.old.items) }
-    ensures placed { OnOk result (Adds slots.old.items slots.new.items (event_at_place floor rev tuple.now kind)) }
+    ensures placed { OnOk result (Adds slots.old.items slots.new.items (event_at_place floor rev event.tuple event.kind)) }
     ensures fault { IfErr result (λ e. e ≡ Memory) }
 {
     if rev <= floor {
         return Ok(());
     }
-    let tuple = copy(tuple)?;
-    push_at(slots, (rev - floor - 1) as usize, Event { tuple, kind })?;
+    push_at(slots, (rev - floor - 1) as usize, event)?;
     Ok(())
 }
 
-fn place_span(
-    slots: &mut Vec<Vec<Event>>,
-    floor: u64,
-    span: &ReadSpan,
-    on: bool,
-) -> Result<(), Unread>
-    ensures len { OnOk result (length slots.new.items ≡ length slots.old.items) }
-    ensures placed { OnOk result (AddsSpan slots.old.items slots.new.items floor (as_span span.now) on) }
+fn is_alive(span: &ReadSpan, rev: u64) -> bool
+    ensures { result ≡ is_alive rev (as_span span.now) }
+{
+    span.added <= rev && (span.removed == 0 || rev < span.removed)
+}
+
+// Its tuple once more, where the span ends above the floor and the tuple does not go on.
+fn copy_ended(floor: u64, span: &ReadSpan, on: bool) -> Result<Option<Tuple>, Unread>
+    ensures copied { IfOk result (λ o. o ≡ cond (not on && nat_lt floor span.now.removed) (Some span.now.tuple) None) }
     ensures fault { IfErr result (λ e. e ≡ Memory) }
 {
-    place(slots, floor, span.added, &span.tuple, EventKind::Put)?;
-    if on {
-        return Ok(());
+    if on || span.removed <= floor {
+        return Ok(None);
     }
-    place(slots, floor, span.removed, &span.tuple, EventKind::Del)?;
+    let tuple = span.tuple.clone()?;
+    Ok(Some(tuple))
+}
+
+fn keep(tuples: &mut Vec<Tuple>, tuple: Tuple) -> Result<(), Unread>
+    ensures pushed { OnOk result (tuples.new.items ≡ tuples.old.items ++ tuple ∷ []) }
+    ensures fault { IfErr result (λ e. e ≡ Memory) }
+{
+    tuples.push(tuple)?;
+    Ok(())
+}
+
+// The tuple is there at the floor, or is put above it.
+fn begin(
+    tuples: &mut Vec<Tuple>,
+    slots: &mut Vec<Vec<Event>>,
+    floor: u64,
+    span: ReadSpan,
+) -> Result<(), Unread>
+    ensures alive { OnOk result (tuples.new.items ≡ tuples.old.items ++ tuples_alive floor (as_span span ∷ [])) }
+    ensures len { OnOk result (length slots.new.items ≡ length slots.old.items) }
+    ensures placed { OnOk result (Adds slots.old.items slots.new.items (event_at_place floor span.added span.tuple Put)) }
+    ensures fault { IfErr result (λ e. e ≡ Memory) }
+{
+    if is_alive(&span, floor) {
+        return keep(tuples, span.tuple);
+    }
+    let event = Event {
+        tuple: span.tuple,
+        kind: EventKind::Put,
+    };
+    place(slots, floor, span.added, event)
+}
+
+// A tuple is copied only where its span ends above the floor.
+fn place_span(
+    tuples: &mut Vec<Tuple>,
+    slots: &mut Vec<Vec<Event>>,
+    floor: u64,
+    span: ReadSpan,
+    on: bool,
+) -> Result<(), Unread>
+    ensures alive { OnOk result (tuples.new.items ≡ tuples.old.items ++ tuples_alive floor (as_span span ∷ [])) }
+    ensures len { OnOk result (length slots.new.items ≡ length slots.old.items) }
+    ensures placed { OnOk result (AddsSpan slots.old.items slots.new.items floor (as_span span) on) }
+    ensures fault { IfErr result (λ e. e ≡ Memory) }
+{
+    let removed = span.removed;
+    let ended = copy_ended(floor, &span, on)?;
+    begin(tuples, slots, floor, span)?;
+    let Some(tuple) = ended else {
+        return Ok(());
+    };
+    let kind = EventKind::Del;
+    place(slots, floor, removed, Event { tuple, kind })?;
     Ok(())
 }
 
 // Whether the next span is of the same tuple, and begins where this one ends.
-fn goes_on(span: &ReadSpan, rest: &[ReadSpan]) -> bool
-    ensures { result ≡ goes_on (as_span span.now) (map as_span rest.now) }
+fn goes_on(span: &ReadSpan, next: Option<&ReadSpan>) -> bool
+    ensures { result ≡ goes_on (as_span span.now) (map as_span (option_to_list (option_copied next.entry))) }
 {
-    match rest.first() {
+    match next {
         Some(next) => span.tuple.cmp(&next.tuple).is_eq() && next.added == span.removed,
         None => false,
     }
 }
 
-/// The events of each revision above the floor, oldest first.
-pub(crate) fn events_by_revision(
-    alloc: Global,
-    head: Head,
-    spans: &[ReadSpan],
-) -> Result<Vec<Vec<Event>>, Unread>
+/// The tuples that are there at the floor, and the events of each revision above it, oldest first.
+pub(crate) fn place_spans(alloc: Global, head: Head, spans: Vec<ReadSpan>) -> Result<Placed, Unread>
     requires { head.floor ≤ head.newest }
-    ensures len { IfOk result (λ v. length v.items ≡ head.newest - head.floor) }
-    ensures placed { IfOk result (λ v. HasMoves head.floor (map as_span spans.now) v.items) }
+    ensures alive { IfOk result (λ p. p.tuples.items ≡ tuples_alive head.floor (map as_span spans.items)) }
+    ensures len { IfOk result (λ p. length p.slots.items ≡ head.newest - head.floor) }
+    ensures placed { IfOk result (λ p. HasMoves head.floor (map as_span spans.items) p.slots.items) }
     ensures fault { IfErr result (λ e. e ≡ Memory) }
 {
+    let mut tuples = Vec::new(alloc);
     let mut slots = no_events(alloc, (head.newest - head.floor) as usize)?;
-    for i in 0..spans.len() {
-        let span = &spans[i];
-        let on = goes_on(span, &spans[i + 1..]);
-        place_span(&mut slots, head.floor, span, on)?;
+    let mut rest = VecDeque::from(spans);
+    while let Some(span) = rest.pop_front() {
+        let on = goes_on(&span, rest.front());
+        place_span(&mut tuples, &mut slots, head.floor, span, on)?;
     }
-    Ok(slots)
+    Ok(Placed { tuples, slots })
 }
 
 /// Takes the events of one revision out.

@@ -6,10 +6,10 @@ ghost use Rattle.store.specs.Written.{history_of, IsConfigAt, IsSpan};
 ghost use Rattle.store.specs.inside.Reading.{as_span, as_config, as_written, current, IsHead, ArePlaced};
 ghost use Rattle.store.specs.Refused.{DeservedBy, IsWholeAbove, AreListed, AreSound, IsOfHistory, IsHistoryOf, IsTheHistoryOf, HasNoHistory};
 
-use crate::committing::{has_room, read_commits, tuples_at};
+use crate::committing::{has_room, read_parts};
 use crate::configs::{are_admitted, are_ascending, config_up_to, read_configs};
 use crate::head::read_head;
-use crate::parts::{Head, ReadConfig, ReadSpan};
+use crate::parts::{Head, Parts, ReadConfig, ReadSpan};
 use crate::spans::{are_apart, read_spans};
 use crate::unread::Unread;
 use config::Config;
@@ -43,18 +43,18 @@ fn build(
     alloc: Global,
     head: Head,
     configs: &[ReadConfig],
-    spans: &[ReadSpan],
+    spans: Vec<ReadSpan>,
 ) -> Result<Loaded, Unread>
     requires head { IsHead head }
-    requires spans { All (λ s. IsSpan head.floor head.newest (as_span s)) spans.now }
-    requires placed { ArePlaced head configs.now spans.now }
-    ensures same { IfOk result (λ l. retained_of l ≡ history_of (as_written head spans.now configs.now)) }
+    requires spans { All (λ s. IsSpan head.floor head.newest (as_span s)) spans.items }
+    requires placed { ArePlaced head configs.now spans.items }
+    ensures same { IfOk result (λ l. retained_of l ≡ history_of (as_written head spans.items configs.now)) }
     ensures within { IfOk result IsWithin }
-    ensures whole { IfOk result (λ _. IsWholeAbove (as_written head spans.now configs.now)) }
-    ensures fault { IfErr result (DeservedBy (AreSound head configs.now spans.now)) }
+    ensures whole { IfOk result (λ _. IsWholeAbove (as_written head spans.items configs.now)) }
+    ensures fault { IfErr result (DeservedBy (AreSound head configs.now spans.items)) }
 {
-    let tuples = tuples_at(alloc, spans, head.floor)?;
-    let commits = read_commits(alloc, head, configs, spans)?;
+    let parts = read_parts(alloc, head, configs, spans)?;
+    let Parts { tuples, commits } = parts;
     if !has_room(tuples.as_slice().len(), &commits) {
         return Err(Unread::Fault);
     }
@@ -86,19 +86,20 @@ fn judge(
     alloc: Global,
     head: Head,
     configs: &[ReadConfig],
-    spans: &[ReadSpan],
+    spans: Vec<ReadSpan>,
 ) -> Result<Loaded, Unread>
     requires head { IsHead head }
     requires configs { All (λ c. IsConfigAt head.newest (as_config c)) configs.now }
-    requires spans { All (λ s. IsSpan head.floor head.newest (as_span s)) spans.now }
-    ensures sound { IfOk result (λ _. AreSound head configs.now spans.now) }
-    ensures same { IfOk result (λ l. retained_of l ≡ history_of (as_written head spans.now configs.now)) }
+    requires spans { All (λ s. IsSpan head.floor head.newest (as_span s)) spans.items }
+    ensures sound { IfOk result (λ _. AreSound head configs.now spans.items) }
+    ensures same { IfOk result (λ l. retained_of l ≡ history_of (as_written head spans.items configs.now)) }
     ensures within { IfOk result IsWithin }
-    ensures fault { IfErr result (DeservedBy (AreListed configs.now spans.now × AreSound head configs.now spans.now)) }
+    ensures fault { IfErr result (DeservedBy (AreListed configs.now spans.items × AreSound head configs.now spans.items)) }
 {
-    if !are_enough(head, configs, spans)
-        || !are_placed(alloc, head, configs, spans)
-        || !is_small(spans)
+    let rows = spans.as_slice();
+    if !are_enough(head, configs, rows)
+        || !are_placed(alloc, head, configs, rows)
+        || !is_small(rows)
     {
         return Err(Unread::Fault);
     }
@@ -106,28 +107,28 @@ fn judge(
     Ok(loaded)
 }
 
-fn read_rows(alloc: Global, stored: &Stored) -> Result<Loaded, Unread>
-    ensures is_history { IfOk result (IsHistoryOf stored.now) }
-    ensures same { IfOk result (IsTheHistoryOf stored.now) }
+fn read_rows(alloc: Global, stored: Stored) -> Result<Loaded, Unread>
+    ensures is_history { IfOk result (IsHistoryOf stored) }
+    ensures same { IfOk result (IsTheHistoryOf stored) }
     ensures within { IfOk result IsWithin }
-    ensures fault { IfErr result (DeservedBy (IsOfHistory stored.now)) }
+    ensures fault { IfErr result (DeservedBy (IsOfHistory stored)) }
 {
     let Some(head) = read_head(stored.entries.as_slice()) else {
         return Err(Unread::Fault);
     };
     let configs = read_configs(alloc, head.newest, stored.configs.as_slice())?;
-    let spans = read_spans(alloc, head, stored.spans.as_slice())?;
-    let loaded = judge(alloc, head, &configs, &spans)?;
+    let spans = read_spans(alloc, head, stored.spans)?;
+    let loaded = judge(alloc, head, &configs, spans)?;
     Ok(loaded)
 }
 
 /// The history that rows of the tables are. Rows that are no history are refused as a fault, and, where each list
 /// is in the order of [`Stored`], no others.
-pub fn read(alloc: Global, stored: &Stored) -> Result<Loaded, TablesError>
-    ensures is_history { IfOk result (IsHistoryOf stored.now) }
-    ensures same { IfOk result (IsTheHistoryOf stored.now) }
+pub fn read(alloc: Global, stored: Stored) -> Result<Loaded, TablesError>
+    ensures is_history { IfOk result (IsHistoryOf stored) }
+    ensures same { IfOk result (IsTheHistoryOf stored) }
     ensures within { IfOk result IsWithin }
-    ensures fault { result ≡ Err TablesError.Fault → IsInOrder stored.now → HasNoHistory stored.now }
+    ensures fault { result ≡ Err TablesError.Fault → IsInOrder stored → HasNoHistory stored }
 {
     match read_rows(alloc, stored) {
         Ok(loaded) => Ok(loaded),

@@ -56,14 +56,15 @@ fn read_span(alloc: Global, head: Head, stored: &StoredSpan) -> Result<ReadSpan,
     })
 }
 
-fn read_each(alloc: Global, head: Head, stored: &[StoredSpan]) -> Result<Vec<ReadSpan>, Unread>
-    ensures same { IfOk result (λ v. map span_of (map as_span v.items) ≡ map span_in stored.now) }
+// Each span's texts are let go as it has been read.
+fn read_each(alloc: Global, head: Head, stored: Vec<StoredSpan>) -> Result<Vec<ReadSpan>, Unread>
+    ensures same { IfOk result (λ v. map span_of (map as_span v.items) ≡ map span_in stored.items) }
     ensures are { IfOk result (λ v. All (λ s. IsSpan head.floor head.newest (as_span s)) v.items) }
-    ensures fault { IfErr result (DeservedBy (All (IsOfSpan head.floor head.newest) stored.now)) }
+    ensures fault { IfErr result (DeservedBy (All (IsOfSpan head.floor head.newest) stored.items)) }
 {
-    let mut spans = Vec::new(alloc);
+    let mut spans = Vec::with_capacity(alloc, stored.len())?;
     for span in stored {
-        spans.push(read_span(alloc, head, span)?)?;
+        spans.push(read_span(alloc, head, &span)?)?;
     }
     Ok(spans)
 }
@@ -72,12 +73,12 @@ fn read_each(alloc: Global, head: Head, stored: &[StoredSpan]) -> Result<Vec<Rea
 pub(crate) fn read_spans(
     alloc: Global,
     head: Head,
-    stored: &[StoredSpan],
+    stored: Vec<StoredSpan>,
 ) -> Result<Vec<ReadSpan>, Unread>
-    ensures same { IfOk result (λ v. IsPermutation (map span_in stored.now) (map span_of (map as_span v.items))) }
+    ensures same { IfOk result (λ v. IsPermutation (map span_in stored.items) (map span_of (map as_span v.items))) }
     ensures are { IfOk result (λ v. All (λ s. IsSpan head.floor head.newest (as_span s)) v.items) }
     ensures listed { IfOk result (λ v. SpansListed v.items) }
-    ensures fault { IfErr result (DeservedBy (All (IsOfSpan head.floor head.newest) stored.now)) }
+    ensures fault { IfErr result (DeservedBy (All (IsOfSpan head.floor head.newest) stored.items)) }
 {
     let mut spans = read_each(alloc, head, stored)?;
     spans.sort_unstable();

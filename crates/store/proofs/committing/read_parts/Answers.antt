@@ -14,16 +14,16 @@ use Rattle.store.proofs.Apart.{in_turn}
 use Rattle.store.proofs.Deserving.{deserved}
 use Rattle.store.proofs.Sequence.{moves_sorted}
 use Rattle.store.proofs.CommitRuns.{one_more, whole_more, differs}
-use Rattle.store.proofs.committing.read_commits.Goals as goal
+use Rattle.store.proofs.committing.read_parts.Goals as goal
 
 pub loop-i-preserved : goal.loop-i-preserved
 loop-i-preserved c =
-    let w = as_written c.args.head c.args.spans.now c.args.configs.now in
+    let w = as_written c.args.head c.args.spans.items c.args.configs.now in
     let i = c.loop-i.i in
     let floor = c.args.head.floor in
     let before : i < length c.loop-i.slots.items = omega (arith, c.loop-i-test.true, c.loop-i.invariant.len) in
     let P : ℕ → Type 0 = λ n. n < length c.loop-i.slots.items in
-    let one = c.in_ok-commit_at.ensures.is (map as_span c.args.spans.now) (c.take_events-events.ensures.taken ∙ c.loop-i.invariant.left i (omega arith) before) in
+    let one = c.in_ok-commit_at.ensures.is (map as_span c.args.spans.items) (c.take_events-events.ensures.taken ∙ c.loop-i.invariant.left i (omega arith) before) in
     record {
       commits =
           c.in_ok-push.ensures.items
@@ -41,9 +41,9 @@ commit_at-requires c =
     let before : i < length c.loop-i.slots.items = omega (arith, c.loop-i-test.true, c.loop-i.invariant.len) in
     let P : List Event → Type 0 = λ es. IsStrictlySortedBy tuple_cmp (tuples_in es) in
     subst P (sym (c.take_events-events.ensures.taken ∙ c.loop-i.invariant.left i (omega arith) before))
-    (moves_sorted c.args.head.floor c.args.head.newest (c.args.head.floor + (i + 1)) (omega arith) (map as_span c.args.spans.now)
-    (in_turn as_span c.args.head.floor c.args.head.newest c.args.spans.now c.requires.apart c.requires.spans)
-    (All-map (IsSpan c.args.head.floor c.args.head.newest) as_span c.args.spans.now c.requires.spans))
+    (moves_sorted c.args.head.floor c.args.head.newest (c.args.head.floor + (i + 1)) (omega arith) (map as_span c.args.spans.items)
+    (in_turn as_span c.args.head.floor c.args.head.newest c.args.spans.items c.requires.apart c.requires.spans)
+    (All-map (IsSpan c.args.head.floor c.args.head.newest) as_span c.args.spans.items c.requires.spans))
 
 pub returns-in_err-commit_at-clause-fault : goal.returns-in_err-commit_at-clause-fault
 returns-in_err-commit_at-clause-fault c =
@@ -51,6 +51,6 @@ returns-in_err-commit_at-clause-fault c =
     let i = c.loop-i.i in
     let rev = c.args.head.floor + (i + 1) in
     let before : i < length c.loop-i.slots.items = omega (arith, c.loop-i-test.true, c.loop-i.invariant.len) in
-    rw (p.1, p.2) (deserved (IsWholeAt rev c.args.configs.now c.take_events-events.result.items) (IsWholeAbove (as_written c.args.head c.args.spans.now c.args.configs.now)) _
-    (λ whole. (map as_span c.args.spans.now, c.take_events-events.ensures.taken ∙ c.loop-i.invariant.left i (omega arith) before, whole rev (omega arith) (omega (arith, c.loop-i-test.true, c.requires.order))))
+    rw (p.1, p.2) (deserved (IsWholeAt rev c.args.configs.now c.take_events-events.result.items) (IsWholeAbove (as_written c.args.head c.args.spans.items c.args.configs.now)) _
+    (λ whole. (map as_span c.args.spans.items, c.take_events-events.ensures.taken ∙ c.loop-i.invariant.left i (omega arith) before, whole rev (omega arith) (omega (arith, c.loop-i-test.true, c.requires.order))))
     c.in_err-commit_at.ensures.fault)
