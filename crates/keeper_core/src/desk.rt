@@ -25,12 +25,14 @@ use shown::{Answer, Refused, Shown, Step};
 use std::alloc::Global;
 use std::marker::Model;
 use tables::Tables;
+use tuple_keys::KeptCommit;
 use zookie::{Consistency, Zookie};
 
 /// The tables, the steps that were posted, and what is shown of them. One posted step at most waits to
 /// be shown.
 #[derive(Drop)]
 pub struct Desk<T: Tables + Drop> {
+    alloc: Global,
     tables: LatchedTables<T>,
     book: Book,
     prefix: StepPrefix,
@@ -76,6 +78,7 @@ impl<T: Tables + Drop> Desk<T> {
         let loaded = load(&mut tables, alloc)?;
         let (prefix, shown) = show_first(alloc, &opened, &Step::Open(loaded))?;
         Ok(Desk {
+            alloc,
             tables: LatchedTables::new(tables),
             book: opened.book,
             prefix,
@@ -213,7 +216,7 @@ impl<T: Tables + Drop> Desk<T> {
         self.shown.judge(ops.as_slice())
     }
 
-    // Stores a commit, posts it, and shows it.
+    // Stores a commit, posts it, and shows it. All who keep it share it.
     fn post(&mut self, commit: Commit<Config>) -> Result<Receipt, Refusal>
         requires open { self.old.failed ≡ false }
         requires whole { self.old.shown ≡ self.old.posted }
@@ -224,9 +227,10 @@ impl<T: Tables + Drop> Desk<T> {
         ensures err { IfErr result (λ why. NotPosted why self.old self.new) }
     {
         let rev = self.shown.newest() + 1;
-        self.tables.write(rev, &commit)?;
+        let kept = KeptCommit::of(self.alloc, &commit)?;
+        self.tables.write(rev, &kept)?;
         self.waiting = Some(Waiting {
-            step: Step::Commit(commit),
+            step: Step::Commit(kept),
             after: None,
         });
         let shown = self.publish();

@@ -7,11 +7,11 @@ ghost use Rattle.tables.specs.Opening.{CannotOpen};
 ghost use Rattle.keeper_core.specs.Posts.{Agrees};
 ghost use Rattle.keeper_core.specs.inside.Latching.{IsLatched, AgreeWith};
 
-use config::Config;
-use names::{Commit, Refusal};
+use names::Refusal;
 use rows::Loaded;
 use std::alloc::Global;
 use tables::{Tables, TablesError};
+use tuple_keys::KeptCommit;
 
 /// Tables, and whether they failed. Nothing outside this file can say that they did.
 #[derive(Drop)]
@@ -39,7 +39,7 @@ impl<T: Tables + Drop> LatchedTables<T> {
     }
 
     /// Stores a commit, and notes a fault.
-    pub(crate) fn write(&mut self, rev: u64, commit: &Commit<Config>) -> Result<(), Refusal>
+    pub(crate) fn write(&mut self, rev: u64, commit: &KeptCommit) -> Result<(), Refusal>
         requires works { self.old.failed ≡ false }
         requires next { CanStore (T.holds self.old.tables) rev commit.now }
         ensures ok { OnOk result (self.new.failed ≡ false) }

@@ -23,7 +23,7 @@ pub(crate) fn are_admitted(alloc: Global, loaded: &Loaded) -> Result<bool, Alloc
         if !is_admitted(&snapshot) {
             return Ok(false);
         }
-        do_commit(alloc, &mut snapshot, commit)?;
+        do_commit(alloc, &mut snapshot, &commit.commit(alloc)?)?;
     }
     Ok(is_admitted(&snapshot))
 }

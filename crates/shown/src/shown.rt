@@ -17,10 +17,11 @@ use crate::answer::{Answer, Refused};
 use crate::step::Step;
 use config::Config;
 use decide::Nothing;
-use names::{Commit, Node, Object, Op, Part, Refusal, State};
+use names::{Node, Object, Op, Part, Refusal, State};
 use rows::{Loaded, Rows, what_follows_has_room};
 use std::alloc::{AllocError, Global};
 use std::marker::Model;
+use tuple_keys::KeptCommit;
 use zookie::Consistency;
 
 /// The state that questions are asked of, at any retained revision.
@@ -178,14 +179,14 @@ impl Shown {
         Ok(())
     }
 
-    fn commit(&mut self, commit: &Commit<Config>) -> Result<(), AllocError>
+    fn commit(&mut self, commit: &KeptCommit) -> Result<(), AllocError>
         requires { HasRoom self.old (Step.Commit commit.now) }
         ensures ok { OnOk result (self.new ≡ after_step self.old (Step.Commit commit.now)) }
         ensures err { OnErr result (self.new ≡ self.old) }
     {
         self.rows.admits_its_tuples();
         what_follows_has_room();
-        self.rows.commit(commit)
+        self.rows.absorb(commit)
     }
 
     fn take(&mut self, part: Part, commits: u32)

@@ -1,8 +1,8 @@
 //! Steps.
 
-use config::Config;
-use names::{Commit, Part};
+use names::Part;
 use rows::Loaded;
+use tuple_keys::KeptCommit;
 
 /// One change of the state.
 #[derive(Debug, Drop)]
@@ -10,7 +10,7 @@ pub enum Step {
     /// The tables were opened. It is the first step, and comes once.
     Open(Loaded),
     /// A commit was stored.
-    Commit(Commit<Config>),
+    Commit(KeptCommit),
     /// A part took so many commits more, or as many as there were.
     Take(Part, u32),
 }

@@ -4,11 +4,11 @@ ghost use Rattle.meaning.specs.History.{puts_in, commit_rows, rows_of};
 ghost use Rattle.shown.specs.World.{is_below, is_rising, is_limited, is_within};
 
 use crate::admitted::are_admitted;
-use config::Config;
 use names::limits::{MAX_REV, MAX_ROWS};
-use names::{Commit, Event, EventKind, Tuple};
+use names::{EventKind, Tuple};
 use rows::Loaded;
 use std::alloc::{AllocError, Global};
+use tuple_keys::{KeptCommit, KeptEvents};
 
 /// Whether the tuples are in order, each once, there are no more revisions and rows than a store may have, and
 /// each revision's tuples are admitted.
@@ -52,7 +52,7 @@ fn is_below(tuple: &Tuple, others: &[Tuple]) -> bool
     }
 }
 
-fn has_few_revisions(floor: u64, commits: &[Commit<Config>]) -> bool
+fn has_few_revisions(floor: u64, commits: &[KeptCommit]) -> bool
     ensures { result ≡ nat_le (floor + length commits.now) MAX_REV }
 {
     let count = commits.len() as u64;
@@ -60,7 +60,7 @@ fn has_few_revisions(floor: u64, commits: &[Commit<Config>]) -> bool
 }
 
 /// Whether so many rows and those of the commits are no more than a store may have.
-fn has_few_rows(rows: u64, commits: &[Commit<Config>]) -> bool
+fn has_few_rows(rows: u64, commits: &[KeptCommit]) -> bool
     ensures { result ≡ nat_le (rows + rows_of commits.now) MAX_ROWS }
 {
     if rows > MAX_ROWS {
@@ -77,23 +77,23 @@ fn has_few_rows(rows: u64, commits: &[Commit<Config>]) -> bool
 }
 
 /// How many more rows there is room for after the commit, if it has room.
-fn room_after(commit: &Commit<Config>, room: u64) -> Option<u64>
+fn room_after(commit: &KeptCommit, room: u64) -> Option<u64>
     ensures some { IfSome result (λ left. left + commit_rows commit.now ≡ room) }
     ensures none { IfNone result (room < commit_rows commit.now) }
 {
-    match commit {
-        Commit::Tuples(events) => room_after_events(events.as_slice(), room),
-        Commit::Config(_) => Some(room),
+    match commit.events() {
+        Some(events) => room_after_events(events, room),
+        None => Some(room),
     }
 }
 
-fn room_after_events(events: &[Event], room: u64) -> Option<u64>
+fn room_after_events(events: &KeptEvents, room: u64) -> Option<u64>
     ensures some { IfSome result (λ left. left + puts_in events.now ≡ room) }
     ensures none { IfNone result (room < puts_in events.now) }
 {
     let mut left = room;
-    for event in events {
-        if event.kind == EventKind::Put {
+    for i in 0..events.len() {
+        if events.event(i).kind() == EventKind::Put {
             if left == 0 {
                 return None;
             }

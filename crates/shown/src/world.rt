@@ -17,13 +17,14 @@ use rows::{Loaded, Rows, what_follows_has_room};
 use std::alloc::{AllocError, Global};
 use std::collections::VecDeque;
 use std::marker::Model;
+use tuple_keys::KeptCommit;
 
 /// Contracts see it as what is stored, the posted steps, and how many of these are published.
 #[derive(Drop)]
 pub struct World {
     alloc: Global,
     posted: Vec<Step>,
-    waiting: VecDeque<Commit<Config>>,
+    waiting: VecDeque<KeptCommit>,
     newest: Rows,
     shown: usize,
     published: Shown,
@@ -93,8 +94,9 @@ impl World {
         self.waiting.reserve(1)?;
         self.newest.admits_its_tuples();
         what_follows_has_room();
-        self.newest.commit(&commit)?;
-        self.waiting.push_back_reserved(commit);
+        let kept = KeptCommit::of(self.alloc, &commit)?;
+        self.newest.absorb(&kept)?;
+        self.waiting.push_back_reserved(kept);
         Ok(Outcome::Done)
     }
 

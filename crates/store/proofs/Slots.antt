@@ -1,6 +1,6 @@
 -- Lists of events, one for each revision.
 use Rattle.std.proofs.Common.{◌≡◌, ◌≢◌, ℕ, ◌+◌, ◌-◌, ◌<◌, ◌≤◌, List, [], ◌∷◌, ◌++◌, length, get_or, set, zero, suc, refl, ap, sym, ◌∙◌, append_assoc, append-nil, length-append, arith}
-use Rattle.std.specs.Prelude.{Bool, true, false, cond, not, ◌&&◌, ◌||◌, ◌==◌, filter, map, nat_le, nat_lt, Option, Some, None}
+use Rattle.std.specs.Prelude.{Bool, true, false, cond, not, ◌&&◌, ◌||◌, ◌==◌, filter, map, nat_le, nat_lt, Option, Some, None, Result, Ok, Err, OnOk}
 use Rattle.std.specs.Borrow.{Bor}
 use Rattle.std.specs.Option.{is_some, option_copied, option_to_list, unwrap_or}
 use Rattle.std.specs.Slice.{IsItemAt}
@@ -14,8 +14,8 @@ use Rattle.std.specs.Global.{Vec}
 use Rattle.std.proofs.lemmas.Bool.{eqb-true, eq-eqb}
 use Rattle.std.proofs.lemmas.Bool.Decides.{nat_tests}
 use Rattle.names.specs.declared.commit.Event.{Event}
-use Rattle.names.specs.declared.commit.EventKind.TheVariants.{Del}
-use Rattle.store.specs.inside.Moves.{slot, event_if, moves, goes_on, put_of, del_of}
+use Rattle.names.specs.declared.commit.EventKind.TheVariants.{Put, Del}
+use Rattle.store.specs.inside.Moves.{slot, event_if, event_at_place, Adds, moves, goes_on, put_of, del_of}
 use Rattle.store.specs.declared.parts.ReadSpan.{ReadSpan}
 use Rattle.store.specs.inside.Reading.{as_span}
 
@@ -65,6 +65,17 @@ below_floor rev floor k h = grind (arith, nat_tests)
 
 pub above_floor : (rev floor k : ℕ) → floor < rev → (rev - floor - 1 == k) ≡ (rev == floor + (k + 1))
 above_floor rev floor k h = grind (arith, nat_tests)
+
+-- the beginning of a span that is there at the floor is no event above it
+not_above : (added floor k : ℕ) → added ≤ floor → (added == floor + (k + 1)) ≡ false
+not_above added floor k h = grind (arith, nat_tests)
+
+pub alive_adds : {T E : Type 0} (r : Result T E) (slots : List (Vec Event)) (floor : ℕ) (l : TupleSpan) → is_alive floor l ≡ true
+    → OnOk r (Adds slots slots (event_at_place floor l.added l.tuple Put))
+alive_adds (Ok x) slots floor l alive = λ k lt.
+    let within : l.added ≤ floor = leb-true l.added floor (and_parts (nat_le l.added floor) _ alive).0 in
+    sym (append-nil (slot slots k)) ∙ ap (λ b. slot slots k ++ event_if b (put_of l)) (sym (not_above l.added floor k within))
+alive_adds (Err e) slots floor l alive = tt
 
 -- a step over the spans
 pub placed_more : (new old a b rest all : List Event) → new ≡ (old ++ a) ++ b → old ++ (a ++ (b ++ rest)) ≡ all → new ++ rest ≡ all

@@ -14,28 +14,29 @@ use crate::placing::{place_spans, take_events};
 use crate::unread::Unread;
 use config::Config;
 use names::limits::MAX_ROWS;
-use names::{Commit, Event, EventKind, Items};
+use names::{Event, EventKind};
 use std::alloc::Global;
+use tuple_keys::{KeptCommit, KeptEvents};
 
-fn config_commit(alloc: Global, config: &Config, events: &[Event]) -> Result<Commit<Config>, Unread>
+fn config_commit(alloc: Global, config: &Config, events: &[Event]) -> Result<KeptCommit, Unread>
     ensures is { IfOk result (IsCommitOf (Some config.now) events.now) }
     ensures fault { IfErr result (DeservedBy (length events.now ≡ 0)) }
 {
     if events.len() != 0 {
         return Err(Unread::Fault);
     }
-    Ok(Commit::Config(config.again(alloc)?))
+    Ok(KeptCommit::of_config(alloc, config.again(alloc)?)?)
 }
 
-fn tuples_commit(events: Vec<Event>) -> Result<Commit<Config>, Unread>
-    requires { IsStrictlySortedBy tuple_cmp (tuples_in events.items) }
-    ensures is { IfOk result (IsCommitOf None events.items) }
-    ensures fault { IfErr result (DeservedBy (0 < length events.items)) }
+fn tuples_commit(alloc: Global, events: &[Event]) -> Result<KeptCommit, Unread>
+    requires { IsStrictlySortedBy tuple_cmp (tuples_in events.now) }
+    ensures is { IfOk result (IsCommitOf None events.now) }
+    ensures fault { IfErr result (DeservedBy (0 < length events.now)) }
 {
-    if events.as_slice().len() == 0 {
+    if events.len() == 0 {
         return Err(Unread::Fault);
     }
-    Ok(Commit::Tuples(Items::of(events)))
+    Ok(KeptCommit::of_events(alloc, events)?)
 }
 
 // The commit of a revision with these events.
@@ -44,14 +45,14 @@ fn commit_at(
     configs: &[ReadConfig],
     rev: u64,
     events: Vec<Event>,
-) -> Result<Commit<Config>, Unread>
+) -> Result<KeptCommit, Unread>
     requires { IsStrictlySortedBy tuple_cmp (tuples_in events.items) }
     ensures is { IfOk result (IsCommitAt rev (config_at rev (map as_config configs.now)) events.items) }
     ensures fault { IfErr result (DeservedBy (IsWholeAt rev configs.now events.items)) }
 {
     match config_at(configs, rev) {
         Some(config) => config_commit(alloc, config, &events),
-        None => tuples_commit(events),
+        None => tuples_commit(alloc, &events),
     }
 }
 
@@ -80,12 +81,12 @@ pub(crate) fn read_parts(
     Ok(Parts { tuples, commits })
 }
 
-fn puts_in(events: &[Event]) -> usize
+fn puts_in(events: &KeptEvents) -> usize
     ensures { result ≡ puts_in events.now }
 {
     let mut puts = 0;
-    for event in events {
-        match event.kind {
+    for i in 0..events.len() {
+        match events.event(i).kind() {
             EventKind::Put => puts += 1,
             EventKind::Del => {}
         }
@@ -93,17 +94,17 @@ fn puts_in(events: &[Event]) -> usize
     puts
 }
 
-fn commit_rows(commit: &Commit<Config>) -> usize
+fn commit_rows(commit: &KeptCommit) -> usize
     ensures { result ≡ commit_rows commit.now }
 {
-    match commit {
-        Commit::Tuples(events) => puts_in(events.as_slice()),
-        Commit::Config(_) => 0,
+    match commit.events() {
+        Some(events) => puts_in(events),
+        None => 0,
     }
 }
 
 /// Whether so many tuples at the floor and the puts of the commits are within the limit.
-pub(crate) fn has_room(tuples: usize, commits: &[Commit<Config>]) -> bool
+pub(crate) fn has_room(tuples: usize, commits: &[KeptCommit]) -> bool
     ensures { result ≡ nat_le (tuples + rows_of commits.now) MAX_ROWS }
 {
     let most = MAX_ROWS as usize;

@@ -12,12 +12,12 @@ ghost use Rattle.rows.specs.Retained.{empty_store};
 use crate::reading::read;
 use crate::texts::events_of;
 use config::Config;
-use names::{Commit, Event};
 use rows::Loaded;
 use sqlite::{Alter, Connection, Error, ErrorCode};
 use std::alloc::Global;
 use store_core::{configure, create, is_open, load, write};
 use tables::TablesError;
+use tuple_keys::{KeptCommit, KeptEvents};
 
 // Why a call was refused. For want of memory alone, the connection still answers and stands as it was.
 fn why<S: Alter>(conn: &mut Connection<S>, error: &Error) -> TablesError
@@ -38,7 +38,7 @@ fn write_events<S: Alter>(
     alloc: Global,
     conn: &mut Connection<S>,
     rev: u64,
-    events: &[Event],
+    events: &KeptEvents,
 ) -> Result<(), TablesError>
     requires small { rev < 2 ^ 63 }
     requires idle { conn.old.in_transaction ≡ false }
@@ -84,7 +84,7 @@ pub(crate) fn write_commit<S: Alter>(
     alloc: Global,
     conn: &mut Connection<S>,
     rev: u64,
-    commit: &Commit<Config>,
+    commit: &KeptCommit,
 ) -> Result<(), TablesError>
     requires small { rev < 2 ^ 63 }
     requires idle { conn.old.in_transaction ≡ false }
@@ -93,9 +93,12 @@ pub(crate) fn write_commit<S: Alter>(
     ensures undone { SparesHistory S.Store conn.old conn.new result }
     ensures crash { LeavesEither S.Store conn.old conn.new rev commit.now }
 {
-    match commit {
-        Commit::Tuples(events) => write_events(alloc, conn, rev, events.as_slice()),
-        Commit::Config(config) => write_config(alloc, conn, rev, config),
+    match commit.events() {
+        Some(events) => write_events(alloc, conn, rev, events),
+        None => match commit.config() {
+            Some(config) => write_config(alloc, conn, rev, config),
+            None => unreachable!(),
+        },
     }
 }
 

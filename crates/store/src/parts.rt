@@ -1,7 +1,8 @@
 //! Rows, read.
 
 use config::Config;
-use names::{Commit, Event, Tuple};
+use names::{Event, Tuple};
+use tuple_keys::KeptCommit;
 
 /// The revisions from which and before which a tuple is there; `removed` is 0 while it still is.
 #[derive(Debug, PartialEq, Eq, PartialOrd, Ord, Drop)]
@@ -22,7 +23,7 @@ pub(crate) struct Placed {
 #[derive(Debug, Drop)]
 pub(crate) struct Parts {
     pub(crate) tuples: Vec<Tuple>,
-    pub(crate) commits: Vec<Commit<Config>>,
+    pub(crate) commits: Vec<KeptCommit>,
 }
 
 /// A configuration, and the revision that it has been in force from.

@@ -2,13 +2,12 @@
 ghost use Rattle.std.specs.Prelude.{◌≡◌, false};
 
 use crate::history::{load_history, make_tables, write_commit};
-use config::Config;
-use names::Commit;
 use rows::Loaded;
 use sqlite::{Alter, Connection};
 use std::alloc::Global;
 use store_core::is_format;
 use tables::{Tables, TablesError};
+use tuple_keys::KeptCommit;
 
 /// The tables of one store over a connection.
 #[derive(Drop)]
@@ -95,7 +94,7 @@ impl<S: Alter> Tables for Store<S> {
         }
     }
 
-    fn write(&mut self, rev: u64, commit: &Commit<Config>) -> Result<(), TablesError> {
+    fn write(&mut self, rev: u64, commit: &KeptCommit) -> Result<(), TablesError> {
         match write_commit(self.alloc, &mut self.conn, rev, commit) {
             Ok(()) => Ok(()),
             Err(TablesError::Memory) => Err(TablesError::Memory),

@@ -6,6 +6,7 @@ ghost use Rattle.store.specs.inside.EventTexts.{event_texts, event_texts_in};
 use names::{Event, EventKind, Subject, Tuple};
 use std::alloc::{AllocError, Global};
 use store_core::TupleText;
+use tuple_keys::KeptEvents;
 
 // The subject's text.
 fn subject_of(alloc: Global, subject: &Subject) -> Result<String, AllocError>
@@ -57,15 +58,16 @@ fn event_of(alloc: Global, event: &Event) -> Result<store_core::StoredEvent, All
 /// The texts of each event.
 pub(crate) fn events_of(
     alloc: Global,
-    events: &[Event],
+    events: &KeptEvents,
 ) -> Result<Vec<store_core::StoredEvent>, AllocError>
     ensures texts { IfOk result (λ texts. map event_texts_in texts.items ≡ map event_texts events.now) }
     ensures spelled { IfOk result (λ _. All (λ e. IsTuple e.tuple) events.now) }
 {
-    let mut texts = Vec::new(alloc);
-    for event in events {
+    let mut texts = Vec::with_capacity(alloc, events.len())?;
+    for i in 0..events.len() {
+        let event = events.event(i).event();
         see_tuple(&event.tuple);
-        texts.push(event_of(alloc, event)?)?;
+        texts.push(event_of(alloc, &event)?)?;
     }
     Ok(texts)
 }

@@ -2,20 +2,21 @@
 ghost use Rattle.std.specs.Prelude.{◌≡◌};
 ghost use Rattle.rows.specs.Retained.{empty_store};
 
-use crate::copy::{commit_again, commits_again};
+use crate::copy::commits_again;
 use crate::tables::{Tables, TablesError};
 use config::Config;
-use names::{Commit, Items};
+use names::Items;
 use rows::{Loaded, what_follows_has_room};
 use std::alloc::Global;
 use std::marker::Model;
+use tuple_keys::KeptCommit;
 
 /// Tables that hold a list of commits in memory. They are lost with the program, and never fault.
 #[derive(Drop)]
 pub struct Listed {
     alloc: Global,
     number: u64,
-    commits: Vec<Commit<Config>>,
+    commits: Vec<KeptCommit>,
 }
 
 impl Model for Listed {
@@ -69,11 +70,11 @@ impl Tables for Listed {
         })
     }
 
-    fn write(&mut self, _rev: u64, commit: &Commit<Config>) -> Result<(), TablesError> {
+    fn write(&mut self, _rev: u64, commit: &KeptCommit) -> Result<(), TablesError> {
         if self.commits.reserve(1).is_err() {
             return Err(TablesError::Memory);
         }
-        let Ok(commit) = commit_again(self.alloc, commit) else {
+        let Ok(commit) = commit.again() else {
             return Err(TablesError::Memory);
         };
         what_follows_has_room();

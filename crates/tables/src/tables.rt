@@ -1,9 +1,8 @@
 //! Where a store's history is stored.
 
-use config::Config;
-use names::Commit;
 use rows::Loaded;
 use std::alloc::Global;
+use tuple_keys::KeptCommit;
 
 /// Why tables refuse.
 #[derive(Clone, Copy, Debug, PartialEq, Eq)]
@@ -43,7 +42,7 @@ pub trait Tables {
         ensures counted { result ≡ Err TablesError.Fault → count self.new ≡ one_more (count self.old) };
 
     /// Stores one commit, wholly or not at all. Its revision is the next.
-    fn write(&mut self, rev: u64, commit: &Commit<Config>) -> Result<(), TablesError>
+    fn write(&mut self, rev: u64, commit: &KeptCommit) -> Result<(), TablesError>
         requires { CanStore (holds self.old) rev commit.now }
         ensures done { AfterCommit (holds self.old) rev commit.now result (holds self.new) }
         ensures undone { WithoutMemory (holds self.old) result (holds self.new) }

@@ -6,8 +6,8 @@ use Rattle.decide.proofs.deciding.look.Goals as goal
 pub give-requires-clause-there : goal.give-requires-clause-there
 give-requires-clause-there g c = waiting_all_there c.args.source.now.view.now c.args.source.now.user.now c.args.search.now (Some c.args.number) c.requires.running
 
-pub returns-in-Some-true-clause-running : goal.returns-in-Some-true-clause-running
-returns-in-Some-true-clause-running g c =
+pub returns-in_ok-give-in-Some-true-clause-running : goal.returns-in_ok-give-in-Some-true-clause-running
+returns-in_ok-give-in-Some-true-clause-running g c =
     c.in_ok-give-in-Some-true.ensures.running c.args.source.now.view.now c.args.source.now.user.now
     (member_given c.args.source.now.view.now c.args.source.now.user.now c.args.search.now c.args.number c.in_ok-node.node c.requires.running c.in_ok-node.ensures
     ((c.in-Some-true.ensures.right c.args.source.now.view.now c.requires.tells).0 c.in-Some-true.field-0-test))

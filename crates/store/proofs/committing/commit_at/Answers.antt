@@ -8,7 +8,7 @@ returns-in-Some-clause-fault c = err_deserved c.config_commit.result _ _
     (λ (spans, events, one). config_alone c.args.rev spans c.in-Some.config.now c.deref.result.now (c.deref.ensures.value ∙ events) _ c.in-Some.ensures one)
     c.config_commit.ensures.fault
 
-pub returns-in-None-clause-fault : goal.returns-in-None-clause-fault
-returns-in-None-clause-fault c = err_deserved c.tuples_commit.result _ _
-    (λ (spans, events, one). events_come c.args.rev spans c.args.events.items events _ c.in-None.ensures one)
+pub returns-clause-fault : goal.returns-clause-fault
+returns-clause-fault c = err_deserved c.tuples_commit.result _ _
+    (λ (spans, events, one). events_come c.args.rev spans c.deref-in-None.result.now (c.deref-in-None.ensures.value ∙ events) _ c.in-None.ensures one)
     c.tuples_commit.ensures.fault
