@@ -1,4 +1,4 @@
 pub mod Text
 pub mod Machine
-pub mod Wrote
 pub mod Served
+pub mod Ends

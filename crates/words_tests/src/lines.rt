@@ -5,7 +5,8 @@ use names::{Call, Reply};
 use std::alloc::Global;
 use std::io;
 use std::io::{ErrorKind, Read, Write};
-use zanz_core::{TrackedReader, TrackedWriter, lines};
+use tracked_io::{TrackedReader, TrackedWriter};
+use zanz_core::lines;
 
 /// Answers each call with its body.
 #[derive(Drop)]

@@ -8,7 +8,7 @@ use Rattle.shown.specs.declared.step.Step.TheVariants.{Open}
 use Rattle.keeper_core.specs.Posts.{Posts}
 use Rattle.keeper.specs.Rules.{DeskStep}
 use Rattle.http_api.specs.Served.{Served, Paused, Cut}
-use Rattle.zanz_core.specs.Tracking.{TrackedReading, TrackedWriting, ReadsAll}
+use Rattle.tracked_io.specs.Tracking.{TrackedReading, TrackedWriting, ReadsAll}
 use Rattle.tasks.specs.declared.fault.Fault.{Fault}
 use Rattle.tasks.specs.declared.fault.Fault.TheVariants.{CannotRead, CannotWrite}
 use Rattle.tasks.specs.Report.{Reports}

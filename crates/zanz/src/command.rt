@@ -10,7 +10,7 @@ use std::io::{Read, Write};
 use std::rt::Files;
 use tables::Listed;
 use tasks::{Fault, Place, Task, read_file, report_of, task_of};
-use zanz_core::{TrackedReader, TrackedWriter, say};
+use tracked_io::{TrackedReader, TrackedWriter, say};
 
 // Prints what there is to say of a file's configuration, and answers the status that the process ends with.
 fn report<F: Files, W: Write>(

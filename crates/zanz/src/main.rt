@@ -14,7 +14,7 @@ use std::io;
 use std::io::{BufWriter, ErrorKind};
 use std::process::ExitCode;
 use tasks::Fault;
-use zanz_core::{TrackedReader, TrackedWriter};
+use tracked_io::{TrackedReader, TrackedWriter};
 
 fn main(rt: HostRuntime) -> ExitCode {
     let status = match start(&rt) {

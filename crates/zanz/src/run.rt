@@ -2,7 +2,7 @@
 ghost use Rattle.std.specs.Prelude.{ℕ, ◌≡◌, List, true, false, IfErr, OnOk};
 ghost use Rattle.tasks.specs.declared.fault.Fault.TheVariants.{Refused};
 ghost use Rattle.tasks.specs.Faults.{IsRunFault};
-ghost use Rattle.zanz_core.specs.Tracking.{Reads, ReadsAll};
+ghost use Rattle.tracked_io.specs.Tracking.{Reads, ReadsAll};
 ghost use Rattle.zanz.specs.Runs.{ServedBy, PausedBy, CutBy, Opening, is_read_fault, is_write_fault};
 
 use crate::lent::Lent;
@@ -13,7 +13,8 @@ use std::alloc::Global;
 use std::io::{Read, Write};
 use tables::Tables;
 use tasks::Fault;
-use zanz_core::{TrackedReader, TrackedWriter, lines};
+use tracked_io::{TrackedReader, TrackedWriter};
+use zanz_core::lines;
 
 /// Answers lines from the store that these tables keep.
 pub fn run<T: Tables + Drop, R: Read, W: Write>(

@@ -11,12 +11,12 @@ use Rattle.names.specs.Calls.{call_of}
 use Rattle.http_api.specs.Text.{lines_of, word_of, body_of, ended, HasNoEnd}
 use Rattle.zanz_core.specs.PendingLine.{PendingLine, pending_of, with_byte}
 use Rattle.http_api.specs.Machine.{Step, IsAnswer, Answers, Run, Fed}
-use Rattle.http_api.specs.Wrote.{Wrote, WroteSome}
+use Rattle.tracked_io.specs.Wrote.{Wrote, WroteSome}
 use Rattle.http_api.specs.Served.{Served, Cut}
 use Rattle.zanz_core.specs.Going.{AnswersPending, Going, CutShort}
 use Rattle.zanz_core.proofs.Keeping.{pending_more, fits_pending, whole_when_fits, call_pending, empty_from_pending}
 use Rattle.zanz_core.proofs.Feeding.{run_more, fed_none, fed_byte, fed_line, lines_of_fed, lines_of_rest}
-use Rattle.zanz_core.proofs.Writing.{appends_none, appends_both, appends_kept, some_after}
+use Rattle.tracked_io.proofs.Appending.{appends_none, appends_both, appends_kept, some_after}
 
 answer_by : {S : Type 0} (step : Step S) (t : S) (fits : Bool) (call : Option Call) (b1 b2 text : List ℕ) (u : S)
     → (fits ≡ true → b1 ≡ b2) → IsAnswer step t fits call b1 text u → IsAnswer step t fits call b2 text u

@@ -5,10 +5,10 @@ use Rattle.http_api.specs.Text.{ended, HasNoEnd}
 use Rattle.names.specs.declared.limits.TheConstants.{MAX_BODY_LEN}
 use Rattle.names.specs.Calls.{call_of}
 use Rattle.http_api.specs.Machine.{Step, IsAnswer, Run}
-use Rattle.http_api.specs.Wrote.{WroteSome}
+use Rattle.tracked_io.specs.Wrote.{WroteSome}
 use Rattle.http_api.specs.Served.{Paused, Served, Cut}
 use Rattle.zanz_core.specs.PendingLine.{PendingLine, pending_of}
-use Rattle.zanz_core.specs.Tracking.{TrackedWriting}
+use Rattle.tracked_io.specs.Tracking.{TrackedWriting}
 
 -- from s, this text may be written for what is pending of a line, and the machine goes on to t
 abbrev pub AnswersPending : {S : Type 0} → Step S → S → PendingLine → List ℕ → S → Type 0

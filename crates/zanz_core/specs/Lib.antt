@@ -1,4 +1,2 @@
-pub mod Tracking
 pub mod PendingLine
 pub mod Going
-pub mod Ends

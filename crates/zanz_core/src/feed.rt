@@ -1,14 +1,14 @@
 //! Bytes that are fed to a line, and lines that are answered.
 ghost use Rattle.std.specs.Prelude.{ℕ, ◌≡◌, List, [], ◌∷◌, true, OnOk};
 ghost use Rattle.zanz_core.specs.Going.{AnswersPending, GoesOn, ServesRest};
-ghost use Rattle.zanz_core.specs.Tracking.{FailsWith, Writes};
+ghost use Rattle.tracked_io.specs.Tracking.{FailsWith, Writes};
 
 use crate::pending::Pending;
-use crate::put::{put, put_reply};
-use crate::tracked_writer::TrackedWriter;
+use crate::put::put_reply;
 use http_api::Answers;
 use std::io;
 use std::io::Write;
+use tracked_io::{TrackedWriter, put};
 
 const TOO_LARGE: &[u8] = b"413 {\"error\":{\"code\":0,\"name\":\"BodyTooLarge\"}}\n";
 

@@ -10,10 +10,5 @@ mod feed;
 mod pending;
 mod put;
 mod served;
-mod tracked_reader;
-mod tracked_writer;
 
-pub use put::say;
 pub use served::lines;
-pub use tracked_reader::TrackedReader;
-pub use tracked_writer::TrackedWriter;

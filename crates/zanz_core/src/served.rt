@@ -1,16 +1,15 @@
 //! The loop.
 ghost use Rattle.std.specs.Prelude.{ℕ, ◌≡◌, ◌≢◌, List, true, false};
 ghost use Rattle.http_api.specs.Served.{Served, Paused, Cut};
-ghost use Rattle.zanz_core.specs.Ends.{is_read_fault, is_write_fault};
-ghost use Rattle.zanz_core.specs.Tracking.{Reads, ReadsAll};
+ghost use Rattle.http_api.specs.Ends.{is_read_fault, is_write_fault};
+ghost use Rattle.tracked_io.specs.Tracking.{Reads, ReadsAll};
 
 use crate::feed::{feed_all, finish};
 use crate::pending::Pending;
-use crate::tracked_reader::TrackedReader;
-use crate::tracked_writer::TrackedWriter;
 use http_api::{Answers, End};
 use std::alloc::Global;
 use std::io::{Read, Write};
+use tracked_io::{TrackedReader, TrackedWriter};
 
 /// Reads calls as lines, and writes a line for each. Each answer is handed on before the next is read for.
 ///

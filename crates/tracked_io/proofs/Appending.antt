@@ -4,7 +4,7 @@ use Rattle.std.specs.List.{flat_map}
 use Rattle.std.specs.Prelude.{Option, Some, None}
 use Rattle.std.specs.Io.KnownBytes.{Appends, Keeps}
 use Rattle.std.proofs.lemmas.List.{append-nil, take-append-drop, take_all, length-drop}
-use Rattle.http_api.specs.Wrote.{WroteSome}
+use Rattle.tracked_io.specs.Wrote.{WroteSome}
 
 -- these bytes were written, and the rest not yet
 pub record SoFar (old new : Option (List ℕ)) (bytes rest : List ℕ) : Type 0 where

@@ -1,7 +1,7 @@
 use Rattle.std.proofs.Common.{◌∙◌}
 use Rattle.std.proofs.lemmas.Result.{err_from_is_err_and}
-use Rattle.zanz_core.proofs.Writing.{so_far_next, some_of_next}
-use Rattle.zanz_core.proofs.put.put_parts.Goals as goal
+use Rattle.tracked_io.proofs.Appending.{so_far_next, some_of_next}
+use Rattle.tracked_io.proofs.writing.put_parts.Goals as goal
 
 pub returns-in_err-put : goal.returns-in_err-put
 returns-in_err-put g c =

@@ -1,7 +1,7 @@
 -- These bytes are written, and the rest not yet; the writer has not failed.
 use Rattle.std.proofs.Common.{◌≡◌, length}
-use Rattle.zanz_core.proofs.Writing.{SoFar}
-use Rattle.zanz_core.proofs.put.put.Given as goal
+use Rattle.tracked_io.proofs.Appending.{SoFar}
+use Rattle.tracked_io.proofs.writing.put.Given as goal
 
 abbrev pub invariant-loop-rest : goal.invariant-loop-rest
 invariant-loop-rest g l = SoFar (g.W.Write.contents l.initial.writer.inner) (g.W.Write.contents l.writer.inner) l.bytes l.rest × (l.writer.failed ≡ l.initial.writer.failed)

@@ -3,7 +3,7 @@ ghost use Rattle.std.specs.Prelude.{◌≡◌, ◌≢◌, ◌<◌, length, false
 ghost use Rattle.std.specs.IoError.{error_kind};
 ghost use Rattle.std.specs.Io.{WritesAtMost};
 ghost use Rattle.std.specs.Io.KnownBytes.{WriteAppends, Keeps};
-ghost use Rattle.zanz_core.specs.Tracking.{FailsWith};
+ghost use Rattle.tracked_io.specs.Tracking.{FailsWith};
 
 use std::io;
 use std::io::{ErrorKind, Write};
@@ -18,7 +18,7 @@ pub struct TrackedWriter<W> {
 }
 
 impl<W> Model for TrackedWriter<W> {
-    ghost use Rattle.zanz_core.specs.Tracking.{TrackedWriting};
+    ghost use Rattle.tracked_io.specs.Tracking.{TrackedWriting};
 
     ghost Value = { TrackedWriting W };
 
@@ -57,7 +57,7 @@ impl<W> TrackedWriter<W> {
 impl<W: Write> TrackedWriter<W> {
     /// One write. It fails where the writer takes nothing. A write that is interrupted is tried again; after
     /// 2^64 - 1 tries it fails.
-    pub(crate) fn write(&mut self, bytes: &[u8]) -> io::Result<usize>
+    pub fn write(&mut self, bytes: &[u8]) -> io::Result<usize>
         ensures bound { WritesAtMost result bytes.now }
         ensures bytes { WriteAppends (W.contents self.old.inner) (W.contents self.new.inner) result bytes.now }
         ensures failed { FailsWith result self.old.failed self.new.failed }
@@ -88,7 +88,7 @@ impl<W: Write> TrackedWriter<W> {
     }
 
     /// Hands on what was written. A flush that is interrupted is tried again; after 2^64 - 1 tries it fails.
-    pub(crate) fn flush(&mut self) -> io::Result<()>
+    pub fn flush(&mut self) -> io::Result<()>
         ensures bytes { Keeps (W.contents self.old.inner) (W.contents self.new.inner) }
         ensures failed { FailsWith result self.old.failed self.new.failed }
         ensures retried { IfErr result (λ e. error_kind e ≢ ErrorKind.Interrupted) }

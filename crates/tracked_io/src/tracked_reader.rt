@@ -3,7 +3,7 @@ ghost use Rattle.std.specs.Prelude.{◌≡◌, ◌≢◌, ◌^◌, ◌<◌, fals
 ghost use Rattle.std.specs.IoError.{error_kind};
 ghost use Rattle.std.specs.Io.{ReadsAtMost};
 ghost use Rattle.std.specs.Io.KnownBytes.{ReadConsumes};
-ghost use Rattle.zanz_core.specs.Tracking.{FailsWith};
+ghost use Rattle.tracked_io.specs.Tracking.{FailsWith};
 
 use crate::tracked_writer::TrackedWriter;
 use std::io;
@@ -19,7 +19,7 @@ pub struct TrackedReader<R> {
 }
 
 impl<R> Model for TrackedReader<R> {
-    ghost use Rattle.zanz_core.specs.Tracking.{TrackedReading};
+    ghost use Rattle.tracked_io.specs.Tracking.{TrackedReading};
 
     ghost Value = { TrackedReading R };
 
@@ -50,11 +50,7 @@ impl<R> TrackedReader<R> {
 impl<R: Read> TrackedReader<R> {
     /// One read, while no answer is held back. A read that is interrupted is tried again; after 2^64 - 1
     /// tries in all it fails.
-    pub(crate) fn read<W>(
-        &mut self,
-        answered: &TrackedWriter<W>,
-        buf: &mut [u8],
-    ) -> io::Result<usize>
+    pub fn read<W>(&mut self, answered: &TrackedWriter<W>, buf: &mut [u8]) -> io::Result<usize>
         requires { answered.now.flushed ≡ true }
         ensures bound { ReadsAtMost result buf.new }
         ensures bytes { ReadConsumes (R.remaining self.old.inner) (R.remaining self.new.inner) result buf.new }

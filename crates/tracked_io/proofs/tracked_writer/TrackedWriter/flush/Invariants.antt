@@ -1,7 +1,7 @@
 -- What was interrupted wrote nothing, and the writer has not failed yet.
 use Rattle.std.proofs.Common.{◌≡◌}
 use Rattle.std.specs.Io.KnownBytes.{Keeps}
-use Rattle.zanz_core.proofs.tracked_writer.TrackedWriter.flush.Given as goal
+use Rattle.tracked_io.proofs.tracked_writer.TrackedWriter.flush.Given as goal
 
 abbrev pub invariant-loop : goal.invariant-loop
 invariant-loop g l = Keeps (g.W.Write.contents l.initial.self-inside.inner) (g.W.Write.contents l.self-inside.inner) × (l.self-inside.failed ≡ l.initial.self-inside.failed)

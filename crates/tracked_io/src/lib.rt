@@ -1,0 +1,14 @@
+//! Readers and writers that are tracked: a fault is told exactly where one of them failed, and nothing is waited
+//! for while an answer is held back.
+//!
+//! Whatever is written by these functions is known also where the writer fails: it holds a beginning of the text.
+//! `specs/Tracking.antt` has what is known of a reader and a writer, `specs/Wrote.antt` what a write leaves.
+#![tactic(auto)]
+
+mod tracked_reader;
+mod tracked_writer;
+mod writing;
+
+pub use tracked_reader::TrackedReader;
+pub use tracked_writer::TrackedWriter;
+pub use writing::{put, put_parts, say};
