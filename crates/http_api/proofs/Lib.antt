@@ -1,0 +1,10 @@
+pub mod Asking
+pub mod Lengths
+pub mod Finding
+pub mod Fields
+pub mod Going
+pub mod Holding
+pub mod Lasting
+pub mod Literal
+pub mod Pausing
+pub mod Settling

@@ -2,3 +2,9 @@ pub mod Text
 pub mod Machine
 pub mod Served
 pub mod Ends
+pub mod Heads
+pub mod Routes
+pub mod Replies
+pub mod Connection
+pub mod Talks
+pub mod inside

@@ -3,11 +3,24 @@
 //! [`Answers`] is the machine behind a transport, by what it may reply. A transport ends with an [`End`],
 //! and its contract says what was read, answered and written by then: `specs/Text.antt` has the text of
 //! lines and replies, `specs/Machine.antt` what a machine may write for lines, `specs/Served.antt` how far
-//! it came.
+//! it came; `specs/Connection.antt` has the text of a connection over HTTP/1.1, case by case, and
+//! `specs/Talks.antt` how far that came.
 #![tactic(auto)]
 
 mod answers;
+mod connection;
 mod end;
+mod framing;
+mod head;
+mod inbox;
+mod length;
+mod looking;
+mod receive;
+mod reply;
+mod routing;
+mod settle;
 
 pub use answers::Answers;
+pub use connection::{serve, serve_by};
 pub use end::End;
+pub use routing::routes;

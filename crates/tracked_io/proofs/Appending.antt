@@ -1,10 +1,10 @@
 -- Writes, one after another.
 use Rattle.std.proofs.Common.{◌≡◌, ◌++◌, List, [], ℕ, ◌-◌, length, refl, sym, ap, ◌∙◌, append_assoc, arith, take, drop, subst, Bor, get_or, ◌+◌, ◌<◌, add-one, drop-cons}
 use Rattle.std.specs.List.{flat_map}
-use Rattle.std.specs.Prelude.{Option, Some, None}
+use Rattle.std.specs.Prelude.{Option, Some, None, Result, Ok, Err}
 use Rattle.std.specs.Io.KnownBytes.{Appends, Keeps}
 use Rattle.std.proofs.lemmas.List.{append-nil, take-append-drop, take_all, length-drop}
-use Rattle.tracked_io.specs.Wrote.{WroteSome}
+use Rattle.tracked_io.specs.Wrote.{WroteSome, Wrote}
 
 -- these bytes were written, and the rest not yet
 pub record SoFar (old new : Option (List ℕ)) (bytes rest : List ℕ) : Type 0 where
@@ -93,3 +93,8 @@ so_far_next a b c bytes parts i d within f h = let g = rw (texts_from parts i d 
 pub some_of_next : (a b c : Option (List ℕ)) (bytes : List ℕ) (parts : List (Bor (List ℕ))) (i : ℕ) (d : Bor (List ℕ)) → i < length parts
     → SoFar a b bytes (texts (drop i parts)) → WroteSome b c (get_or parts i d).now → WroteSome a c bytes
 some_of_next a b c bytes parts i d within f s = let g = rw (texts_from parts i d within) at f in some_of_part a b c bytes _ _ g s
+
+-- a part was written whole, and then the next, or some of it
+pub wrote_after : {T E : Type 0} (r : Result T E) (a b c : Option (List ℕ)) (xs ys : List ℕ) → Appends a b xs → Wrote r b c ys → Wrote r a c (xs ++ ys)
+wrote_after (Ok u) a b c xs ys h w = appends_both a b c xs ys h w
+wrote_after (Err e) a b c xs ys h w = some_after a b c xs ys h w

@@ -1,0 +1,161 @@
+-- A connection that reads on, or ends before a request has come whole.
+use Rattle.std.proofs.Common.{◌≡◌, ℕ, ◌++◌, Bool, true, false, List, [], ◌∷◌, length, ◌+◌, ◌<◌, drop, refl, sym, ap, ◌∙◌, subst, arith, append_assoc, true≢false, inl, inr}
+use Rattle.std.specs.Prelude.{Option, Some, None, Result, Ok, Err, MatchResult, is_err}
+use Rattle.std.specs.Io.KnownBytes.{Appends, Consumes, Keeps, IsAtEnd}
+use Rattle.std.proofs.lemmas.List.{append-nil, length-append, length-drop, drop-append-le}
+use Rattle.std.proofs.KnownBytes.{Keeps-refl, Keeps-trans, Consumes-trans}
+use Rattle.tracked_io.specs.Tracking.{TrackedReading, TrackedWriting, Reads}
+use Rattle.tracked_io.specs.Wrote.{WroteSome}
+use Rattle.tracked_io.proofs.Appending.{appends_none, appends_kept, appends_both, some_after}
+use Rattle.http_api.specs.declared.end.End.{End}
+use Rattle.http_api.specs.declared.end.End.TheVariants.{Closed, Asked, Broken, ReadFault, WriteFault, Memory}
+use Rattle.http_api.specs.Ends.{is_read_fault, is_write_fault}
+use Rattle.httparse.specs.Grammar.{RequestHead}
+use Rattle.http_api.specs.declared.looking.Heading.{Heading}
+use Rattle.http_api.specs.Heads.{Begins}
+use Rattle.http_api.specs.Connection.{NoRequest, at_end, cut_in_head, cut_in_body}
+use Rattle.http_api.specs.inside.Looking.{HasHeading, Waits}
+use Rattle.http_api.proofs.Lasting.{begins_more}
+use Rattle.http_api.specs.inside.Receiving.{IsPause, EndsSo, EndsAfter, HandedOn, Place, ReadOn, Ended}
+
+pub at_ok : {T E : Type 0} (P : T → Type 0) (Q : E → Type 0) (r : Result T E) → is_err r ≡ false → MatchResult r P Q → (t : T) × P t
+at_ok P Q (Ok t) fine m = (t, m)
+at_ok P Q (Err e) fine m = absurd (true≢false fine)
+
+pub at_err : {T E : Type 0} (P : T → Type 0) (Q : E → Type 0) (r : Result T E) → is_err r ≡ true → MatchResult r P Q → (e : E) × Q e
+at_err P Q (Ok t) bad m = absurd (true≢false (sym bad))
+at_err P Q (Err e) bad m = (e, m)
+
+pub consumes_none : (a b : Option (List ℕ)) → Keeps a b → Consumes a b []
+consumes_none None b k = tt
+consumes_none (Some x) None k = absurd k
+consumes_none (Some x) (Some y) k = sym k
+
+pub nothing : (xs : List ℕ) → length xs ≡ 0 → xs ≡ []
+nothing [] e = refl
+nothing (x ∷ xs) e = absurd (omega (arith, e))
+
+pub appends_nothing : (a b : Option (List ℕ)) → Keeps a b → Appends a b []
+appends_nothing a b k = appends_kept a a b [] (appends_none a) k
+
+pub no_text : (a b : Option (List ℕ)) → Keeps a b → WroteSome a b []
+no_text a b k = record { written = []; missing = []; parts = refl; appends = appends_nothing a b k }
+
+-- an input that stops there, of which nothing is to be written
+pub pause_ends : (input : List ℕ) (a b : Option (List ℕ)) (end : End) → IsPause end → NoRequest input [] end → Keeps a b → EndsSo input a b end
+pause_ends input a b end (inl e) n k = subst (EndsSo input a b) (sym e) (subst (NoRequest input []) e n, appends_nothing a b k)
+pause_ends input a b end (inr e) n k = subst (EndsSo input a b) (sym e) (subst (NoRequest input []) e n, appends_nothing a b k)
+
+pub no_fault : (end : End) → IsPause end → (false ≡ is_read_fault end) × (false ≡ is_write_fault end)
+no_fault end (inl e) = (sym (ap is_read_fault e), sym (ap is_write_fault e))
+no_fault end (inr e) = (sym (ap is_read_fault e), sym (ap is_write_fault e))
+
+-- nothing more was read before the end
+pub ended_now : {R W : Type 0} (remaining : R → Option (List ℕ)) (contents : W → Option (List ℕ)) (old : Place R W) (reader : TrackedReading R) (writer : TrackedWriting W) (end : End)
+    (more : List ℕ) → Reads remaining old.1 reader more → more ≡ [] → (IsPause end → IsAtEnd (remaining reader.inner))
+    → EndsSo old.0 (contents old.2.inner) (contents writer.inner) end → reader.failed ≡ is_read_fault end → HandedOn writer end → Ended remaining contents old reader writer end
+ended_now remaining contents old reader writer end more reads none all ends failed handed = record {
+  more = more;
+  reads = reads;
+  all = all;
+  ends = subst (λ (i : List ℕ). EndsSo i (contents old.2.inner) (contents writer.inner) end) (sym (ap (λ m. old.0 ++ m) none ∙ append-nil old.0)) ends;
+  reader_failed = failed;
+  handed_on = handed;
+}
+
+kept_appends : (a b c : Option (List ℕ)) (text : List ℕ) → Keeps a b → Appends b c text → Appends a c text
+kept_appends a b c text k h = appends_both a b c [] text (appends_nothing a b k) h
+
+kept_some : (a b c : Option (List ℕ)) (text : List ℕ) → Keeps a b → WroteSome b c text → WroteSome a c text
+kept_some a b c text k w = some_after a b c [] text (appends_nothing a b k) w
+
+-- the same end, from before what changed nothing
+ends_kept : (input : List ℕ) (a b c : Option (List ℕ)) (end : End) {before : List ℕ} → before ≡ input → Keeps a b → EndsSo before b c end → EndsSo input a c end
+ends_kept input a b c end {before} same k e = by_end end (subst (λ (i : List ℕ). EndsSo i b c end) same e)
+  where
+    by_end : (x : End) → EndsSo input b c x → EndsSo input a c x
+    by_end Closed h = (h.0, kept_appends a b c [] k h.1)
+    by_end Asked h = (h.0, h.1, kept_appends a b c h.0 k h.2)
+    by_end Broken h = (h.0, kept_appends a b c [] k h.1)
+    by_end ReadFault h = (h.0, h.1, h.2, kept_appends a b c [] k h.3)
+    by_end WriteFault h = (h.0, h.1, h.2, kept_some a b c h.1 k h.3)
+    by_end Memory h = absurd h
+
+abbrev is_asked : End → Bool
+is_asked Asked = true
+is_asked _ = false
+
+closed_is_not_asked : Closed ≡ Asked → ⊥
+closed_is_not_asked e = true≢false (sym (ap is_asked e))
+
+broken_is_not_asked : Broken ≡ Asked → ⊥
+broken_is_not_asked e = true≢false (sym (ap is_asked e))
+
+-- after a refusal
+pub ended_refused : {R W : Type 0} (remaining : R → Option (List ℕ)) (contents : W → Option (List ℕ)) (old : Place R W) (reader : TrackedReading R) (writer : TrackedWriting W) (end : End)
+    (text : List ℕ) → Reads remaining old.1 reader [] → reader.failed ≡ false → NoRequest old.0 text Asked → EndsAfter contents text old.2 writer end → Ended remaining contents old reader writer end
+ended_refused remaining contents old reader writer end text reads works n (handed, inl (e, h)) =
+    let ends : EndsSo old.0 (contents old.2.inner) (contents writer.inner) end = subst (EndsSo old.0 (contents old.2.inner) (contents writer.inner)) (sym e) (text, n, h) in
+    ended_now remaining contents old reader writer end [] reads refl (λ p. absurd (not_asked p)) ends (works ∙ sym (ap is_read_fault e)) handed
+  where
+    not_asked : IsPause end → ⊥
+    not_asked (inl p) = closed_is_not_asked (sym p ∙ e)
+    not_asked (inr p) = broken_is_not_asked (sym p ∙ e)
+ended_refused remaining contents old reader writer end text reads works n (handed, inr (e, h)) =
+    let ends : EndsSo old.0 (contents old.2.inner) (contents writer.inner) end = subst (EndsSo old.0 (contents old.2.inner) (contents writer.inner)) (sym e) (Asked, text, n, h) in
+    ended_now remaining contents old reader writer end [] reads refl (λ p. absurd (true≢false (sym (ap is_write_fault e) ∙ sym (no_fault end p).1))) ends (works ∙ sym (ap is_read_fault e)) handed
+
+-- what waits, where no more comes
+pub waits_none : (input : List ℕ) → input ≡ [] → NoRequest input [] Closed
+waits_none input e = at_end e refl refl
+
+pub waits_some : (input : List ℕ) → Waits input → (input ≡ [] → ⊥) → NoRequest input [] Broken
+waits_some input (inl e) some = absurd (some e)
+waits_some input (inr e) some = cut_in_head e refl refl
+
+pub heading_more : (input more : List ℕ) (h : RequestHead) (heading : Heading) → HasHeading input h heading → HasHeading (input ++ more) h heading
+heading_more input more h heading x = record {
+  begins = subst (λ (r : List ℕ). Begins (input ++ more) h r) (sym (drop-append-le heading.head input more x.within)) (begins_more input more h _ x.begins);
+  within = omega (arith, x.within, length-append input more);
+  short = x.short;
+  heads = x.heads;
+}
+
+-- the body has not come whole
+pub body_cut : (input : List ℕ) (h : RequestHead) (heading : Heading) → HasHeading input h heading → length input < heading.head + heading.body → NoRequest input [] Broken
+body_cut input h heading x short = cut_in_body h (drop heading.head input) heading.body x.begins x.heads.frames x.heads.fits (omega (arith, short, x.within, length-drop heading.head input)) refl refl
+
+module _ {R W : Type 0} (remaining : R → Option (List ℕ)) (contents : W → Option (List ℕ)) where
+  -- nothing was read yet
+  pub read_on_none : (at : Place R W) → at.1.failed ≡ false → at.2.failed ≡ false → ReadOn remaining contents at at
+  read_on_none at r w = record {
+    more = [];
+    reads = consumes_none _ _ (Keeps-refl _);
+    holds = sym (append-nil at.0);
+    keeps = Keeps-refl _;
+    reader_works = r;
+    writer_works = w;
+  }
+
+  -- and then more
+  pub read_on_more : (a b c : Place R W) → ReadOn remaining contents a b → ReadOn remaining contents b c → ReadOn remaining contents a c
+  read_on_more a b c p q = record {
+    more = p.more ++ q.more;
+    reads = Consumes-trans _ _ _ _ _ p.reads q.reads;
+    holds = q.holds ∙ ap (λ m. m ++ q.more) p.holds ∙ append_assoc a.0 p.more q.more;
+    keeps = Keeps-trans _ _ _ p.keeps q.keeps;
+    reader_works = q.reader_works;
+    writer_works = q.writer_works;
+  }
+
+  -- and then the end
+  pub ended_later : (a b : Place R W) (reader : TrackedReading R) (writer : TrackedWriting W) (end : End) → ReadOn remaining contents a b
+      → Ended remaining contents b reader writer end → Ended remaining contents a reader writer end
+  ended_later a b reader writer end p e = record {
+    more = p.more ++ e.more;
+    reads = Consumes-trans _ _ _ _ _ p.reads e.reads;
+    all = e.all;
+    ends = ends_kept _ _ _ (contents writer.inner) end (ap (λ m. m ++ e.more) p.holds ∙ append_assoc a.0 p.more e.more) p.keeps e.ends;
+    reader_failed = e.reader_failed;
+    handed_on = e.handed_on;
+  }

@@ -1,0 +1,11 @@
+-- More was read, and nothing written.
+use Rattle.std.proofs.Common.{◌-◌, ◌^◌}
+use Rattle.http_api.specs.inside.Held.{held}
+use Rattle.http_api.specs.inside.Receiving.{ReadOn}
+use Rattle.http_api.proofs.receive.receive_head.Given as goal
+
+abbrev pub invariant-loop-heading : goal.invariant-loop-heading
+invariant-loop-heading g l = ReadOn g.R.Read.remaining g.W.Write.contents (held l.fn.inbox, l.fn.reader, l.fn.writer) (held l.inbox, l.reader, l.writer)
+
+abbrev pub decreases-loop-heading : goal.decreases-loop-heading
+decreases-loop-heading g l = (2 ^ 64 - 1) - l.reader.turns

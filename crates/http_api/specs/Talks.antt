@@ -1,0 +1,25 @@
+-- What was read, answered and written when a connection ends.
+use Rattle.std.specs.Prelude.{ℕ, ◌⊎◌, List, Option}
+use Rattle.std.specs.Io.KnownBytes.{Appends}
+use Rattle.http_api.specs.declared.end.End.{End}
+use Rattle.http_api.specs.declared.end.End.TheVariants.{Closed, Broken}
+use Rattle.http_api.specs.Machine.{Step}
+use Rattle.tracked_io.specs.Wrote.{WroteSome}
+use Rattle.http_api.specs.Connection.{Next, stop, Text}
+
+-- the text of the connection over this input was written, and it ends so
+pub record Talked {S : Type 0} (step : Step S) (s : S) (held : Option (List ℕ)) (input : List ℕ) (t : S) (holds : Option (List ℕ)) (end : End) : Type 0 where
+  pub text : List ℕ
+  pub is_text : Text step s input text t (stop end)
+  pub wrote : Appends held holds text
+
+-- the text of the connection over this input was written, as if the input had ended here
+abbrev pub TalkedSoFar : {S : Type 0} → Step S → S → Option (List ℕ) → List ℕ → S → Option (List ℕ) → Type 0
+TalkedSoFar step s held input t holds = Talked step s held input t holds Closed ⊎ Talked step s held input t holds Broken
+
+-- a beginning was written of the text of the first requests in this input
+pub record TalkCut {S : Type 0} (step : Step S) (s : S) (held : Option (List ℕ)) (input : List ℕ) (t : S) (holds : Option (List ℕ)) : Type 0 where
+  pub text : List ℕ
+  pub next : Next
+  pub is_text : Text step s input text t next
+  pub wrote : WroteSome held holds text

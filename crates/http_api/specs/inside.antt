@@ -1,0 +1,7 @@
+-- What no promise rests on, which a reader of the promises can pass over.
+pub mod Finding
+pub mod Held
+pub mod Looking
+pub mod Receiving
+pub mod Settling
+pub mod Going

@@ -1,0 +1,32 @@
+-- A connection that has come so far.
+use Rattle.std.specs.Prelude.{ℕ, ◌≡◌, List, false, Option}
+use Rattle.std.specs.Io.KnownBytes.{Appends}
+use Rattle.tracked_io.specs.Tracking.{TrackedReading, TrackedWriting, Reads, ReadsAll}
+use Rattle.http_api.specs.declared.end.End.{End}
+use Rattle.http_api.specs.declared.end.End.TheVariants.{Closed, Asked, Broken, ReadFault, WriteFault, Memory}
+use Rattle.http_api.specs.Machine.{Step}
+use Rattle.http_api.specs.Connection.{Goes}
+use Rattle.http_api.specs.Talks.{Talked, TalkedSoFar, TalkCut}
+
+-- the machine, the reader and the writer
+abbrev pub State : Type 0 → Type 0 → Type 0 → Type 0
+State S R W = S × TrackedReading R × TrackedWriting W
+
+-- so many requests were answered and their replies written, and these bytes wait
+pub record Going {S R W : Type 0} (step : Step S) (remaining : R → Option (List ℕ)) (contents : W → Option (List ℕ)) (first : State S R W) (count : ℕ) (waiting : List ℕ) (now : State S R W) : Type 0 where
+  pub input : List ℕ
+  pub text : List ℕ
+  pub reads : Reads remaining first.1 now.1 input
+  pub goes : Goes step first.0 1 count input waiting text now.0
+  pub wrote : Appends (contents first.2.inner) (contents now.2.inner) text
+  pub reader_works : now.1.failed ≡ false
+  pub writer_works : now.2.failed ≡ false
+
+-- what was read, answered and written where a connection ends so, but for want of memory at its beginning
+abbrev pub Finished : {S R W : Type 0} → Step S → (R → Option (List ℕ)) → (W → Option (List ℕ)) → State S R W → State S R W → End → Type 0
+Finished step remaining contents (s, reader, writer) (t, read, written) Closed = (input : List ℕ) × ReadsAll remaining reader read input × Talked step s (contents writer.inner) input t (contents written.inner) Closed
+Finished step remaining contents (s, reader, writer) (t, read, written) Broken = (input : List ℕ) × ReadsAll remaining reader read input × Talked step s (contents writer.inner) input t (contents written.inner) Broken
+Finished step remaining contents (s, reader, writer) (t, read, written) Asked = (input : List ℕ) × Reads remaining reader read input × Talked step s (contents writer.inner) input t (contents written.inner) Asked
+Finished step remaining contents (s, reader, writer) (t, read, written) Memory = (input : List ℕ) × Reads remaining reader read input × Talked step s (contents writer.inner) input t (contents written.inner) Memory
+Finished step remaining contents (s, reader, writer) (t, read, written) ReadFault = (input : List ℕ) × Reads remaining reader read input × TalkedSoFar step s (contents writer.inner) input t (contents written.inner)
+Finished step remaining contents (s, reader, writer) (t, read, written) WriteFault = (input : List ℕ) × Reads remaining reader read input × TalkCut step s (contents writer.inner) input t (contents written.inner)

@@ -1,0 +1,53 @@
+//! The head of a request at the front of some bytes.
+ghost use Rattle.std.specs.Prelude.{◌≡◌, ◌<◌, length, drop, take};
+ghost use Rattle.httparse.specs.Grammar.{RequestHead, HasNoRequest, MayBecomeRequest};
+ghost use Rattle.httparse.specs.Spans.{IsRequestAt, IsRequestWithin};
+ghost use Rattle.http_api.specs.Heads.{Begins, IsHopeless, max_head};
+ghost use Rattle.http_api.specs.inside.Finding.{IfHead, OnHopeless, OnUnfinished};
+
+use httparse::Status;
+use httparse::spans::{HeaderSpan, RequestSpans, parse_request};
+
+const MAX_HEAD: usize = 8_192;
+
+/// What stands at the front of the bytes.
+pub enum Front {
+    /// A head, whose parts lie so.
+    Head(RequestSpans),
+    /// The beginning of a head.
+    Unfinished,
+    /// What no bytes can make a head.
+    Hopeless,
+}
+
+/// Looks for a head at the front of the bytes.
+pub fn find_head(bytes: &[u8], fields: &mut [HeaderSpan; 64]) -> Front
+    ensures head { IfHead result (λ spans. (h : RequestHead) × Begins bytes.now h (drop spans.len bytes.now) × IsRequestAt (take max_head bytes.now) fields.new spans h
+        × IsRequestWithin (take max_head bytes.now) fields.new spans) }
+    ensures unfinished { OnUnfinished result ((length bytes.now < max_head) × HasNoRequest bytes.now × MayBecomeRequest bytes.now) }
+    ensures hopeless { OnHopeless result (IsHopeless bytes.now) }
+{
+    let short = bytes.len() < MAX_HEAD;
+    match parse_request(first_bytes(bytes), fields) {
+        Ok(Status::Complete(head)) => Front::Head(head),
+        Ok(Status::Partial) => {
+            if short {
+                Front::Unfinished
+            } else {
+                Front::Hopeless
+            }
+        }
+        Err(_) => Front::Hopeless,
+    }
+}
+
+/// As many as a head may have.
+pub fn first_bytes(bytes: &[u8]) -> &[u8]
+    ensures { result.now ≡ take max_head bytes.now }
+{
+    if bytes.len() < MAX_HEAD {
+        bytes
+    } else {
+        &bytes[..MAX_HEAD]
+    }
+}
