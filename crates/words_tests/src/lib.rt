@@ -1,7 +1,9 @@
-//! Tests of the words, of the lines that bring them and of replies, `names`, `http_api`, `zanz_core` and `bodies`, by their
+//! Tests of the words, of the lines and the connections that bring them and of replies, `names`, `http_api`, `zanz_core` and `bodies`, by their
 //! public calls: what no run of the program shows.
 #![tactic(auto)]
 
+#[cfg(test)]
+mod connections;
 #[cfg(test)]
 mod lines;
 #[cfg(test)]

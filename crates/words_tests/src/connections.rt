@@ -1,0 +1,327 @@
+//! Connections over HTTP, whose input comes in pieces of any size.
+
+use http_api::{Answers, End, serve};
+use names::{Call, Reply};
+use std::alloc::Global;
+use std::io;
+use std::io::{ErrorKind, Read};
+use std::process::Abort;
+use std::test::Fail;
+use tracked_io::{TrackedReader, TrackedWriter};
+
+/// Answers each call with its body, and `write` with nothing.
+#[derive(Drop)]
+struct Echo(Global);
+
+impl Answers for Echo {
+    ghost use Rattle.std.specs.Prelude.{⊤};
+
+    ghost step = { λ s call body told t. ⊤ };
+
+    fn answer(&mut self, call: Call, body: &[u8]) -> Reply {
+        if call == Call::Write {
+            return Reply::NoMemory;
+        }
+        match Vec::from_slice(self.0, body) {
+            Ok(body) => Reply::Said { status: 200, body },
+            Err(_) => Reply::NoMemory,
+        }
+    }
+}
+
+/// A reader that gives few bytes at a time, and fails in the place of its end where it is to.
+#[derive(Drop)]
+struct Slow<'a> {
+    bytes: &'a [u8],
+    most: usize,
+    fails: bool,
+}
+
+impl<'a> Read for Slow<'a> {
+    fn read(&mut self, buf: &mut [u8]) -> io::Result<usize> {
+        if self.fails && self.bytes.is_empty() {
+            return Err(io::Error::from(ErrorKind::BrokenPipe));
+        }
+        let most = buf.len().min(self.most);
+        self.bytes.read(&mut buf[..most])
+    }
+}
+
+fn check<R: Abort>(rt: &R, alloc: Global, input: &str, want_end: End, want: &str) {
+    for most in [1usize, 2, 7, 100_000] {
+        let bytes = input.as_bytes();
+        let mut reader = TrackedReader::new(Slow {
+            bytes,
+            most,
+            fails: false,
+        });
+        let mut writer = TrackedWriter::new(Vec::new(alloc));
+        let end = serve(alloc, &mut reader, &mut writer, &mut Echo(alloc));
+        assert_eq!(rt;
+            writer.inner().as_slice(),
+            want.as_bytes(),
+            "{input} by {most}"
+        );
+        assert_eq!(rt; end, want_end, "{input} by {most}");
+    }
+}
+
+const OK3: &str =
+    "HTTP/1.1 200 OK\r\nContent-Type: application/json\r\nContent-Length: 3\r\n\r\nabc";
+
+const OK3_CLOSED: &str =
+    "HTTP/1.1 200 OK\r\nContent-Type: application/json\r\nContent-Length: 3\r\nConnection: close\r\n\r\nabc";
+
+const BAD: &str =
+    "HTTP/1.1 400 Bad Request\r\nContent-Type: application/json\r\nContent-Length: 39\r\nConnection: close\r\n\r\n{\"error\":{\"code\":1,\"name\":\"Malformed\"}}";
+
+const LARGE: &str =
+    "HTTP/1.1 413 Content Too Large\r\nContent-Type: application/json\r\nContent-Length: 42\r\nConnection: close\r\n\r\n{\"error\":{\"code\":0,\"name\":\"BodyTooLarge\"}}";
+
+const NO_LENGTH: &str =
+    "HTTP/1.1 411 Length Required\r\nContent-Type: application/json\r\nContent-Length: 44\r\nConnection: close\r\n\r\n{\"error\":{\"code\":0,\"name\":\"LengthRequired\"}}";
+
+const NONE: &str =
+    "HTTP/1.1 404 Not Found\r\nContent-Type: application/json\r\nContent-Length: 37\r\n\r\n{\"error\":{\"code\":0,\"name\":\"NoRoute\"}}";
+
+const MEMORY: &str =
+    "HTTP/1.1 503 Service Unavailable\r\nContent-Type: application/json\r\nContent-Length: 37\r\nConnection: close\r\n\r\n{\"error\":{\"code\":21,\"name\":\"Memory\"}}";
+
+#[test]
+fn one_request(rt: HostRuntime) {
+    check(&rt, rt.alloc(), "", End::Closed, "");
+    check(
+        &rt,
+        rt.alloc(),
+        "POST /v1/check HTTP/1.1\r\nContent-Length: 3\r\n\r\nabc",
+        End::Closed,
+        OK3,
+    );
+    check(
+        &rt,
+        rt.alloc(),
+        "\r\n\nPOST /v1/check HTTP/1.1\ncontent-LENGTH:\t003 \n\nabc",
+        End::Closed,
+        OK3,
+    );
+    check(
+        &rt,
+        rt.alloc(),
+        "POST /v1/check HTTP/1.1\r\nContent-Length: 3\r\n\r\nab",
+        End::Broken,
+        "",
+    );
+    check(
+        &rt,
+        rt.alloc(),
+        "POST /v1/check HTTP/1.1\r\nContent-Length: 3\r\n",
+        End::Broken,
+        "",
+    );
+    check(&rt, rt.alloc(), "POST /v1/che", End::Broken, "");
+    check(
+        &rt,
+        rt.alloc(),
+        "POST /v1/check HTTP/1.0\r\nContent-Length: 3\r\n\r\nabcPOST",
+        End::Asked,
+        OK3_CLOSED,
+    );
+    check(
+        &rt,
+        rt.alloc(),
+        "POST /v1/check HTTP/1.1\r\nConnection: Close\r\nContent-Length: 3\r\n\r\nabc",
+        End::Asked,
+        OK3_CLOSED,
+    );
+    check(
+        &rt,
+        rt.alloc(),
+        "POST /v1/check HTTP/1.1\r\nConnection: close, te\r\nContent-Length: 3\r\n\r\nabc",
+        End::Closed,
+        OK3,
+    );
+}
+
+#[test]
+fn refusals(rt: HostRuntime) {
+    for length in ["", "41,41", "00000000000000000041", "+3", "3 3", "-1"] {
+        let alloc = rt.alloc();
+        let input = format!(in alloc;
+            "POST /v1/check HTTP/1.1\r\nContent-Length: {length}\r\n\r\nabc"
+        ).unwrap_or(String::new(alloc));
+        check(&rt, rt.alloc(), input.as_str(), End::Asked, BAD);
+    }
+    check(
+        &rt,
+        rt.alloc(),
+        "POST /v1/check HTTP/1.1\r\nContent-Length: 9999999999999999999\r\n\r\nabc",
+        End::Asked,
+        LARGE,
+    );
+    check(
+        &rt,
+        rt.alloc(),
+        "POST /v1/check HTTP/1.1\r\nContent-Length: 3\r\nContent-Length: 3\r\n\r\nabc",
+        End::Asked,
+        BAD,
+    );
+    check(
+        &rt,
+        rt.alloc(),
+        "POST /v1/check HTTP/1.1\r\nTransfer-Encoding: chunked\r\nContent-Length: 3\r\n\r\nabc",
+        End::Asked,
+        BAD,
+    );
+    check(
+        &rt,
+        rt.alloc(),
+        "POST /v1/check HTTP/1.1\r\nHost: x\r\n\r\nabc",
+        End::Asked,
+        NO_LENGTH,
+    );
+    check(
+        &rt,
+        rt.alloc(),
+        "GET /v1/check HTTP/1.1\r\n\r\n",
+        End::Closed,
+        NONE,
+    );
+    check(
+        &rt,
+        rt.alloc(),
+        "POST /v1/check/ HTTP/1.1\r\nContent-Length: 3\r\n\r\nabc",
+        End::Closed,
+        NONE,
+    );
+    check(
+        &rt,
+        rt.alloc(),
+        "POST /v1/check?x=1 HTTP/1.1\r\nContent-Length: 3\r\n\r\nabc",
+        End::Closed,
+        NONE,
+    );
+    check(
+        &rt,
+        rt.alloc(),
+        "P@ST /v1/check HTTP/1.1\r\n",
+        End::Asked,
+        BAD,
+    );
+    check(
+        &rt,
+        rt.alloc(),
+        "POST /v1/write HTTP/1.1\r\nContent-Length: 3\r\n\r\nabcPOST",
+        End::Memory,
+        MEMORY,
+    );
+}
+
+#[test]
+fn two_requests(rt: HostRuntime) -> Result<(), Fail> {
+    let alloc = rt.alloc();
+    let want = format!(in alloc; "{OK3}{NONE}")?;
+    check(
+        &rt,
+        alloc,
+        "POST /v1/check HTTP/1.1\r\nContent-Length: 3\r\n\r\nabcPOST /v1/x HTTP/1.1\r\nContent-Length: 2\r\n\r\nab",
+        End::Closed,
+        want.as_str(),
+    );
+    Ok(())
+}
+
+fn long_head(alloc: Global, len: usize) -> String {
+    let mut input = String::new(alloc);
+    let _ = input.push_str("POST /v1/check HTTP/1.1\r\nContent-Length: 3\r\nX: ");
+    for _ in input.len()..len.saturating_sub(4) {
+        let _ = input.push('x');
+    }
+    let _ = input.push_str("\r\n\r\nabc");
+    input
+}
+
+#[test]
+fn long_heads(rt: HostRuntime) {
+    let alloc = rt.alloc();
+    check(
+        &rt,
+        rt.alloc(),
+        long_head(alloc, 8192).as_str(),
+        End::Closed,
+        OK3,
+    );
+    check(
+        &rt,
+        rt.alloc(),
+        long_head(alloc, 8193).as_str(),
+        End::Asked,
+        BAD,
+    );
+}
+
+fn many_fields(alloc: Global, count: usize) -> String {
+    let mut input = String::new(alloc);
+    let _ = input.push_str("POST /v1/check HTTP/1.1\r\n");
+    for _ in 1..count {
+        let _ = input.push_str("X: y\r\n");
+    }
+    let _ = input.push_str("Content-Length: 3\r\n\r\nabc");
+    input
+}
+
+#[test]
+fn fields(rt: HostRuntime) {
+    let alloc = rt.alloc();
+    check(
+        &rt,
+        rt.alloc(),
+        many_fields(alloc, 64).as_str(),
+        End::Closed,
+        OK3,
+    );
+    check(
+        &rt,
+        rt.alloc(),
+        many_fields(alloc, 65).as_str(),
+        End::Asked,
+        BAD,
+    );
+}
+
+#[test]
+fn targets_that_are_no_text(rt: HostRuntime) {
+    let alloc = rt.alloc();
+    for (bytes, want) in [
+        (b"POST /\xff".as_slice(), End::Broken),
+        (b"POST /\xff HTTP/1.1\r\n".as_slice(), End::Asked),
+    ] {
+        for most in [1usize, 100] {
+            let mut reader = TrackedReader::new(Slow {
+                bytes,
+                most,
+                fails: false,
+            });
+            let mut writer = TrackedWriter::new(Vec::new(alloc));
+            let end = serve(alloc, &mut reader, &mut writer, &mut Echo(alloc));
+            assert_eq!(rt; end, want);
+        }
+    }
+}
+
+#[test]
+fn a_reader_that_fails_is_told_after_whole_requests(rt: HostRuntime) {
+    let alloc = rt.alloc();
+    let bytes = b"POST /v1/check HTTP/1.1\r\nContent-Length: 3\r\n\r\nabcPOST /v1".as_slice();
+    for most in [1usize, 7, 100] {
+        let mut reader = TrackedReader::new(Slow {
+            bytes,
+            most,
+            fails: true,
+        });
+        let mut writer = TrackedWriter::new(Vec::new(alloc));
+        let end = serve(alloc, &mut reader, &mut writer, &mut Echo(alloc));
+        assert_eq!(rt; end, End::ReadFault);
+        assert_eq!(rt; writer.inner().as_slice(), OK3.as_bytes());
+        assert_eq!(rt; reader.has_failed(), true);
+    }
+}
