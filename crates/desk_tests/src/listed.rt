@@ -1,13 +1,13 @@
 //! Tables in memory that are loaded after a write: the program loads them while they are empty.
 
 use config::Config;
-use names::Commit;
 use std::alloc::Global;
 use tables::{Listed, Tables, TablesError};
+use tuple_keys::KeptCommit;
 
 fn stores_one(alloc: Global) -> Result<bool, TablesError> {
     let mut tables = Listed::new(alloc, 7);
-    let commit = Commit::Config(Config::empty(alloc));
+    let commit = KeptCommit::of_config(alloc, Config::empty(alloc))?;
     tables.write(1, &commit)?;
     let loaded = tables.load(alloc)?;
     let commits = loaded.commits.as_slice().len();

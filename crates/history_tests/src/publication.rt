@@ -6,6 +6,7 @@ use rows::{Loaded, events_of};
 use shown::{Event, Outcome, Posting, Question, World};
 use std::alloc::Global;
 use std::test::Fail;
+use tuple_keys::KeptCommit;
 use zookie::{Consistency, Zookie};
 
 const CONFIG: &str = r#"{"namespaces":{"group":{"member":{"types":["user"]}},"user":{}}}"#;
@@ -16,7 +17,7 @@ const ANN: &str = "group:a#member@user:ann";
 fn opening(alloc: Global) -> Result<Posting, Refusal> {
     let config = Config::from_json(alloc, CONFIG.as_bytes())?;
     let mut commits = Vec::new(alloc);
-    commits.push(Commit::Config(config))?;
+    commits.push(KeptCommit::of_config(alloc, config)?)?;
     Ok(Posting::Opening(Loaded {
         number: 1,
         floor: 0,
