@@ -7,7 +7,9 @@ use tuple_keys::KeptCommit;
 
 fn stores_one(alloc: Global) -> Result<bool, TablesError> {
     let mut tables = Listed::new(alloc, 7);
-    let commit = KeptCommit::of_config(alloc, Config::empty(alloc))?;
+    let Ok(commit) = KeptCommit::of_config(alloc, Config::empty(alloc)) else {
+        return Err(TablesError::Memory);
+    };
     tables.write(1, &commit)?;
     let loaded = tables.load(alloc)?;
     let commits = loaded.commits.as_slice().len();

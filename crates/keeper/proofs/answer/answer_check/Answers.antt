@@ -9,7 +9,7 @@ returns-in-Ok-check g c =
     check_done c.args.desk.now _ c.in-Ok.asked.0 c.in-Ok.asked.1 c.in-Ok.asked.2 c.number-store.result c.in-Ok-check.found.rev c.in-Ok-check.found.value _
     c.in-Ok.ensures.ok c.in-Ok-check.ensures.ok c.number-store.ensures.posted c.answer.ensures
 
-pub returns : goal.returns
-returns g c =
+pub returns-in-Err-check : goal.returns-in-Err-check
+returns-in-Err-check g c =
     check_not_done c.args.desk.now _ c.in-Ok.asked.0 c.in-Ok.asked.1 c.in-Ok.asked.2 c.number-store.result c.in-Err-check.refused.why c.in-Err-check.refused.at _
     c.in-Ok.ensures.ok c.in-Err-check.ensures.err c.number-store.ensures.posted c.refused_question.ensures

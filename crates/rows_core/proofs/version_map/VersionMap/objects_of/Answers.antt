@@ -3,17 +3,14 @@ use Rattle.std.specs.Prelude.{Option, false}
 use Rattle.std.specs.List.{starts_with}
 use Rattle.std.specs.Option.{option_to_list}
 use Rattle.std.proofs.Math.Dec.{eqb}
-use Rattle.names.specs.Spelling.{IsSubject}
 use Rattle.names.specs.declared.object.Object.{Object}
-use Rattle.names.specs.declared.subject.Subject.{Subject}
 use Rattle.names.specs.declared.tuple.Tuple.{Tuple}
 use Rattle.rows_core.specs.declared.version.Version.{Version}
 use Rattle.tuple_keys.specs.Spelled.{spelled_node}
 use Rattle.tuple_keys.specs.Named.{is_of}
 use Rattle.tuple_keys.specs.Named.{object_in}
-use Rattle.rows_core.specs.Texts.{AreSpelled}
 use Rattle.rows_core.proofs.Decoding.{sorted_view}
-use Rattle.tuple_keys.proofs.Prefixes.{node_begins, subject_after}
+use Rattle.tuple_keys.proofs.Prefixes.{node_begins}
 use Rattle.rows_core.proofs.Together.{from}
 use Rattle.rows_core.proofs.Going.{Left, left_first, left_none, left_past, left_more, left_late, first_rises, joined_starts}
 use Rattle.rows_core.proofs.version_map.VersionMap.objects_of.Goals as goal

@@ -1,16 +1,13 @@
-use Rattle.std.proofs.Common.{◌≡◌, ℕ, ◌++◌, ◌∷◌, List, [], ap, sym, subst, ◌∙◌}
+use Rattle.std.proofs.Common.{◌≡◌, ℕ, ◌++◌, ◌∷◌, List, [], ap, sym, ◌∙◌}
 use Rattle.std.specs.Prelude.{Option, false}
 use Rattle.std.specs.List.{starts_with}
 use Rattle.std.specs.Option.{option_to_list}
 use Rattle.std.proofs.Math.Dec.{eqb}
-use Rattle.names.specs.Spelling.{IsSubject}
 use Rattle.names.specs.declared.node.Node.{Node}
-use Rattle.names.specs.declared.subject.Subject.{Subject}
 use Rattle.names.specs.declared.tuple.Tuple.{Tuple}
 use Rattle.rows_core.specs.declared.version.Version.{Version}
 use Rattle.tuple_keys.specs.Spelled.{spelled_node}
 use Rattle.tuple_keys.specs.Named.{node_in, is_within}
-use Rattle.rows_core.specs.Texts.{AreSpelled}
 use Rattle.rows_core.proofs.Decoding.{sorted_view}
 use Rattle.tuple_keys.proofs.Prefixes.{namespace_begins}
 use Rattle.rows_core.proofs.Together.{from}
