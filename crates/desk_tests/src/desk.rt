@@ -3,10 +3,11 @@ ghost use Rattle.std.specs.Prelude.{◌≡◌};
 
 use config::Config;
 use keeper_core::{Desk, Opened, Receipt, StepPrefix};
-use names::{Commit, Items, Op, OpKind, Part, Refusal, Tuple, Write};
+use names::{Items, Op, OpKind, Part, Refusal, Tuple, Write};
 use rows::Loaded;
 use std::alloc::Global;
 use tables::{Listed, Tables, TablesError};
+use tuple_keys::KeptCommit;
 use zookie::Zookie;
 
 const GROUPS: &str = r#"{"namespaces":{"group":{"member":{"types":["user"]}},"user":{}}}"#;
@@ -34,7 +35,7 @@ impl Tables for Broken {
         }
     }
 
-    fn write(&mut self, _rev: u64, _commit: &Commit<Config>) -> Result<(), TablesError> {
+    fn write(&mut self, _rev: u64, _commit: &KeptCommit) -> Result<(), TablesError> {
         self.faults = self.faults.saturating_add(1);
         Err(TablesError::Fault)
     }

@@ -1,4 +1,4 @@
-use Rattle.std.proofs.Common.{◌≡◌, List, [], ap, refl, not, None}
+use Rattle.std.proofs.Common.{◌≡◌, List, [], ap, sym, subst, refl, not, None}
 use Rattle.std.specs.List.{find}
 use Rattle.names.specs.declared.tuple.Tuple.{Tuple}
 use Rattle.meaning.specs.Admits.{admits}
@@ -7,6 +7,8 @@ use Rattle.meaning.specs.Snap.{empty_snap}
 use Rattle.meaning.specs.TupleSet.{items}
 use Rattle.meaning.specs.Verdict.{in_the_way, or_else}
 use Rattle.meaning.proofs.TupleSets.{items_from_list}
+use Rattle.names.specs.declared.commit.Commit.{Commit}
+use Rattle.rows.specs.Follows.{IsNext}
 use Rattle.rows.specs.Retained.{empty_store}
 use Rattle.tables.proofs.Storing.{none_ordered}
 use Rattle.desk_tests.proofs.listed.stores_one.Goals as goal
@@ -16,4 +18,4 @@ can_follow : (config : Configured) → or_else (in_the_way (find (λ t. not (adm
 can_follow config = ap (λ (ts : List Tuple). or_else (in_the_way (find (λ t. not (admits config t)) ts)) None) (items_from_list [] none_ordered)
 
 pub write-requires : goal.write-requires
-write-requires c = (empty_store 7, c.new-tables.ensures, (can_follow c.empty.result, refl))
+write-requires c = (empty_store 7, c.new-tables.ensures, (subst (λ (m : Commit Configured). IsNext (empty_store 7) m) (sym c.in-Ok.ensures) (can_follow c.empty.result), refl))
