@@ -1,26 +1,26 @@
 //! The tuples of an object, where it has few.
-ghost use Rattle.std.specs.Prelude.{◌≡◌, ◌<◌, filter, length, IfOk, IfSome, IfNone};
+ghost use Rattle.std.specs.Prelude.{◌≡◌, ◌<◌, ◌++◌, ◌∷◌, [], filter, length, IfOk, IfSome, IfNone, OnOk};
 ghost use Rattle.std.specs.List.Sorted.{IsStrictlySortedBy};
 ghost use Rattle.names.specs.Order.{tuple_cmp};
 ghost use Rattle.rows_core.specs.Versions.{AreRising, keys, tuples_at};
 ghost use Rattle.tuple_keys.specs.Named.{is_at};
+ghost use Rattle.tuple_keys.specs.Spelled.{tuple_of, IsSpelling};
 
-use crate::lists::push_tuple;
 use crate::version_map::VersionMap;
-use names::{Object, Tuple};
+use names::Object;
 use std::alloc::{AllocError, Global};
-use tuple_keys::Start;
+use tuple_keys::{Start, TupleRef};
 
 impl VersionMap {
     /// The tuples of the object that stand at a revision, or `None` where the map has more than `most` of its
-    /// tuples. Their texts stand together: they begin with the object's.
+    /// tuples. Their texts stand together: they begin with the object's. None is copied.
     pub fn tuples_at_object(
         &self,
         alloc: Global,
         rev: u64,
         object: &Object,
         most: usize,
-    ) -> Result<Option<Vec<Tuple>>, AllocError>
+    ) -> Result<Option<Vec<TupleRef<'_>>>, AllocError>
         requires { AreRising self.now }
         ensures found { IfOk result (λ o. IfSome o (λ v. v.items ≡ filter (is_at object.now) (tuples_at self.now rev))) }
         ensures few { IfOk result (λ o. IfNone o (most < length (filter (is_at object.now) (keys self.now)))) }
@@ -39,9 +39,17 @@ impl VersionMap {
             }
             more -= 1;
             if versions.stands_at(rev) {
-                push_tuple(&mut tuples, text)?;
+                push_ref(&mut tuples, text)?;
             }
         }
         Ok(Some(tuples))
     }
+}
+
+fn push_ref<'a>(tuples: &mut Vec<TupleRef<'a>>, text: &'a str) -> Result<(), AllocError>
+    requires { IsSpelling text.now }
+    ensures { OnOk result (tuples.new.items ≡ tuples.old.items ++ tuple_of text.now ∷ []) }
+{
+    tuples.push(TupleRef::of(text))?;
+    Ok(())
 }

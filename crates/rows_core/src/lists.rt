@@ -69,7 +69,7 @@ impl VersionMap {
     }
 }
 
-pub(crate) fn push_tuple(tuples: &mut Vec<Tuple>, text: &str) -> Result<(), AllocError>
+fn push_tuple(tuples: &mut Vec<Tuple>, text: &str) -> Result<(), AllocError>
     requires { IsSpelling text.now }
     ensures { OnOk result (tuples.new.items ≡ tuples.old.items ++ tuple_of text.now ∷ []) }
 {

@@ -61,7 +61,7 @@ loop-text-preserved-in-Continue-1 c =
     let e : List ℕ × List Version = (c.in-Some.text.now, c.in-Some.versions.now) in
     let starts = joined_starts e.0 (spelled_object object) c.in-Some-rest_of.field-0.now (c.in-Some-rest_of.ensures.some ∙ ap (λ (l : List ℕ). l ++ c.in-Some-rest_of.field-0.now) c.of_object-least.ensures.text) in
     record {
-      left = left_more Some (spelled_object object) (is_at object) begins c.args.rev c.args.self.now [] c.loop-text.tuples.items c.loop-text.text-iterator c.loop-text.invariant.left e c.next.new.self c.in-Some.ensures.steps starts (sym c.stands_at.ensures ∙ c.if-stands_at.true) c.push_tuple.new.tuples.items c.in_ok-push_tuple.ensures;
+      left = left_more Some (spelled_object object) (is_at object) begins c.args.rev c.args.self.now [] c.loop-text.tuples.items c.loop-text.text-iterator c.loop-text.invariant.left e c.next.new.self c.in-Some.ensures.steps starts (sym c.stands_at.ensures ∙ c.if-stands_at.true) c.push_ref.new.tuples.items c.in_ok-push_ref.ensures;
       counted = counted_more (spelled_object object) (is_at object) begins c.args.self.now c.loop-text.text-iterator c.loop-text.invariant.left.spelled c.args.most c.loop-text.more c.loop-text.invariant.counted e c.next.new.self c.in-Some.ensures.steps starts c.if-more-eq0.false;
     }
 
