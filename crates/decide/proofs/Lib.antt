@@ -1,5 +1,6 @@
 pub mod Elements
 pub mod Nodes
+pub mod Few
 pub mod SearchLemmas
 pub mod Pushing
 pub mod Opening

@@ -3,5 +3,6 @@ pub mod Under
 pub mod Searches
 pub mod Reads
 pub mod Running
+pub mod Reading
 pub mod Asked
 pub mod Given

@@ -12,6 +12,7 @@ ghost use Rattle.decide.specs.inside.Running.{IsRunning};
 ghost use Rattle.decide.specs.inside.Asked.{IsSource, IsAsking};
 
 use crate::asking::{Asking, Found};
+use crate::facts::Facts;
 use crate::oracle::Oracle;
 use crate::rewrites::relation_gives;
 use crate::search::Search;
@@ -34,16 +35,19 @@ pub fn check_at<O: Oracle>(
     ensures known { OnOk result (has_relation view.now.config (rel_of node.now) ≡ true) }
     ensures err { IfErr result (CheckCause view.now node.now) }
 {
+    let facts = Facts::of(alloc, view);
     let source = Source {
         alloc,
         view,
+        facts: &facts,
         user,
         config: view.config(),
     };
-    match source.level_of(node) {
-        None => Err(Refusal::UnknownRelation),
-        Some(level) => Ok(is_member(&source, oracle, node, level)?),
-    }
+    let Some(level) = source.level_of(node) else {
+        return Err(Refusal::UnknownRelation);
+    };
+    let answer = is_member(&source, oracle, node, level)?;
+    Ok(answer)
 }
 
 /// Whether the user is a member of a node of the level. Each turn looks at one node. The count of turns stands
@@ -60,6 +64,7 @@ fn is_member<O: Oracle>(
     requires small { level < 2 ^ 32 }
     ensures { IfOk result (IsAnswer source.now.view.now source.now.user.now node.now) }
 {
+    let mut facts = Facts::of(source.alloc, source.view);
     let mut search = Search::new(source.alloc, level)?;
     let root = search.number_of(node, level)?;
     'turns: for _ in 0..u64::MAX {
@@ -68,7 +73,7 @@ fn is_member<O: Oracle>(
         }
         match search.next() {
             None => return Ok(search.is_sure(root)),
-            Some(number) => look(source, oracle, &mut search, number)?,
+            Some(number) => look(source, oracle, &mut facts, &mut search, number)?,
         }
     }
     Err(AllocError)
@@ -78,13 +83,16 @@ fn is_member<O: Oracle>(
 fn look<O: Oracle>(
     source: &Source,
     oracle: &mut O,
+    facts: &mut Facts,
     search: &mut Search,
     number: usize,
 ) -> Result<(), AllocError>
     requires source { IsSource source.now }
+    requires facts { facts.old ≡ source.now.view.now }
     requires tells { O.tells oracle.old source.now.view.now }
     requires number { number < length search.old.opened.items }
     requires running { IsRunning source.now.view.now source.now.user.now search.old (Some number) }
+    ensures facts { OnOk result (facts.new ≡ facts.old) }
     ensures running { OnOk result (IsRunning source.now.view.now source.now.user.now search.new None) }
     ensures numbers { OnOk result
         ((i k : ℕ) (n : NodeValue) → IsNumberOf search.old i n k → IsNumberOf search.new i n k) }
@@ -108,22 +116,29 @@ fn look<O: Oracle>(
                 level,
                 plain: true,
             };
-            step(source, search, &asking)?;
+            step(source, facts, search, &asking)?;
             Ok(())
         }
     }
 }
 
 /// Looks at what the node's rewrite gives.
-fn step(source: &Source, search: &mut Search, asking: &Asking) -> Result<(), AllocError>
+fn step(
+    source: &Source,
+    facts: &mut Facts,
+    search: &mut Search,
+    asking: &Asking,
+) -> Result<(), AllocError>
     requires source { IsSource source.now }
+    requires facts { facts.old ≡ source.now.view.now }
     requires asking { IsAsking source.now.view.now source.now.user.now search.old asking.now }
     requires plain { asking.now.plain ≡ true }
+    ensures facts { OnOk result (facts.new ≡ facts.old) }
     ensures running { OnOk result (IsRunning source.now.view.now source.now.user.now search.new None) }
     ensures numbers { OnOk result
         ((i k : ℕ) (n : NodeValue) → IsNumberOf search.old i n k → IsNumberOf search.new i n k) }
 {
-    match relation_gives(source, search, asking)? {
+    match relation_gives(source, facts, search, asking)? {
         Found::Yes => {
             search.give(asking.number)?;
             Ok(())

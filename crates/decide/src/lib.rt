@@ -6,7 +6,9 @@
 
 mod asking;
 mod deciding;
+mod facts;
 mod law;
+mod numbers;
 mod oracle;
 mod rewrites;
 mod search;

@@ -8,6 +8,7 @@ ghost use Rattle.decide.specs.inside.Reads.{AreOwn, AreNodesOf};
 ghost use Rattle.decide.specs.inside.Given.{Gave, BaseGives, HasNode, HasSome, RelationGave, opposite, no_or_later};
 
 use crate::asking::{Asking, Found};
+use crate::facts::Facts;
 use crate::search::{Parents, Search};
 use crate::source::{Source, node_of};
 use config_core::Rewrite;
@@ -93,10 +94,10 @@ fn own_of(
     if let Some(sets) = search.take_own(asking.number) {
         return Ok(Some(sets));
     }
-    if source.view.has(asking.node, source.user) {
+    if source.facts.has(asking.node, source.user) {
         return Ok(None);
     }
-    let sets = source.view.usersets_of(source.alloc, asking.node)?;
+    let sets = source.facts.usersets_of(asking.node)?;
     Ok(Some(sets))
 }
 
@@ -302,11 +303,14 @@ fn each_gives(
 /// Whether the rewrite of the node's own relation gives it the user.
 pub(crate) fn relation_gives(
     source: &Source,
+    facts: &mut Facts,
     search: &mut Search,
     asking: &Asking,
 ) -> Result<Found, AllocError>
     requires source { IsSource source.now }
+    requires facts { facts.old ≡ source.now.view.now }
     requires asking { IsAsking source.now.view.now source.now.user.now search.old asking.now }
+    ensures facts { OnOk result (facts.new ≡ facts.old) }
     ensures goes_on { OnOk result (GoesOn source.now.view.now source.now.user.now search.old search.new asking.now) }
     ensures found { IfOk result (RelationGave source.now.view.now source.now.user.now search.new asking.now) }
 {
@@ -314,6 +318,14 @@ pub(crate) fn relation_gives(
         return Ok(Found::No);
     };
     let relation = &source.config.relations()[place];
-    let found = gives(source, search, asking, &relation.rewrite)?;
+    facts.read_for(&relation.rewrite, &asking.node.object)?;
+    let known = Source {
+        alloc: source.alloc,
+        view: source.view,
+        facts,
+        user: source.user,
+        config: source.config,
+    };
+    let found = gives(&known, search, asking, &relation.rewrite)?;
     Ok(found)
 }

@@ -11,10 +11,13 @@ ghost use Rattle.decide.specs.inside.Searches.{Stands, IsStacked, Waits, Grew, I
 ghost use Rattle.decide.specs.inside.Reads.{AreOwn, AreParents};
 ghost use Rattle.decide.specs.inside.Running.{IsRunning};
 
+use crate::numbers::{Numbers, key_of};
 use names::{Name, Node};
 use std::alloc::{AllocError, Global};
-use std::collections::BTreeMap;
 use std::mem::replace;
+
+/// So many nodes are opened before the list of them grows.
+const ROOM: usize = 16;
 
 /// A node that was opened: its relation's level, whether it is known to have the user, the numbers of the
 /// nodes that wait for it, and what was read of it: the usersets of its own tuples, where none names the
@@ -49,7 +52,7 @@ struct Frame {
 pub(crate) struct Search {
     alloc: Global,
     opened: Vec<Opened>,
-    numbers: BTreeMap<Node, usize>,
+    numbers: Numbers,
     stacks: Vec<Vec<usize>>,
     frames: Vec<Frame>,
 }
@@ -64,32 +67,44 @@ impl Search {
     {
         Ok(Search {
             alloc,
-            opened: Vec::new(alloc),
-            numbers: BTreeMap::new(alloc),
+            opened: Vec::with_capacity(alloc, ROOM)?,
+            numbers: Numbers::new(alloc),
             stacks: empty_stacks(alloc, level)?,
             frames: Vec::new(alloc),
         })
     }
 
-    /// The number of a node that was opened.
-    fn seen(&self, node: &Node, level: usize) -> Option<usize>
-        ensures { IfSome result (λ i. IsNumberOf self.now i node.now level) }
+    /// The number of a node that was opened, or else a key that is free for it.
+    fn seen(&self, node: &Node, level: usize) -> Result<usize, u64>
+        ensures { IfOk result (λ i. IsNumberOf self.now i node.now level) }
     {
-        let Some(number) = self.numbers.get(node) else {
-            return None;
-        };
-        let number = *number;
+        let mut key = key_of(node);
+        'keys: for _ in 0..self.opened.len() {
+            let Some(number) = self.numbers.get(key) else {
+                return Err(key);
+            };
+            if self.is_number_of(number, node, level) {
+                return Ok(number);
+            }
+            key = key.wrapping_add(1);
+        }
+        Err(key)
+    }
+
+    fn is_number_of(&self, number: usize, node: &Node, level: usize) -> bool
+        ensures { IsTrue result → IsNumberOf self.now number node.now level }
+    {
         if number < self.opened.len() {
             let opened = &self.opened[number];
             if opened.node == *node && opened.level == level {
-                return Some(number);
+                return true;
             }
         }
-        None
+        false
     }
 
     /// Opens the node, which is to be looked at.
-    fn open(&mut self, node: &Node, level: usize) -> Result<usize, AllocError>
+    fn open(&mut self, node: &Node, level: usize, key: u64) -> Result<usize, AllocError>
         requires { level < length self.old.stacks.items }
         ensures { IfOk result (λ i. Opens self.old self.new node.now level i) }
     {
@@ -102,7 +117,7 @@ impl Search {
             own: None,
             parents: None,
         })?;
-        self.numbers.insert(node.clone()?, number)?;
+        self.numbers.insert(key, number)?;
         self.stacks[level].push(number)?;
         Ok(number)
     }
@@ -115,10 +130,11 @@ impl Search {
         ensures running { OnOk result ((S : Snap) (u : Object) (but : Option ℕ) → IsAt S.config node.now level
             → IsRunning S u self.old but → IsRunning S u self.new but) }
     {
-        if let Some(number) = self.seen(node, level) {
-            return Ok(number);
-        }
-        let number = self.open(node, level)?;
+        let key = match self.seen(node, level) {
+            Ok(number) => return Ok(number),
+            Err(key) => key,
+        };
+        let number = self.open(node, level, key)?;
         Ok(number)
     }
 

@@ -10,21 +10,23 @@ ghost use Rattle.names.specs.declared.node.Node.{Node};
 ghost use Rattle.decide.specs.inside.Asked.{IsSource};
 ghost use Rattle.decide.specs.inside.Reads.{AreNodesOf, node_with};
 
+use crate::facts::Facts;
 use config::Config;
 use names::{Name, Node, Object};
 use rows::View;
 use std::alloc::{AllocError, Global};
 
-/// A view with its configuration, and the user.
+/// A view with its configuration and what was read of it, and the user.
 #[derive(Clone, Copy)]
-pub(crate) struct Source<'a> {
+pub(crate) struct Source<'a, 'f> {
     pub(crate) alloc: Global,
     pub(crate) view: &'a View<'a>,
+    pub(crate) facts: &'f Facts<'a>,
     pub(crate) user: &'a Object,
     pub(crate) config: &'a Config,
 }
 
-impl<'a> Source<'a> {
+impl<'a, 'f> Source<'a, 'f> {
     /// The level of a node's relation, where it is there.
     pub(crate) fn level_of(&self, node: &Node) -> Option<usize>
         requires { IsSource self.now }
@@ -45,10 +47,11 @@ impl<'a> Source<'a> {
         tupleset: &Name,
         relation: &Name,
     ) -> Result<Vec<Node>, AllocError>
+        requires { IsSource self.now }
         ensures { IfOk result (λ v. AreNodesOf self.now.view.now node.now tupleset.now relation.now v.items) }
     {
         let from = node_of(&node.object, tupleset)?;
-        let objects = self.view.objects_of(self.alloc, &from)?;
+        let objects = self.facts.objects_of(&from)?;
         let nodes = nodes_of(self.alloc, &objects, relation)?;
         Ok(nodes)
     }

@@ -14,7 +14,9 @@ mod verdict;
 mod view;
 
 pub use events::events_of;
-pub use law::{refuses_what_no_write_gives, what_follows_has_room};
+pub use law::{
+    refuses_what_no_write_gives, revisions_hold_what_their_commits_give, what_follows_has_room,
+};
 pub use loaded::{Counts, Loaded};
 pub use rows::Rows;
 pub use view::View;

@@ -20,7 +20,7 @@ use names::{Commit, Event, Name, Node, Object, Tuple};
 use rows_core::VersionMap;
 use std::alloc::{AllocError, Global};
 use std::marker::Model;
-use tuple_keys::{KeptCommit, KeptEvents};
+use tuple_keys::{KeptCommit, KeptEvents, TupleRef};
 
 /// The history from the floor on.
 #[derive(Drop)]
@@ -198,7 +198,7 @@ impl Rows {
         rev: u64,
         object: &Object,
         most: usize,
-    ) -> Result<Option<Vec<Tuple>>, AllocError>
+    ) -> Result<Option<Vec<TupleRef<'_>>>, AllocError>
         requires { IsRetained self.now rev }
         ensures { IfOk result
             (λ o. IfSome o (λ v. v.items ≡ filter (is_at object.now) (set.items (snap_at self.now rev).tuples))) }

@@ -12,6 +12,7 @@ use config::Config;
 use names::{Name, Node, Object, SubjectType, Tuple};
 use std::alloc::{AllocError, Global};
 use std::marker::Model;
+use tuple_keys::TupleRef;
 
 /// What one retained revision holds: a snapshot (Zanzibar, section 2.2).
 #[derive(Drop)]
@@ -70,13 +71,13 @@ impl<'a> View<'a> {
     }
 
     /// The object's tuples, in order, where it has few: no more than `most` are gone over, those that were
-    /// deleted among them. Otherwise `None`.
+    /// deleted among them. Otherwise `None`. They are borrowed, and not read.
     pub fn few_of(
         &self,
         alloc: Global,
         object: &Object,
         most: usize,
-    ) -> Result<Option<Vec<Tuple>>, AllocError>
+    ) -> Result<Option<Vec<TupleRef<'a>>>, AllocError>
         ensures { IfOk result (λ o. IfSome o (λ v. v.items ≡ filter (is_at object.now) (set.items self.now.tuples))) }
     {
         self.rows.tuples_at_object(alloc, self.rev, object, most)

@@ -11,9 +11,10 @@ use Rattle.decide.specs.inside.Under.{Under}
 use Rattle.decide.specs.inside.Searches.{Waits, Grew, IsNumberOf}
 use Rattle.decide.specs.inside.Running.{IsRunning}
 
--- the configuration is that of the view
+-- the configuration, and what was read, are those of the view
 pub record IsSource (s : Source) : Type 0 where
   pub config : s.config.now ≡ s.view.now.config
+  pub facts : s.facts.now ≡ s.view.now
 
 -- Nodes below this level count: a part that is not subtracted looks up the node's own level, a subtracted one only those below it.
 abbrev pub high : Asking → ℕ

@@ -1,4 +1,4 @@
-use Rattle.std.proofs.Common.{None, refl}
+use Rattle.std.proofs.Common.{None, refl, ◌∙◌}
 use Rattle.decide.proofs.Turns.{running_new, root_answer, root_sure}
 use Rattle.decide.proofs.deciding.is_member.Goals as goal
 
@@ -8,6 +8,7 @@ turns-init g c = (
       (running_new c.args.source.now.view.now c.args.source.now.user.now c.in_ok-search.search c.in_ok-search.ensures.opened c.in_ok-search.ensures.stacked),
   c.in_ok-root.ensures.number,
   c.requires.tells,
+  c.of-facts.ensures,
 )
 
 pub returns-then-is_sure : goal.returns-then-is_sure
@@ -32,4 +33,5 @@ turns-preserved g c = (
   c.in_ok-look-in-Some.ensures.running,
   c.in_ok-look-in-Some.ensures.numbers c.in_ok-root.root c.args.level c.args.node.now (c.in-Some.ensures.numbers c.in_ok-root.root c.args.level c.args.node.now c.turns.invariant.1),
   c.in_ok-look-in-Some.ensures.tells,
+  c.in_ok-look-in-Some.ensures.facts ∙ c.turns.invariant.3,
 )

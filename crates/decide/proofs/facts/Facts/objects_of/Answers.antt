@@ -1,0 +1,18 @@
+use Rattle.std.proofs.Common.{subst}
+use Rattle.std.specs.Prelude.{◌↔◌, Contains, IfOk}
+use Rattle.names.specs.declared.object.Object.{Object}
+use Rattle.meaning.specs.Membership.{HasOne}
+use Rattle.meaning.specs.Snap.{Snap}
+use Rattle.decide.proofs.Few.{few_objects, ok_mapped}
+use Rattle.decide.proofs.facts.Facts.objects_of.Goals as goal
+
+pub returns-in-Some : goal.returns-in-Some
+returns-in-Some c =
+    let n = c.args.node.now in
+    let view = c.self.inside.view.now in
+    subst (λ (S : Snap). IfOk c.named_objects.result (λ v. (p : Object) → Contains v.items p ↔ HasOne S n p)) c.self.view_is
+    (ok_mapped c.named_objects.result _ _ (λ v named p. few_objects view n c.in-Some.few.now (c.in-Some.ensures view c.self.invariant) v.items named p) c.named_objects.ensures)
+
+pub returns-in-None : goal.returns-in-None
+returns-in-None c =
+    subst (λ (S : Snap). IfOk c.objects_of.result (λ v. (p : Object) → Contains v.items p ↔ HasOne S c.args.node.now p)) c.self.view_is c.objects_of.ensures

@@ -1,0 +1,26 @@
+use Rattle.std.proofs.Common.{subst}
+use Rattle.std.specs.Prelude.{Contains, IfOk}
+use Rattle.names.specs.declared.node.Node.{Node}
+use Rattle.meaning.specs.Config.{Has, rel_of}
+use Rattle.meaning.specs.Membership.{HasSet}
+use Rattle.meaning.specs.Snap.{Snap}
+use Rattle.decide.proofs.Few.{few_nodes, ok_mapped}
+use Rattle.decide.proofs.facts.Facts.usersets_of.Goals as goal
+
+pub returns-in-Some-clause-only : goal.returns-in-Some-clause-only
+returns-in-Some-clause-only c =
+    let n = c.args.node.now in
+    let view = c.self.inside.view.now in
+    subst (λ (S : Snap). IfOk c.named_nodes.result (λ v. (m : Node) → Contains v.items m → HasSet S n m)) c.self.view_is
+    (ok_mapped c.named_nodes.result _ _ (λ v named m at. (few_nodes view n c.in-Some.few.now (c.in-Some.ensures view c.self.invariant) v.items named m).0 at) c.named_nodes.ensures)
+
+pub returns-in-Some-clause-all : goal.returns-in-Some-clause-all
+returns-in-Some-clause-all c =
+    let n = c.args.node.now in
+    let view = c.self.inside.view.now in
+    subst (λ (S : Snap). IfOk c.named_nodes.result (λ v. (m : Node) → HasSet S n m → Has S.config (rel_of m) → Contains v.items m)) c.self.view_is
+    (ok_mapped c.named_nodes.result _ _ (λ v named m has _. (few_nodes view n c.in-Some.few.now (c.in-Some.ensures view c.self.invariant) v.items named m).1 has) c.named_nodes.ensures)
+
+pub returns-in-None-clause-only : goal.returns-in-None-clause-only
+returns-in-None-clause-only c =
+    subst (λ (S : Snap). IfOk c.usersets_of.result (λ v. (m : Node) → Contains v.items m → HasSet S c.args.node.now m)) c.self.view_is c.usersets_of.ensures.only

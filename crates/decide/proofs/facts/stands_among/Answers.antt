@@ -1,0 +1,23 @@
+use Rattle.std.proofs.Common.{◌≡◌, ap, ◌∙◌, sym, arith, ⊎_elim, get_or}
+use Rattle.std.proofs.lemmas.Bool.{false≢true, cases_lt}
+use Rattle.std.proofs.lemmas.List.{get_or_default}
+use Rattle.decide.proofs.facts.stands_among.Goals as goal
+
+pub loop-tuple-init : goal.loop-tuple-init
+loop-tuple-init c = λ k lt. absurd (omega (arith, lt))
+
+pub loop-tuple-preserved : goal.loop-tuple-preserved
+loop-tuple-preserved c = λ k lt is. ⊎_elim
+    (λ less. c.loop-tuple.invariant k less is)
+    (λ above.
+    let t = c.args.asked.now in
+    let here : k ≡ c.loop-tuple.tuple-index = omega (arith, above, lt) in
+    let same : c.tuple-item.result ≡ t = c.tuple-item.is ∙ get_or_default c.args.tuples.now c.loop-tuple.tuple-index c.tuple-item.result t c.loop-tuple-test.true ∙ ap (λ i. get_or c.args.tuples.now i t) (sym here) ∙ is in
+    false≢true (c.if-is_same.ensures.1 same))
+    (cases_lt k c.loop-tuple.tuple-index)
+
+pub returns : goal.returns
+returns c = (
+  λ false. absurd (false≢true false),
+  λ (k, lt, is). absurd (c.loop-tuple.invariant k (omega (arith, lt, c.loop-tuple-test.false)) is),
+)

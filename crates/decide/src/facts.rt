@@ -1,0 +1,293 @@
+//! What was read of a view. The tuples of an object stand together, and most objects have few: they are found
+//! once, for all of the object's relations, and borrowed.
+ghost use Rattle.std.specs.Prelude.{◌≡◌, ◌↔◌, ◌++◌, ◌∷◌, [], Contains, IfOk, IfSome, IsTrue, OnOk, filter};
+ghost use Rattle.meaning.specs.Config.{Has, rel_of};
+ghost use Rattle.meaning.specs.Membership.{HasOne, HasSet};
+ghost use Rattle.meaning.specs.Snap.{Snap};
+ghost use Rattle.meaning.specs.TupleSet as set;
+ghost use Rattle.names.specs.Spelling.{IsNode};
+ghost use Rattle.names.specs.declared.node.Node.{Node};
+ghost use Rattle.names.specs.declared.object.Object.{Object};
+ghost use Rattle.rows_core.specs.Named.{objects_in, nodes_in};
+ghost use Rattle.tuple_keys.specs.Named.{user_tuple, is_at, is_of};
+ghost use Rattle.tuple_keys.specs.Spelled.{spelled_node};
+ghost use Rattle.decide.specs.inside.Reading.{AreRead, IsReadAt};
+
+use crate::numbers::{Numbers, key_of_object};
+use config_core::Rewrite;
+use names::{Node, Object};
+use rows::View;
+use std::alloc::{AllocError, Global};
+use std::marker::Model;
+use tuple_keys::{Scratch, Start, TupleRef};
+
+/// So many tuples of an object are few.
+const FEW: usize = 8;
+
+/// What was read of an object: its tuples, where they are few.
+#[derive(Drop)]
+pub(crate) struct Read<'a> {
+    object: Object,
+    few: Option<Vec<TupleRef<'a>>>,
+}
+
+/// What was read, where an object's stands, and where that of the object stands that was asked for last.
+#[derive(Drop)]
+pub(crate) struct Reads<'a> {
+    read: Vec<Read<'a>>,
+    places: Numbers,
+    last: usize,
+}
+
+impl<'a> Reads<'a> {
+    /// Where what was read of the object stands, or else a key that is free for it.
+    fn seen(&self, object: &Object) -> Result<usize, u64>
+        ensures { IfOk result (IsReadAt self.now object.now) }
+    {
+        if self.is_read_at(self.last, object) {
+            return Ok(self.last);
+        }
+        let mut key = key_of_object(object);
+        'keys: for _ in 0..self.read.len() {
+            let Some(place) = self.places.get(key) else {
+                return Err(key);
+            };
+            if self.is_read_at(place, object) {
+                return Ok(place);
+            }
+            key = key.wrapping_add(1);
+        }
+        Err(key)
+    }
+
+    fn is_read_at(&self, place: usize, object: &Object) -> bool
+        ensures { IsTrue result → IsReadAt self.now object.now place }
+    {
+        place < self.read.len() && self.read[place].object == *object
+    }
+
+    /// The object's tuples, where they were read and are few.
+    fn few_of(&self, object: &Object) -> Option<&[TupleRef<'a>]>
+        ensures { IfSome result (λ ts. (S : Snap) → AreRead S self.now
+            → ts.now ≡ filter (is_at object.now) (set.items S.tuples)) }
+    {
+        let Ok(place) = self.seen(object) else {
+            return None;
+        };
+        match &self.read[place].few {
+            Some(few) => Some(few.as_slice()),
+            None => None,
+        }
+    }
+}
+
+/// A view, and what was read of it. Contracts see the view.
+#[derive(Drop)]
+pub(crate) struct Facts<'a> {
+    alloc: Global,
+    view: &'a View<'a>,
+    reads: Reads<'a>,
+}
+
+impl<'a> Model for Facts<'a> {
+    ghost use Rattle.meaning.specs.Snap.{Snap};
+    ghost use Rattle.meaning.specs.inside.Codes.{coded_snap};
+    ghost use Rattle.decide.specs.inside.Reading.{AreRead};
+
+    ghost Value = { Snap };
+
+    ghost coded = { coded_snap };
+
+    ghost view = { λ f. f.view.now };
+
+    ghost invariant = { λ f. AreRead f.view.now f.reads };
+}
+
+impl<'a> Facts<'a> {
+    /// Nothing was read.
+    pub(crate) fn of(alloc: Global, view: &'a View<'a>) -> Facts<'a>
+        ensures { result ≡ view.now }
+    {
+        let reads = Reads {
+            read: Vec::new(alloc),
+            places: Numbers::new(alloc),
+            last: 0,
+        };
+        Facts { alloc, view, reads }
+    }
+
+    /// Finds the object's tuples, where it has few, unless that was done. A rewrite that looks up the node
+    /// alone needs them not.
+    pub(crate) fn read_for(&mut self, rewrite: &Rewrite, object: &Object) -> Result<(), AllocError>
+        ensures { self.new ≡ self.old }
+    {
+        match rewrite {
+            Rewrite::This => Ok(()),
+            _ => read_object(self.alloc, self.view, &mut self.reads, object),
+        }
+    }
+
+    /// Whether the user has the node by a tuple of its own.
+    pub(crate) fn has(&self, node: &Node, user: &Object) -> bool
+        ensures { IsTrue result ↔ HasOne self.now node.now user.now }
+    {
+        match self.reads.few_of(&node.object) {
+            Some(few) => names_user(few, node, user),
+            None => self.view.has(node, user),
+        }
+    }
+
+    /// The nodes whose members the node's tuples name, as far as the configuration has their relations.
+    pub(crate) fn usersets_of(&self, node: &Node) -> Result<Vec<Node>, AllocError>
+        ensures only { IfOk result (λ v. (m : Node) → Contains v.items m → HasSet self.now node.now m) }
+        ensures all { IfOk result
+            (λ v. (m : Node) → HasSet self.now node.now m → Has self.now.config (rel_of m) → Contains v.items m) }
+    {
+        match self.reads.few_of(&node.object) {
+            Some(few) => named_nodes(self.alloc, few, node),
+            None => self.view.usersets_of(self.alloc, node),
+        }
+    }
+
+    /// The objects that the node's tuples name.
+    pub(crate) fn objects_of(&self, node: &Node) -> Result<Vec<Object>, AllocError>
+        ensures { IfOk result (λ v. (p : Object) → Contains v.items p ↔ HasOne self.now node.now p) }
+    {
+        match self.reads.few_of(&node.object) {
+            Some(few) => named_objects(self.alloc, few, node),
+            None => self.view.objects_of(self.alloc, node),
+        }
+    }
+}
+
+fn read_object<'a>(
+    alloc: Global,
+    view: &View<'a>,
+    reads: &mut Reads<'a>,
+    object: &Object,
+) -> Result<(), AllocError>
+    requires { AreRead view.now reads.old }
+    ensures { AreRead view.now reads.new }
+{
+    let key = match reads.seen(object) {
+        Ok(place) => {
+            reads.last = place;
+            return Ok(());
+        }
+        Err(key) => key,
+    };
+    let few = view.few_of(alloc, object, FEW)?;
+    let read = Read {
+        object: object.clone()?,
+        few,
+    };
+    let place = reads.read.len();
+    reads.places.insert(key, place)?;
+    reads.read.push(read)?;
+    reads.last = place;
+    Ok(())
+}
+
+/// Whether one of the tuples is the node's of the user.
+fn names_user(tuples: &[TupleRef<'_>], node: &Node, user: &Object) -> bool
+    ensures { IsTrue result ↔ Contains tuples.now (user_tuple node.now user.now) }
+{
+    let asked = Scratch::of_user(node, user);
+    stands_among(tuples, &asked.tuple_ref())
+}
+
+fn stands_among(tuples: &[TupleRef<'_>], asked: &TupleRef<'_>) -> bool
+    ensures { IsTrue result ↔ Contains tuples.now asked.now }
+{
+    for tuple in tuples {
+        if is_same(tuple, asked) {
+            return true;
+        }
+    }
+    false
+}
+
+fn is_same(tuple: &TupleRef<'_>, other: &TupleRef<'_>) -> bool
+    ensures { IsTrue result ↔ (tuple.now ≡ other.now) }
+{
+    tuple.as_str() == other.as_str()
+}
+
+/// The nodes whose members those of the tuples name that are the node's.
+fn named_nodes(alloc: Global, tuples: &[TupleRef<'_>], node: &Node) -> Result<Vec<Node>, AllocError>
+    ensures { IfOk result (λ v. v.items ≡ nodes_in (filter (is_of node.now) tuples.now)) }
+{
+    let start = Start::of_node(node);
+    let mut nodes = Vec::new(alloc);
+    for tuple in tuples {
+        push_node(&mut nodes, tuple, node, &start)?;
+    }
+    Ok(nodes)
+}
+
+/// Adds the node whose members the tuple names, where it is the node's and names those of one.
+fn push_node(
+    nodes: &mut Vec<Node>,
+    tuple: &TupleRef<'_>,
+    node: &Node,
+    start: &Start,
+) -> Result<(), AllocError>
+    requires start { start.now ≡ spelled_node node.now }
+    requires is { IsNode node.now }
+    ensures { OnOk result (nodes.new.items ≡ nodes.old.items ++ nodes_in (filter (is_of node.now) (tuple.now ∷ []))) }
+{
+    if is_of(tuple, node, start) {
+        if let Some(named) = tuple.subject().node() {
+            nodes.push(named)?;
+        }
+    }
+    Ok(())
+}
+
+/// The objects that those of the tuples name that are the node's.
+fn named_objects(
+    alloc: Global,
+    tuples: &[TupleRef<'_>],
+    node: &Node,
+) -> Result<Vec<Object>, AllocError>
+    ensures { IfOk result (λ v. v.items ≡ objects_in (filter (is_of node.now) tuples.now)) }
+{
+    let start = Start::of_node(node);
+    let mut objects = Vec::new(alloc);
+    for tuple in tuples {
+        push_object(&mut objects, tuple, node, &start)?;
+    }
+    Ok(objects)
+}
+
+/// Adds the object that the tuple names, where it is the node's and names one.
+fn push_object(
+    objects: &mut Vec<Object>,
+    tuple: &TupleRef<'_>,
+    node: &Node,
+    start: &Start,
+) -> Result<(), AllocError>
+    requires start { start.now ≡ spelled_node node.now }
+    requires is { IsNode node.now }
+    ensures { OnOk result (objects.new.items ≡ objects.old.items ++ objects_in (filter (is_of node.now) (tuple.now ∷ []))) }
+{
+    if is_of(tuple, node, start) {
+        let subject = tuple.subject();
+        if subject.relation().is_none() {
+            objects.push(subject.object())?;
+        }
+    }
+    Ok(())
+}
+
+/// Whether the tuple is the node's, with whose text it begins then.
+fn is_of(tuple: &TupleRef<'_>, node: &Node, start: &Start) -> bool
+    requires start { start.now ≡ spelled_node node.now }
+    requires is { IsNode node.now }
+    ensures { result ≡ is_of node.now tuple.now }
+{
+    match start.rest_of(tuple.as_str()) {
+        Some(_) => true,
+        None => false,
+    }
+}
