@@ -9,6 +9,7 @@ use Rattle.meaning.specs.TupleSet as set
 use Rattle.rows.specs.Retained.{Retained, empty_store, newest, newest_of}
 use Rattle.rows.specs.Follows.{IsNext}
 use Rattle.tables.specs.Storing.{CanStore}
+use Rattle.tables.specs.declared.puts.Puts.{Puts}
 use Rattle.store_core.specs.Steps.{new_store}
 use Rattle.store.specs.Written.{Written, IsSpan, IsSound, IsConfigAt, IsHistory}
 use Rattle.store.proofs.Causes.{accepted, accepted_config}
@@ -45,9 +46,9 @@ rev_most : (r : Retained) (commit : Commit Configured) → IsNext r commit → n
 rev_most r (kinds.Tuples es) next = (accepted (newest_of r) es next).revs
 rev_most r (kinds.Config config) next = (accepted_config (newest_of r) config next).revs
 
--- a revision that can be stored is far below the greatest integer of a row
-pub small_rev : (Holds : Retained → Type 0) (rev : ℕ) (commit : Commit Configured) → CanStore Holds rev commit → rev < 2 ^ 63
-small_rev Holds rev commit (r, held, next) = below (rev_most r commit next.0) next.1
+-- a revision that can be stored is above 0 and far below the greatest integer of a row
+pub small_rev : (Holds : Retained → Type 0) (rev : ℕ) (commit : Commit Configured) (puts : Puts) → CanStore Holds rev commit puts → (0 < rev) × (rev ≤ 2 ^ 40)
+small_rev Holds rev commit puts (r, held, next) = within (rev_most r commit next.0) next.1
   where
-    below : newest r + 1 ≤ MAX_REV → rev ≡ newest r + 1 → rev < 2 ^ 63
-    below most at = omega (arith, most, at)
+    within : newest r + 1 ≤ MAX_REV → rev ≡ newest r + 1 → (0 < rev) × (rev ≤ 2 ^ 40)
+    within most at = (omega (arith, at), omega (arith, most, at))

@@ -1,12 +1,13 @@
 -- What it says that a commit can follow.
 use Rattle.std.proofs.Common.{◌≡◌, ℕ, ◌+◌, ◌<◌, ◌≤◌, List, [], ◌∷◌, length, refl, sym, ap, subst, ◌∙◌, inl, inr, arith}
-use Rattle.std.specs.Prelude.{Bool, true, false, cond, not, ◌||◌, ◌⊎◌, map, nat_lt, Option, Some, None}
+use Rattle.std.specs.Prelude.{Bool, true, false, cond, not, ◌||◌, ◌⊎◌, map, nat_lt, nat_le, Option, Some, None}
 use Rattle.std.specs.List.{list_any, find, AllByRecursion}
 use Rattle.std.specs.List.Sorted.{IsStrictlySortedBy}
 use Rattle.std.specs.Ordering.{is_lt}
 use Rattle.std.specs.declared.cmp.Ordering.{Ordering}
 use Rattle.std.specs.declared.cmp.Ordering.TheVariants.{Less, Equal, Greater}
-use Rattle.std.proofs.lemmas.Bool.{true≢false, or_parts, and_parts, ltb-false, not-false, not_from_false}
+use Rattle.std.proofs.lemmas.List.{length-map}
+use Rattle.std.proofs.lemmas.Bool.{true≢false, or_parts, and_parts, leb-true, ltb-false, not-false, not_from_false}
 use Rattle.names.specs.declared.limits.TheConstants.{MAX_REV, MAX_ROWS, MAX_TUPLES}
 use Rattle.names.specs.Order.{tuple_cmp, is_same_tuple}
 use Rattle.names.specs.declared.tuple.Tuple.{Tuple}
@@ -146,6 +147,15 @@ accepted n es h =
           rows = at_most MAX_ROWS (n.rows + puts_in es) q.1;
           revs = at_most MAX_REV (n.rev + 1) p.1;
         }
+
+-- there are 256 at most
+pub few_events : (n : Newest) (es : List Event) → commit_cause n (kinds.Tuples es) ≡ None → length es ≤ 256
+few_events n es h =
+    let ops = map touch_of es in
+    let w = none_later (refused_if Malformed (not (is_in_order es))) (write_cause n ops) h in
+    let range = not-false (is_in_range ops) (not_refused Malformed (not (is_in_range ops)) (none_first _ _ w)) in
+    let most = leb-true (length ops) 256 (and_parts (nat_le 1 (length ops)) (nat_le (length ops) 256) range).1 in
+    omega (arith, most, length-map es touch_of)
 
 -- ---- configurations
 

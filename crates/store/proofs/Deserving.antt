@@ -1,6 +1,6 @@
 -- What a refusal says of a part says as much of the whole.
 use Rattle.std.proofs.Common.{◌≡◌, ℕ, ◌<◌, List, [], ◌∷◌, length, get_or, zero, suc, sym, ap, subst, inl, inr, arith}
-use Rattle.std.specs.Prelude.{Result, IfErr, map, All}
+use Rattle.std.specs.Prelude.{Result, Ok, Err, IfOk, IfErr, OnOk, map, All}
 use Rattle.std.proofs.lemmas.Result.{MatchResult-weaker}
 use Rattle.store.specs.Refused.{DeservedBy}
 use Rattle.store.specs.declared.unread.Unread.{Unread}
@@ -22,3 +22,11 @@ pub in_at : {A B : Type 0} (f : A → B) (xs : List A) (i : ℕ) (x : A) → i <
 in_at f [] i x lt is = absurd (omega (arith, lt))
 in_at f (y ∷ ys) zero x lt is = inl (ap f is)
 in_at f (y ∷ ys) (suc i) x lt is = inr (in_at f ys i x (omega (arith, lt)) is)
+
+pub if_both : {A E : Type 0} (r : Result A E) (P Q R : A → Type 0) → ((a : A) → P a → Q a → R a) → IfOk r P → IfOk r Q → IfOk r R
+if_both (Ok a) P Q R f p q = f a p q
+if_both (Err e) P Q R f p q = tt
+
+pub on_ok : {A E : Type 0} (r : Result A E) (P : Type 0) → P → OnOk r P
+on_ok (Ok a) P h = h
+on_ok (Err e) P h = tt

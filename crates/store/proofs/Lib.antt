@@ -8,8 +8,11 @@ pub mod Causes
 pub mod Following
 pub mod Configuring
 pub mod Spellings
+pub mod Begins
 pub mod Storing
+pub mod Fitting
 pub mod Leaving
+pub mod Leading
 pub mod Beginning
 pub mod Once
 pub mod Admitting

@@ -1,5 +1,5 @@
 -- What the statements make of the tables, as rows of tuples and configurations.
-use Rattle.std.proofs.Common.{◌≡◌, ℕ, ◌+◌, List, [], ◌∷◌, refl, sym, ap, subst, ◌∙◌, inl, inr}
+use Rattle.std.proofs.Common.{◌≡◌, ℕ, ◌+◌, ◌<◌, arith, List, [], ◌∷◌, refl, sym, ap, subst, ◌∙◌, inl, inr}
 use Rattle.std.specs.Prelude.{Bool, true, false, cond, ◌&&◌, ◌==◌, map, codes, IsPermutation, if◌then◌else◌}
 use Rattle.std.proofs.lemmas.List.Sorted.{IsPermutation-map, IsPermutation-cons}
 use Rattle.names.specs.Spelling.{IsTuple}
@@ -11,16 +11,24 @@ use Rattle.names.specs.declared.commit.EventKind.TheVariants.{Put, Del}
 use Rattle.names.specs.declared.commit.Commit.TheVariants as kinds
 use Rattle.meaning.specs.Config.{Configured}
 use Rattle.config.specs.Causes.{Accepts}
-use Rattle.rows.specs.Retained.{Retained, newest, with_commit}
+use Rattle.rows.specs.Retained.{Retained, newest, newest_of, with_commit}
 use Rattle.rows.specs.Follows.{IsNext}
+use Rattle.tables.specs.Storing.{IsNextAt, PutsAbsent}
+use Rattle.tables.specs.declared.puts.Puts.{Puts}
+use Rattle.tables.specs.declared.puts.Puts.TheVariants.{Absent, Any}
+use Rattle.store_core.specs.declared.stored.SpanChange.{SpanChange}
+use Rattle.store_core.specs.declared.stored.SpanChange.TheVariants.{Begins, BeginsAnew, Ends}
 use Rattle.store_core.specs.declared.stored.StoredEvent as stored
 use Rattle.store_core.specs.Stored as texts
 use Rattle.store_core.specs.Tables.{Span, Contents, after_close, with_value}
-use Rattle.store_core.specs.Steps.{after_event, after_events, after_write, after_configure, with_span, with_closed}
-use Rattle.store.specs.Written.{TupleSpan, Written, IsSpan, IsSound, IsWritten, IsHistory, history_of, span_of, config_row_of, entries_of, canonical}
-use Rattle.store.specs.inside.EventTexts.{event_texts, event_texts_in, is_put}
+use Rattle.store_core.specs.Steps.{after_change, after_event, after_events, after_write, after_configure}
+use Rattle.store.specs.Written.{TupleSpan, Written, IsSpan, IsSound, IsWritten, IsHistory, Pairwise, history_of, span_of, config_row_of, entries_of, canonical}
+use Rattle.store.specs.inside.EventTexts.{change_of, event_texts, event_texts_in}
 use Rattle.store.proofs.Picking.{In, all_in}
 use Rattle.store.proofs.Events.{ended, with_kind, with_event, with_events, ended_tuple}
+use Rattle.store.proofs.Begins.{IsShut, AreShut, ended_none, shut_puts, shut_rest}
+use Rattle.store.proofs.Causes.{accepted}
+use Rattle.store.proofs.Together.{are_other}
 use Rattle.store.proofs.Spellings.{same_texts}
 use Rattle.store.proofs.Following.{with_tuples, tuples_history, tuples_sound, newest_is}
 use Rattle.store.proofs.Configuring.{with_config, config_history, config_sound}
@@ -50,17 +58,19 @@ closes_all rev t (l ∷ ls) is_t are =
 same_as : {A : Type 0} (xs ys zs : List A) → IsPermutation xs ys → ys ≡ zs → IsPermutation xs zs
 same_as xs ys zs p e = subst (λ v. IsPermutation xs v) e p
 
-one_event : (rev : ℕ) (x : stored.StoredEvent) (e : Event) (ls : List TupleSpan) (h : Contents) → event_texts_in x ≡ event_texts e → IsTuple e.tuple → ((l : TupleSpan) → In l ls → IsTuple l.tuple)
-    → IsPermutation h.spans (map span_of ls) → IsPermutation (after_event rev x h).spans (map span_of (with_event rev ls e))
-one_event rev x e ls h is spelled are same =
-    subst (λ (p : Bool × Span). IsPermutation (if p.0 then with_span (at_rev p.1 rev) (with_closed (at_rev p.1 rev) rev h) else with_closed (at_rev p.1 rev) rev h).spans (map span_of (with_event rev ls e))) (sym is) (by_kind e.kind)
+one_event : (rev : ℕ) (puts : Puts) (x : stored.StoredEvent) (e : Event) (ls : List TupleSpan) (h : Contents) → event_texts_in x ≡ event_texts puts e → IsTuple e.tuple → ((l : TupleSpan) → In l ls → IsTuple l.tuple)
+    → (puts ≡ Absent → e.kind ≡ Put → IsShut e.tuple ls) → IsPermutation h.spans (map span_of ls) → IsPermutation (after_event rev x h).spans (map span_of (with_event rev ls e))
+one_event rev puts x e ls h is spelled are shut same =
+    subst (λ (p : SpanChange × Span). IsPermutation (after_change p.0 (at_rev p.1 rev) rev h).spans (map span_of (with_event rev ls e))) (sym is) (by_kind puts e.kind shut)
   where
     ends : IsPermutation (map (after_close (at_rev (texts_in e.tuple) rev) rev) h.spans) (map span_of (map (ended rev e.tuple) ls))
     ends = same_as _ _ _ (IsPermutation-map (after_close (at_rev (texts_in e.tuple) rev) rev) h.spans (map span_of ls) same) (closes_all rev e.tuple ls spelled are)
 
-    by_kind : (k : EventKind) → IsPermutation (if (is_put k) then with_span (at_rev (texts_in e.tuple) rev) (with_closed (at_rev (texts_in e.tuple) rev) rev h) else with_closed (at_rev (texts_in e.tuple) rev) rev h).spans (map span_of (with_kind k rev e.tuple ls))
-    by_kind Put = IsPermutation-cons (at_rev (texts_in e.tuple) rev) _ _ ends
-    by_kind Del = ends
+    by_kind : (p : Puts) (k : EventKind) → (p ≡ Absent → k ≡ Put → IsShut e.tuple ls) → IsPermutation (after_change (change_of p k) (at_rev (texts_in e.tuple) rev) rev h).spans (map span_of (with_kind k rev e.tuple ls))
+    by_kind Absent Put none = IsPermutation-cons (at_rev (texts_in e.tuple) rev) _ _ (same_as _ _ _ same (ap (map span_of) (sym (ended_none rev e.tuple ls (none refl refl)))))
+    by_kind Any Put none = IsPermutation-cons (at_rev (texts_in e.tuple) rev) _ _ ends
+    by_kind Absent Del none = ends
+    by_kind Any Del none = ends
 
 in_ended : (rev : ℕ) (t : Tuple) (ls : List TupleSpan) → ((l : TupleSpan) → In l ls → IsTuple l.tuple) → (m : TupleSpan) → In m (map (ended rev t) ls) → IsTuple m.tuple
 in_ended rev t [] are m i = absurd i
@@ -75,12 +85,12 @@ still_spelled rev Del t ls is are m i = in_ended rev t ls are m i
 -- ---- all events
 
 same_rest : (rev : ℕ) (h : Contents) (x : stored.StoredEvent) → ((after_event rev x h).configs ≡ h.configs) × ((after_event rev x h).entries ≡ h.entries)
-same_rest rev h x = by_put x.put
+same_rest rev h x = by_change x.change
   where
-    by_put : (b : Bool) → ((if b then with_span (texts.span_between x.tuple rev 0) (with_closed (texts.span_between x.tuple rev 0) rev h) else with_closed (texts.span_between x.tuple rev 0) rev h).configs ≡ h.configs)
-        × ((if b then with_span (texts.span_between x.tuple rev 0) (with_closed (texts.span_between x.tuple rev 0) rev h) else with_closed (texts.span_between x.tuple rev 0) rev h).entries ≡ h.entries)
-    by_put true = (refl, refl)
-    by_put false = (refl, refl)
+    by_change : (c : SpanChange) → ((after_change c (texts.span_between x.tuple rev 0) rev h).configs ≡ h.configs) × ((after_change c (texts.span_between x.tuple rev 0) rev h).entries ≡ h.entries)
+    by_change Begins = (refl, refl)
+    by_change BeginsAnew = (refl, refl)
+    by_change Ends = (refl, refl)
 
 -- after the events the contents are these spans, and the rest as before
 pub record Rows (old new : Contents) (ls : List TupleSpan) : Type 0 where
@@ -88,20 +98,21 @@ pub record Rows (old new : Contents) (ls : List TupleSpan) : Type 0 where
   pub configs : new.configs ≡ old.configs
   pub entries : new.entries ≡ old.entries
 
-all_events : (rev : ℕ) (xs : List stored.StoredEvent) (es : List Event) (ls : List TupleSpan) (h : Contents) → map event_texts_in xs ≡ map event_texts es → ((e : Event) → In e es → IsTuple e.tuple) → ((l : TupleSpan) → In l ls → IsTuple l.tuple)
-    → IsPermutation h.spans (map span_of ls) → Rows h (after_events rev xs h) (with_events rev es ls)
-all_events rev [] [] ls h is spelled are same = record { spans = same; configs = refl; entries = refl }
-all_events rev [] (e ∷ es) ls h is spelled are same = cc
-all_events rev (x ∷ xs) [] ls h is spelled are same = cc
-all_events rev (x ∷ xs) (e ∷ es) ls h is spelled are same =
-    let rest = all_events rev xs es (with_event rev ls e) (after_event rev x h) (tail is) (λ f i. spelled f (inr i)) (still_spelled rev e.kind e.tuple ls (spelled e (inl refl)) are) (one_event rev x e ls h (head is) (spelled e (inl refl)) are same) in
+all_events : (rev : ℕ) (puts : Puts) (xs : List stored.StoredEvent) (es : List Event) (ls : List TupleSpan) (h : Contents) → 0 < rev → map event_texts_in xs ≡ map (event_texts puts) es → ((e : Event) → In e es → IsTuple e.tuple)
+    → ((l : TupleSpan) → In l ls → IsTuple l.tuple) → Pairwise are_other es → AreShut puts es ls → IsPermutation h.spans (map span_of ls) → Rows h (after_events rev xs h) (with_events rev es ls)
+all_events rev puts [] [] ls h some is spelled are once shut same = record { spans = same; configs = refl; entries = refl }
+all_events rev puts [] (e ∷ es) ls h some is spelled are once shut same = cc
+all_events rev puts (x ∷ xs) [] ls h some is spelled are once shut same = cc
+all_events rev puts (x ∷ xs) (e ∷ es) ls h some is spelled are once shut same =
+    let rest = all_events rev puts xs es (with_event rev ls e) (after_event rev x h) some (tail is) (λ f i. spelled f (inr i)) (still_spelled rev e.kind e.tuple ls (spelled e (inl refl)) are) once.1 (shut_rest rev puts e es ls some once shut)
+    (one_event rev puts x e ls h (head is) (spelled e (inl refl)) are (λ absent put. shut absent e (inl refl) put) same) in
     let r = same_rest rev h x in
     record { spans = rest.spans; configs = rest.configs ∙ r.0; entries = rest.entries ∙ r.1 }
   where
-    head : ◌≡◌ {A = List (Bool × Span)} (event_texts_in x ∷ map event_texts_in xs) (event_texts e ∷ map event_texts es) → event_texts_in x ≡ event_texts e
+    head : ◌≡◌ {A = List (SpanChange × Span)} (event_texts_in x ∷ map event_texts_in xs) (event_texts puts e ∷ map (event_texts puts) es) → event_texts_in x ≡ event_texts puts e
     head e = cc
 
-    tail : ◌≡◌ {A = List (Bool × Span)} (event_texts_in x ∷ map event_texts_in xs) (event_texts e ∷ map event_texts es) → map event_texts_in xs ≡ map event_texts es
+    tail : ◌≡◌ {A = List (SpanChange × Span)} (event_texts_in x ∷ map event_texts_in xs) (event_texts puts e ∷ map (event_texts puts) es) → map event_texts_in xs ≡ map (event_texts puts) es
     tail e = cc
 
 -- ---- the state
@@ -111,10 +122,11 @@ newest_set w v rev a b c = cc
 
 -- ---- the commits
 
-events_from : (w : Written) (sound : IsSound w) (h : Contents) (xs : List stored.StoredEvent) (es : List Event) → IsWritten h w → IsNext (history_of w) (kinds.Tuples es)
-    → map event_texts_in xs ≡ map event_texts es → ((e : Event) → In e es → IsTuple e.tuple) → IsHistory (after_write (w.newest + 1) xs h) (with_commit (history_of w) (kinds.Tuples es))
-events_from w sound h xs es is next texts_is spelled =
-    let rows = all_events (w.newest + 1) xs es w.spans h texts_is spelled (λ l i. (all_in (IsSpan w.floor w.newest) w.spans sound.spans_are l i).spelled) is.spans in (
+events_from : (w : Written) (sound : IsSound w) (h : Contents) (puts : Puts) (xs : List stored.StoredEvent) (es : List Event) → IsWritten h w → IsNext (history_of w) (kinds.Tuples es) → (puts ≡ Absent → PutsAbsent (history_of w) (kinds.Tuples es))
+    → map event_texts_in xs ≡ map (event_texts puts) es → ((e : Event) → In e es → IsTuple e.tuple) → IsHistory (after_write (w.newest + 1) xs h) (with_commit (history_of w) (kinds.Tuples es))
+events_from w sound h puts xs es is next absent texts_is spelled =
+    let once = (accepted (newest_of (history_of w)) es next).once in
+    let rows = all_events (w.newest + 1) puts xs es w.spans h (omega arith) texts_is spelled (λ l i. (all_in (IsSpan w.floor w.newest) w.spans sound.spans_are l i).spelled) once (shut_puts w sound puts es absent) is.spans in (
       with_tuples w sound es,
       record {
         spans = rows.spans;
@@ -127,11 +139,11 @@ events_from w sound h xs es is next texts_is spelled =
     )
 
 -- the contents after a write are the history with its commit
-pub events_next : (h : Contents) (r : Retained) (rev : ℕ) (xs : List stored.StoredEvent) (es : List Event) → IsHistory h r → IsNext r (kinds.Tuples es) → rev ≡ newest r + 1
-    → map event_texts_in xs ≡ map event_texts es → ((e : Event) → In e es → IsTuple e.tuple) → IsHistory (after_write rev xs h) (with_commit r (kinds.Tuples es))
-events_next h r rev xs es (w, is, sound, same) next at texts_is spelled =
-    let from = events_from w sound h xs es is (subst (λ (q : Retained). IsNext q (kinds.Tuples es)) (sym same) next) texts_is spelled in
-    let rev_is : w.newest + 1 ≡ rev = ap (λ n. n + 1) (sym (newest_is w sound) ∙ ap newest same) ∙ sym at in
+pub events_next : (h : Contents) (r : Retained) (rev : ℕ) (puts : Puts) (xs : List stored.StoredEvent) (es : List Event) → IsHistory h r → IsNextAt r rev (kinds.Tuples es) puts
+    → map event_texts_in xs ≡ map (event_texts puts) es → ((e : Event) → In e es → IsTuple e.tuple) → IsHistory (after_write rev xs h) (with_commit r (kinds.Tuples es))
+events_next h r rev puts xs es (w, is, sound, same) next texts_is spelled =
+    let from = events_from w sound h puts xs es is (subst (λ (q : Retained). IsNext q (kinds.Tuples es)) (sym same) next.0) (λ absent. subst (λ (q : Retained). PutsAbsent q (kinds.Tuples es)) (sym same) (next.2 absent)) texts_is spelled in
+    let rev_is : w.newest + 1 ≡ rev = ap (λ n. n + 1) (sym (newest_is w sound) ∙ ap newest same) ∙ sym next.1 in
     subst (λ n. IsHistory (after_write n xs h) (with_commit r (kinds.Tuples es))) rev_is
     (subst (λ (q : Retained). IsHistory (after_write (w.newest + 1) xs h) (with_commit q (kinds.Tuples es))) same from)
 

@@ -1,65 +1,107 @@
--- The history that a connection's tables hold, and what a crash leaves of it.
-use Rattle.std.specs.Prelude.{◌≡◌, ◌⊎◌, ℕ, Result, Err, IfOk, IsTrue, OnOk}
+-- The history that a connection's tables hold, and what is left of it where the process ends or crashes.
+use Rattle.std.specs.Prelude.{◌≡◌, ◌⊎◌, ℕ, List, Result, Err, IfOk, IsTrue, OnOk}
 use Rattle.sqlite.specs.Store.{Ghosts}
 use Rattle.sqlite.specs.Tree.{Trees}
-use Rattle.sqlite.specs.Effect.{Database}
-use Rattle.sqlite.specs.State.{HasCleanDisk, Survives}
+use Rattle.sqlite.specs.State.{State, HasCleanDisk, Survives}
 use Rattle.sqlite.specs.Held.{Held, state}
+use Rattle.sqlite.specs.View.{doubt}
+use Rattle.sqlite.specs.Effect.{IsDatabase}
 use Rattle.names.specs.declared.commit.Commit.{Commit}
 use Rattle.meaning.specs.Config.{Configured}
-use Rattle.rows.specs.Retained.{Retained, empty_store, with_commit}
+use Rattle.rows.specs.Retained.{Retained, empty_store, newest, with_commit}
 use Rattle.rows.specs.Loads.{retained_of}
 use Rattle.rows.specs.declared.loaded.Loaded.{Loaded}
+use Rattle.tables.specs.Device.{Device, HasFailed, IsClean, IsOpen}
+use Rattle.tables.specs.Leaving.{IsOneOf}
 use Rattle.tables.specs.Storing.{IsNextAt}
+use Rattle.tables.specs.declared.puts.Puts.{Puts}
 use Rattle.tables.specs.declared.tables.TablesError.{TablesError}
 use Rattle.tables.specs.declared.tables.TablesError.TheVariants as refusals
+use Rattle.store_core.specs.Format.{schema}
+use Rattle.store_core.specs.Numbered.{AreNumbered}
 use Rattle.store_core.specs.Tables.{Contents, Holds}
-use Rattle.store_core.specs.Steps.{IsUndone}
-use Rattle.store_core.specs.Leaves.{Stands}
+use Rattle.store_core.specs.Leaves.{IsBlank}
 use Rattle.store.specs.Written.{IsHistory}
 
--- as far as the device has returned what was written, the connection is open and has committed the history
-abbrev pub HoldsHistory : {S : Type 0} → Ghosts S → Held S → Retained → Type 0
-HoldsHistory g c r = HasCleanDisk (state g c) → (h : Contents) × Stands (state g c) h × IsHistory h r
+-- trees that hold a history of the format
+pub record TreesHold (trees : Trees) (r : Retained) : Type 0 where
+  pub sound : IsDatabase (record { schema = schema; trees = trees })
+  pub contents : Contents
+  pub holds : Holds (record { schema = schema; trees = trees }) contents
+  pub history : IsHistory contents r
+  -- no span's rowid is above those of the newest revision
+  pub numbered : AreNumbered (newest r) trees
 
--- whatever a crash leaves holds some history of which P is true
-abbrev pub LeavesHistory : {S : Type 0} → Ghosts S → Held S → (Retained → Type 0) → Type 0
-LeavesHistory g c P = HasCleanDisk (state g c) → (trees : Trees) → (state g c).may_leave trees → (db : Database) × (trees ≡ db.trees) × (h : Contents) × Holds db h × (r : Retained) × IsHistory h r × P r
+-- all that is seen is committed, and it is the history in tables of the format
+pub record HasCommitted (s : State) (r : Retained) : Type 0 where
+  pub committed : s.committed ≡ s.now
+  pub schema_is : s.now.schema ≡ schema
+  pub held : TreesHold s.now.trees r
 
--- the history as it was, or with the commit
-abbrev pub IsEither : Retained → Commit Configured → Retained → Type 0
-IsEither r commit x = (x ≡ r) ⊎ (x ≡ with_commit r commit)
+-- so it is while the connection is open, as far as the device has returned what was written
+abbrev pub KeepsHistory : {S : Type 0} → Ghosts S → Held S → Retained → Type 0
+KeepsHistory g c r = HasCleanDisk (state g c) → IsTrue (state g c).is_open → HasCommitted (state g c) r
 
--- what a crash left holds a store with this number and no commit
-abbrev pub HasNewStore : ℕ → Trees → Type 0
-HasNewStore number trees = (db : Database) × (trees ≡ db.trees) × (h : Contents) × Holds db h × IsHistory h (empty_store number)
+-- if the process ends or crashes now, what is left holds one of these
+abbrev pub LeavesHistory : {S : Type 0} → Ghosts S → Held S → List Retained → Type 0
+LeavesHistory g c rs = HasCleanDisk (state g c) → (trees : Trees) → (state g c).may_leave trees → (r : Retained) × IsOneOf rs r × TreesHold trees r
 
--- nothing was done: what is held is what was committed before
-abbrev pub HasUndone : {S : Type 0} → Ghosts S → Held S → Held S → Type 0
-HasUndone g old new = HasCleanDisk (state g new) → IsUndone (state g old) (state g new)
+-- the device below a connection
+abbrev pub device_of : State → Device
+device_of s = record { faults = s.faults; doubt = doubt s.is_clean; is_open = s.is_open }
 
--- a crash leaves what it left before, or such a store
-abbrev pub LeavesAtMostNew : {S : Type 0} → Ghosts S → Held S → Held S → ℕ → Type 0
-LeavesAtMostNew g old new number = Survives (state g old) (state g new) (HasNewStore number)
-
--- what was loaded is the history that they held
-abbrev pub FindsHistory : {S : Type 0} → Ghosts S → Held S → Held S → Result Loaded TablesError → Type 0
-FindsHistory g old new result = (r : Retained) → HoldsHistory g old r → HasCleanDisk (state g new) → IfOk result (λ l. retained_of l ≡ r)
+abbrev pub device_below : {S : Type 0} → Ghosts S → Held S → Device
+device_below g c = device_of (state g c)
 
 -- what an open connection sees is what it has committed
 abbrev pub IsSettled : {S : Type 0} → Ghosts S → Held S → Type 0
 IsSettled g c = IsTrue (state g c).is_open → (state g c).now ≡ (state g c).committed
 
+-- ---- one call
+
+-- nothing is forgotten, and a crash leaves what it left before
+abbrev pub LeavesAlone : {S : Type 0} → Ghosts S → Held S → Held S → Type 0
+LeavesAlone g old new = Survives (state g old) (state g new) (λ _. ⊥)
+
+-- what was held is held, refused or not
+abbrev pub KeepsOn : {S : Type 0} → Ghosts S → Held S → Held S → Type 0
+KeepsOn g old new = (r : Retained) → KeepsHistory g old r → KeepsHistory g new r
+
+-- ---- creation
+
+-- nothing is forgotten, and a crash leaves what it left before, or over a blank database a store with this number and no commit
+abbrev pub LeavesAtMostNew : {S : Type 0} → Ghosts S → Held S → Held S → ℕ → Type 0
+LeavesAtMostNew g old new number = Survives (state g old) (state g new) (λ trees. IsBlank g old × TreesHold trees (empty_store number))
+
+-- over a blank database that is open it is a fault only where the device failed
+abbrev pub IsFaultOfDevice : {S : Type 0} → Ghosts S → Held S → Held S → TablesError → Type 0
+IsFaultOfDevice g old new why = why ≡ refusals.Fault → IsTrue (state g old).is_open → IsBlank g old → HasFailed (device_below g old) (device_below g new)
+
+-- ---- loading
+
+-- what was loaded is the history that they held
+abbrev pub FindsHistory : {S : Type 0} → Ghosts S → Held S → Held S → Result Loaded TablesError → Type 0
+FindsHistory g old new result = (r : Retained) → KeepsHistory g old r → HasCleanDisk (state g new) → IfOk result (λ l. retained_of l ≡ r)
+
+-- it is a fault only where the device failed, or where they hold no history
+abbrev pub HasNoneOrFailed : {S : Type 0} → Ghosts S → Held S → Held S → Result Loaded TablesError → Type 0
+HasNoneOrFailed g old new result = result ≡ Err refusals.Fault → IsOpen (device_below g old)
+    → HasFailed (device_below g old) (device_below g new) ⊎ ((r : Retained) → IsClean (device_below g old) → ¬ (KeepsHistory g old r))
+
 -- ---- one commit
 
 -- after the commit they hold its history, where it is the next of what they held
-abbrev pub Commits : {S A : Type 0} → Ghosts S → Held S → Held S → ℕ → Commit Configured → Result A TablesError → Type 0
-Commits g old new rev commit result = (r : Retained) → HoldsHistory g old r → IsNextAt r rev commit → OnOk result (HoldsHistory g new (with_commit r commit))
+abbrev pub Commits : {S A : Type 0} → Ghosts S → Held S → Held S → ℕ → Commit Configured → Puts → Result A TablesError → Type 0
+Commits g old new rev commit puts result = (r : Retained) → KeepsHistory g old r → IsNextAt r rev commit puts → OnOk result (KeepsHistory g new (with_commit r commit))
 
--- want of memory leaves what they held
-abbrev pub SparesHistory : {S A : Type 0} → Ghosts S → Held S → Held S → Result A TablesError → Type 0
-SparesHistory g old new result = (r : Retained) → HoldsHistory g old r → result ≡ Err refusals.Memory → HoldsHistory g new r
+-- such trees hold the history with its next commit
+abbrev pub HoldNext : {S : Type 0} → Ghosts S → Held S → ℕ → Commit Configured → Puts → Trees → Type 0
+HoldNext g old rev commit puts trees = (r : Retained) → KeepsHistory g old r → IsNextAt r rev commit puts → TreesHold trees (with_commit r commit)
 
--- a crash leaves the history as it was, or with the commit
-abbrev pub LeavesEither : {S : Type 0} → Ghosts S → Held S → Held S → ℕ → Commit Configured → Type 0
-LeavesEither g old new rev commit = (r : Retained) → HoldsHistory g old r → IsNextAt r rev commit → LeavesHistory g new (IsEither r commit)
+-- nothing is forgotten, and a crash leaves what it left before, or the history with the commit
+abbrev pub LeavesNext : {S : Type 0} → Ghosts S → Held S → Held S → ℕ → Commit Configured → Puts → Type 0
+LeavesNext g old new rev commit puts = Survives (state g old) (state g new) (HoldNext g old rev commit puts)
+
+-- it is a fault only where the device failed
+abbrev pub HasFailedIf : {S A : Type 0} → Ghosts S → Held S → Held S → Result A TablesError → Type 0
+HasFailedIf g old new result = result ≡ Err refusals.Fault → IsOpen (device_below g old) → HasFailed (device_below g old) (device_below g new)

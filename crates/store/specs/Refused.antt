@@ -1,5 +1,5 @@
 -- Which refusals are deserved.
-use Rattle.std.specs.Prelude.{◌≡◌, ◌⊎◌, ◌≤◌, ◌<◌, ℕ, List, [], map, length, true, All}
+use Rattle.std.specs.Prelude.{◌≡◌, ◌⊎◌, ◌≤◌, ◌<◌, ◌*◌, ℕ, List, [], map, length, true, All}
 use Rattle.std.specs.declared.cmp.Ordering.TheVariants.{Less}
 use Rattle.std.specs.List.{AllAdjacentBelow}
 use Rattle.names.specs.Order.{tuple_cmp}
@@ -8,7 +8,7 @@ use Rattle.names.specs.declared.tuple.Tuple.{Tuple}
 use Rattle.names.specs.declared.refusal.Refusal.{Refusal}
 use Rattle.names.specs.declared.refusal.Refusal.TheVariants as causes
 use Rattle.meaning.specs.Admits.{admits}
-use Rattle.rows.specs.Retained.{Retained}
+use Rattle.rows.specs.Retained.{Retained, newest}
 use Rattle.rows.specs.Loads.{retained_of}
 use Rattle.rows.specs.declared.loaded.Loaded.{Loaded}
 use Rattle.names.specs.declared.commit.Event.{Event}
@@ -121,8 +121,9 @@ IsHistoryOf s l = (h : Contents) → Loads h s → IsHistory h (retained_of l)
 abbrev pub IsTheHistoryOf : Stored → Loaded → Type 0
 IsTheHistoryOf s l = (h : Contents) (r : Retained) → Loads h s → IsHistory h r → retained_of l ≡ r
 
+-- there is none whose newest revision has the last rowid, or a later one
 abbrev pub HasNoHistory : Stored → Type 0
-HasNoHistory s = (h : Contents) (r : Retained) → Loads h s → ¬ (IsHistory h r)
+HasNoHistory s = (h : Contents) (r : Retained) → Loads h s → IsHistory h r → ¬ (s.last_rowid ≤ 256 * newest r)
 
 -- what was loaded is in order, and of contents that hold a history
 abbrev pub IsOfHistory : Stored → Type 0

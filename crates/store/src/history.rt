@@ -1,13 +1,19 @@
 //! What is stored and read over a connection, as a history.
-ghost use Rattle.std.specs.Prelude.{◌≡◌, ◌^◌, ◌<◌, ◌≤◌, false, IfOk, OnOk, Err};
+ghost use Rattle.std.specs.Prelude.{◌≡◌, ◌≢◌, ◌⊎◌, ◌^◌, ◌<◌, ◌≤◌, false, None, IfOk, OnOk, OnErr, IsTrue, Err};
+ghost use Rattle.sqlite.specs.Disk.{MoreFaults};
+ghost use Rattle.store_core.specs.Leaves.{IsBlank};
+ghost use Rattle.store_core.specs.Steps.{Undoes};
+ghost use Rattle.sqlite.specs.Held.{state};
+ghost use Rattle.sqlite.specs.State.{HasCleanDisk, IsLive};
 ghost use Rattle.sqlite.specs.declared.error.Error.TheVariants.{SqliteFailure};
 ghost use Rattle.sqlite.specs.declared.error.ErrorCode.TheVariants.{OutOfMemory};
-ghost use Rattle.store_core.specs.Leaves.{IsBlank};
-ghost use Rattle.store_core.specs.Reading.{IsClean, IsSame, LeavesNothing};
 ghost use Rattle.names.specs.declared.commit.Commit.TheVariants as kinds;
 ghost use Rattle.rows.specs.Loads.{IsWithin, retained_of};
-ghost use Rattle.store.specs.History.{HoldsHistory, FindsHistory, IsSettled, Commits, SparesHistory, LeavesEither, HasUndone, LeavesAtMostNew};
 ghost use Rattle.rows.specs.Retained.{empty_store};
+ghost use Rattle.tables.specs.Device.{HasFailed, IsOpen};
+ghost use Rattle.tables.specs.Storing.{CanStore};
+ghost use Rattle.store.specs.inside.Asking.{told_as};
+ghost use Rattle.store.specs.History.{KeepsHistory, KeepsOn, LeavesAlone, LeavesAtMostNew, LeavesNext, FindsHistory, HasNoneOrFailed, HasFailedIf, IsSettled, Commits, device_below};
 
 use crate::reading::read;
 use crate::texts::events_of;
@@ -15,22 +21,56 @@ use config::Config;
 use rows::Loaded;
 use sqlite::{Alter, Connection, Error, ErrorCode};
 use std::alloc::Global;
-use store_core::{configure, create, is_open, load, write};
-use tables::TablesError;
+use store_core::{Probe, ask, configure, create, load, write};
+use tables::{Puts, TablesError};
 use tuple_keys::{KeptCommit, KeptEvents};
 
-// Why a call was refused. For want of memory alone, the connection still answers and stands as it was.
+fn is_memory(error: &Error) -> bool
+    ensures yes { IsTrue result → error.now ≡ SqliteFailure OutOfMemory }
+    ensures no { result ≡ false → error.now ≢ SqliteFailure OutOfMemory }
+{
+    match error {
+        Error::SqliteFailure(ErrorCode::OutOfMemory) => true,
+        _ => false,
+    }
+}
+
+// Outside a transaction, what an open connection sees is what it has committed, and both are databases.
+fn see_settled<S: Alter>(conn: &Connection<S>)
+    requires { conn.now.in_transaction ≡ false }
+    ensures settled { IsSettled S.Store conn.now }
+    ensures live { IsLive (state S.Store conn.now) }
+{
+    let _settled = conn.is_autocommit();
+    let _live = conn.schema();
+}
+
+// What want of memory is told as: a connection that the device has shut is a fault.
+fn told(probe: Probe) -> TablesError
+    ensures { result ≡ told_as probe }
+{
+    match probe {
+        Probe::Open => TablesError::Memory,
+        Probe::NoMemory => TablesError::Memory,
+        Probe::Failed => TablesError::Fault,
+    }
+}
+
+// Why a call was refused: for want of memory, unless the device has shut the connection.
 fn why<S: Alter>(conn: &mut Connection<S>, error: &Error) -> TablesError
     requires idle { conn.old.in_transaction ≡ false }
     ensures idle { conn.new.in_transaction ≡ false }
-    ensures memory { result ≡ TablesError.Memory → error.now ≡ SqliteFailure OutOfMemory }
-    ensures same { IsClean S.Store conn.new → result ≡ TablesError.Memory → IsSame S.Store conn.old conn.new }
-    ensures crash { LeavesNothing S.Store conn.old conn.new }
+    ensures same { error.now ≢ SqliteFailure OutOfMemory → (result ≡ TablesError.Fault) × (conn.new ≡ conn.old) }
+    ensures undone { Undoes S.Store conn.old conn.new }
+    ensures quiet { LeavesAlone S.Store conn.old conn.new }
+    ensures caused { result ≡ TablesError.Fault → (error.now ≢ SqliteFailure OutOfMemory)
+        ⊎ (HasCleanDisk (state S.Store conn.new) → IsTrue (state S.Store conn.old).is_open → MoreFaults (state S.Store conn.old).faults (state S.Store conn.new).faults) }
 {
-    if *error == Error::SqliteFailure(ErrorCode::OutOfMemory) && is_open(conn) {
-        return TablesError::Memory;
+    see_settled(conn);
+    if !is_memory(error) {
+        return TablesError::Fault;
     }
-    TablesError::Fault
+    told(ask(conn))
 }
 
 // Stores a commit's events.
@@ -39,15 +79,19 @@ fn write_events<S: Alter>(
     conn: &mut Connection<S>,
     rev: u64,
     events: &KeptEvents,
+    puts: Puts,
 ) -> Result<(), TablesError>
-    requires small { rev < 2 ^ 63 }
+    requires next { CanStore (KeepsHistory S.Store conn.old) rev (kinds.Tuples events.now) puts }
     requires idle { conn.old.in_transaction ≡ false }
+    requires unlimited { conn.old.step_limit ≡ None }
     ensures idle { conn.new.in_transaction ≡ false }
-    ensures done { Commits S.Store conn.old conn.new rev (kinds.Tuples events.now) result }
-    ensures undone { SparesHistory S.Store conn.old conn.new result }
-    ensures crash { LeavesEither S.Store conn.old conn.new rev (kinds.Tuples events.now) }
+    ensures done { Commits S.Store conn.old conn.new rev (kinds.Tuples events.now) puts result }
+    ensures open { OnOk result (IsOpen (device_below S.Store conn.new)) }
+    ensures undone { OnErr result (KeepsOn S.Store conn.old conn.new) }
+    ensures crash { LeavesNext S.Store conn.old conn.new rev (kinds.Tuples events.now) puts }
+    ensures caused { HasFailedIf S.Store conn.old conn.new result }
 {
-    let Ok(texts) = events_of(alloc, events) else {
+    let Ok(texts) = events_of(alloc, events, puts) else {
         return Err(TablesError::Memory);
     };
     let Err(error) = write(conn, texts.as_slice(), rev) else {
@@ -62,13 +106,17 @@ fn write_config<S: Alter>(
     conn: &mut Connection<S>,
     rev: u64,
     config: &Config,
+    puts: Puts,
 ) -> Result<(), TablesError>
-    requires small { rev < 2 ^ 63 }
+    requires next { CanStore (KeepsHistory S.Store conn.old) rev (kinds.Config config.now) puts }
     requires idle { conn.old.in_transaction ≡ false }
+    requires unlimited { conn.old.step_limit ≡ None }
     ensures idle { conn.new.in_transaction ≡ false }
-    ensures done { Commits S.Store conn.old conn.new rev (kinds.Config config.now) result }
-    ensures undone { SparesHistory S.Store conn.old conn.new result }
-    ensures crash { LeavesEither S.Store conn.old conn.new rev (kinds.Config config.now) }
+    ensures done { Commits S.Store conn.old conn.new rev (kinds.Config config.now) puts result }
+    ensures open { OnOk result (IsOpen (device_below S.Store conn.new)) }
+    ensures undone { OnErr result (KeepsOn S.Store conn.old conn.new) }
+    ensures crash { LeavesNext S.Store conn.old conn.new rev (kinds.Config config.now) puts }
+    ensures caused { HasFailedIf S.Store conn.old conn.new result }
 {
     let Ok(text) = config.to_json(alloc) else {
         return Err(TablesError::Memory);
@@ -85,48 +133,50 @@ pub(crate) fn write_commit<S: Alter>(
     conn: &mut Connection<S>,
     rev: u64,
     commit: &KeptCommit,
+    puts: Puts,
 ) -> Result<(), TablesError>
-    requires small { rev < 2 ^ 63 }
+    requires next { CanStore (KeepsHistory S.Store conn.old) rev commit.now puts }
     requires idle { conn.old.in_transaction ≡ false }
+    requires unlimited { conn.old.step_limit ≡ None }
     ensures idle { conn.new.in_transaction ≡ false }
-    ensures done { Commits S.Store conn.old conn.new rev commit.now result }
-    ensures undone { SparesHistory S.Store conn.old conn.new result }
-    ensures crash { LeavesEither S.Store conn.old conn.new rev commit.now }
+    ensures done { Commits S.Store conn.old conn.new rev commit.now puts result }
+    ensures open { OnOk result (IsOpen (device_below S.Store conn.new)) }
+    ensures undone { OnErr result (KeepsOn S.Store conn.old conn.new) }
+    ensures crash { LeavesNext S.Store conn.old conn.new rev commit.now puts }
+    ensures caused { HasFailedIf S.Store conn.old conn.new result }
 {
     match commit.events() {
-        Some(events) => write_events(alloc, conn, rev, events),
+        Some(events) => write_events(alloc, conn, rev, events, puts),
         None => match commit.config() {
-            Some(config) => write_config(alloc, conn, rev, config),
+            Some(config) => write_config(alloc, conn, rev, config, puts),
             None => unreachable!(),
         },
     }
 }
 
 /// Makes the tables of a store that has this number and no commit, in one transaction. Where there is a table, an
-/// index or a view already it is refused as a fault. `Store::create` does this and keeps the connection; here the
-/// caller keeps it, so that contracts can tell what a refusal and a crash leave behind.
-pub fn make_tables<S: Alter>(conn: &mut Connection<S>, number: u64) -> Result<(), TablesError>
+/// index or a view already it is refused as a fault.
+pub(crate) fn make_tables<S: Alter>(
+    conn: &mut Connection<S>,
+    number: u64,
+) -> Result<(), TablesError>
     requires idle { conn.old.in_transaction ≡ false }
+    requires unlimited { conn.old.step_limit ≡ None }
     requires some { 1 ≤ number }
     requires small { number < 2 ^ 63 }
     ensures idle { conn.new.in_transaction ≡ false }
-    ensures done { OnOk result (HoldsHistory S.Store conn.new (empty_store number)) }
-    ensures taken { ¬ (IsBlank S.Store conn.old) → result ≡ Err TablesError.Fault }
-    ensures undone { result ≡ Err TablesError.Memory → IsBlank S.Store conn.old → HasUndone S.Store conn.old conn.new }
+    ensures done { OnOk result (KeepsHistory S.Store conn.new (empty_store number)) }
+    ensures open { OnOk result (IsOpen (device_below S.Store conn.new)) }
+    ensures taken { ¬ (IsBlank S.Store conn.old) → (result ≡ Err TablesError.Fault) × (conn.new ≡ conn.old) }
+    ensures undone { OnErr result (IsBlank S.Store conn.old → Undoes S.Store conn.old conn.new) }
     ensures crash { LeavesAtMostNew S.Store conn.old conn.new number }
+    ensures caused { result ≡ Err TablesError.Fault → IsTrue (state S.Store conn.old).is_open → IsBlank S.Store conn.old
+        → HasFailed (device_below S.Store conn.old) (device_below S.Store conn.new) }
 {
     let Err(error) = create(conn, number) else {
         return Ok(());
     };
     Err(why(conn, &error))
-}
-
-// Outside a transaction, what an open connection sees is what it has committed.
-fn see_settled<S: Alter>(conn: &Connection<S>)
-    requires { conn.now.in_transaction ≡ false }
-    ensures { IsSettled S.Store conn.now }
-{
-    let _settled = conn.is_autocommit();
 }
 
 /// The history that the tables hold. They are refused where they are not those of the format, or hold none.
@@ -135,10 +185,15 @@ pub(crate) fn load_history<S: Alter>(
     conn: &mut Connection<S>,
 ) -> Result<Loaded, TablesError>
     requires idle { conn.old.in_transaction ≡ false }
+    requires unlimited { conn.old.step_limit ≡ None }
     ensures idle { conn.new.in_transaction ≡ false }
-    ensures held { IfOk result (λ l. HoldsHistory S.Store conn.new (retained_of l)) }
+    ensures held { IfOk result (λ l. KeepsHistory S.Store conn.new (retained_of l)) }
+    ensures open { OnOk result (IsOpen (device_below S.Store conn.new)) }
     ensures same { FindsHistory S.Store conn.old conn.new result }
     ensures within { IfOk result IsWithin }
+    ensures kept { KeepsOn S.Store conn.old conn.new }
+    ensures quiet { LeavesAlone S.Store conn.old conn.new }
+    ensures caused { HasNoneOrFailed S.Store conn.old conn.new result }
 {
     let stored = match load(alloc, conn) {
         Ok(stored) => stored,

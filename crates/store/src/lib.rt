@@ -16,6 +16,5 @@ mod store;
 mod texts;
 mod unread;
 
-pub use history::make_tables;
 pub use reading::read;
 pub use store::Store;

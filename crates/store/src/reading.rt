@@ -1,6 +1,8 @@
 //! A store's history, read from its tables.
-ghost use Rattle.std.specs.Prelude.{◌≡◌, false, nat_le, All, IfOk, IfErr, IsTrue, Err};
+ghost use Rattle.std.specs.Prelude.{◌≡◌, ◌≤◌, ◌*◌, false, nat_le, All, IfOk, IfErr, IsTrue, Err};
+ghost use Rattle.names.specs.declared.limits.TheConstants.{MAX_REV};
 ghost use Rattle.rows.specs.Loads.{retained_of, IsWithin};
+ghost use Rattle.rows.specs.Retained.{newest};
 ghost use Rattle.store_core.specs.Stored.{IsInOrder};
 ghost use Rattle.store.specs.Written.{history_of, IsConfigAt, IsSpan};
 ghost use Rattle.store.specs.inside.Reading.{as_span, as_config, as_written, current, IsHead, ArePlaced};
@@ -122,17 +124,32 @@ fn read_rows(alloc: Global, stored: Stored) -> Result<Loaded, Unread>
     Ok(loaded)
 }
 
-/// The history that rows of the tables are. Rows that are no history are refused as a fault, and, where each list
-/// is in the order of [`Stored`], no others.
+// Whether no span's rowid is above those of the newest revision, which has at most 256.
+fn is_numbered(last_rowid: u64, loaded: &Loaded) -> bool
+    requires { newest (retained_of loaded.now) ≤ MAX_REV }
+    ensures { result ≡ nat_le last_rowid (256 * newest (retained_of loaded.now)) }
+{
+    let newest = loaded.floor + loaded.commits.as_slice().len() as u64;
+    last_rowid <= 256 * newest
+}
+
+/// The history that rows of the tables are. Rows that are no history, and such as have a rowid above those of the
+/// newest revision, are refused as a fault, and, where each list is in the order of [`Stored`], no others.
 pub fn read(alloc: Global, stored: Stored) -> Result<Loaded, TablesError>
     ensures is_history { IfOk result (IsHistoryOf stored) }
     ensures same { IfOk result (IsTheHistoryOf stored) }
     ensures within { IfOk result IsWithin }
+    ensures numbered { IfOk result (λ l. stored.last_rowid ≤ 256 * newest (retained_of l)) }
     ensures fault { result ≡ Err TablesError.Fault → IsInOrder stored → HasNoHistory stored }
 {
-    match read_rows(alloc, stored) {
-        Ok(loaded) => Ok(loaded),
-        Err(Unread::Memory) => Err(TablesError::Memory),
-        Err(Unread::Fault) => Err(TablesError::Fault),
+    let last_rowid = stored.last_rowid;
+    let loaded = match read_rows(alloc, stored) {
+        Ok(loaded) => loaded,
+        Err(Unread::Memory) => return Err(TablesError::Memory),
+        Err(Unread::Fault) => return Err(TablesError::Fault),
+    };
+    if !is_numbered(last_rowid, &loaded) {
+        return Err(TablesError::Fault);
     }
+    Ok(loaded)
 }

@@ -1,12 +1,12 @@
 //! The tables of a store.
-ghost use Rattle.std.specs.Prelude.{◌≡◌, false};
+ghost use Rattle.std.specs.Prelude.{◌≡◌, false, None};
 
 use crate::history::{load_history, make_tables, write_commit};
 use rows::Loaded;
 use sqlite::{Alter, Connection};
 use std::alloc::Global;
 use store_core::is_format;
-use tables::{Tables, TablesError};
+use tables::{Puts, Tables, TablesError};
 use tuple_keys::KeptCommit;
 
 /// The tables of one store over a connection.
@@ -16,33 +16,42 @@ pub struct Store<S: Alter> {
     conn: Connection<S>,
     faults: u64,
     ghost idle: { conn.in_transaction ≡ false },
+    ghost unlimited: { conn.step_limit ≡ None },
 }
 
 impl<S: Alter + Drop> Store<S> {
-    ghost use Rattle.std.specs.Prelude.{◌≡◌, ◌≤◌, ◌<◌, ◌^◌, false, IfOk, Err};
+    ghost use Rattle.std.specs.Prelude.{◌≡◌, ◌≢◌, ◌≤◌, ◌<◌, ◌^◌, false, None, IsErrAnd, IfErr, IfOk};
+    ghost use Rattle.tables.specs.Device.{IsOpen};
     ghost use Rattle.store_core.specs.Leaves.{IsBlank};
     ghost use Rattle.store_core.specs.Reading.{HasFormat};
-    ghost use Rattle.store.specs.History.{HoldsHistory, LeavesHistory};
+    ghost use Rattle.store_core.specs.Steps.{Undoes};
+    ghost use Rattle.store.specs.History.{KeepsHistory, LeavesAtMostNew, IsFaultOfDevice, device_below};
     ghost use Rattle.rows.specs.Retained.{empty_store};
     ghost use Rattle.store.specs.StoreParts.{connection, faults};
 
     /// Makes the tables of a store that has this number and no commit. Where there is a table, an index or a
-    /// view already it is refused as a fault.
+    /// view already it is refused as a fault. A refusal hands the connection back.
     pub fn create(
         alloc: Global,
         mut conn: Connection<S>,
         number: u64,
-    ) -> Result<Store<S>, TablesError>
+    ) -> Result<Store<S>, (TablesError, Connection<S>)>
         requires idle { conn.in_transaction ≡ false }
+        requires unlimited { conn.step_limit ≡ None }
         requires some { 1 ≤ number }
         requires small { number < 2 ^ 63 }
-        ensures held { IfOk result (λ s. HoldsHistory S.Store (connection s) (empty_store number)) }
-        ensures left { IfOk result (λ s. LeavesHistory S.Store (connection s) (λ r. r ≡ empty_store number)) }
+        ensures held { IfOk result (λ s. KeepsHistory S.Store (connection s) (empty_store number)) }
+        ensures open { IfOk result (λ s. IsOpen (device_below S.Store (connection s))) }
+        ensures made { IfOk result (λ s. LeavesAtMostNew S.Store conn (connection s) number) }
         ensures quiet { IfOk result (λ s. faults s ≡ 0) }
-        ensures taken { ¬ (IsBlank S.Store conn) → result ≡ Err TablesError.Fault }
+        ensures taken { ¬ (IsBlank S.Store conn) → IsErrAnd result (λ e. (e.0 ≡ TablesError.Fault) × (e.1 ≡ conn)) }
+        ensures undone { IfErr result (λ e. IsBlank S.Store conn → Undoes S.Store conn e.1) }
+        ensures crash { IfErr result (λ e. LeavesAtMostNew S.Store conn e.1 number) }
+        ensures caused { IfErr result (λ e. IsFaultOfDevice S.Store conn e.1 e.0) }
+        ensures idle { IfErr result (λ e. e.1.in_transaction ≡ false) }
     {
         if let Err(why) = make_tables(&mut conn, number) {
-            return Err(why);
+            return Err((why, conn));
         }
         Ok(Store {
             alloc,
@@ -52,15 +61,20 @@ impl<S: Alter + Drop> Store<S> {
     }
 
     /// The tables over a connection, where they are those of the format; whether they hold a history is found
-    /// when they are loaded.
-    pub fn open(alloc: Global, conn: Connection<S>) -> Result<Store<S>, TablesError>
-        requires { conn.in_transaction ≡ false }
+    /// when they are loaded. A refusal hands the connection back.
+    pub fn open(
+        alloc: Global,
+        conn: Connection<S>,
+    ) -> Result<Store<S>, (TablesError, Connection<S>)>
+        requires idle { conn.in_transaction ≡ false }
+        requires unlimited { conn.step_limit ≡ None }
         ensures same { IfOk result (λ s. connection s ≡ conn) }
         ensures format { IfOk result (λ _. HasFormat S.Store conn) }
         ensures quiet { IfOk result (λ s. faults s ≡ 0) }
+        ensures refused { IfErr result (λ e. (e.0 ≡ TablesError.Fault) × (e.1 ≡ conn) × (¬ (HasFormat S.Store conn))) }
     {
         if !is_format(&conn) {
-            return Err(TablesError::Fault);
+            return Err((TablesError::Fault, conn));
         }
         Ok(Store {
             alloc,
@@ -68,18 +82,27 @@ impl<S: Alter + Drop> Store<S> {
             faults: 0,
         })
     }
+
+    /// Gives the connection back.
+    pub fn into_connection(self) -> Connection<S>
+        ensures same { result ≡ connection self }
+        ensures idle { result.in_transaction ≡ false }
+        ensures unlimited { result.step_limit ≡ None }
+    {
+        self.conn
+    }
 }
 
 impl<S: Alter> Tables for Store<S> {
-    ghost use Rattle.store_core.specs.Reading.{IsClean};
-    ghost use Rattle.store.specs.History.{HoldsHistory, LeavesHistory};
+    ghost use Rattle.store.specs.History.{KeepsHistory, LeavesHistory, device_below};
     ghost use Rattle.store.specs.StoreParts.{connection, faults as refusals};
+    ghost use Rattle.store.specs.inside.Settling.{leaves_settled, leaves_among};
 
-    ghost holds = { λ s r. HoldsHistory S.Store (connection s) r };
+    ghost holds = { λ s r. KeepsHistory S.Store (connection s) r };
 
-    ghost leaves_only = { λ s P. LeavesHistory S.Store (connection s) P };
+    ghost leaves = { λ s rs. LeavesHistory S.Store (connection s) rs };
 
-    ghost is_reliable = { λ s. IsClean S.Store (connection s) };
+    ghost device = { λ s. device_below S.Store (connection s) };
 
     ghost count = { λ s. refusals s };
 
@@ -94,8 +117,8 @@ impl<S: Alter> Tables for Store<S> {
         }
     }
 
-    fn write(&mut self, rev: u64, commit: &KeptCommit) -> Result<(), TablesError> {
-        match write_commit(self.alloc, &mut self.conn, rev, commit) {
+    fn write(&mut self, rev: u64, commit: &KeptCommit, puts: Puts) -> Result<(), TablesError> {
+        match write_commit(self.alloc, &mut self.conn, rev, commit, puts) {
             Ok(()) => Ok(()),
             Err(TablesError::Memory) => Err(TablesError::Memory),
             Err(TablesError::Fault) => {
@@ -108,4 +131,8 @@ impl<S: Alter> Tables for Store<S> {
     fn faults(&self) -> u64 {
         self.faults
     }
+
+    ghost settled = { λ s r held whole. leaves_settled s S.Store.settled r held whole };
+
+    ghost weaker = { λ s rs ss among left. leaves_among s rs ss among left };
 }

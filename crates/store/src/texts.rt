@@ -1,11 +1,12 @@
-//! Events as the tables are event_texts of them.
+//! Events as the tables are told of them.
 ghost use Rattle.std.specs.Prelude.{◌≡◌, map, string_bytes, All, IfOk};
 ghost use Rattle.names.specs.Spelling.{IsSubject, IsTuple, subject_text};
-ghost use Rattle.store.specs.inside.EventTexts.{event_texts, event_texts_in};
+ghost use Rattle.store.specs.inside.EventTexts.{change_of, event_texts, event_texts_in};
 
 use names::{Event, EventKind, Subject, Tuple};
 use std::alloc::{AllocError, Global};
-use store_core::TupleText;
+use store_core::{SpanChange, StoredEvent, TupleText};
+use tables::Puts;
 use tuple_keys::KeptEvents;
 
 // The subject's text.
@@ -36,22 +37,32 @@ fn see_tuple(tuple: &Tuple)
     see_subject(&tuple.subject);
 }
 
+// What an event does to the spans of its tuple.
+fn change_of(puts: Puts, kind: EventKind) -> SpanChange
+    ensures { result ≡ change_of puts kind }
+{
+    match kind {
+        EventKind::Put => match puts {
+            Puts::Absent => SpanChange::Begins,
+            Puts::Any => SpanChange::BeginsAnew,
+        },
+        EventKind::Del => SpanChange::Ends,
+    }
+}
+
 // The event's texts.
-fn event_of(alloc: Global, event: &Event) -> Result<store_core::StoredEvent, AllocError>
-    ensures { IfOk result (λ e. event_texts_in e ≡ event_texts event.now) }
+fn event_of(alloc: Global, event: &Event, puts: Puts) -> Result<StoredEvent, AllocError>
+    ensures { IfOk result (λ e. event_texts_in e ≡ event_texts puts event.now) }
 {
     let node = &event.tuple.node;
-    Ok(store_core::StoredEvent {
-        put: match event.kind {
-            EventKind::Put => true,
-            EventKind::Del => false,
-        },
+    Ok(StoredEvent {
         tuple: TupleText {
             namespace: String::from_str(alloc, node.object.namespace.as_str())?,
             object: String::from_str(alloc, node.object.id.as_str())?,
             relation: String::from_str(alloc, node.relation.as_str())?,
             subject: subject_of(alloc, &event.tuple.subject)?,
         },
+        change: change_of(puts, event.kind),
     })
 }
 
@@ -59,15 +70,16 @@ fn event_of(alloc: Global, event: &Event) -> Result<store_core::StoredEvent, All
 pub(crate) fn events_of(
     alloc: Global,
     events: &KeptEvents,
-) -> Result<Vec<store_core::StoredEvent>, AllocError>
-    ensures texts { IfOk result (λ texts. map event_texts_in texts.items ≡ map event_texts events.now) }
+    puts: Puts,
+) -> Result<Vec<StoredEvent>, AllocError>
+    ensures texts { IfOk result (λ texts. map event_texts_in texts.items ≡ map (event_texts puts) events.now) }
     ensures spelled { IfOk result (λ _. All (λ e. IsTuple e.tuple) events.now) }
 {
     let mut texts = Vec::with_capacity(alloc, events.len())?;
     for i in 0..events.len() {
         let event = events.event(i).event();
         see_tuple(&event.tuple);
-        texts.push(event_of(alloc, &event)?)?;
+        texts.push(event_of(alloc, &event, puts)?)?;
     }
     Ok(texts)
 }

@@ -26,6 +26,10 @@ use Rattle.store_core.proofs.Texts.{close_text, close_query, alone}
 use Rattle.store_core.proofs.Insert.{goes, same_value, cast_int}
 use Rattle.store_core.proofs.Scan.{scan_rows, text_test, zero_test}
 use Rattle.store_core.proofs.Update.{updates, rewrites}
+use Rattle.store_core.proofs.Numbering.{updates_numbered}
+use Rattle.store_core.specs.Numbered.{IsNumbered, AreNumberedTo}
+use Rattle.std.specs.List.{AllByRecursion}
+use Rattle.std.specs.Prelude.{◌≤◌, ◌^◌, ◌-◌}
 use Rattle.store_core.proofs.Rowids.{rowids_edit}
 
 abbrev pub close_params : Span → ℕ → Row
@@ -70,7 +74,7 @@ closes_span s rev x =
     go false = refl
 
 pub closes : (old new : State) (s : Span) (rev count : ℕ) (h : Contents) → Holds old.now h → Writes old new None (Update 0 (alone close_query)) (statement_of close_text (understood schema close_text)) (close_params s rev) count
-    → Holds new.now (with_closed s rev h)
+    → Holds new.now (with_closed s rev h) × ((n : ℕ) → 0 ≤ n → AreNumberedTo n old.now.trees → AreNumberedTo n new.now.trees)
 closes old new s rev count h holds w =
     let params = close_params s rev in
     let db = old.now.trees in
@@ -86,14 +90,19 @@ closes old new s rev count h holds w =
     let shown = scan_rows 0 close_query.filter close_query.project [] _ params given.0 (given.1.answer Null) in
     let tree : new.now.trees 0 ≡ edited db edit = ap (λ (d : Database). d.trees 0) now ∙ ap (λ (t : Trees). t 0) trees ∙ did.rows in
     let apart : (t : ℕ) → wrote.0 t ≡ db t → new.now.trees t ≡ db t = λ t same. ap (λ (d : Database). d.trees t) now ∙ ap (λ (all : Trees). all t) trees ∙ same in
-    let wrote_rows = updates db row_table (passes s rev) (row_after s rev) given.0 holds.spans_rowids shown did.fresh in
-    record {
-      schema_is = ap (λ (d : Database). d.schema) now;
-      spans = subst (λ rows. Lists rows (map span_cells (map (after_close s rev) h.spans))) (sym tree)
-          (rewrites span_cells (after_close s rev) (drop 1) (λ cells. row_then s rev (Null ∷ cells)) (db 0) (row_then s rev) (edited db edit) h.spans (row_then_reads s rev) (closes_span s rev) holds.spans wrote_rows);
-      configs = subst (IsPermutation (map config_with_rowid h.configs)) (sym (apart 2 (did.tables.1.0 (λ e. absurd (omega (arith, e)))))) holds.configs;
-      configs_rowids = subst HasRowids (sym (apart 2 (did.tables.1.0 (λ e. absurd (omega (arith, e)))))) holds.configs_rowids;
-      entries = subst (λ rows. Lists rows (map entry_cells h.entries)) (sym (apart 3 (did.tables.1.1.0 (λ e. absurd (omega (arith, e)))))) holds.entries;
-      spans_rowids = subst HasRowids (sym tree) (rowids_edit db edit did.keyed did.fresh holds.spans_rowids);
-      entries_rowids = subst HasRowids (sym (apart 3 (did.tables.1.1.0 (λ e. absurd (omega (arith, e)))))) holds.entries_rowids;
-    }
+    let wrote_rows = updates db row_table (passes s rev) (row_after s rev) given.0 holds.spans_rowids shown did.fresh in (
+      record {
+        schema_is = ap (λ (d : Database). d.schema) now;
+        spans = subst (λ rows. Lists rows (map span_cells (map (after_close s rev) h.spans))) (sym tree)
+            (rewrites span_cells (after_close s rev) (drop 1) (λ cells. row_then s rev (Null ∷ cells)) (db 0) (row_then s rev) (edited db edit) h.spans (row_then_reads s rev) (closes_span s rev) holds.spans wrote_rows);
+        configs = subst (IsPermutation (map config_with_rowid h.configs)) (sym (apart 2 (did.tables.1.0 (λ e. absurd (omega (arith, e)))))) holds.configs;
+        configs_rowids = subst HasRowids (sym (apart 2 (did.tables.1.0 (λ e. absurd (omega (arith, e)))))) holds.configs_rowids;
+        entries = subst (λ rows. Lists rows (map entry_cells h.entries)) (sym (apart 3 (did.tables.1.1.0 (λ e. absurd (omega (arith, e)))))) holds.entries;
+        spans_rowids = subst HasRowids (sym tree) (rowids_edit db edit did.keyed did.fresh holds.spans_rowids);
+        entries_rowids = subst HasRowids (sym (apart 3 (did.tables.1.1.0 (λ e. absurd (omega (arith, e)))))) holds.entries_rowids;
+      },
+      λ n up was. record {
+        spans = subst (AllByRecursion (IsNumbered n)) (sym tree) (updates_numbered n db row_table (passes s rev) (row_after s rev) given.0 shown did.fresh was.spans);
+        entries = subst (AllByRecursion (IsNumbered (2 ^ 63 - 1))) (sym (apart 3 (did.tables.1.1.0 (λ e. absurd (omega (arith, e)))))) was.entries;
+      },
+    )

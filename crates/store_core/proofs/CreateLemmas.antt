@@ -1,9 +1,9 @@
 -- What the statements that create the tables do.
-use Rattle.std.proofs.Common.{◌≡◌, ℕ, pos, Bool, true, false, if◌then◌else◌, List, [], ◌∷◌, ◌++◌, map, drop, None, Ok, refl, sym, ap, subst, ◌∙◌, arith}
+use Rattle.std.proofs.Common.{◌≡◌, ◌+◌, ℕ, pos, Bool, true, false, if◌then◌else◌, List, [], ◌∷◌, ◌++◌, length, map, drop, None, Ok, refl, sym, ap, subst, ◌∙◌, arith}
 use Rattle.std.specs.List.Sorted.{IsPermutation}
 use Rattle.std.proofs.lemmas.List.Sorted.{IsPermutation-refl, IsPermutation-map}
 use Rattle.std.proofs.Common.{append-nil}
-use Rattle.sqlite.specs.declared.types.Value.TheVariants.{Int}
+use Rattle.sqlite.specs.declared.types.Value.TheVariants.{Null, Int}
 use Rattle.sqlite.specs.Order.{Row}
 use Rattle.sqlite.specs.Table.{Table}
 use Rattle.sqlite.specs.Schema.{Schema}
@@ -22,10 +22,14 @@ use Rattle.sqlite.specs.State.{State, mode_of, Writes}
 use Rattle.sqlite.specs.Listing.{understood}
 use Rattle.sqlite.proofs.Callers.{statement_of, one_step}
 use Rattle.store_core.specs.Format.{schema, no_schema, one_schema, two_schema, row_text, config_text, state_text, row_table, config_table, state_table}
-use Rattle.store_core.specs.Tables.{HasRowids, Holds, Lists, entry_cells}
-use Rattle.store_core.specs.Steps.{HasRow, HasConfig, HasTables, new_store}
+use Rattle.store_core.specs.Tables.{HasRowids, Lists, entry_cells}
+use Rattle.std.specs.List.{AllByRecursion}
+use Rattle.std.specs.Prelude.{◌^◌, ◌-◌}
+use Rattle.store_core.specs.Numbered.{IsNumbered}
+use Rattle.store_core.specs.Steps.{HasRow, HasConfig, HasTables, HasNew, new_store}
 use Rattle.store_core.proofs.Texts.{row_is, config_is, state_is, init_text, init_terms}
-use Rattle.store_core.proofs.Insert.{goes, same_value, cast_int}
+use Rattle.store_core.proofs.Insert.{goes, same_value, cast_null, cast_int}
+use Rattle.store_core.proofs.Numbering.{all_edited, numbered_chosen, rows_more}
 use Rattle.store_core.proofs.Lists.{put_all_fresh}
 use Rattle.store_core.proofs.Rowids.{rowids_edit, no_rowids}
 
@@ -83,7 +87,7 @@ abbrev pub init_params : ℕ → Row
 init_params number = Int (pos number) ∷ []
 
 pub inits : (old new : State) (number count : ℕ) → HasTables old.now → Writes old new None (Insert 2 (Values init_terms 3)) (statement_of init_text (understood schema init_text)) (init_params number) count
-    → Holds new.now (new_store number)
+    → HasNew number new.now
 inits old new number count has w =
     let params = init_params number in
     let db = old.now.trees in
@@ -107,12 +111,23 @@ inits old new number count has w =
     let apart : (t : ℕ) → written.0 t ≡ db t → new.now.trees t ≡ db t = λ t same. ap (λ (d : Database). d.trees t) now ∙ ap (λ (all : Trees). all t) trees ∙ same in
     let config_same : new.now.trees 2 ≡ [] = apart 2 (did.tables.1.0 (λ e. absurd (omega (arith, e)))) ∙ has.config in
     let row_same : new.now.trees 0 ≡ [] = apart 0 (did.tables.0 (λ e. absurd (omega (arith, e)))) ∙ has.row in
+    let made : List Row → List Row = map (λ s. Rattle.sqlite.specs.Cast.cast_row state_at (drop 0 s)) in
+    let unnumbered : AllByRecursion (λ r. rowid r ≡ Null) (made given.0) = subst (λ all. AllByRecursion (λ r. rowid r ≡ Null) (made all)) (sym given.1.1) (cast_null, (cast_null, (cast_null, (cast_null, tt)))) in
+    let fresh_rows : AllByRecursion (IsNumbered (0 + length (made given.0))) edit.news = numbered_chosen 0 (Rattle.sqlite.specs.Edit.without_all (db 3) []) (made given.0) (subst (AllByRecursion (IsNumbered 0)) (sym has.state) tt) unnumbered in
+    let four : 0 + length (made given.0) ≡ 4 = ap (λ all. 0 + length (made all)) given.1.1 in
+    let numbers : AllByRecursion (IsNumbered 4) (edited db edit) = all_edited (IsNumbered 4) db edit did.fresh (subst (λ n. AllByRecursion (IsNumbered n) edit.news) four fresh_rows) (subst (AllByRecursion (IsNumbered 4)) (sym has.state) tt) in
     record {
-      schema_is = ap (λ (d : Database). d.schema) now;
-      spans = subst (λ rows. Lists rows []) (sym row_same) (IsPermutation-refl []);
-      configs = subst (IsPermutation []) (sym config_same) (IsPermutation-refl []);
-      configs_rowids = subst HasRowids (sym config_same) none;
-      entries = subst (λ rows. Lists rows want) (sym tree) (subst (λ rows. IsPermutation rows (map (drop 1) (edited db edit))) (ap (map (drop 1)) (append-nil edit.news) ∙ cells) put);
-      spans_rowids = subst HasRowids (sym row_same) none;
-      entries_rowids = subst HasRowids (sym tree) (rowids_edit db edit did.keyed did.fresh (subst HasRowids (sym has.state) none));
+      holds = record {
+        schema_is = ap (λ (d : Database). d.schema) now;
+        spans = subst (λ rows. Lists rows []) (sym row_same) (IsPermutation-refl []);
+        configs = subst (IsPermutation []) (sym config_same) (IsPermutation-refl []);
+        configs_rowids = subst HasRowids (sym config_same) none;
+        entries = subst (λ rows. Lists rows want) (sym tree) (subst (λ rows. IsPermutation rows (map (drop 1) (edited db edit))) (ap (map (drop 1)) (append-nil edit.news) ∙ cells) put);
+        spans_rowids = subst HasRowids (sym row_same) none;
+        entries_rowids = subst HasRowids (sym tree) (rowids_edit db edit did.keyed did.fresh (subst HasRowids (sym has.state) none));
+      };
+      numbered = record {
+        spans = subst (AllByRecursion (IsNumbered 0)) (sym row_same) tt;
+        entries = subst (AllByRecursion (IsNumbered (2 ^ 63 - 1))) (sym tree) (rows_more 4 (2 ^ 63 - 1) (omega arith) (edited db edit) numbers);
+      };
     }

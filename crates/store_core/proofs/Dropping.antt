@@ -23,7 +23,7 @@ use Rattle.sqlite.specs.Rows.{Written}
 use Rattle.sqlite.specs.Tree.{Trees, rowid}
 use Rattle.sqlite.specs.Effect.{Database}
 use Rattle.sqlite.specs.State.{State, mode_of, Writes}
-use Rattle.sqlite_trees.proofs.ListLemmas.{map-map, filter-map, IsPermutation-filter}
+use Rattle.sqlite_trees.proofs.ListLemmas.{all-filter, map-map, filter-map, IsPermutation-filter}
 use Rattle.sqlite_rules.specs.Calls.{ids_of}
 use Rattle.sqlite.specs.Listing.{understood}
 use Rattle.sqlite.proofs.Callers.{statement_of, one_step}
@@ -35,6 +35,9 @@ use Rattle.store_core.proofs.Insert.{goes, same_value}
 use Rattle.store_core.proofs.Scan.{scan_rows}
 use Rattle.store_core.proofs.Update.{left_is, filter_congr}
 use Rattle.store_core.proofs.Rowids.{rowids_edit}
+use Rattle.store_core.specs.Numbered.{IsNumbered, AreNumberedTo}
+use Rattle.std.specs.List.{AllByRecursion}
+use Rattle.std.specs.Prelude.{◌≤◌, ◌^◌, ◌-◌}
 
 -- ---- what the tests ask
 
@@ -113,7 +116,7 @@ span_past : (floor : ℕ) (x : Span) → passes_span floor (Null ∷ span_cells 
 span_past floor x = rw (above_as x.removed 0, up_to_as x.removed floor) (double (nat_lt 0 x.removed) (not (nat_lt floor x.removed)))
 
 pub drops_spans : (old new : State) (floor count : ℕ) (h : Contents) → Holds old.now h → Writes old new None (Delete 0 (alone drop_query)) (statement_of drop_text (understood schema drop_text)) (past_params floor) count
-    → Holds new.now (without_past floor h)
+    → Holds new.now (without_past floor h) × ((n : ℕ) → 0 ≤ n → AreNumberedTo n old.now.trees → AreNumberedTo n new.now.trees)
 drops_spans old new floor count h holds w =
     let params = past_params floor in
     let db = old.now.trees in
@@ -131,17 +134,22 @@ drops_spans old new floor count h holds w =
     let left : edited db edit ≡ filter (λ r. not (passes_span floor r)) (db 0) = deletes db row_table (passes_span floor) given.0 holds.spans_rowids shown in
     let apart : (t : ℕ) → wrote.0 t ≡ db t → new.now.trees t ≡ db t = λ t same. ap (λ (d : Database). d.trees t) now ∙ ap (λ (all : Trees). all t) trees ∙ same in
     let config_same : new.now.trees 2 ≡ db 2 = apart 2 (did.tables.1.0 (λ e. absurd (omega (arith, e)))) in
-    let entry_same : new.now.trees 3 ≡ db 3 = apart 3 (did.tables.1.1.0 (λ e. absurd (omega (arith, e)))) in
-    record {
-      schema_is = ap (λ (d : Database). d.schema) now;
-      spans = subst (λ rows. Lists rows (map span_cells (without_past floor h).spans)) (sym (tree ∙ left))
-          (leaves span_cells (is_past floor) (drop 1) (λ cells. passes_span floor (Null ∷ cells)) (passes_span floor) (db 0) h.spans (span_reads floor) (span_past floor) holds.spans);
-      configs = subst (IsPermutation (map config_with_rowid h.configs)) (sym config_same) holds.configs;
-      entries = subst (λ rows. Lists rows (map entry_cells h.entries)) (sym entry_same) holds.entries;
-      spans_rowids = subst HasRowids (sym tree) (rowids_edit db edit did.keyed did.fresh holds.spans_rowids);
-      configs_rowids = subst HasRowids (sym config_same) holds.configs_rowids;
-      entries_rowids = subst HasRowids (sym entry_same) holds.entries_rowids;
-    }
+    let entry_same : new.now.trees 3 ≡ db 3 = apart 3 (did.tables.1.1.0 (λ e. absurd (omega (arith, e)))) in (
+      record {
+        schema_is = ap (λ (d : Database). d.schema) now;
+        spans = subst (λ rows. Lists rows (map span_cells (without_past floor h).spans)) (sym (tree ∙ left))
+            (leaves span_cells (is_past floor) (drop 1) (λ cells. passes_span floor (Null ∷ cells)) (passes_span floor) (db 0) h.spans (span_reads floor) (span_past floor) holds.spans);
+        configs = subst (IsPermutation (map config_with_rowid h.configs)) (sym config_same) holds.configs;
+        entries = subst (λ rows. Lists rows (map entry_cells h.entries)) (sym entry_same) holds.entries;
+        spans_rowids = subst HasRowids (sym tree) (rowids_edit db edit did.keyed did.fresh holds.spans_rowids);
+        configs_rowids = subst HasRowids (sym config_same) holds.configs_rowids;
+        entries_rowids = subst HasRowids (sym entry_same) holds.entries_rowids;
+      },
+      λ n up was. record {
+        spans = subst (AllByRecursion (IsNumbered n)) (sym (tree ∙ left)) (all-filter (IsNumbered n) (λ r. not (passes_span floor r)) (db 0) was.spans);
+        entries = subst (AllByRecursion (IsNumbered (2 ^ 63 - 1))) (sym entry_same) was.entries;
+      },
+    )
 
 -- ---- the configurations
 
@@ -155,7 +163,7 @@ config_below : (rev : ℕ) (c : ConfigRow) → passes_config rev (config_with_ro
 config_below rev c = rw (below_as c.rev rev) (single (nat_lt c.rev rev))
 
 pub drops_configs : (old new : State) (rev count : ℕ) (h : Contents) → Holds old.now h → Writes old new None (Delete 1 (alone drop_configs_query)) (statement_of drop_configs_text (understood schema drop_configs_text)) (past_params rev) count
-    → Holds new.now (without_below rev h)
+    → Holds new.now (without_below rev h) × ((n : ℕ) → 0 ≤ n → AreNumberedTo n old.now.trees → AreNumberedTo n new.now.trees)
 drops_configs old new rev count h holds w =
     let params = past_params rev in
     let db = old.now.trees in
@@ -176,13 +184,18 @@ drops_configs old new rev count h holds w =
     let entry_same : new.now.trees 3 ≡ db 3 = apart 3 (did.tables.1.1.0 (λ e. absurd (omega (arith, e)))) in
     let whole : IsPermutation (map config_with_rowid h.configs) (map (λ r. r) (db 2)) = subst (IsPermutation (map config_with_rowid h.configs)) (sym (map_same (db 2))) holds.configs in
     let kept = subst (IsPermutation (map config_with_rowid (without_below rev h).configs)) (map_same (filter (λ r. not (passes_config rev r)) (db 2)))
-    (leaves config_with_rowid (is_below rev) (λ r. r) (passes_config rev) (passes_config rev) (db 2) h.configs (λ r. refl) (config_below rev) whole) in
-    record {
-      schema_is = ap (λ (d : Database). d.schema) now;
-      spans = subst (λ rows. Lists rows (map span_cells h.spans)) (sym row_same) holds.spans;
-      configs = subst (IsPermutation (map config_with_rowid (without_below rev h).configs)) (sym (tree ∙ left)) kept;
-      entries = subst (λ rows. Lists rows (map entry_cells h.entries)) (sym entry_same) holds.entries;
-      spans_rowids = subst HasRowids (sym row_same) holds.spans_rowids;
-      configs_rowids = subst HasRowids (sym tree) (rowids_edit db edit did.keyed did.fresh holds.configs_rowids);
-      entries_rowids = subst HasRowids (sym entry_same) holds.entries_rowids;
-    }
+    (leaves config_with_rowid (is_below rev) (λ r. r) (passes_config rev) (passes_config rev) (db 2) h.configs (λ r. refl) (config_below rev) whole) in (
+      record {
+        schema_is = ap (λ (d : Database). d.schema) now;
+        spans = subst (λ rows. Lists rows (map span_cells h.spans)) (sym row_same) holds.spans;
+        configs = subst (IsPermutation (map config_with_rowid (without_below rev h).configs)) (sym (tree ∙ left)) kept;
+        entries = subst (λ rows. Lists rows (map entry_cells h.entries)) (sym entry_same) holds.entries;
+        spans_rowids = subst HasRowids (sym row_same) holds.spans_rowids;
+        configs_rowids = subst HasRowids (sym tree) (rowids_edit db edit did.keyed did.fresh holds.configs_rowids);
+        entries_rowids = subst HasRowids (sym entry_same) holds.entries_rowids;
+      },
+      λ n up was. record {
+        spans = subst (AllByRecursion (IsNumbered n)) (sym row_same) was.spans;
+        entries = subst (AllByRecursion (IsNumbered (2 ^ 63 - 1))) (sym entry_same) was.entries;
+      },
+    )

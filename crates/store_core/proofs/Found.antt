@@ -175,10 +175,10 @@ found_entries old new rows xs has sound did read =
 
 -- ---- the rowids
 
-abbrev id_row : Row → Row
+abbrev pub id_row : Row → Row
 id_row r = column r 0 ∷ []
 
-other_id : (m n : ℕ) → same_rowid (id_cells m) (id_cells n) ≡ is_eq (nat_cmp m n)
+pub other_id : (m n : ℕ) → same_rowid (id_cells m) (id_cells n) ≡ is_eq (nat_cmp m n)
 other_id m n = ap is_eq (value_cmp-Int (pos m) (pos n) ∙ natural_as m n)
 
 ids_apart : (ids : List ℕ) → IsDistinct (λ m n. is_eq (nat_cmp m n)) ids → IsDistinct same_rowid (map id_cells ids)

@@ -23,6 +23,9 @@ use Rattle.store_core.proofs.Texts.{config_insert_text, config_terms}
 use Rattle.store_core.proofs.Insert.{goes, same_value, cast_null, cast_int}
 use Rattle.store_core.proofs.Rowids.{rowids_edit}
 use Rattle.store_core.proofs.Lists.{put_all_fresh}
+use Rattle.store_core.specs.Numbered.{IsNumbered, AreNumberedTo}
+use Rattle.std.specs.List.{AllByRecursion}
+use Rattle.std.specs.Prelude.{◌≤◌, ◌^◌, ◌-◌}
 
 abbrev pub config_params : ConfigRow → Row
 config_params c = Int (pos c.rev) ∷ Text c.text ∷ []
@@ -31,7 +34,7 @@ abbrev config_table_at : Table
 config_table_at = record config_table { tree = 2 }
 
 pub inserts_config : (old new : State) (c : ConfigRow) (count : ℕ) (h : Contents) → Holds old.now h
-    → Writes old new None (Insert 1 (Values config_terms 3)) (statement_of config_insert_text (understood schema config_insert_text)) (config_params c) count → Holds new.now (with_config c h)
+    → Writes old new None (Insert 1 (Values config_terms 3)) (statement_of config_insert_text (understood schema config_insert_text)) (config_params c) count → Holds new.now (with_config c h) × ((n : ℕ) → 0 ≤ n → AreNumberedTo n old.now.trees → AreNumberedTo n new.now.trees)
 inserts_config old new c count h holds w =
     let params = config_params c in
     let db = old.now.trees in
@@ -50,14 +53,19 @@ inserts_config old new c count h holds w =
     let tree : new.now.trees 2 ≡ edited db edit = ap (λ (d : Database). d.trees 2) now ∙ ap (λ (t : Trees). t 2) trees ∙ did.rows in
     let apart : (t : ℕ) → written.0 t ≡ db t → new.now.trees t ≡ db t = λ t same. ap (λ (d : Database). d.trees t) now ∙ ap (λ (all : Trees). all t) trees ∙ same in
     let row_same : new.now.trees 0 ≡ db 0 = apart 0 (did.tables.0 (λ e. absurd (omega (arith, e)))) in
-    let entry_same : new.now.trees 3 ≡ db 3 = apart 3 (did.tables.1.1.0 (λ e. absurd (omega (arith, e)))) in
-    record {
-      schema_is = ap (λ (d : Database). d.schema) now;
-      spans = subst (λ rows. Lists rows (map span_cells h.spans)) (sym row_same) holds.spans;
-      configs = subst (IsPermutation (config_with_rowid c ∷ map config_with_rowid h.configs)) (sym tree)
-          (IsPermutation-trans _ (config_with_rowid c ∷ db 2) _ (IsPermutation-cons (config_with_rowid c) _ _ holds.configs) (subst (λ n. IsPermutation (n ++ db 2) (edited db edit)) news put));
-      entries = subst (λ rows. Lists rows (map entry_cells h.entries)) (sym entry_same) holds.entries;
-      spans_rowids = subst HasRowids (sym row_same) holds.spans_rowids;
-      configs_rowids = subst HasRowids (sym tree) (rowids_edit db edit did.keyed did.fresh holds.configs_rowids);
-      entries_rowids = subst HasRowids (sym entry_same) holds.entries_rowids;
-    }
+    let entry_same : new.now.trees 3 ≡ db 3 = apart 3 (did.tables.1.1.0 (λ e. absurd (omega (arith, e)))) in (
+      record {
+        schema_is = ap (λ (d : Database). d.schema) now;
+        spans = subst (λ rows. Lists rows (map span_cells h.spans)) (sym row_same) holds.spans;
+        configs = subst (IsPermutation (config_with_rowid c ∷ map config_with_rowid h.configs)) (sym tree)
+            (IsPermutation-trans _ (config_with_rowid c ∷ db 2) _ (IsPermutation-cons (config_with_rowid c) _ _ holds.configs) (subst (λ n. IsPermutation (n ++ db 2) (edited db edit)) news put));
+        entries = subst (λ rows. Lists rows (map entry_cells h.entries)) (sym entry_same) holds.entries;
+        spans_rowids = subst HasRowids (sym row_same) holds.spans_rowids;
+        configs_rowids = subst HasRowids (sym tree) (rowids_edit db edit did.keyed did.fresh holds.configs_rowids);
+        entries_rowids = subst HasRowids (sym entry_same) holds.entries_rowids;
+      },
+      λ n up was. record {
+        spans = subst (AllByRecursion (IsNumbered n)) (sym row_same) was.spans;
+        entries = subst (AllByRecursion (IsNumbered (2 ^ 63 - 1))) (sym entry_same) was.entries;
+      },
+    )

@@ -10,16 +10,16 @@ use Rattle.sqlite.specs.declared.error.ErrorCode.TheVariants.{TransactionState}
 use Rattle.sqlite.specs.declared.error.Error.TheVariants.{SqliteFailure}
 use Rattle.sqlite.specs.Store.{Ghosts}
 use Rattle.sqlite.specs.Tree.{Trees}
-use Rattle.sqlite.specs.Effect.{Database}
+use Rattle.sqlite.specs.Effect.{Database, IsDatabase}
 use Rattle.sqlite.specs.Held.{Held, state}
 use Rattle.sqlite.proofs.Callers.{runs_as}
 use Rattle.sqlite.proofs.StateLemmas.{survives_then}
 use Rattle.store_core.specs.Format.{schema}
-use Rattle.store_core.specs.Tables.{Span, ConfigRow}
+use Rattle.store_core.specs.Tables.{Span, ConfigRow, Contents, Holds}
 use Rattle.sqlite.specs.State.{Writes}
 use Rattle.store_core.specs.Format.{no_schema, one_schema, two_schema, row_text, config_text, state_text}
 use Rattle.store_core.proofs.CreateLemmas.{makes_row, makes_config, makes_state, init_params, inits}
-use Rattle.store_core.specs.Steps.{Becomes, IsQuiet, Turns, with_span, with_closed, with_config, with_entry, without_past, without_below, HasNone, HasRow, HasConfig, HasTables, HasNew}
+use Rattle.store_core.specs.Steps.{Alters, IsQuiet, Turns, with_span, with_closed, with_config, with_entry, without_past, without_below, HasNone, HasRow, HasConfig, HasTables, HasNew}
 use Rattle.store_core.proofs.Close.{close_params, closes}
 use Rattle.store_core.proofs.Set.{set_params, sets}
 use Rattle.store_core.proofs.InsertConfig.{config_params, inserts_config}
@@ -43,6 +43,10 @@ turns : (sql : List ℕ) (params : Row) (old new : State) (R : Database → Data
 turns sql params old new R does (Err e) h = tt
 turns sql params old new R does (Ok count) h = record { goes_on = λ _. h.1.mode; does = does count h.0 }
 
+ran_open : (sql : List ℕ) (params : Row) (old new : State) (r : Result ℕ Error) → ExecutesInside 0 sql params old new r → OnOk r (IsTrue old.is_open)
+ran_open sql params old new (Err e) h = tt
+ran_open sql params old new (Ok count) h = h.1.was_open
+
 -- a transaction that has ended answers an error and does nothing
 abbrev pub Ended : {S : Type 0} → Ghosts S → Held S → Held S → Result ℕ Error → Type 0
 Ended g old new r = (state g old).in_transaction ≡ false → (r ≡ Err (SqliteFailure TransactionState)) × (new ≡ old)
@@ -57,6 +61,14 @@ module _ {S : Type 0} (g : Ghosts S) (old new : MutBor (Held S)) (r : Result ℕ
       by_mode : (b : Bool) → (state g old.now).in_transaction ≡ b → OnOk r (Turns R (state g old.now) (state g new.now))
       by_mode true e = turns sql params (state g old.now) (state g new.now) R does r (runs clean e)
       by_mode false e = subst (λ x. OnOk x (Turns R (state g old.now) (state g new.now))) (sym (ended e).0) tt
+
+  -- it was open, where it succeeded
+  pub open_inside : HasCleanDisk (state g new.now) → OnOk r (IsTrue (state g old.now).is_open)
+  open_inside clean = by_mode (state g old.now).in_transaction refl
+    where
+      by_mode : (b : Bool) → (state g old.now).in_transaction ≡ b → OnOk r (IsTrue (state g old.now).is_open)
+      by_mode true e = ran_open sql params (state g old.now) (state g new.now) r (runs clean e)
+      by_mode false e = subst (λ x. OnOk x (IsTrue (state g old.now).is_open)) (sym (ended e).0) tt
 
   pub quiet_inside : Survives (state g old.now) (state g new.now) (λ _. ⊥) → IsQuiet g old new
   quiet_inside survives = record { keeps_commit = λ clean. by_mode clean (state g old.now).in_transaction refl; survives = survives }
@@ -76,6 +88,10 @@ quiet_then g a b c one two = record {
   survives = survives_then (state g a.now) (state g b.now) (state g c.now) _ _ (λ _. ⊥) (λ _ db none. none) (λ _ db none. none) one.survives two.survives;
 }
 
+-- where the last of them ran, the connection was open at the first
+pub opened_then : {S : Type 0} (g : Ghosts S) (a b c : MutBor (Held S)) → IsQuiet g a b → IsQuiet g b c → (HasCleanDisk (state g c.now) → IsTrue (state g b.now).is_open) → HasCleanDisk (state g c.now) → IsTrue (state g a.now).is_open
+opened_then g a b c one two was clean = (one.keeps_commit (omega (arith, two.survives.clean, clean))).was_open (was clean)
+
 -- nothing has happened
 pub survives_same : (s : State) (P : Trees → Type 0) → Survives s s P
 survives_same s P = record { clean = omega arith; shield = λ x. x; counts = omega arith; limit = refl; closes = λ _ is. inl is; crash = λ _ db left. inl left }
@@ -90,39 +106,60 @@ calm g a b quiet clean = omega (arith, quiet.survives.clean, clean)
 -- ---- what each does
 
 module _ (old new : State) (count : ℕ) where
-  pub insert_does : (s : Span) → Executes insert_text (insert_params s) old new (Ok count) → Becomes (with_span (open_span s)) old.now new.now
-  insert_does s ran = λ h holds. inserts old new s count h holds (runs_as insert_text (insert_params s) old new schema holds.schema_is (Insert 0 (Values insert_terms 7)) insert_is insert_plain count ran)
+  pub insert_does : (id : ℕ) (s : Span) → Executes insert_text (insert_params id s) old new (Ok count) → Alters (with_span (open_span s)) id old.now new.now
+  insert_does id s ran =
+      let wrote = λ (h : Contents) (holds : Holds old.now h). runs_as insert_text (insert_params id s) old new schema holds.schema_is (Insert 0 (Values insert_terms 7)) insert_is insert_plain count ran in
+      let does = λ (h : Contents) (holds : Holds old.now h). inserts old new id s count h holds (wrote h holds) in
+      record { holds = λ h holds. (does h holds).0; numbered = λ h holds. (does h holds).1; sound = λ h holds _. (wrote h holds).sound }
 
-  pub close_does : (s : Span) (rev : ℕ) → Executes close_text (close_params s rev) old new (Ok count) → Becomes (with_closed s rev) old.now new.now
-  close_does s rev ran = λ h holds. closes old new s rev count h holds (runs_as close_text (close_params s rev) old new schema holds.schema_is (Update 0 (alone close_query)) close_is close_plain count ran)
+  pub close_does : (s : Span) (rev : ℕ) → Executes close_text (close_params s rev) old new (Ok count) → Alters (with_closed s rev) 0 old.now new.now
+  close_does s rev ran =
+      let wrote = λ (h : Contents) (holds : Holds old.now h). runs_as close_text (close_params s rev) old new schema holds.schema_is (Update 0 (alone close_query)) close_is close_plain count ran in
+      let does = λ (h : Contents) (holds : Holds old.now h). closes old new s rev count h holds (wrote h holds) in
+      record { holds = λ h holds. (does h holds).0; numbered = λ h holds. (does h holds).1; sound = λ h holds _. (wrote h holds).sound }
 
-  pub set_does : (key : List ℕ) (value : ℕ) → Executes set_text (set_params key value) old new (Ok count) → Becomes (with_entry key value) old.now new.now
-  set_does key value ran = λ h holds. sets old new key value count h holds (runs_as set_text (set_params key value) old new schema holds.schema_is (Update 2 (alone set_query)) set_is set_plain count ran)
+  pub set_does : (key : List ℕ) (value : ℕ) → Executes set_text (set_params key value) old new (Ok count) → Alters (with_entry key value) 0 old.now new.now
+  set_does key value ran =
+      let wrote = λ (h : Contents) (holds : Holds old.now h). runs_as set_text (set_params key value) old new schema holds.schema_is (Update 2 (alone set_query)) set_is set_plain count ran in
+      let does = λ (h : Contents) (holds : Holds old.now h). sets old new key value count h holds (wrote h holds) in
+      record { holds = λ h holds. (does h holds).0; numbered = λ h holds. (does h holds).1; sound = λ h holds _. (wrote h holds).sound }
 
-  pub config_does : (c : ConfigRow) → Executes config_insert_text (config_params c) old new (Ok count) → Becomes (with_config c) old.now new.now
-  config_does c ran = λ h holds.
-      inserts_config old new c count h holds (runs_as config_insert_text (config_params c) old new schema holds.schema_is (Insert 1 (Values config_terms 3)) config_insert_is config_insert_plain count ran)
+  pub config_does : (c : ConfigRow) → Executes config_insert_text (config_params c) old new (Ok count) → Alters (with_config c) 0 old.now new.now
+  config_does c ran =
+      let wrote = λ (h : Contents) (holds : Holds old.now h). runs_as config_insert_text (config_params c) old new schema holds.schema_is (Insert 1 (Values config_terms 3)) config_insert_is config_insert_plain count ran in
+      let does = λ (h : Contents) (holds : Holds old.now h). inserts_config old new c count h holds (wrote h holds) in
+      record { holds = λ h holds. (does h holds).0; numbered = λ h holds. (does h holds).1; sound = λ h holds _. (wrote h holds).sound }
 
-  pub drop_spans_does : (floor : ℕ) → Executes drop_text (past_params floor) old new (Ok count) → Becomes (without_past floor) old.now new.now
-  drop_spans_does floor ran = λ h holds. drops_spans old new floor count h holds (runs_as drop_text (past_params floor) old new schema holds.schema_is (Delete 0 (alone drop_query)) drop_is drop_plain count ran)
+  pub drop_spans_does : (floor : ℕ) → Executes drop_text (past_params floor) old new (Ok count) → Alters (without_past floor) 0 old.now new.now
+  drop_spans_does floor ran =
+      let wrote = λ (h : Contents) (holds : Holds old.now h). runs_as drop_text (past_params floor) old new schema holds.schema_is (Delete 0 (alone drop_query)) drop_is drop_plain count ran in
+      let does = λ (h : Contents) (holds : Holds old.now h). drops_spans old new floor count h holds (wrote h holds) in
+      record { holds = λ h holds. (does h holds).0; numbered = λ h holds. (does h holds).1; sound = λ h holds _. (wrote h holds).sound }
 
-  pub drop_configs_does : (rev : ℕ) → Executes drop_configs_text (past_params rev) old new (Ok count) → Becomes (without_below rev) old.now new.now
-  drop_configs_does rev ran = λ h holds.
-      drops_configs old new rev count h holds (runs_as drop_configs_text (past_params rev) old new schema holds.schema_is (Delete 1 (alone drop_configs_query)) drop_configs_is drop_configs_plain count ran)
+  pub drop_configs_does : (rev : ℕ) → Executes drop_configs_text (past_params rev) old new (Ok count) → Alters (without_below rev) 0 old.now new.now
+  drop_configs_does rev ran =
+      let wrote = λ (h : Contents) (holds : Holds old.now h). runs_as drop_configs_text (past_params rev) old new schema holds.schema_is (Delete 1 (alone drop_configs_query)) drop_configs_is drop_configs_plain count ran in
+      let does = λ (h : Contents) (holds : Holds old.now h). drops_configs old new rev count h holds (wrote h holds) in
+      record { holds = λ h holds. (does h holds).0; numbered = λ h holds. (does h holds).1; sound = λ h holds _. (wrote h holds).sound }
 
   -- ---- creation
 
-  pub make_row_does : Executes row_text [] old new (Ok count) → HasNone old.now → HasRow new.now
+  pub make_row_does : Executes row_text [] old new (Ok count) → HasNone old.now → HasRow new.now × IsDatabase new.now
   make_row_does ran is =
-      makes_row old new count is (subst (λ t. Writes old new None CreateTable t [] count) make_row_is.1 (runs_as row_text [] old new no_schema is CreateTable make_row_is.0 make_row_plain count ran))
+      let wrote = runs_as row_text [] old new no_schema is CreateTable make_row_is.0 make_row_plain count ran in
+      (makes_row old new count is (subst (λ t. Writes old new None CreateTable t [] count) make_row_is.1 wrote), wrote.sound)
 
-  pub make_config_does : Executes config_text [] old new (Ok count) → HasRow old.now → HasConfig new.now
+  pub make_config_does : Executes config_text [] old new (Ok count) → HasRow old.now → HasConfig new.now × IsDatabase new.now
   make_config_does ran is =
-      makes_config old new count is (subst (λ t. Writes old new None CreateTable t [] count) make_config_is.1 (runs_as config_text [] old new one_schema is.schema_is CreateTable make_config_is.0 make_config_plain count ran))
+      let wrote = runs_as config_text [] old new one_schema is.schema_is CreateTable make_config_is.0 make_config_plain count ran in
+      (makes_config old new count is (subst (λ t. Writes old new None CreateTable t [] count) make_config_is.1 wrote), wrote.sound)
 
-  pub make_state_does : Executes state_text [] old new (Ok count) → HasConfig old.now → HasTables new.now
+  pub make_state_does : Executes state_text [] old new (Ok count) → HasConfig old.now → HasTables new.now × IsDatabase new.now
   make_state_does ran is =
-      makes_state old new count is (subst (λ t. Writes old new None CreateTable t [] count) make_state_is.1 (runs_as state_text [] old new two_schema is.schema_is CreateTable make_state_is.0 make_state_plain count ran))
+      let wrote = runs_as state_text [] old new two_schema is.schema_is CreateTable make_state_is.0 make_state_plain count ran in
+      (makes_state old new count is (subst (λ t. Writes old new None CreateTable t [] count) make_state_is.1 wrote), wrote.sound)
 
-  pub init_does : (number : ℕ) → Executes init_text (init_params number) old new (Ok count) → HasTables old.now → HasNew number new.now
-  init_does number ran is = inits old new number count is (runs_as init_text (init_params number) old new schema is.schema_is (Insert 2 (Values init_terms 3)) init_is init_plain count ran)
+  pub init_does : (number : ℕ) → Executes init_text (init_params number) old new (Ok count) → HasTables old.now → HasNew number new.now × IsDatabase new.now
+  init_does number ran is =
+      let wrote = runs_as init_text (init_params number) old new schema is.schema_is (Insert 2 (Values init_terms 3)) init_is init_plain count ran in
+      (inits old new number count is wrote, wrote.sound)

@@ -3,6 +3,8 @@ pub mod Items
 pub mod Lists
 pub mod Rowids
 pub mod Update
+pub mod Cells
+pub mod Numbering
 pub mod Insert
 pub mod InsertConfig
 pub mod Scan
@@ -11,9 +13,13 @@ pub mod Set
 pub mod Dropping
 pub mod Inside
 pub mod CreateLemmas
-pub mod Whole
 pub mod LoadLemmas
 pub mod Found
 pub mod Sorting
-pub mod LeavesLemmas
 pub mod Streaming
+pub mod Fixed
+pub mod Taking
+pub mod Refusing
+pub mod Whole
+pub mod TableReads
+pub mod Greatest

@@ -26,6 +26,10 @@ use Rattle.store_core.proofs.Texts.{set_text, set_query, alone}
 use Rattle.store_core.proofs.Insert.{goes, same_value, cast_int}
 use Rattle.store_core.proofs.Scan.{scan_rows, text_test}
 use Rattle.store_core.proofs.Update.{updates, rewrites}
+use Rattle.store_core.proofs.Numbering.{updates_numbered}
+use Rattle.store_core.specs.Numbered.{IsNumbered, AreNumberedTo}
+use Rattle.std.specs.List.{AllByRecursion}
+use Rattle.std.specs.Prelude.{◌≤◌, ◌^◌, ◌-◌}
 use Rattle.store_core.proofs.Rowids.{rowids_edit}
 
 abbrev state_at : Table
@@ -66,7 +70,7 @@ sets_entry key value e =
     go false = refl
 
 pub sets : (old new : State) (key : List ℕ) (value count : ℕ) (h : Contents) → Holds old.now h → Writes old new None (Update 2 (alone set_query)) (statement_of set_text (understood schema set_text)) (set_params key value) count
-    → Holds new.now (with_entry key value h)
+    → Holds new.now (with_entry key value h) × ((n : ℕ) → 0 ≤ n → AreNumberedTo n old.now.trees → AreNumberedTo n new.now.trees)
 sets old new key value count h holds w =
     let params = set_params key value in
     let db = old.now.trees in
@@ -83,14 +87,19 @@ sets old new key value count h holds w =
     let tree : new.now.trees 3 ≡ edited db edit = ap (λ (d : Database). d.trees 3) now ∙ ap (λ (t : Trees). t 3) trees ∙ did.rows in
     let apart : (t : ℕ) → wrote.0 t ≡ db t → new.now.trees t ≡ db t = λ t same. ap (λ (d : Database). d.trees t) now ∙ ap (λ (all : Trees). all t) trees ∙ same in
     let row_same : new.now.trees 0 ≡ db 0 = apart 0 (did.tables.0 (λ e. absurd (omega (arith, e)))) in
-    let wrote_rows = updates db state_at (passes key value) (row_after key value) given.0 holds.entries_rowids shown did.fresh in
-    record {
-      schema_is = ap (λ (d : Database). d.schema) now;
-      spans = subst (λ rows. Lists rows (map span_cells h.spans)) (sym row_same) holds.spans;
-      configs = subst (IsPermutation (map config_with_rowid h.configs)) (sym (apart 2 (did.tables.1.0 (λ e. absurd (omega (arith, e)))))) holds.configs;
-      configs_rowids = subst HasRowids (sym (apart 2 (did.tables.1.0 (λ e. absurd (omega (arith, e)))))) holds.configs_rowids;
-      entries = subst (λ rows. Lists rows (map entry_cells (map (with_value key value) h.entries))) (sym tree)
-          (rewrites entry_cells (with_value key value) (drop 1) (λ cells. row_then key value (Null ∷ cells)) (db 3) (row_then key value) (edited db edit) h.entries (row_then_reads key value) (sets_entry key value) holds.entries wrote_rows);
-      spans_rowids = subst HasRowids (sym row_same) holds.spans_rowids;
-      entries_rowids = subst HasRowids (sym tree) (rowids_edit db edit did.keyed did.fresh holds.entries_rowids);
-    }
+    let wrote_rows = updates db state_at (passes key value) (row_after key value) given.0 holds.entries_rowids shown did.fresh in (
+      record {
+        schema_is = ap (λ (d : Database). d.schema) now;
+        spans = subst (λ rows. Lists rows (map span_cells h.spans)) (sym row_same) holds.spans;
+        configs = subst (IsPermutation (map config_with_rowid h.configs)) (sym (apart 2 (did.tables.1.0 (λ e. absurd (omega (arith, e)))))) holds.configs;
+        configs_rowids = subst HasRowids (sym (apart 2 (did.tables.1.0 (λ e. absurd (omega (arith, e)))))) holds.configs_rowids;
+        entries = subst (λ rows. Lists rows (map entry_cells (map (with_value key value) h.entries))) (sym tree)
+            (rewrites entry_cells (with_value key value) (drop 1) (λ cells. row_then key value (Null ∷ cells)) (db 3) (row_then key value) (edited db edit) h.entries (row_then_reads key value) (sets_entry key value) holds.entries wrote_rows);
+        spans_rowids = subst HasRowids (sym row_same) holds.spans_rowids;
+        entries_rowids = subst HasRowids (sym tree) (rowids_edit db edit did.keyed did.fresh holds.entries_rowids);
+      },
+      λ n up was. record {
+        spans = subst (AllByRecursion (IsNumbered n)) (sym row_same) was.spans;
+        entries = subst (AllByRecursion (IsNumbered (2 ^ 63 - 1))) (sym tree) (updates_numbered (2 ^ 63 - 1) db state_at (passes key value) (row_after key value) given.0 shown did.fresh was.entries);
+      },
+    )

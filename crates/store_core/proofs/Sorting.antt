@@ -19,10 +19,10 @@ use Rattle.sqlite_value.proofs.OrderLemmas.{value_cmp-Int, value_cmp-Text, then-
 use Rattle.sqlite_trees.proofs.ListLemmas.{map-map}
 use Rattle.sqlite_exec.proofs.RowsLemmas.{IsSorted-map}
 use Rattle.sqlite_exec.proofs.PartitionLemmas.{IsSorted-from_map}
-use Rattle.store_core.specs.Tables.{Span, ConfigRow, Entry, span_cells, config_cells, entry_cells, two, six}
+use Rattle.store_core.specs.Tables.{Span, ConfigRow, Entry, AsksRowids, span_cells, config_cells, entry_cells, id_cells, one, two, six}
 use Rattle.store_core.specs.Stored.{span_cmp, config_cmp, entry_cmp}
 use Rattle.store_core.specs.Format.{schema}
-use Rattle.store_core.proofs.Texts.{scan, rows_text, rows_query, rows_is, rows_plain, rows_unlisted, configs_text, configs_query, configs_is, configs_plain, configs_unlisted, read_text, entries_query, entries_is, entries_plain, entries_unlisted}
+use Rattle.store_core.proofs.Texts.{scan, rows_text, rows_query, rows_is, rows_plain, rows_unlisted, configs_text, configs_query, configs_is, configs_plain, configs_unlisted, read_text, entries_query, entries_is, entries_plain, entries_unlisted, ids_query, reads_ids}
 
 -- ---- of a query over one table
 
@@ -99,3 +99,9 @@ pub entries_sorted : (old new : State) (rows : List Row) (xs : List Entry) → o
 entries_sorted old new rows xs has did same =
     let answer = (reads_as read_text [] old new schema has _ entries_is entries_plain entries_unlisted rows did).answer Null in
     values_sorted two entry_cells (key_cmp 0 (keys_of entries_query.order)) entry_cmp rows xs (λ a b. refl) entry_as same (scan_sorted 3 [] entries_query.project entries_query.order _ [] rows (λ x y. refl) answer)
+
+pub ids_sorted : (sql : List ℕ) (tree : ℕ) → AsksRowids sql tree → (old new : State) (rows : List Row) (ids : List ℕ) → old.now.schema ≡ schema → Shown sql [] old new rows → map one rows ≡ map id_cells ids → IsSorted nat_cmp ids
+ids_sorted sql tree asks old new rows ids has did same =
+    let it = reads_ids sql tree asks in
+    let answer = (reads_as sql [] old new schema has _ it.is it.plain it.unlisted rows did).answer Null in
+    values_sorted one id_cells (key_cmp 0 (keys_of (ids_query tree).order)) nat_cmp rows ids (λ a b. refl) number_as same (scan_sorted tree [] (ids_query tree).project (ids_query tree).order _ [] rows (λ x y. refl) answer)

@@ -1,5 +1,5 @@
 -- What the fixed texts mean.
-use Rattle.std.proofs.Common.{◌≡◌, ℕ, pos, negsuc, List, [], ◌∷◌, codes, false, None, Ok, inl, inr, refl, sym, subst₂}
+use Rattle.std.proofs.Common.{◌≡◌, ℕ, pos, negsuc, List, [], ◌∷◌, codes, false, None, Ok, inl, inr, refl, sym, ap, ◌∙◌, subst₂}
 use Rattle.sqlite.specs.declared.types.Value.TheVariants.{Null, Int, Text}
 use Rattle.sqlite.specs.Term.{Term, lit, col, op2}
 use Rattle.sqlite.specs.Query.{Query, inner, end}
@@ -26,6 +26,9 @@ pub indexes_are : schema.indexes ≡ row_index ∷ state_index ∷ []
 unfolding everything
 indexes_are = refl
 
+pub indexes_in : (s : Schema) → s ≡ schema → s.indexes ≡ row_index ∷ state_index ∷ []
+indexes_in s is = ap (λ (t : Schema). t.indexes) is ∙ indexes_are
+
 pub config_is : table_defined_by config_text ≡ Ok config_table
 unfolding everything
 config_is = refl
@@ -35,13 +38,13 @@ unfolding everything
 state_is = refl
 
 abbrev pub insert_text : List ℕ
-insert_text = codes "INSERT INTO row VALUES (?1, ?2, ?3, ?4, ?5, 0)"
+insert_text = codes "INSERT INTO row (rowid, namespace, object, relation, subject, added, removed) VALUES (?1, ?2, ?3, ?4, ?5, ?6, 0)"
 
 abbrev pub set_text : List ℕ
 set_text = codes "UPDATE state SET value = ?2 WHERE key = ?1"
 
 abbrev pub insert_terms : List Term
-insert_terms = lit Null ∷ col 0 0 ∷ col 0 1 ∷ col 0 2 ∷ col 0 3 ∷ col 0 4 ∷ lit (Int (pos 0)) ∷ []
+insert_terms = col 0 0 ∷ col 0 1 ∷ col 0 2 ∷ col 0 3 ∷ col 0 4 ∷ col 0 5 ∷ lit (Int (pos 0)) ∷ []
 
 pub insert_is : command_of (understood schema insert_text) ≡ Insert 0 (Values insert_terms 7)
 unfolding understood everything

@@ -1,36 +1,33 @@
--- What the tables of a connection hold, and what a crash leaves.
+-- What a creation makes, and what a crash leaves of it.
 use Rattle.std.specs.Prelude.{◌≡◌, ℕ, IsTrue}
 use Rattle.sqlite.specs.Store.{Ghosts}
 use Rattle.sqlite.specs.Tree.{Trees}
-use Rattle.sqlite.specs.Effect.{Database}
+use Rattle.sqlite.specs.Effect.{Database, IsDatabase}
 use Rattle.sqlite.specs.State.{HasCleanDisk, State, Survives}
 use Rattle.sqlite.specs.Held.{Held, state}
-use Rattle.store_core.specs.Tables.{Contents, Holds}
 use Rattle.store_core.specs.Steps.{Founds, HasNone, HasNew}
-
--- the connection is open and has committed these contents
-pub record Stands (s : State) (h : Contents) : Type 0 where
-  pub is_open : IsTrue s.is_open
-  pub committed : s.committed ≡ s.now
-  pub holds : Holds s.now h
-
--- so it is as long as the device has returned what was written
-abbrev pub TablesHold : {S : Type 0} → Ghosts S → Held S → Contents → Type 0
-TablesHold g c h = HasCleanDisk (state g c) → Stands (state g c) h
-
--- whatever a crash leaves holds some contents of which P is true
-abbrev pub LeavesOnly : {S : Type 0} → Ghosts S → Held S → (Contents → Type 0) → Type 0
-LeavesOnly g c P = HasCleanDisk (state g c) → (trees : Trees) → (state g c).may_leave trees → (db : Database) × (trees ≡ db.trees) × (h : Contents) × Holds db h × P h
-
--- ---- creation
 
 -- there is no table, index or view
 abbrev pub IsBlank : {S : Type 0} → Ghosts S → Held S → Type 0
 IsBlank g c = HasNone (state g c).now
 
+-- the connection is open and has committed the new store
+pub record StandsNew (s : State) (number : ℕ) : Type 0 where
+  pub is_open : IsTrue s.is_open
+  pub committed : s.committed ≡ s.now
+  pub new : HasNew number s.now
+  pub sound : IsDatabase s.now
+
+-- so it is as long as the device has returned what was written
+abbrev pub HoldsNew : {S : Type 0} → Ghosts S → Held S → ℕ → Type 0
+HoldsNew g c number = HasCleanDisk (state g c) → StandsNew (state g c) number
+
 -- what a crash may leave of a creation, beside what it could leave before
-abbrev pub MayCreate : State → ℕ → Trees → Type 0
-MayCreate old number trees = (db : Database) × (trees ≡ db.trees) × Founds HasNone (HasNew number) old.now db
+pub record MayCreate (old : State) (number : ℕ) (trees : Trees) : Type 0 where
+  pub db : Database
+  pub is : trees ≡ db.trees
+  pub was_open : IsTrue old.is_open
+  pub made : Founds HasNone (HasNew number) old.now db
 
 abbrev pub MayLeaveNew : {S : Type 0} → Ghosts S → Held S → Held S → ℕ → Type 0
 MayLeaveNew g old new number = Survives (state g old) (state g new) (MayCreate (state g old) number)

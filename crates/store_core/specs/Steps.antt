@@ -1,15 +1,18 @@
 -- What the statements and the transactions make of the contents.
-use Rattle.std.specs.Prelude.{◌≡◌, ℕ, List, [], ◌∷◌, map, filter, not, fold, codes, if◌then◌else◌, IsTrue, Result, OnOk}
+use Rattle.std.specs.Prelude.{◌≡◌, ◌⊎◌, ◌≤◌, ℕ, List, [], ◌∷◌, map, filter, not, fold, codes, IsTrue, Result, OnOk}
 use Rattle.std.specs.Borrow.{MutBor}
 use Rattle.sqlite.specs.Store.{Ghosts}
 use Rattle.sqlite.specs.State.{HasCleanDisk, KeepsCommit, State, Survives}
 use Rattle.sqlite.specs.Held.{Held, state}
 use Rattle.sqlite.specs.declared.error.Error.{Error}
-use Rattle.sqlite.specs.Effect.{Database}
+use Rattle.sqlite.specs.Effect.{Database, IsDatabase}
 use Rattle.sqlite.specs.Tree.{Trees}
 use Rattle.store_core.specs.declared.stored.StoredEvent.{StoredEvent}
+use Rattle.store_core.specs.declared.stored.SpanChange.{SpanChange}
+use Rattle.store_core.specs.declared.stored.SpanChange.TheVariants.{Begins, BeginsAnew, Ends}
 use Rattle.store_core.specs.Format.{schema, no_schema, one_schema, two_schema}
 use Rattle.store_core.specs.Tables.{Span, ConfigRow, Contents, Holds, config_at, after_close, with_value, is_past, is_below}
+use Rattle.store_core.specs.Numbered.{AreNumberedTo}
 use Rattle.store_core.specs.Stored.{span_between}
 
 -- ---- the contents
@@ -32,9 +35,14 @@ without_past floor h = record h { spans = filter (λ s. not (is_past floor s)) h
 abbrev pub without_below : ℕ → Contents → Contents
 without_below rev h = record h { configs = filter (λ c. not (is_below rev c)) h.configs }
 
--- each event ends the open span of its tuple, and a put begins the next one
+-- what the change makes of them, where its tuple's span would begin so at the revision
+abbrev pub after_change : SpanChange → Span → ℕ → Contents → Contents
+after_change Begins s rev h = with_span s h
+after_change BeginsAnew s rev h = with_span s (with_closed s rev h)
+after_change Ends s rev h = with_closed s rev h
+
 abbrev pub after_event : ℕ → StoredEvent → Contents → Contents
-after_event rev e h = if e.put then with_span (span_between e.tuple rev 0) (with_closed (span_between e.tuple rev 0) rev h) else with_closed (span_between e.tuple rev 0) rev h
+after_event rev e h = after_change e.change (span_between e.tuple rev 0) rev h
 
 abbrev pub after_events : ℕ → List StoredEvent → Contents → Contents
 after_events rev events h = fold (λ x e. after_event rev e x) h events
@@ -66,6 +74,16 @@ after_trim floor first h = with_entry (codes "floor") floor (after_drop floor fi
 abbrev pub Becomes : (Contents → Contents) → Database → Database → Type 0
 Becomes f old new = (h : Contents) → Holds old h → Holds new (f h)
 
+-- no rowid is above those that were there and the last that was given
+abbrev pub Numbers : ℕ → Database → Database → Type 0
+Numbers last old new = (h : Contents) → Holds old h → (n : ℕ) → last ≤ n → AreNumberedTo n old.trees → AreNumberedTo n new.trees
+
+-- both, and it is a database if it was one
+pub record Alters (f : Contents → Contents) (last : ℕ) (old new : Database) : Type 0 where
+  pub holds : Becomes f old new
+  pub numbered : Numbers last old new
+  pub sound : (h : Contents) → Holds old h → IsDatabase old → IsDatabase new
+
 -- ---- which tables are made
 
 abbrev pub HasNone : Database → Type 0
@@ -87,12 +105,13 @@ pub record HasTables (db : Database) : Type 0 where
   pub state : db.trees 3 ≡ []
 
 -- those of the new store, with their first values
-abbrev pub HasNew : ℕ → Database → Type 0
-HasNew number db = Holds db (new_store number)
+pub record HasNew (number : ℕ) (db : Database) : Type 0 where
+  pub holds : Holds db (new_store number)
+  pub numbered : AreNumberedTo 0 db.trees
 
--- from tables of the one kind to tables of the other
+-- from tables of the one kind to a database with tables of the other
 abbrev pub Founds : (Database → Type 0) → (Database → Type 0) → Database → Database → Type 0
-Founds P Q old new = P old → Q new
+Founds P Q old new = P old → Q new × IsDatabase new
 
 -- ---- one statement in a transaction
 
@@ -101,13 +120,17 @@ pub record Turns (R : Database → Database → Type 0) (old new : State) : Type
   pub goes_on : IsTrue old.in_transaction → IsTrue new.in_transaction
   pub does : R old.now new.now
 
--- where it succeeded, the tables hold what `f` makes of what they held
-abbrev pub Changes : {S A : Type 0} → Ghosts S → MutBor (Held S) → MutBor (Held S) → Result A Error → (Contents → Contents) → Type 0
-Changes g old new result f = HasCleanDisk (state g new.now) → OnOk result (Turns (Becomes f) (state g old.now) (state g new.now))
+-- where it succeeded, the tables hold what `f` makes of what they held, under rowids up to the last
+abbrev pub Changes : {S A : Type 0} → Ghosts S → MutBor (Held S) → MutBor (Held S) → Result A Error → (Contents → Contents) → ℕ → Type 0
+Changes g old new result f last = HasCleanDisk (state g new.now) → OnOk result (Turns (Alters f last) (state g old.now) (state g new.now))
 
 -- where it succeeded, there are tables of the second kind where there were those of the first
 abbrev pub Makes : {S A : Type 0} → Ghosts S → MutBor (Held S) → MutBor (Held S) → Result A Error → (Database → Type 0) → (Database → Type 0) → Type 0
 Makes g old new result P Q = HasCleanDisk (state g new.now) → OnOk result (Turns (Founds P Q) (state g old.now) (state g new.now))
+
+-- where it succeeded, the connection was open
+abbrev pub RunsOpen : {S A : Type 0} → Ghosts S → MutBor (Held S) → MutBor (Held S) → Result A Error → Type 0
+RunsOpen g old new result = HasCleanDisk (state g new.now) → OnOk result (IsTrue (state g old.now).is_open)
 
 -- it commits nothing, and a crash leaves nothing of it
 pub record IsQuiet {S : Type 0} (g : Ghosts S) (old new : MutBor (Held S)) : Type 0 where
@@ -117,16 +140,18 @@ pub record IsQuiet {S : Type 0} (g : Ghosts S) (old new : MutBor (Held S)) : Typ
 -- ---- one transaction
 
 -- the change is made and committed
-pub record HasStored (f : Contents → Contents) (old : Database) (new : State) : Type 0 where
+pub record HasStored (f : Contents → Contents) (last : ℕ) (old new : State) : Type 0 where
+  pub was_open : IsTrue old.is_open
   pub is_open : IsTrue new.is_open
   pub committed : new.committed ≡ new.now
-  pub holds : Becomes f old new.now
+  pub made : Alters f last old.now new.now
 
-abbrev pub Stores : {S : Type 0} → Ghosts S → Held S → Held S → (Contents → Contents) → Type 0
-Stores g old new f = HasCleanDisk (state g new) → HasStored f (state g old).now (state g new)
+abbrev pub Stores : {S : Type 0} → Ghosts S → Held S → Held S → (Contents → Contents) → ℕ → Type 0
+Stores g old new f last = HasCleanDisk (state g new) → HasStored f last (state g old) (state g new)
 
 -- nothing is: what is held is what was committed before
 pub record IsUndone (old new : State) : Type 0 where
+  pub was_open : IsTrue old.is_open
   pub now : new.now ≡ old.committed
   pub committed : new.committed ≡ old.committed
 
@@ -134,10 +159,23 @@ pub record IsUndone (old new : State) : Type 0 where
 abbrev pub Undoes : {S : Type 0} → Ghosts S → Held S → Held S → Type 0
 Undoes g old new = HasCleanDisk (state g new) → IsTrue (state g new).is_open → IsUndone (state g old) (state g new)
 
+-- what is held is what was held, or what was committed before
+pub record IsLeft (old new : State) : Type 0 where
+  pub was_open : IsTrue old.is_open
+  pub now : (new.now ≡ old.now) ⊎ (new.now ≡ old.committed)
+  pub committed : new.committed ≡ old.committed
+
+-- so it is as long as the connection is open
+abbrev pub Stays : {S : Type 0} → Ghosts S → Held S → Held S → Type 0
+Stays g old new = HasCleanDisk (state g new) → IsTrue (state g new).is_open → IsLeft (state g old) (state g new)
+
 -- what a crash may leave beside what it could leave before
-abbrev pub MayStore : State → (Contents → Contents) → Trees → Type 0
-MayStore old f trees = (db : Database) × (trees ≡ db.trees) × Becomes f old.now db
+pub record MayStore (old : State) (f : Contents → Contents) (last : ℕ) (trees : Trees) : Type 0 where
+  pub db : Database
+  pub is : trees ≡ db.trees
+  pub was_open : IsTrue old.is_open
+  pub made : Alters f last old.now db
 
 -- a crash leaves what it left before, or the whole change
-abbrev pub LeavesAtMost : {S : Type 0} → Ghosts S → Held S → Held S → (Contents → Contents) → Type 0
-LeavesAtMost g old new f = Survives (state g old) (state g new) (MayStore (state g old) f)
+abbrev pub LeavesAtMost : {S : Type 0} → Ghosts S → Held S → Held S → (Contents → Contents) → ℕ → Type 0
+LeavesAtMost g old new f last = Survives (state g old) (state g new) (MayStore (state g old) f last)

@@ -1,33 +1,48 @@
 //! The transactions: a store is created, written, configured or trimmed whole or not at all.
-ghost use Rattle.std.specs.Prelude.{◌≡◌, ◌^◌, ◌<◌, ◌≢◌, false, IsTrue, OnOk, OnErr, Err};
+ghost use Rattle.std.specs.Prelude.{◌≡◌, ◌^◌, ◌<◌, ◌≤◌, ◌*◌, ◌≢◌, length, false, IsTrue, OnOk, OnErr, Err};
 ghost use Rattle.sqlite.specs.declared.error.Error.TheVariants.{SqliteFailure};
 ghost use Rattle.sqlite.specs.declared.error.ErrorCode.TheVariants.{NameTaken};
 ghost use Rattle.store_core.specs.Format.{no_schema};
-ghost use Rattle.store_core.specs.Steps.{Changes, Makes, IsQuiet, Stores, Undoes, LeavesAtMost, HasNone, HasNew, after_event, after_events, after_write, after_configure, after_drop, after_trim, new_store};
-ghost use Rattle.store_core.specs.Leaves.{TablesHold, IsBlank, MayLeaveNew, LeavesAtMostNew};
+ghost use Rattle.store_core.specs.Numbered.{span_rowid};
+ghost use Rattle.store_core.specs.Steps.{Changes, Makes, RunsOpen, IsQuiet, Stores, Undoes, LeavesAtMost, HasNone, HasNew, after_event, after_events, after_write, after_configure, after_drop, after_trim};
+ghost use Rattle.store_core.specs.Leaves.{HoldsNew, IsBlank, MayLeaveNew, LeavesAtMostNew};
+ghost use Rattle.store_core.specs.Caused.{IsCaused, IsCausedInside, CanApply, CanTake, CanConfigure};
 
 use crate::statement::{
     close_span, delete_configs, delete_spans, init_state, insert_config, insert_span, make_config,
     make_row, make_state, set_value,
 };
-use crate::stored::StoredEvent;
+use crate::stored::{SpanChange, StoredEvent};
 use sqlite::{Alter, Connection, Error, ErrorCode, Transaction};
 use sqlite_schema::schema::Schema;
 
-// Does one event: the open span of its tuple ends, and a put begins another.
+// Does the event at this place of its commit.
 fn apply_event<S: Alter>(
     tx: &mut Transaction<'_, S>,
     event: &StoredEvent,
     rev: u64,
+    at: usize,
 ) -> Result<(), Error>
-    requires { rev < 2 ^ 63 }
+    requires small { rev ≤ 2 ^ 40 }
+    requires positive { 0 < rev }
+    requires few { at < 256 }
     ensures same_reference { tx.new.conn.ghost_name ≡ tx.old.conn.ghost_name }
-    ensures done { Changes S.Store tx.old.conn tx.new.conn result (after_event rev event.now) }
+    ensures done { Changes S.Store tx.old.conn tx.new.conn result (after_event rev event.now) (span_rowid rev at) }
     ensures quiet { IsQuiet S.Store tx.old.conn tx.new.conn }
+    ensures caused { IsCausedInside S.Store tx.old.conn tx.new.conn result (CanApply event.now rev at) }
 {
-    close_span(tx, &event.tuple, rev)?;
-    if event.put {
-        insert_span(tx, &event.tuple, rev)?;
+    let rowid = 256 * (rev - 1) + at as u64 + 1;
+    match event.change {
+        SpanChange::Begins => {
+            insert_span(tx, &event.tuple, rev, rowid)?;
+        }
+        SpanChange::BeginsAnew => {
+            close_span(tx, &event.tuple, rev)?;
+            insert_span(tx, &event.tuple, rev, rowid)?;
+        }
+        SpanChange::Ends => {
+            close_span(tx, &event.tuple, rev)?;
+        }
     }
     Ok(())
 }
@@ -38,29 +53,36 @@ fn apply_all<S: Alter>(
     events: &[StoredEvent],
     rev: u64,
 ) -> Result<(), Error>
-    requires { rev < 2 ^ 63 }
+    requires small { rev ≤ 2 ^ 40 }
+    requires positive { 0 < rev }
+    requires few { length events.now ≤ 256 }
     ensures same_reference { tx.new.conn.ghost_name ≡ tx.old.conn.ghost_name }
-    ensures done { Changes S.Store tx.old.conn tx.new.conn result (after_events rev events.now) }
+    ensures done { Changes S.Store tx.old.conn tx.new.conn result (after_events rev events.now) (256 * rev) }
     ensures quiet { IsQuiet S.Store tx.old.conn tx.new.conn }
+    ensures caused { IsCausedInside S.Store tx.old.conn tx.new.conn result (CanTake events.now rev) }
 {
-    for event in events {
-        apply_event(tx, event, rev)?;
+    for at in 0..events.len() {
+        apply_event(tx, &events[at], rev, at)?;
     }
     Ok(())
 }
 
-/// Stores the events of one commit at its revision, which is the newest from then on.
+/// Stores the events of one commit at its revision, which is the newest from then on. The span that an event begins
+/// is stored under a rowid above those of the revisions before.
 pub fn write<S: Alter>(
     conn: &mut Connection<S>,
     events: &[StoredEvent],
     rev: u64,
 ) -> Result<(), Error>
-    requires small { rev < 2 ^ 63 }
+    requires small { rev ≤ 2 ^ 40 }
+    requires positive { 0 < rev }
+    requires few { length events.now ≤ 256 }
     requires idle { conn.old.in_transaction ≡ false }
     ensures idle { conn.new.in_transaction ≡ false }
-    ensures done { OnOk result (Stores S.Store conn.old conn.new (after_write rev events.now)) }
+    ensures done { OnOk result (Stores S.Store conn.old conn.new (after_write rev events.now) (256 * rev)) }
     ensures undone { OnErr result (Undoes S.Store conn.old conn.new) }
-    ensures crash { LeavesAtMost S.Store conn.old conn.new (after_write rev events.now) }
+    ensures crash { LeavesAtMost S.Store conn.old conn.new (after_write rev events.now) (256 * rev) }
+    ensures caused { IsCaused S.Store conn.old conn.new result (CanTake events.now rev) }
 {
     let mut tx = conn.transaction();
     apply_all(&mut tx, events, rev)?;
@@ -71,12 +93,14 @@ pub fn write<S: Alter>(
 
 /// Stores a configuration at its revision, which is the newest from then on.
 pub fn configure<S: Alter>(conn: &mut Connection<S>, text: &str, rev: u64) -> Result<(), Error>
-    requires small { rev < 2 ^ 63 }
+    requires small { rev ≤ 2 ^ 40 }
+    requires positive { 0 < rev }
     requires idle { conn.old.in_transaction ≡ false }
     ensures idle { conn.new.in_transaction ≡ false }
-    ensures done { OnOk result (Stores S.Store conn.old conn.new (after_configure rev text.now)) }
+    ensures done { OnOk result (Stores S.Store conn.old conn.new (after_configure rev text.now) 0) }
     ensures undone { OnErr result (Undoes S.Store conn.old conn.new) }
-    ensures crash { LeavesAtMost S.Store conn.old conn.new (after_configure rev text.now) }
+    ensures crash { LeavesAtMost S.Store conn.old conn.new (after_configure rev text.now) 0 }
+    ensures caused { IsCaused S.Store conn.old conn.new result (CanConfigure text.now rev) }
 {
     let mut tx = conn.transaction();
     insert_config(&mut tx, rev, text)?;
@@ -89,7 +113,7 @@ pub fn configure<S: Alter>(conn: &mut Connection<S>, text: &str, rev: u64) -> Re
 fn drop_past<S: Alter>(tx: &mut Transaction<'_, S>, floor: u64, first: u64) -> Result<(), Error>
     requires { (floor < 2 ^ 63) × (first < 2 ^ 63) }
     ensures same_reference { tx.new.conn.ghost_name ≡ tx.old.conn.ghost_name }
-    ensures done { Changes S.Store tx.old.conn tx.new.conn result (after_drop floor first) }
+    ensures done { Changes S.Store tx.old.conn tx.new.conn result (after_drop floor first) 0 }
     ensures quiet { IsQuiet S.Store tx.old.conn tx.new.conn }
 {
     delete_spans(tx, floor)?;
@@ -103,9 +127,9 @@ pub fn trim<S: Alter>(conn: &mut Connection<S>, floor: u64, first: u64) -> Resul
     requires small { (floor < 2 ^ 63) × (first < 2 ^ 63) }
     requires idle { conn.old.in_transaction ≡ false }
     ensures idle { conn.new.in_transaction ≡ false }
-    ensures done { OnOk result (Stores S.Store conn.old conn.new (after_trim floor first)) }
+    ensures done { OnOk result (Stores S.Store conn.old conn.new (after_trim floor first) 0) }
     ensures undone { OnErr result (Undoes S.Store conn.old conn.new) }
-    ensures crash { LeavesAtMost S.Store conn.old conn.new (after_trim floor first) }
+    ensures crash { LeavesAtMost S.Store conn.old conn.new (after_trim floor first) 0 }
 {
     let mut tx = conn.transaction();
     drop_past(&mut tx, floor, first)?;
@@ -119,7 +143,9 @@ fn make_all<S: Alter>(tx: &mut Transaction<'_, S>, number: u64) -> Result<(), Er
     requires { number < 2 ^ 63 }
     ensures same_reference { tx.new.conn.ghost_name ≡ tx.old.conn.ghost_name }
     ensures done { Makes S.Store tx.old.conn tx.new.conn result HasNone (HasNew number) }
+    ensures was_open { RunsOpen S.Store tx.old.conn tx.new.conn result }
     ensures quiet { IsQuiet S.Store tx.old.conn tx.new.conn }
+    ensures caused { IsCausedInside S.Store tx.old.conn tx.new.conn result HasNone }
 {
     make_row(tx)?;
     make_config(tx)?;
@@ -133,9 +159,10 @@ fn make_store<S: Alter>(conn: &mut Connection<S>, number: u64) -> Result<(), Err
     requires small { number < 2 ^ 63 }
     requires idle { conn.old.in_transaction ≡ false }
     ensures idle { conn.new.in_transaction ≡ false }
-    ensures done { OnOk result (IsBlank S.Store conn.old → TablesHold S.Store conn.new (new_store number)) }
+    ensures done { OnOk result (IsBlank S.Store conn.old → HoldsNew S.Store conn.new number) }
     ensures undone { OnErr result (Undoes S.Store conn.old conn.new) }
     ensures crash { MayLeaveNew S.Store conn.old conn.new number }
+    ensures caused { IsCaused S.Store conn.old conn.new result HasNone }
 {
     let mut tx = conn.transaction();
     make_all(&mut tx, number)?;
@@ -157,11 +184,12 @@ pub fn create<S: Alter>(conn: &mut Connection<S>, number: u64) -> Result<(), Err
     requires small { number < 2 ^ 63 }
     requires idle { conn.old.in_transaction ≡ false }
     ensures idle { conn.new.in_transaction ≡ false }
-    ensures done { OnOk result (IsBlank S.Store conn.old × TablesHold S.Store conn.new (new_store number)) }
+    ensures done { OnOk result (IsBlank S.Store conn.old × HoldsNew S.Store conn.new number) }
     ensures refused { ¬ (IsBlank S.Store conn.old) → result ≡ Err (SqliteFailure NameTaken) }
     ensures untouched { ¬ (IsBlank S.Store conn.old) → conn.new ≡ conn.old }
     ensures undone { OnErr result (IsBlank S.Store conn.old → Undoes S.Store conn.old conn.new) }
     ensures crash { LeavesAtMostNew S.Store conn.old conn.new number }
+    ensures caused { IsCaused S.Store conn.old conn.new result HasNone }
 {
     if !is_blank(conn.schema()) {
         return Err(Error::SqliteFailure(ErrorCode::NameTaken));

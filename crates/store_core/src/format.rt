@@ -1,10 +1,15 @@
 //! Whether a schema is that of the format.
-ghost use Rattle.std.specs.Prelude.{◌≡◌, [], ◌∷◌, false, true, None, Some, IsTrue};
-ghost use Rattle.sqlite.specs.declared.types.Value.TheVariants.{Null};
+ghost use Rattle.std.specs.Prelude.{◌≡◌, ◌≢◌, ◌<◌, ◌-◌, pos, [], ◌∷◌, false, true, None, Some, IsTrue, IfSome};
+ghost use Rattle.sqlite.specs.declared.types.Value.TheVariants.{Null, Int};
+ghost use Rattle.sqlite.specs.Collation.TheVariants.{Binary};
+ghost use Rattle.sqlite.specs.Term.{Term, lit, col, op2};
+ghost use Rattle.sqlite_schema.specs.Code.{term_to};
+ghost use Rattle.sqlite_sql.specs.declared.ops.BinaryOp.TheVariants.{Compare, Or};
+ghost use Rattle.sqlite_sql.specs.declared.ops.CompareOp.TheVariants.{Eq, Gt};
 ghost use Rattle.sqlite.specs.State.{IsLive};
 ghost use Rattle.sqlite.specs.Held.{state};
 ghost use Rattle.sqlite_value.specs.Keys.{plain};
-ghost use Rattle.store_core.specs.Format.{IsBare, HasKey, HasRowidKey, index_of, required, schema, row_table, config_table, state_table, row_nodes, row_index, state_index};
+ghost use Rattle.store_core.specs.Format.{IsBare, HasKey, HasRowidKey, index_of, required, schema, row_table, config_table, state_table, row_index, state_index};
 ghost use Rattle.store_core.specs.Reading.{HasFormat};
 
 use sqlite::{Alter, Connection};
@@ -15,7 +20,8 @@ use sqlite_value::keys::{Collation, Order};
 use sqlite_value::value::Value;
 
 fn is_null(value: &Value) -> bool
-    ensures { IsTrue result → value.now ≡ Null }
+    ensures yes { IsTrue result → value.now ≡ Null }
+    ensures no { result ≡ false → value.now ≢ Null }
 {
     match value {
         Value::Null => true,
@@ -24,7 +30,8 @@ fn is_null(value: &Value) -> bool
 }
 
 fn is_column(column: &Column, name: &[u8], kind: Kind) -> bool
-    ensures { IsTrue result → column.now ≡ required name.now kind }
+    ensures yes { IsTrue result → column.now ≡ required name.now kind }
+    ensures no { result ≡ false → column.now ≢ required name.now kind }
 {
     column.name.as_slice() == name
         && column.kind == kind
@@ -34,61 +41,114 @@ fn is_column(column: &Column, name: &[u8], kind: Kind) -> bool
         && column.collation == Collation::Binary
 }
 
-// ---- the checks of the spans
+// ---- the checks of the spans, each term read to a depth
 
-fn is_node(found: &Op, wanted: &Op) -> bool
-    ensures { IsTrue result → found.now ≡ wanted.now }
+fn is_operator(found: BinaryOp, how: BinaryOp) -> bool
+    ensures yes { IsTrue result → found ≡ how }
+    ensures no { result ≡ false → found ≢ how }
 {
-    match (found, wanted) {
-        (Op::Column(slot, at), Op::Column(other, place)) => slot == other && at == place,
-        (Op::Literal(Value::Int(n)), Op::Literal(Value::Int(m))) => n == m,
-        (Op::Binary(how, a, b), Op::Binary(other, c, d)) => how == other && a == c && b == d,
+    found == how
+}
+
+// The places of the two operands.
+fn operands(nodes: &[Op], depth: usize, at: usize, how: BinaryOp) -> Option<(usize, usize)>
+    ensures found { IfSome result (λ it. (0 < depth) × (term_to nodes.now depth at ≡ op2 how (term_to nodes.now (depth - 1) it.0) (term_to nodes.now (depth - 1) it.1))) }
+    ensures none { result ≡ None → (a : Term) → (b : Term) → term_to nodes.now depth at ≢ op2 how a b }
+{
+    if depth == 0 {
+        return None;
+    }
+    match nodes.get(at) {
+        Some(Op::Binary(found, a, b)) => {
+            if is_operator(*found, how) {
+                Some((*a, *b))
+            } else {
+                None
+            }
+        }
+        _ => None,
+    }
+}
+
+fn is_place(nodes: &[Op], depth: usize, at: usize, place: usize) -> bool
+    ensures yes { IsTrue result → term_to nodes.now depth at ≡ col 1 place }
+    ensures no { result ≡ false → term_to nodes.now depth at ≢ col 1 place }
+{
+    if depth == 0 {
+        return false;
+    }
+    match nodes.get(at) {
+        Some(Op::Column(slot, found)) => *slot == 1 && *found == place,
         _ => false,
     }
 }
 
-fn are_nodes(found: &[Op], wanted: &[Op]) -> bool
-    ensures { IsTrue result → found.now ≡ wanted.now }
+fn is_zero(nodes: &[Op], depth: usize, at: usize) -> bool
+    ensures yes { IsTrue result → term_to nodes.now depth at ≡ lit (Int (pos 0)) }
+    ensures no { result ≡ false → term_to nodes.now depth at ≢ lit (Int (pos 0)) }
 {
-    if found.len() != wanted.len() {
+    if depth == 0 {
         return false;
     }
-    for at in 0..found.len() {
-        if !is_node(&found[at], &wanted[at]) {
-            return false;
-        }
+    match nodes.get(at) {
+        Some(Op::Literal(Value::Int(n))) => *n == 0,
+        _ => false,
     }
-    true
 }
 
-fn are_row_nodes(nodes: &[Op]) -> bool
-    ensures { IsTrue result → nodes.now ≡ row_nodes }
+// It compares the column with zero.
+fn is_to_zero(nodes: &[Op], depth: usize, at: usize, how: CompareOp, place: usize) -> bool
+    ensures yes { IsTrue result → term_to nodes.now depth at ≡ op2 (Compare how Binary) (col 1 place) (lit (Int (pos 0))) }
+    ensures no { result ≡ false → term_to nodes.now depth at ≢ op2 (Compare how Binary) (col 1 place) (lit (Int (pos 0))) }
 {
-    let above = BinaryOp::Compare(CompareOp::Gt, Collation::Binary);
-    let same = BinaryOp::Compare(CompareOp::Eq, Collation::Binary);
-    let wanted = [
-        Op::Column(1, 5),
-        Op::Literal(Value::Int(0)),
-        Op::Binary(above, 0, 1),
-        Op::Column(1, 6),
-        Op::Literal(Value::Int(0)),
-        Op::Binary(same, 3, 4),
-        Op::Column(1, 6),
-        Op::Column(1, 5),
-        Op::Binary(above, 6, 7),
-        Op::Binary(BinaryOp::Or, 5, 8),
-    ];
-    are_nodes(nodes, wanted.as_slice())
+    let how = BinaryOp::Compare(how, Collation::Binary);
+    match operands(nodes, depth, at, how) {
+        Some((a, b)) => is_place(nodes, depth - 1, a, place) && is_zero(nodes, depth - 1, b),
+        None => false,
+    }
+}
+
+// The end is above the beginning.
+fn is_rising(nodes: &[Op], depth: usize, at: usize) -> bool
+    ensures yes { IsTrue result → term_to nodes.now depth at ≡ op2 (Compare Gt Binary) (col 1 6) (col 1 5) }
+    ensures no { result ≡ false → term_to nodes.now depth at ≢ op2 (Compare Gt Binary) (col 1 6) (col 1 5) }
+{
+    let how = BinaryOp::Compare(CompareOp::Gt, Collation::Binary);
+    match operands(nodes, depth, at, how) {
+        Some((a, b)) => is_place(nodes, depth - 1, a, 6) && is_place(nodes, depth - 1, b, 5),
+        None => false,
+    }
+}
+
+fn is_open_or_rising(nodes: &[Op], depth: usize, at: usize) -> bool
+    ensures yes { IsTrue result → term_to nodes.now depth at ≡ op2 Or (op2 (Compare Eq Binary) (col 1 6) (lit (Int (pos 0)))) (op2 (Compare Gt Binary) (col 1 6) (col 1 5)) }
+    ensures no { result ≡ false → term_to nodes.now depth at ≢ op2 Or (op2 (Compare Eq Binary) (col 1 6) (lit (Int (pos 0)))) (op2 (Compare Gt Binary) (col 1 6) (col 1 5)) }
+{
+    match operands(nodes, depth, at, BinaryOp::Or) {
+        Some((a, b)) => {
+            is_to_zero(nodes, depth - 1, a, CompareOp::Eq, 6) && is_rising(nodes, depth - 1, b)
+        }
+        None => false,
+    }
 }
 
 fn are_row_checks(terms: &Terms) -> bool
-    ensures { IsTrue result → terms.now ≡ row_table.checks }
+    ensures yes { IsTrue result → terms.now ≡ row_table.checks }
+    ensures no { result ≡ false → terms.now ≢ row_table.checks }
 {
-    are_row_nodes(terms.nodes.as_slice()) && terms.roots.as_slice() == [2, 9].as_slice()
+    let nodes = terms.nodes.as_slice();
+    match terms.roots.as_slice() {
+        [first, second] => {
+            is_to_zero(nodes, nodes.len(), *first, CompareOp::Gt, 5)
+                && is_open_or_rising(nodes, nodes.len(), *second)
+        }
+        _ => false,
+    }
 }
 
 fn are_no_terms(terms: &Terms) -> bool
-    ensures { IsTrue result → terms.now ≡ [] }
+    ensures yes { IsTrue result → terms.now ≡ [] }
+    ensures no { result ≡ false → terms.now ≢ [] }
 {
     terms.roots.len() == 0
 }
@@ -97,7 +157,8 @@ fn are_no_terms(terms: &Terms) -> bool
 
 // It has no foreign key, no computed default and no AUTOINCREMENT.
 fn is_plain(table: &Table) -> bool
-    ensures { IsTrue result → IsBare table.now }
+    ensures yes { IsTrue result → IsBare table.now }
+    ensures no { result ≡ false → ¬ (IsBare table.now) }
 {
     let stamps = &table.stamps;
     table.references.len() == 0
@@ -109,13 +170,15 @@ fn is_plain(table: &Table) -> bool
 }
 
 fn are_places(found: &[usize], places: &[usize]) -> bool
-    ensures { IsTrue result → found.now ≡ places.now }
+    ensures yes { IsTrue result → found.now ≡ places.now }
+    ensures no { result ≡ false → found.now ≢ places.now }
 {
     found == places
 }
 
 fn is_unique(table: &Table, places: &[usize]) -> bool
-    ensures { IsTrue result → table.now.uniques ≡ places.now ∷ [] }
+    ensures yes { IsTrue result → table.now.uniques ≡ places.now ∷ [] }
+    ensures no { result ≡ false → table.now.uniques ≢ places.now ∷ [] }
 {
     match table.uniques.as_slice() {
         [unique] => are_places(unique.as_slice(), places),
@@ -124,7 +187,8 @@ fn is_unique(table: &Table, places: &[usize]) -> bool
 }
 
 fn is_ordered(orders: &[Order]) -> bool
-    ensures { IsTrue result → orders.now ≡ plain ∷ [] }
+    ensures yes { IsTrue result → orders.now ≡ plain ∷ [] }
+    ensures no { result ≡ false → orders.now ≢ plain ∷ [] }
 {
     match orders {
         [order] => order.digits == 0,
@@ -134,7 +198,8 @@ fn is_ordered(orders: &[Order]) -> bool
 
 // The key is that of a table whose rows have a rowid of their own.
 fn is_keyed(table: &Table, places: &[usize]) -> bool
-    ensures { IsTrue result → HasKey table.now places.now }
+    ensures yes { IsTrue result → HasKey table.now places.now }
+    ensures no { result ≡ false → ¬ (HasKey table.now places.now) }
 {
     table.key.is_none()
         && table.primary.as_slice() == places
@@ -143,7 +208,8 @@ fn is_keyed(table: &Table, places: &[usize]) -> bool
 }
 
 fn is_first(key: Option<usize>) -> bool
-    ensures { IsTrue result → key ≡ Some 0 }
+    ensures yes { IsTrue result → key ≡ Some 0 }
+    ensures no { result ≡ false → key ≢ Some 0 }
 {
     match key {
         Some(place) => place == 0,
@@ -153,7 +219,8 @@ fn is_first(key: Option<usize>) -> bool
 
 // The key is the rowid.
 fn is_rowid_keyed(table: &Table) -> bool
-    ensures { IsTrue result → HasRowidKey table.now }
+    ensures yes { IsTrue result → HasRowidKey table.now }
+    ensures no { result ≡ false → ¬ (HasRowidKey table.now) }
 {
     is_first(table.key)
         && are_places(table.primary.as_slice(), &[0])
@@ -162,7 +229,8 @@ fn is_rowid_keyed(table: &Table) -> bool
 }
 
 fn are_row_columns(columns: &[Column]) -> bool
-    ensures { IsTrue result → columns.now ≡ row_table.columns }
+    ensures yes { IsTrue result → columns.now ≡ row_table.columns }
+    ensures no { result ≡ false → columns.now ≢ row_table.columns }
 {
     match columns {
         [a, b, c, d, e, f] => {
@@ -178,7 +246,8 @@ fn are_row_columns(columns: &[Column]) -> bool
 }
 
 fn is_row_table(table: &Table) -> bool
-    ensures { IsTrue result → table.now ≡ row_table }
+    ensures yes { IsTrue result → table.now ≡ row_table }
+    ensures no { result ≡ false → table.now ≢ row_table }
 {
     table.name.as_slice() == b"row".as_slice()
         && table.tree == 0
@@ -189,7 +258,8 @@ fn is_row_table(table: &Table) -> bool
 }
 
 fn are_config_columns(columns: &[Column]) -> bool
-    ensures { IsTrue result → columns.now ≡ config_table.columns }
+    ensures yes { IsTrue result → columns.now ≡ config_table.columns }
+    ensures no { result ≡ false → columns.now ≢ config_table.columns }
 {
     match columns {
         [a, b] => is_column(a, b"rev", Kind::Integer) && is_column(b, b"text", Kind::Text),
@@ -198,7 +268,8 @@ fn are_config_columns(columns: &[Column]) -> bool
 }
 
 fn are_state_columns(columns: &[Column]) -> bool
-    ensures { IsTrue result → columns.now ≡ state_table.columns }
+    ensures yes { IsTrue result → columns.now ≡ state_table.columns }
+    ensures no { result ≡ false → columns.now ≢ state_table.columns }
 {
     match columns {
         [a, b] => is_column(a, b"key", Kind::Text) && is_column(b, b"value", Kind::Integer),
@@ -207,7 +278,8 @@ fn are_state_columns(columns: &[Column]) -> bool
 }
 
 fn is_config_table(table: &Table) -> bool
-    ensures { IsTrue result → table.now ≡ record config_table { tree = 2 } }
+    ensures yes { IsTrue result → table.now ≡ record config_table { tree = 2 } }
+    ensures no { result ≡ false → table.now ≢ record config_table { tree = 2 } }
 {
     table.name.as_slice() == b"config".as_slice()
         && table.tree == 2
@@ -218,7 +290,8 @@ fn is_config_table(table: &Table) -> bool
 }
 
 fn is_state_table(table: &Table) -> bool
-    ensures { IsTrue result → table.now ≡ record state_table { tree = 3 } }
+    ensures yes { IsTrue result → table.now ≡ record state_table { tree = 3 } }
+    ensures no { result ≡ false → table.now ≢ record state_table { tree = 3 } }
 {
     table.name.as_slice() == b"state".as_slice()
         && table.tree == 3
@@ -229,7 +302,8 @@ fn is_state_table(table: &Table) -> bool
 }
 
 fn is_index(index: &Index, name: &[u8], tree: u32, table: u32, places: &[usize]) -> bool
-    ensures { IsTrue result → index.now ≡ index_of name.now tree table places.now }
+    ensures yes { IsTrue result → index.now ≡ index_of name.now tree table places.now }
+    ensures no { result ≡ false → index.now ≢ index_of name.now tree table places.now }
 {
     index.name.as_slice() == name
         && index.tree == tree
@@ -240,7 +314,8 @@ fn is_index(index: &Index, name: &[u8], tree: u32, table: u32, places: &[usize])
 }
 
 fn are_tables(tables: &[Table]) -> bool
-    ensures { IsTrue result → tables.now ≡ schema.tables }
+    ensures yes { IsTrue result → tables.now ≡ schema.tables }
+    ensures no { result ≡ false → tables.now ≢ schema.tables }
 {
     match tables {
         [row, config, state] => {
@@ -251,7 +326,8 @@ fn are_tables(tables: &[Table]) -> bool
 }
 
 fn are_indexes(indexes: &[Index]) -> bool
-    ensures { IsTrue result → indexes.now ≡ row_index ∷ state_index ∷ [] }
+    ensures yes { IsTrue result → indexes.now ≡ row_index ∷ state_index ∷ [] }
+    ensures no { result ≡ false → indexes.now ≢ row_index ∷ state_index ∷ [] }
 {
     match indexes {
         [row, state] => {
@@ -263,7 +339,8 @@ fn are_indexes(indexes: &[Index]) -> bool
 }
 
 fn is_schema(found: &Schema) -> bool
-    ensures { IsTrue result → found.now ≡ schema }
+    ensures yes { IsTrue result → found.now ≡ schema }
+    ensures no { result ≡ false → found.now ≢ schema }
 {
     if !are_tables(found.tables.as_slice()) {
         return false;
@@ -277,6 +354,7 @@ fn is_schema(found: &Schema) -> bool
 /// Whether the connection's tables and indexes are those of the format, in the order in which `create` makes them.
 pub fn is_format<S: Alter>(conn: &Connection<S>) -> bool
     ensures yes { IsTrue result → HasFormat S.Store conn.now }
+    ensures no { result ≡ false → ¬ (HasFormat S.Store conn.now) }
     ensures live { IsLive (state S.Store conn.now) }
 {
     is_schema(conn.schema())

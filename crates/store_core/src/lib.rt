@@ -8,10 +8,14 @@
 mod commit;
 mod format;
 mod loading;
+mod probe;
 mod statement;
 mod stored;
 
 pub use commit::{configure, create, trim, write};
 pub use format::is_format;
-pub use loading::{is_open, load};
-pub use stored::{Stored, StoredConfig, StoredEntry, StoredEvent, StoredSpan, TupleText};
+pub use loading::load;
+pub use probe::{Probe, ask};
+pub use stored::{
+    SpanChange, Stored, StoredConfig, StoredEntry, StoredEvent, StoredSpan, TupleText,
+};

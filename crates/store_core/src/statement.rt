@@ -3,30 +3,35 @@
 ghost use Rattle.std.specs.Prelude.{◌≡◌, ◌^◌, ◌<◌};
 ghost use Rattle.store_core.specs.Tables.{config_at};
 ghost use Rattle.store_core.specs.Stored.{span_between};
-ghost use Rattle.store_core.specs.Steps.{Changes, Makes, IsQuiet, with_span, with_closed, with_config, with_entry, without_past, without_below, HasNone, HasRow, HasConfig, HasTables, HasNew};
+ghost use Rattle.store_core.specs.Steps.{Changes, Makes, RunsOpen, IsQuiet, with_span, with_closed, with_config, with_entry, without_past, without_below, HasNone, HasRow, HasConfig, HasTables, HasNew};
+ghost use Rattle.store_core.specs.Caused.{IsCausedInside, CanBegin, CanClose, CanAdd, CanSet};
 
 use crate::stored::TupleText;
 use sqlite::{Alter, Error, Transaction, params};
 
-// Adds an open span of the tuple.
+// Adds an open span of the tuple, under the rowid.
 pub(crate) fn insert_span<S: Alter>(
     tx: &mut Transaction<'_, S>,
     tuple: &TupleText,
     rev: u64,
+    rowid: u64,
 ) -> Result<usize, Error>
-    requires { rev < 2 ^ 63 }
+    requires small { rev < 2 ^ 63 }
+    requires fits { rowid < 2 ^ 63 }
     ensures same_reference { tx.new.conn.ghost_name ≡ tx.old.conn.ghost_name }
-    ensures done { Changes S.Store tx.old.conn tx.new.conn result (with_span (span_between tuple.now rev 0)) }
+    ensures done { Changes S.Store tx.old.conn tx.new.conn result (with_span (span_between tuple.now rev 0)) rowid }
     ensures quiet { IsQuiet S.Store tx.old.conn tx.new.conn }
+    ensures caused { IsCausedInside S.Store tx.old.conn tx.new.conn result (CanBegin (span_between tuple.now rev 0) rev rowid) }
 {
     let namespace = tuple.namespace.as_str();
     let object = tuple.object.as_str();
     let relation = tuple.relation.as_str();
     let subject = tuple.subject.as_str();
     let added = rev as i64;
+    let id = rowid as i64;
     tx.execute(
-        "INSERT INTO row VALUES (?1, ?2, ?3, ?4, ?5, 0)",
-        params![namespace, object, relation, subject, added],
+        "INSERT INTO row (rowid, namespace, object, relation, subject, added, removed) VALUES (?1, ?2, ?3, ?4, ?5, ?6, 0)",
+        params![id, namespace, object, relation, subject, added],
     )
 }
 
@@ -38,8 +43,9 @@ pub(crate) fn close_span<S: Alter>(
 ) -> Result<usize, Error>
     requires { rev < 2 ^ 63 }
     ensures same_reference { tx.new.conn.ghost_name ≡ tx.old.conn.ghost_name }
-    ensures done { Changes S.Store tx.old.conn tx.new.conn result (with_closed (span_between tuple.now rev 0) rev) }
+    ensures done { Changes S.Store tx.old.conn tx.new.conn result (with_closed (span_between tuple.now rev 0) rev) 0 }
     ensures quiet { IsQuiet S.Store tx.old.conn tx.new.conn }
+    ensures caused { IsCausedInside S.Store tx.old.conn tx.new.conn result (CanClose (span_between tuple.now rev 0) rev) }
 {
     let namespace = tuple.namespace.as_str();
     let object = tuple.object.as_str();
@@ -60,8 +66,9 @@ pub(crate) fn insert_config<S: Alter>(
 ) -> Result<usize, Error>
     requires { rev < 2 ^ 63 }
     ensures same_reference { tx.new.conn.ghost_name ≡ tx.old.conn.ghost_name }
-    ensures done { Changes S.Store tx.old.conn tx.new.conn result (with_config (config_at rev text.now)) }
+    ensures done { Changes S.Store tx.old.conn tx.new.conn result (with_config (config_at rev text.now)) 0 }
     ensures quiet { IsQuiet S.Store tx.old.conn tx.new.conn }
+    ensures caused { IsCausedInside S.Store tx.old.conn tx.new.conn result (CanAdd (config_at rev text.now)) }
 {
     let rev = rev as i64;
     tx.execute("INSERT INTO config VALUES (?1, ?2)", params![rev, text])
@@ -75,8 +82,10 @@ pub(crate) fn set_value<S: Alter>(
 ) -> Result<usize, Error>
     requires { value < 2 ^ 63 }
     ensures same_reference { tx.new.conn.ghost_name ≡ tx.old.conn.ghost_name }
-    ensures done { Changes S.Store tx.old.conn tx.new.conn result (with_entry key.now value) }
+    ensures done { Changes S.Store tx.old.conn tx.new.conn result (with_entry key.now value) 0 }
+    ensures was_open { RunsOpen S.Store tx.old.conn tx.new.conn result }
     ensures quiet { IsQuiet S.Store tx.old.conn tx.new.conn }
+    ensures caused { IsCausedInside S.Store tx.old.conn tx.new.conn result (CanSet key.now) }
 {
     let value = value as i64;
     tx.execute(
@@ -92,7 +101,7 @@ pub(crate) fn delete_spans<S: Alter>(
 ) -> Result<usize, Error>
     requires { floor < 2 ^ 63 }
     ensures same_reference { tx.new.conn.ghost_name ≡ tx.old.conn.ghost_name }
-    ensures done { Changes S.Store tx.old.conn tx.new.conn result (without_past floor) }
+    ensures done { Changes S.Store tx.old.conn tx.new.conn result (without_past floor) 0 }
     ensures quiet { IsQuiet S.Store tx.old.conn tx.new.conn }
 {
     let floor = floor as i64;
@@ -109,7 +118,7 @@ pub(crate) fn delete_configs<S: Alter>(
 ) -> Result<usize, Error>
     requires { rev < 2 ^ 63 }
     ensures same_reference { tx.new.conn.ghost_name ≡ tx.old.conn.ghost_name }
-    ensures done { Changes S.Store tx.old.conn tx.new.conn result (without_below rev) }
+    ensures done { Changes S.Store tx.old.conn tx.new.conn result (without_below rev) 0 }
     ensures quiet { IsQuiet S.Store tx.old.conn tx.new.conn }
 {
     let rev = rev as i64;
@@ -123,6 +132,7 @@ pub(crate) fn make_row<S: Alter>(tx: &mut Transaction<'_, S>) -> Result<usize, E
     ensures same_reference { tx.new.conn.ghost_name ≡ tx.old.conn.ghost_name }
     ensures done { Makes S.Store tx.old.conn tx.new.conn result HasNone HasRow }
     ensures quiet { IsQuiet S.Store tx.old.conn tx.new.conn }
+    ensures caused { IsCausedInside S.Store tx.old.conn tx.new.conn result HasNone }
 {
     tx.execute(
         "CREATE TABLE row (namespace TEXT NOT NULL, object TEXT NOT NULL, relation TEXT NOT NULL, subject TEXT NOT NULL, added INTEGER NOT NULL CHECK (added > 0), removed INTEGER NOT NULL, CHECK (removed = 0 OR removed > added), PRIMARY KEY (namespace, object, relation, subject, added)) STRICT",
@@ -135,6 +145,7 @@ pub(crate) fn make_config<S: Alter>(tx: &mut Transaction<'_, S>) -> Result<usize
     ensures same_reference { tx.new.conn.ghost_name ≡ tx.old.conn.ghost_name }
     ensures done { Makes S.Store tx.old.conn tx.new.conn result HasRow HasConfig }
     ensures quiet { IsQuiet S.Store tx.old.conn tx.new.conn }
+    ensures caused { IsCausedInside S.Store tx.old.conn tx.new.conn result HasRow }
 {
     tx.execute(
         "CREATE TABLE config (rev INTEGER PRIMARY KEY NOT NULL, text TEXT NOT NULL) STRICT",
@@ -147,6 +158,7 @@ pub(crate) fn make_state<S: Alter>(tx: &mut Transaction<'_, S>) -> Result<usize,
     ensures same_reference { tx.new.conn.ghost_name ≡ tx.old.conn.ghost_name }
     ensures done { Makes S.Store tx.old.conn tx.new.conn result HasConfig HasTables }
     ensures quiet { IsQuiet S.Store tx.old.conn tx.new.conn }
+    ensures caused { IsCausedInside S.Store tx.old.conn tx.new.conn result HasConfig }
 {
     tx.execute(
         "CREATE TABLE state (key TEXT NOT NULL PRIMARY KEY, value INTEGER NOT NULL) STRICT",
@@ -159,7 +171,9 @@ pub(crate) fn init_state<S: Alter>(tx: &mut Transaction<'_, S>, number: u64) -> 
     requires { number < 2 ^ 63 }
     ensures same_reference { tx.new.conn.ghost_name ≡ tx.old.conn.ghost_name }
     ensures done { Makes S.Store tx.old.conn tx.new.conn result HasTables (HasNew number) }
+    ensures was_open { RunsOpen S.Store tx.old.conn tx.new.conn result }
     ensures quiet { IsQuiet S.Store tx.old.conn tx.new.conn }
+    ensures caused { IsCausedInside S.Store tx.old.conn tx.new.conn result HasTables }
 {
     let number = number as i64;
     tx.execute(

@@ -9,11 +9,22 @@ pub struct TupleText {
     pub subject: String,
 }
 
-/// One event of a commit: the tuple is put, or else deletes.
+/// What an event does to the spans of its tuple.
+#[derive(Clone, Copy, Debug, PartialEq, Eq)]
+pub enum SpanChange {
+    /// A span begins; no other is open.
+    Begins,
+    /// The open span ends, if there is one, and another begins.
+    BeginsAnew,
+    /// The open span ends.
+    Ends,
+}
+
+/// One event of a commit.
 #[derive(Debug, Drop)]
 pub struct StoredEvent {
-    pub put: bool,
     pub tuple: TupleText,
+    pub change: SpanChange,
 }
 
 /// The revisions from which and before which a tuple is there; `removed` is 0 while it still is.
@@ -39,10 +50,11 @@ pub struct StoredEntry {
 }
 
 /// All that the tables hold: the spans in the order of their keys, the configurations by revision and the
-/// state by key.
+/// state by key, and the greatest rowid of a span, or 0 where there is none.
 #[derive(Debug, Drop)]
 pub struct Stored {
     pub spans: Vec<StoredSpan>,
     pub configs: Vec<StoredConfig>,
     pub entries: Vec<StoredEntry>,
+    pub last_rowid: u64,
 }

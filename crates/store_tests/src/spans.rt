@@ -4,11 +4,13 @@ ghost use Rattle.std.specs.Prelude.{◌≡◌, false, IfOk};
 use sqlite::{Connection, Error, MemStore};
 use std::alloc::{AllocError, Global};
 use std::test::Fail;
-use store_core::{Stored, StoredEvent, TupleText, configure, create, load, trim, write};
+use store_core::{
+    Probe, SpanChange, Stored, StoredEvent, TupleText, ask, configure, create, load, trim, write,
+};
 
-fn event(alloc: Global, put: bool, subject: &str) -> Result<StoredEvent, AllocError> {
+fn event(alloc: Global, change: SpanChange, subject: &str) -> Result<StoredEvent, AllocError> {
     Ok(StoredEvent {
-        put,
+        change,
         tuple: TupleText {
             namespace: String::from_str(alloc, "group")?,
             object: String::from_str(alloc, "eng")?,
@@ -32,13 +34,13 @@ fn write_three(alloc: Global, conn: &mut Connection<MemStore>) -> Result<(), Err
     ensures { conn.new.in_transaction ≡ false }
 {
     let first = vec![in alloc;
-        event(alloc, true, "user:bob")?,
-        event(alloc, true, "user:ann")?,
+        event(alloc, SpanChange::Begins, "user:bob")?,
+        event(alloc, SpanChange::BeginsAnew, "user:ann")?,
     ]?;
     write(conn, first.as_slice(), 1)?;
     let second = vec![in alloc;
-        event(alloc, false, "user:bob")?,
-        event(alloc, true, "user:ann")?,
+        event(alloc, SpanChange::Ends, "user:bob")?,
+        event(alloc, SpanChange::BeginsAnew, "user:ann")?,
     ]?;
     write(conn, second.as_slice(), 2)?;
     configure(conn, "{\"namespaces\":[]}", 3)
@@ -94,5 +96,23 @@ fn a_trim_keeps_what_is_open(rt: HostRuntime) -> Result<(), Fail> {
     let alloc = rt.alloc();
     let wanted = "user:ann 2 0;3 {\"namespaces\":[]};floor 3;format 1;newest 3;store 7;";
     assert!(rt; has(alloc, &trimmed(alloc)?, wanted)?);
+    Ok(())
+}
+
+#[test]
+fn a_connection_in_memory_is_open(rt: HostRuntime) -> Result<(), Fail> {
+    let alloc = rt.alloc();
+    let mut conn = created(alloc)?;
+    assert!(rt; ask(&mut conn) == Probe::Open);
+    write_three(alloc, &mut conn)?;
+    assert!(rt; ask(&mut conn) == Probe::Open);
+    Ok(())
+}
+
+// The event at place 1 of revision 2 begins the last span.
+#[test]
+fn the_last_rowid_is_of_its_revision(rt: HostRuntime) -> Result<(), Fail> {
+    let alloc = rt.alloc();
+    assert!(rt; written(alloc)?.last_rowid == 258);
     Ok(())
 }

@@ -1,2 +1,4 @@
+pub mod Lasting
 pub mod Room
+pub mod Absent
 pub mod Storing

@@ -11,6 +11,7 @@ use Rattle.rows.specs.Retained.{Retained, newest_of, AreAdmitted, HasRoom, store
 use Rattle.rows.specs.Loads.{IsWithin}
 use Rattle.rows.specs.Follows.{IsNext}
 use Rattle.rows.proofs.Admitting.{newest_admitted, none_admitted, of_all}
+use Rattle.tables.specs.declared.puts.Puts.{Puts}
 use Rattle.tables.specs.Storing.{CanStore}
 use Rattle.tables.specs.Limits.{IsLoadable}
 use Rattle.tables.proofs.Room.{stays_within}
@@ -21,9 +22,9 @@ none_within number h none =
     subst (λ (xs : History). IsLoadable (store_from number xs)) (sym none) (omega arith, omega (arith, few), of_all (store_from number []) (none_admitted empty_config))
 
 -- a copy of the commit was pushed
-pub pushed_within : (number : ℕ) (t : Retained) (xs ys zs : History) (c d : Commit Configured) (rev : ℕ) → store_from number xs ≡ t → IsLoadable (store_from number xs) → CanStore (λ r. t ≡ r) rev d
+pub pushed_within : (number : ℕ) (t : Retained) (xs ys zs : History) (c d : Commit Configured) (rev : ℕ) (puts : Puts) → store_from number xs ≡ t → IsLoadable (store_from number xs) → CanStore (λ r. t ≡ r) rev d puts
     → ((r : Retained) (e : Commit Configured) → AreAdmitted (newest_of r).held → IsNext r e → HasRoom r e) → ys ≡ xs → c ≡ d → zs ≡ ys ++ c ∷ [] → IsLoadable (store_from number zs)
-pushed_within number t xs ys zs c d rev is within can room same copy pushed =
+pushed_within number t xs ys zs c d rev puts is within can room same copy pushed =
     let next : IsNext (store_from number xs) d = subst (λ (r : Retained). IsNext r d) (sym (is ∙ can.1)) can.2.0 in
     let all : xs ++ d ∷ [] ≡ zs = cc in
     subst (λ (h : History). IsLoadable (store_from number h)) all (stays_within (store_from number xs) d within (room (store_from number xs) d (newest_admitted (store_from number xs) within.2) next))

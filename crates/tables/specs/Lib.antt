@@ -1,3 +1,5 @@
 pub mod Opening
+pub mod Device
+pub mod Leaving
 pub mod Storing
 pub mod Limits

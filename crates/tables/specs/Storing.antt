@@ -1,41 +1,50 @@
--- What may be stored, what is so afterwards, and how faults are counted.
-use Rattle.std.specs.Prelude.{◌≡◌, ◌⊎◌, ◌+◌, ◌-◌, ◌^◌, ℕ, min, Result, Err, IfOk, OnOk}
+-- What may be stored, and how refusals are counted.
+use Rattle.std.specs.Prelude.{◌≡◌, ◌+◌, ◌-◌, ◌^◌, ◌&&◌, ℕ, Bool, true, false, min}
+use Rattle.std.specs.List.{list_any}
+use Rattle.names.specs.declared.write.Op.{Op}
+use Rattle.names.specs.declared.write.OpKind.{OpKind}
+use Rattle.names.specs.declared.write.OpKind.TheVariants.{Insert, Touch, Delete}
 use Rattle.names.specs.declared.commit.Commit.{Commit}
+use Rattle.names.specs.declared.commit.Commit.TheVariants.{Tuples, Config}
+use Rattle.names.specs.declared.commit.Event.{Event}
+use Rattle.names.specs.declared.commit.EventKind.{EventKind}
+use Rattle.names.specs.declared.commit.EventKind.TheVariants.{Put, Del}
 use Rattle.meaning.specs.Config.{Configured}
-use Rattle.rows.specs.Retained.{Retained, newest, with_commit}
-use Rattle.rows.specs.Loads.{retained_of}
-use Rattle.rows.specs.declared.loaded.Loaded.{Loaded}
+use Rattle.meaning.specs.TupleSet as set
+use Rattle.rows.specs.Retained.{Retained, newest, newest_of}
 use Rattle.rows.specs.Follows.{IsNext}
-use Rattle.tables.specs.declared.tables.TablesError.{TablesError}
-use Rattle.tables.specs.declared.tables.TablesError.TheVariants.{Memory}
+use Rattle.tables.specs.declared.puts.Puts.{Puts}
+use Rattle.tables.specs.declared.puts.Puts.TheVariants.{Absent}
 
--- the commit can follow the history, and the revision is the next
-abbrev pub IsNextAt : Retained → ℕ → Commit Configured → Type 0
-IsNextAt r rev commit = IsNext r commit × (rev ≡ newest r + 1)
+abbrev pub is_touch_kind : OpKind → Bool
+is_touch_kind Insert = false
+is_touch_kind Touch = true
+is_touch_kind Delete = false
+
+-- the operation is a touch
+abbrev pub is_touch : Op → Bool
+is_touch o = is_touch_kind o.kind
+
+abbrev pub is_put : EventKind → Bool
+is_put Put = true
+is_put Del = false
+
+-- the event puts a tuple that is there
+abbrev pub puts_again : set.Tuples → Event → Bool
+puts_again tuples e = is_put e.kind && set.contains tuples e.tuple
+
+-- no event of the commit puts a tuple that is there at the newest revision
+abbrev pub PutsAbsent : Retained → Commit Configured → Type 0
+PutsAbsent r (Tuples events) = list_any (puts_again (newest_of r).held.tuples) events ≡ false
+PutsAbsent r (Config config) = Unit {0}
+
+-- the commit can follow the history, the revision is the next, and what is said of the puts is so
+abbrev pub IsNextAt : Retained → ℕ → Commit Configured → Puts → Type 0
+IsNextAt r rev commit puts = IsNext r commit × (rev ≡ newest r + 1) × (puts ≡ Absent → PutsAbsent r commit)
 
 -- some history that the tables hold can go on so
-abbrev pub CanStore : (Retained → Type 0) → ℕ → Commit Configured → Type 0
-CanStore Holds rev commit = (r : Retained) × Holds r × IsNextAt r rev commit
-
--- what was loaded is what they held, where the device returned what was written
-abbrev pub LoadsHeld : (Retained → Type 0) → Type 0 → Result Loaded TablesError → Type 0
-LoadsHeld Holds reliable result = (r : Retained) → Holds r → reliable → IfOk result (λ loaded. retained_of loaded ≡ r)
-
--- what is so of the history with the commit, once it is stored
-abbrev pub AfterCommit : {T : Type 0} → (Retained → Type 0) → ℕ → Commit Configured → Result T TablesError → (Retained → Type 0) → Type 0
-AfterCommit Holds rev commit result P = (r : Retained) → Holds r → IsNextAt r rev commit → OnOk result (P (with_commit r commit))
-
--- what is so of the history that they held, when there was no memory
-abbrev pub WithoutMemory : {T : Type 0} → (Retained → Type 0) → Result T TablesError → (Retained → Type 0) → Type 0
-WithoutMemory Holds result P = (r : Retained) → Holds r → result ≡ Err Memory → P r
-
--- a crash leaves this history, and no other
-abbrev pub LeavesThis : ((Retained → Type 0) → Type 0) → Retained → Type 0
-LeavesThis Leaves r = Leaves (λ x. x ≡ r)
-
--- a crash leaves the history that they held, or that with the commit
-abbrev pub LeavesEither : (Retained → Type 0) → ℕ → Commit Configured → ((Retained → Type 0) → Type 0) → Type 0
-LeavesEither Holds rev commit Leaves = (r : Retained) → Holds r → IsNextAt r rev commit → Leaves (λ x. (x ≡ r) ⊎ (x ≡ with_commit r commit))
+abbrev pub CanStore : (Retained → Type 0) → ℕ → Commit Configured → Puts → Type 0
+CanStore Holds rev commit puts = (r : Retained) × Holds r × IsNextAt r rev commit puts
 
 -- one refusal more; at its greatest number a count stays, and this counts as more
 abbrev pub one_more : ℕ → ℕ

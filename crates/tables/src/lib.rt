@@ -1,10 +1,12 @@
-//! Where a store's history is stored: what tables hold, what a write may leave of it, also after a crash, and
-//! how often they failed; and tables in memory.
+//! Where a store's history is stored: what tables hold, what a write may leave of it, also after a crash, that they
+//! fail only where the device below them does, and how often; and tables in memory.
 #![tactic(auto)]
 
 mod copy;
 mod listed;
+mod puts;
 mod tables;
 
 pub use listed::Listed;
+pub use puts::{Puts, puts_of};
 pub use tables::{Tables, TablesError};

@@ -3,6 +3,7 @@ ghost use Rattle.std.specs.Prelude.{◌≡◌};
 ghost use Rattle.rows.specs.Retained.{empty_store};
 
 use crate::copy::commits_again;
+use crate::puts::Puts;
 use crate::tables::{Tables, TablesError};
 use config::Config;
 use names::Items;
@@ -48,12 +49,14 @@ impl Listed {
 
 impl Tables for Listed {
     ghost use Rattle.std.specs.Prelude.{◌≡◌};
+    ghost use Rattle.tables.specs.Device.{sound_device};
+    ghost use Rattle.tables.specs.Leaving.{IsOneOf, only_one};
 
     ghost holds = { λ t r. t ≡ r };
 
-    ghost leaves_only = { λ t P. P t };
+    ghost leaves = { λ t rs. IsOneOf rs t };
 
-    ghost is_reliable = { λ t. Unit {0} };
+    ghost device = { λ t. sound_device };
 
     ghost count = { λ t. 0 };
 
@@ -70,7 +73,7 @@ impl Tables for Listed {
         })
     }
 
-    fn write(&mut self, _rev: u64, commit: &KeptCommit) -> Result<(), TablesError> {
+    fn write(&mut self, _rev: u64, commit: &KeptCommit, _puts: Puts) -> Result<(), TablesError> {
         if self.commits.reserve(1).is_err() {
             return Err(TablesError::Memory);
         }
@@ -85,4 +88,8 @@ impl Tables for Listed {
     fn faults(&self) -> u64 {
         0
     }
+
+    ghost settled = { λ t r held whole. only_one t r held };
+
+    ghost weaker = { λ t rs ss among left. among t left };
 }

@@ -1,5 +1,6 @@
 //! Where a store's history is stored.
 
+use crate::puts::Puts;
 use rows::Loaded;
 use std::alloc::Global;
 use tuple_keys::KeptCommit;
@@ -15,19 +16,21 @@ pub enum TablesError {
 
 /// Tables that hold the history of one store.
 pub trait Tables {
-    ghost use Rattle.std.specs.Prelude.{◌≡◌, ℕ, IfOk, OnOk, Err};
-    ghost use Rattle.rows.specs.Retained.{Retained};
+    ghost use Rattle.std.specs.Prelude.{◌≡◌, ◌⊎◌, ℕ, List, [], ◌∷◌, IfOk, OnOk, Err};
+    ghost use Rattle.rows.specs.Retained.{Retained, with_commit};
     ghost use Rattle.rows.specs.Loads.{retained_of, IsWithin};
-    ghost use Rattle.tables.specs.Storing.{CanStore, LoadsHeld, AfterCommit, WithoutMemory, LeavesThis, LeavesEither, one_more};
+    ghost use Rattle.tables.specs.Device.{Device, IsOpen, IsClean, Lasts, HasFailed};
+    ghost use Rattle.tables.specs.Leaving.{AreAmong};
+    ghost use Rattle.tables.specs.Storing.{IsNextAt, CanStore, one_more};
 
-    // The history that they hold, as far as the device returns what was written.
+    // The history that they hold, as far as they are open.
     ghost holds: { Self → Retained → Type 0 };
 
-    // A crash leaves tables that hold a history of which this is true, and nothing else.
-    ghost leaves_only: { Self → (Retained → Type 0) → Type 0 };
+    // If the process ends or crashes now, the tables that are left hold one of these.
+    ghost leaves: { Self → List Retained → Type 0 };
 
-    // So far the device has returned what was written.
-    ghost is_reliable: { Self → Type 0 };
+    // The device below them.
+    ghost device: { Self → Device };
 
     // How often they refused for another cause than memory.
     ghost count: { Self → ℕ };
@@ -36,24 +39,43 @@ pub trait Tables {
     fn load(&mut self, alloc: Global) -> Result<Loaded, TablesError>
         ensures held { IfOk result (λ loaded. holds self.new (retained_of loaded)) }
         ensures within { IfOk result IsWithin }
-        ensures same { LoadsHeld (holds self.old) (is_reliable self.new) result }
-        ensures left { IfOk result (λ loaded. LeavesThis (leaves_only self.new) (retained_of loaded)) }
-        ensures quiet { OnOk result (count self.new ≡ count self.old) }
-        ensures counted { result ≡ Err TablesError.Fault → count self.new ≡ one_more (count self.old) };
-
-    /// Stores one commit, wholly or not at all. Its revision is the next.
-    fn write(&mut self, rev: u64, commit: &KeptCommit) -> Result<(), TablesError>
-        requires { CanStore (holds self.old) rev commit.now }
-        ensures done { AfterCommit (holds self.old) rev commit.now result (holds self.new) }
-        ensures undone { WithoutMemory (holds self.old) result (holds self.new) }
-        ensures stored { AfterCommit (holds self.old) rev commit.now result (LeavesThis (leaves_only self.new)) }
-        ensures unstored { WithoutMemory (holds self.old) result (LeavesThis (leaves_only self.new)) }
-        ensures crash { LeavesEither (holds self.old) rev commit.now (leaves_only self.new) }
+        ensures open { OnOk result (IsOpen (device self.new)) }
+        ensures same { (r : Retained) → holds self.old r → IsClean (device self.new)
+            → IfOk result (λ loaded. retained_of loaded ≡ r) }
+        ensures kept { (r : Retained) → holds self.old r → holds self.new r }
+        ensures left { (rs : List Retained) → leaves self.old rs → leaves self.new rs }
+        ensures lasts { Lasts (device self.old) (device self.new) }
+        ensures caused { result ≡ Err TablesError.Fault → IsOpen (device self.old)
+            → HasFailed (device self.old) (device self.new)
+            ⊎ ((r : Retained) → IsClean (device self.old) → ¬ (holds self.old r)) }
         ensures quiet { OnOk result (count self.new ≡ count self.old) }
         ensures memory { result ≡ Err TablesError.Memory → count self.new ≡ count self.old }
-        ensures counted { result ≡ Err TablesError.Fault → count self.new ≡ one_more (count self.old) };
+        ensures told { result ≡ Err TablesError.Fault → count self.new ≡ one_more (count self.old) };
+
+    /// Stores one commit, wholly or not at all. Its revision is the next.
+    fn write(&mut self, rev: u64, commit: &KeptCommit, puts: Puts) -> Result<(), TablesError>
+        requires { CanStore (holds self.old) rev commit.now puts }
+        ensures done { (r : Retained) → holds self.old r → IsNextAt r rev commit.now puts
+            → OnOk result (holds self.new (with_commit r commit.now)) }
+        ensures open { OnOk result (IsOpen (device self.new)) }
+        ensures undone { (r : Retained) → holds self.old r → result ≡ Err TablesError.Memory
+            → holds self.new r }
+        ensures left { (r : Retained) (rs : List Retained) → holds self.old r → leaves self.old rs
+            → IsNextAt r rev commit.now puts → leaves self.new (with_commit r commit.now ∷ rs) }
+        ensures lasts { Lasts (device self.old) (device self.new) }
+        ensures caused { result ≡ Err TablesError.Fault → IsOpen (device self.old)
+            → HasFailed (device self.old) (device self.new) }
+        ensures quiet { OnOk result (count self.new ≡ count self.old) }
+        ensures memory { result ≡ Err TablesError.Memory → count self.new ≡ count self.old }
+        ensures told { result ≡ Err TablesError.Fault → count self.new ≡ one_more (count self.old) };
 
     /// How often they refused for another cause than memory. At 2^64 - 1 it stays.
     fn faults(&self) -> u64
         ensures { result ≡ count self.now };
+
+    // Open tables leave what they hold, and nothing else.
+    ghost settled: { (t : Self) (r : Retained) → holds t r → IsOpen (device t) → leaves t (r ∷ []) };
+
+    // What leaves one of these leaves one of more.
+    ghost weaker: { (t : Self) (rs ss : List Retained) → AreAmong rs ss → leaves t rs → leaves t ss };
 }

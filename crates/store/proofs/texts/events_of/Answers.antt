@@ -18,7 +18,7 @@ pub loop-i-preserved : goal.loop-i-preserved
 loop-i-preserved c =
     let small : c.loop-i.i < length c.args.events.now = subst (λ (n : ℕ). c.loop-i.i < n) c.len-i-end.ensures.len c.loop-i-test.true in
     let at : c.event-event.result ≡ get_or c.args.events.now c.loop-i.i c.event-event.result = at_index c.args.events.now c.loop-i.i c.event.result c.event-event.result c.event.ensures c.event-event.ensures in (
-      one_more event_texts_in event_texts c.loop-i.texts.items c.push.new.self.items c.args.events.now c.in_ok-event_of.field-0 c.event-event.result c.loop-i.i
+      one_more event_texts_in (event_texts c.args.puts) c.loop-i.texts.items c.push.new.self.items c.args.events.now c.in_ok-event_of.field-0 c.event-event.result c.loop-i.i
           small at c.loop-i.invariant.0 c.in_ok-event_of.ensures c.in_ok-push.ensures.items,
       All-more (λ (e : Event). IsTuple e.tuple) c.args.events.now c.loop-i.i c.event-event.result small c.loop-i.invariant.1
           (subst (λ (e : Event). IsTuple e.tuple) at c.see_tuple.ensures),

@@ -1,12 +1,12 @@
-use Rattle.std.proofs.Common.{◌≡◌, take}
+use Rattle.std.proofs.Common.{◌≡◌, ◌+◌, ◌-◌, ◌*◌, take}
 use Rattle.sqlite.specs.State.{HasCleanDisk}
 use Rattle.sqlite.specs.Held.{state}
-use Rattle.store_core.specs.Steps.{Becomes, IsQuiet, Turns, after_events}
+use Rattle.store_core.specs.Steps.{Alters, IsQuiet, Turns, after_events}
 use Rattle.store_core.proofs.commit.apply_all.Given as goal
 
-abbrev pub invariant-loop-event : goal.invariant-loop-event
-invariant-loop-event g l = record {
+abbrev pub invariant-loop-at : goal.invariant-loop-at
+invariant-loop-at g l = record {
   same : l.tx.conn.ghost_name ≡ l.fn.tx.conn.ghost_name;
-  done : HasCleanDisk (state g.S.Store l.tx.conn.now) → Turns (Becomes (after_events l.rev (take l.event-index l.events))) (state g.S.Store l.fn.tx.conn.now) (state g.S.Store l.tx.conn.now);
+  done : HasCleanDisk (state g.S.Store l.tx.conn.now) → Turns (Alters (after_events l.rev (take l.at l.events)) (256 * (l.rev - 1) + l.at)) (state g.S.Store l.fn.tx.conn.now) (state g.S.Store l.tx.conn.now);
   quiet : IsQuiet g.S.Store l.fn.tx.conn l.tx.conn;
 }

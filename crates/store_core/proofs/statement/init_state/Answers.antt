@@ -4,7 +4,13 @@ use Rattle.sqlite.specs.Held.{state}
 use Rattle.store_core.specs.Steps.{Founds, HasNew, HasTables}
 use Rattle.store_core.proofs.Texts.{init_text}
 use Rattle.store_core.proofs.CreateLemmas.{init_params}
-use Rattle.store_core.proofs.Inside.{does_inside, quiet_inside, init_does}
+use Rattle.store_core.proofs.Inside.{does_inside, open_inside, quiet_inside, init_does}
+use Rattle.sqlite.specs.Command.TheVariants.{Insert}
+use Rattle.sqlite.specs.Source.TheVariants.{Values}
+use Rattle.store_core.specs.Format.{schema}
+use Rattle.store_core.proofs.Fixed.FirstValues.{init_fails}
+use Rattle.store_core.proofs.Texts.{init_is, init_terms}
+use Rattle.store_core.proofs.Refusing.{caused_inside, stays_inside}
 use Rattle.store_core.proofs.statement.init_state.Goals as goal
 
 pub returns-clause-done : goal.returns-clause-done
@@ -15,3 +21,15 @@ returns-clause-done g c =
 
 pub returns-clause-quiet : goal.returns-clause-quiet
 returns-clause-quiet g c = quiet_inside g.S.Store c.args.tx.now.conn c.execute.new.self.conn c.execute.result c.execute.ensures.ended _ _ c.execute.ensures.runs c.execute.ensures.survives
+
+pub returns-clause-was_open : goal.returns-clause-was_open
+returns-clause-was_open g c = open_inside g.S.Store c.args.tx.now.conn c.execute.new.self.conn c.execute.result c.execute.ensures.ended _ _ c.execute.ensures.runs
+
+pub returns-clause-caused : goal.returns-clause-caused
+returns-clause-caused g c =
+    let number = c.args.number in
+    let old = state g.S.Store c.args.tx.now.conn.now in
+    caused_inside g.S.Store c.args.tx.now.conn c.execute.new.self.conn c.execute.result init_text (init_params number)
+    (λ clean inside. rw (c.params-to_sql.ensures, to_z_pos w64 number c.requires) at (c.execute.ensures.runs clean inside)) HasTables
+    (λ e other ready is ran. init_fails old (state g.S.Store c.execute.new.self.conn.now) number e other ready.is_open ready.unlimited is ran)
+    (λ is. stays_inside init_text (init_params number) old schema is.schema_is (Insert 2 (Values init_terms 3)) init_is tt)

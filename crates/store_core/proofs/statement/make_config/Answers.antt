@@ -1,8 +1,12 @@
 use Rattle.std.proofs.Common.{[]}
 use Rattle.sqlite.specs.Held.{state}
 use Rattle.store_core.specs.Steps.{Founds, HasConfig, HasRow}
-use Rattle.store_core.specs.Format.{config_text}
+use Rattle.store_core.specs.Format.{one_schema, config_text}
 use Rattle.store_core.proofs.Inside.{does_inside, quiet_inside, make_config_does}
+use Rattle.sqlite.specs.Command.TheVariants.{CreateTable}
+use Rattle.store_core.proofs.Fixed.Creation.{make_config_fails}
+use Rattle.store_core.proofs.Texts.{make_config_is}
+use Rattle.store_core.proofs.Refusing.{caused_inside, stays_inside}
 use Rattle.store_core.proofs.statement.make_config.Goals as goal
 
 pub returns-clause-done : goal.returns-clause-done
@@ -13,3 +17,10 @@ returns-clause-done g c =
 
 pub returns-clause-quiet : goal.returns-clause-quiet
 returns-clause-quiet g c = quiet_inside g.S.Store c.args.tx.now.conn c.execute.new.self.conn c.execute.result c.execute.ensures.ended _ _ c.execute.ensures.runs c.execute.ensures.survives
+
+pub returns-clause-caused : goal.returns-clause-caused
+returns-clause-caused g c =
+    let old = state g.S.Store c.args.tx.now.conn.now in
+    let new = state g.S.Store c.execute.new.self.conn.now in
+    caused_inside g.S.Store c.args.tx.now.conn c.execute.new.self.conn c.execute.result config_text [] c.execute.ensures.runs HasRow
+    (λ e other ready is ran. make_config_fails old new e other ready.is_open is ran) (λ is. stays_inside config_text [] old one_schema is.schema_is CreateTable make_config_is.0 tt)

@@ -1,7 +1,21 @@
-use Rattle.std.proofs.Common.{◌≡◌, refl}
-use Rattle.rows.specs.Loads.{retained_of}
-use Rattle.store.proofs.Leaving.{leaves_held}
+use Rattle.sqlite.specs.Held.{state}
+use Rattle.store.proofs.Leaving.{leaves_alone, lasts}
 use Rattle.store.proofs.store.StoreTables.load.Goals as goal
 
 pub returns-in-Ok-clause-left : goal.returns-in-Ok-clause-left
-returns-in-Ok-clause-left g c = leaves_held g.S.Store g.met.S.Store.settled c.load_history.new.conn (retained_of c.in-Ok.loaded) (λ r. r ≡ retained_of c.in-Ok.loaded) refl c.in-Ok.ensures.held
+returns-in-Ok-clause-left g c = leaves_alone g.S.Store c.args.self.now.conn c.load_history.new.conn c.load_history.ensures.quiet
+
+pub returns-in-Ok-clause-lasts : goal.returns-in-Ok-clause-lasts
+returns-in-Ok-clause-lasts g c = lasts (state g.S.Store c.args.self.now.conn) (state g.S.Store c.load_history.new.conn) (λ _. ⊥) c.load_history.ensures.quiet
+
+pub returns-in-Err-Memory-clause-left : goal.returns-in-Err-Memory-clause-left
+returns-in-Err-Memory-clause-left g c = leaves_alone g.S.Store c.args.self.now.conn c.load_history.new.conn c.load_history.ensures.quiet
+
+pub returns-in-Err-Memory-clause-lasts : goal.returns-in-Err-Memory-clause-lasts
+returns-in-Err-Memory-clause-lasts g c = lasts (state g.S.Store c.args.self.now.conn) (state g.S.Store c.load_history.new.conn) (λ _. ⊥) c.load_history.ensures.quiet
+
+pub returns-in-Err-Fault-clause-left : goal.returns-in-Err-Fault-clause-left
+returns-in-Err-Fault-clause-left g c = leaves_alone g.S.Store c.args.self.now.conn c.load_history.new.conn c.load_history.ensures.quiet
+
+pub returns-in-Err-Fault-clause-lasts : goal.returns-in-Err-Fault-clause-lasts
+returns-in-Err-Fault-clause-lasts g c = lasts (state g.S.Store c.args.self.now.conn) (state g.S.Store c.load_history.new.conn) (λ _. ⊥) c.load_history.ensures.quiet

@@ -1,14 +1,28 @@
-use Rattle.std.proofs.Common.{◌≡◌, refl}
-use Rattle.rows.specs.Retained.{with_commit}
-use Rattle.store.proofs.Leaving.{leaves_held}
+use Rattle.sqlite.specs.Held.{state}
+use Rattle.store.specs.History.{HoldNext}
+use Rattle.store.proofs.Leaving.{leaves_more, lasts}
 use Rattle.store.proofs.store.StoreTables.write.Goals as goal
 
-pub returns-in-Ok-clause-stored : goal.returns-in-Ok-clause-stored
-returns-in-Ok-clause-stored g c = λ r keeps next.
-    leaves_held g.S.Store g.met.S.Store.settled c.write_commit.new.conn (with_commit r c.args.commit.now) (λ x. x ≡ with_commit r c.args.commit.now) refl (c.in-Ok.ensures.done r keeps next)
+pub returns-in-Ok-clause-left : goal.returns-in-Ok-clause-left
+returns-in-Ok-clause-left g c = leaves_more g.S.Store c.args.self.now.conn c.write_commit.new.conn c.args.rev c.args.commit.now c.args.puts c.write_commit.ensures.crash
 
-pub returns-in-Err-Memory-clause-unstored : goal.returns-in-Err-Memory-clause-unstored
-returns-in-Err-Memory-clause-unstored g c = λ r keeps was. leaves_held g.S.Store g.met.S.Store.settled c.write_commit.new.conn r (λ x. x ≡ r) refl (c.in-Err-Memory.ensures.undone r keeps (cc))
+pub returns-in-Ok-clause-lasts : goal.returns-in-Ok-clause-lasts
+returns-in-Ok-clause-lasts g c = lasts (state g.S.Store c.args.self.now.conn) (state g.S.Store c.write_commit.new.conn) (HoldNext g.S.Store c.args.self.now.conn c.args.rev c.args.commit.now c.args.puts) c.write_commit.ensures.crash
+
+pub returns-in-Err-Memory-clause-left : goal.returns-in-Err-Memory-clause-left
+returns-in-Err-Memory-clause-left g c = leaves_more g.S.Store c.args.self.now.conn c.write_commit.new.conn c.args.rev c.args.commit.now c.args.puts c.write_commit.ensures.crash
+
+pub returns-in-Err-Memory-clause-lasts : goal.returns-in-Err-Memory-clause-lasts
+returns-in-Err-Memory-clause-lasts g c = lasts (state g.S.Store c.args.self.now.conn) (state g.S.Store c.write_commit.new.conn) (HoldNext g.S.Store c.args.self.now.conn c.args.rev c.args.commit.now c.args.puts) c.write_commit.ensures.crash
+
+pub returns-in-Err-Fault-clause-left : goal.returns-in-Err-Fault-clause-left
+returns-in-Err-Fault-clause-left g c = leaves_more g.S.Store c.args.self.now.conn c.write_commit.new.conn c.args.rev c.args.commit.now c.args.puts c.write_commit.ensures.crash
+
+pub returns-in-Err-Fault-clause-lasts : goal.returns-in-Err-Fault-clause-lasts
+returns-in-Err-Fault-clause-lasts g c = lasts (state g.S.Store c.args.self.now.conn) (state g.S.Store c.write_commit.new.conn) (HoldNext g.S.Store c.args.self.now.conn c.args.rev c.args.commit.now c.args.puts) c.write_commit.ensures.crash
 
 pub returns-in-Ok-clause-done : goal.returns-in-Ok-clause-done
 returns-in-Ok-clause-done g c = λ r keeps next. c.in-Ok.ensures.done r keeps next
+
+pub returns-in-Err-Memory-clause-undone : goal.returns-in-Err-Memory-clause-undone
+returns-in-Err-Memory-clause-undone g c = λ r keeps _. c.in-Err-Memory.ensures.undone r keeps
