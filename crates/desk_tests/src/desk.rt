@@ -1,12 +1,12 @@
 //! A desk over tables that fail, and calls of a desk that the program does not make yet.
-ghost use Rattle.std.specs.Prelude.{◌≡◌};
+ghost use Rattle.std.specs.Prelude.{◌≡◌, true};
 
 use config::Config;
 use keeper_core::{Desk, Opened, Receipt, StepPrefix};
 use names::{Items, Op, OpKind, Part, Refusal, Tuple, Write};
 use rows::Loaded;
 use std::alloc::Global;
-use tables::{Listed, Tables, TablesError};
+use tables::{Listed, Puts, Tables, TablesError};
 use tuple_keys::KeptCommit;
 use zookie::Zookie;
 
@@ -20,11 +20,13 @@ struct Broken {
 }
 
 impl Tables for Broken {
+    ghost use Rattle.tables.specs.Leaving.{IsOneOf, only_one};
+
     ghost holds = { λ t r. t.inner ≡ r };
 
-    ghost leaves_only = { λ t P. P t.inner };
+    ghost leaves = { λ t rs. IsOneOf rs t.inner };
 
-    ghost is_reliable = { λ t. Unit {0} };
+    ghost device = { λ t. record { faults = t.faults; doubt = 0; is_open = true } };
 
     ghost count = { λ t. t.faults };
 
@@ -35,7 +37,7 @@ impl Tables for Broken {
         }
     }
 
-    fn write(&mut self, _rev: u64, _commit: &KeptCommit) -> Result<(), TablesError> {
+    fn write(&mut self, _rev: u64, _commit: &KeptCommit, _puts: Puts) -> Result<(), TablesError> {
         self.faults = self.faults.saturating_add(1);
         Err(TablesError::Fault)
     }
@@ -43,6 +45,10 @@ impl Tables for Broken {
     fn faults(&self) -> u64 {
         self.faults
     }
+
+    ghost settled = { λ t r held whole. only_one t.inner r held };
+
+    ghost weaker = { λ t rs ss among left. among t.inner left };
 }
 
 fn configure<T: Tables + Drop>(alloc: Global, desk: &mut Desk<T>) -> Result<Receipt, Refusal> {
@@ -60,13 +66,16 @@ fn number_of<A: Drop>(answer: &Result<A, Refusal>) -> u8 {
 
 fn faults_close(alloc: Global) -> Result<bool, Refusal> {
     let inner = Listed::new(alloc, 7);
-    let mut desk = Desk::open(alloc, Opened::new(), Broken { inner, faults: 0 })?;
+    let Ok(mut desk) = Desk::open(alloc, Opened::new(), Broken { inner, faults: 0 }) else {
+        return Err(Refusal::Memory);
+    };
     let many = number_of(&desk.catch_up(Part::Hot, 65_537));
     let worked = !desk.has_failed();
     let fault = number_of(&configure(alloc, &mut desk));
     let next = number_of(&configure(alloc, &mut desk));
     let closed = number_of(&desk.catch_up(Part::Hot, 65_537));
-    Ok(worked && desk.has_failed() && many == 1 && fault == 22 && next == 23 && closed == 23)
+    let failed = desk.has_failed() && desk.close().faults() == 1;
+    Ok(worked && failed && many == 1 && fault == 22 && next == 23 && closed == 23)
 }
 
 #[test]
@@ -93,7 +102,9 @@ fn has_steps(prefix: &StepPrefix, steps: u64) -> bool {
 
 // The opening, a configuration and a write are three steps.
 fn publishes(alloc: Global) -> Result<bool, Refusal> {
-    let mut desk = Desk::open(alloc, Opened::new(), Listed::new(alloc, 7))?;
+    let Ok(mut desk) = Desk::open(alloc, Opened::new(), Listed::new(alloc, 7)) else {
+        return Err(Refusal::Memory);
+    };
     let first = configure(alloc, &mut desk)?;
     let second = desk.write(insert_of(alloc, "group:a#member@user:ann")?)?;
     let told = has_steps(first.published_steps(), 2) && has_steps(second.published_steps(), 3);

@@ -5,6 +5,7 @@ use names::{Commit, Event, EventKind, Items, Node, Object, Op, OpKind, Refusal, 
 use rows::{Rows, events_of};
 use std::alloc::{AllocError, Global};
 use std::test::Fail;
+use tuple_keys::TupleRef;
 
 const CONFIG: &str =
     r#"{"namespaces":{"a":{"r":{"types":["u","u#m"]}},"a0":{"r":{"types":["u"]}},"doc":{"view":{"types":["u"]},"viewer":{"types":["u","u#m"]},"viewer_":{"types":["u"]}},"u":{"m":{"types":["u"]}}}}"#;
@@ -111,6 +112,14 @@ fn tuples_are_listed_in_order(rt: HostRuntime) -> Result<(), Fail> {
 const AT_B: &str =
     "doc:b#view@u:a doc:b#viewer@u:a doc:b#viewer@u:a#m doc:b#viewer@u:b doc:b#viewer_@u:a";
 
+fn read_of(alloc: Global, found: &[TupleRef<'_>]) -> Result<Vec<Tuple>, AllocError> {
+    let mut tuples = Vec::new(alloc);
+    for one in found {
+        tuples.push(one.tuple())?;
+    }
+    Ok(tuples)
+}
+
 // What the newest revision says of an object's few tuples.
 fn few_are(
     alloc: Global,
@@ -122,7 +131,7 @@ fn few_are(
     let object = Object::parse(object)?;
     let found = rows.at(rows.newest()).few_of(alloc, &object, most)?;
     Ok(match (found, words) {
-        (Some(found), Some(words)) => found == tuples_in(alloc, words)?,
+        (Some(found), Some(words)) => read_of(alloc, &found)? == tuples_in(alloc, words)?,
         (None, None) => true,
         _ => false,
     })

@@ -17,7 +17,7 @@ use tables::Tables;
 use zookie::Zookie;
 
 fn answer_write<T: Tables + Drop>(alloc: Global, desk: &mut Desk<T>, body: &[u8]) -> Reply
-    ensures { WriteStep desk.old body.now (told result) desk.new }
+    ensures { WriteStep T.Tables desk.old body.now (told result) desk.new }
 {
     let ops = match write_body(alloc, body) {
         Ok(ops) => ops,
@@ -31,7 +31,7 @@ fn answer_write<T: Tables + Drop>(alloc: Global, desk: &mut Desk<T>, body: &[u8]
 }
 
 fn answer_config<T: Tables + Drop>(alloc: Global, desk: &mut Desk<T>, body: &[u8]) -> Reply
-    ensures { ConfigStep desk.old body.now (told result) desk.new }
+    ensures { ConfigStep T.Tables desk.old body.now (told result) desk.new }
 {
     let config = match Config::from_json(alloc, body) {
         Ok(config) => config,
@@ -72,7 +72,7 @@ fn answer_check<T: Tables + Drop>(alloc: Global, desk: &Desk<T>, body: &[u8]) ->
 }
 
 fn answer_catch_up<T: Tables + Drop>(alloc: Global, desk: &mut Desk<T>, body: &[u8]) -> Reply
-    ensures { CatchUpStep desk.old body.now (told result) desk.new }
+    ensures { CatchUpStep T.Tables desk.old body.now (told result) desk.new }
 {
     let (part, commits) = match catch_up_body(alloc, body) {
         Ok(asked) => asked,
@@ -103,7 +103,7 @@ pub fn answer_on<T: Tables + Drop>(
     call: Call,
     body: &[u8],
 ) -> Reply
-    ensures { DeskStep desk.old call body.now (told result) desk.new }
+    ensures { DeskStep T.Tables desk.old call body.now (told result) desk.new }
 {
     match call {
         Call::Write => answer_write(alloc, desk, body),

@@ -6,16 +6,19 @@ use Rattle.names.specs.declared.write.Op.{Op}
 use Rattle.names.specs.declared.write.Condition.{Condition}
 use Rattle.names.specs.declared.write.Write.{Write}
 use Rattle.names.specs.declared.commit.Event.{Event}
+use Rattle.names.specs.declared.commit.Commit.{Commit}
 use Rattle.names.specs.declared.commit.Commit.TheVariants.{Tuples, Config}
 use Rattle.names.specs.declared.refusal.Refusal.{Refusal}
 use Rattle.names.specs.declared.refusal.Refusal.TheVariants.{Malformed, Memory, StoreFault, Reopen}
 use Rattle.meaning.specs.Config.{Configured}
 use Rattle.meaning.specs.Verdict.{Newest, config_cause}
 use Rattle.zookie.specs.declared.Zookie.{Zookie}
-use Rattle.rows.specs.Retained.{newest}
-use Rattle.rows.specs.Follows.{AreEventsOf, IsAccepted}
+use Rattle.rows.specs.Retained.{Retained, newest, with_commit}
+use Rattle.rows.specs.Follows.{AreEventsOf, IsAccepted, IsNext}
 use Rattle.rows.specs.Judging.{WriteRefused}
+use Rattle.tables.specs.Device.{IsOpen, Lasts, HasFailed}
 use Rattle.tables.specs.Storing.{one_more}
+use Rattle.tables.specs.declared.tables.Tables.{Ghosts}
 use Rattle.names.specs.declared.part.Part.{Part}
 use Rattle.shown.specs.declared.step.Step.TheVariants.{Commit as CommitStep, Take}
 use Rattle.shown.specs.Standing.{standing, cursor_of}
@@ -46,8 +49,16 @@ receipt_at desk rev shown = record {
   published = shown_by desk;
 }
 
+-- what is left now holds the posted steps' history and no other; the tables are open, and their device has
+-- gone on
+pub record IsStored {T : Type 0} (g : Ghosts T) (old new : Posts T) : Type 0 where
+  pub works : new.failed ≡ false
+  pub settled : g.leaves new.tables ((standing new.posted).kept ∷ [])
+  pub is_open : IsOpen (g.device new.tables)
+  pub lasts : Lasts (g.device old.tables) (g.device new.tables)
+
 -- the operations were accepted, and their commit is posted and stored, and the receipt tells of it
-pub record WriteAccepted {T : Type 0}
+pub record WriteAccepted {T : Type 0} (g : Ghosts T)
     (old : Posts T) (write : Write Zookie) (receipt : ReceiptFacts) (new : Posts T) : Type 0 where
   pub works : old.failed ≡ false
   pub plain : write.conditions ≡ []
@@ -55,16 +66,16 @@ pub record WriteAccepted {T : Type 0}
   pub events : List Event
   pub events_of : AreEventsOf write.ops events
   pub posts : PostsStep old (CommitStep (Tuples events)) new
-  pub stored : new.failed ≡ false
+  pub stored : IsStored g old new
   pub tells : Tells receipt new
 
 -- the configuration was accepted, and is posted and stored, and the receipt tells of it
-pub record ConfigAccepted {T : Type 0}
+pub record ConfigAccepted {T : Type 0} (g : Ghosts T)
     (old : Posts T) (config : Configured) (receipt : ReceiptFacts) (new : Posts T) : Type 0 where
   pub works : old.failed ≡ false
   pub accepted : config_cause (newest_posted old) config ≡ Option.None
   pub posts : PostsStep old (CommitStep (Config config)) new
-  pub stored : new.failed ≡ false
+  pub stored : IsStored g old new
   pub tells : Tells receipt new
 
 -- The part has taken the commits, which is posted and changes nothing of the tables. The revision of the
@@ -96,18 +107,50 @@ CatchUpJudged commits Malformed = MAX_CATCH_UP < commits
 CatchUpJudged commits Memory = Unit {0}
 CatchUpJudged commits _ = ⊥
 
+-- the commit is that of the operations
+abbrev pub IsCommitOf : List Op → Commit Configured → Type 0
+IsCommitOf ops commit = (events : List Event) × AreEventsOf ops events × (commit ≡ Tuples events)
+
+-- no commit at all
+abbrev pub IsNoCommit : Commit Configured → Type 0
+IsNoCommit commit = ⊥
+
+-- What is left may hold one history more than before: that of the posted steps with the commit, which can
+-- follow them.
+pub record MayLeave {T : Type 0}
+    (g : Ghosts T) (old : Posts T) (commit : Commit Configured) (new : Posts T) : Type 0 where
+  pub follows : IsNext (standing old.posted).kept commit
+  pub adds : (rs : List Retained) → g.leaves old.tables rs
+      → g.leaves new.tables (with_commit (standing old.posted).kept commit ∷ rs)
+
+-- A refused change leaves the tables alone, or adds the one commit that it asked for to what they may leave.
+pub data Touches {T : Type 0}
+    (g : Ghosts T) (old : Posts T) (made : Commit Configured → Type 0) (new : Posts T) : Type 0 where
+  leaves_alone : new.tables ≡ old.tables → Touches g old made new
+  adds_one : (commit : Commit Configured)
+      → made commit → MayLeave g old commit new → Touches g old made new
+
 -- Why a change was refused, where `judged` says why it would be on the posted steps. After a fault every
--- change asks to open the tables again.
-abbrev pub Refuses : {T : Type 0} → Posts T → (Refusal → Type 0) → Refusal → Posts T → Type 0
-Refuses old judged Reopen new =
+-- change asks to open the tables again. A fault is one only where the device failed meanwhile.
+abbrev pub Refuses : {T : Type 0}
+    → Ghosts T → Posts T → (Refusal → Type 0) → Refusal → Posts T → Type 0
+Refuses g old judged Reopen new =
     (old.failed ≡ true) × (new.failed ≡ true) × (new.faults ≡ old.faults)
-Refuses old judged StoreFault new =
+    × (new.tables ≡ old.tables)
+Refuses g old judged StoreFault new =
     (old.failed ≡ false) × (new.failed ≡ true) × (new.faults ≡ one_more old.faults)
-Refuses old judged why new =
-    (old.failed ≡ false) × judged why × (new.failed ≡ false) × (new.faults ≡ old.faults)
+    × (IsOpen (g.device old.tables) → HasFailed (g.device old.tables) (g.device new.tables))
+Refuses g old judged Memory new =
+    (old.failed ≡ false) × (new.failed ≡ false) × (new.faults ≡ old.faults) × judged Memory
+Refuses g old judged why new =
+    (old.failed ≡ false) × (new.failed ≡ false) × (new.faults ≡ old.faults)
+    × (new.tables ≡ old.tables) × judged why
 
 -- nothing is posted, and this is why
 pub record IsRefused {T : Type 0}
-    (old : Posts T) (judged : Refusal → Type 0) (why : Refusal) (new : Posts T) : Type 0 where
+    (g : Ghosts T) (old : Posts T) (made : Commit Configured → Type 0) (judged : Refusal → Type 0)
+    (why : Refusal) (new : Posts T) : Type 0 where
   pub shows : ShowsMore old new
-  pub cause : Refuses old judged why new
+  pub cause : Refuses g old judged why new
+  pub touches : Touches g old made new
+  pub lasts : Lasts (g.device old.tables) (g.device new.tables)

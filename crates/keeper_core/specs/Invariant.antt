@@ -1,7 +1,7 @@
 -- What is true of every desk.
 use Rattle.std.specs.Prelude.{◌≡◌, Bool, List, [], ◌∷◌, ◌++◌, Option, Some, None, IfSome}
 use Rattle.logbook.specs.Pages.{Book}
-use Rattle.rows.specs.Retained.{Retained}
+use Rattle.tables.specs.declared.tables.Tables.{Ghosts}
 use Rattle.shown.specs.declared.step.Step.{Step}
 use Rattle.shown.specs.declared.step.Step.TheVariants.{Open, Commit, Take}
 use Rattle.shown.specs.Standing.{Standing, standing, after_step, HasRoom}
@@ -49,8 +49,8 @@ StillWaits prefix shown step prefix' shown' w =
     × (prefix' ≡ prefix) × (shown' ≡ shown)
 
 -- what is true of a desk: it leads so, and its tables agree with the posted steps
-pub record IsSound
-    (Holds : Retained → Type 0) (LeavesOnly : (Retained → Type 0) → Type 0) (failed : Bool)
+pub record IsSound {T : Type 0}
+    (g : Ghosts T) (failed : Bool) (tables : T)
     (book : Book) (prefix : Known) (shown : Standing) (waiting : Option Waiting) : Type 0 where
   pub leads : Leads book prefix shown waiting
-  pub agrees : Agrees failed Holds LeavesOnly (standing (posted_of prefix waiting)).kept
+  pub agrees : Agrees g failed tables (standing (posted_of prefix waiting)).kept

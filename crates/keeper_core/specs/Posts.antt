@@ -1,5 +1,6 @@
 -- What a desk holds.
-use Rattle.std.specs.Prelude.{◌≡◌, ◌⊎◌, ℕ, Bool, true, false, List, [], ◌∷◌, ◌++◌}
+use Rattle.std.specs.Prelude.{◌≡◌, ◌⊎◌, ℕ, Bool, false, List, [], ◌∷◌, ◌++◌, map}
+use Rattle.std.specs.List.{All}
 use mathlib.Core.List.{IsPrefix}
 use Rattle.logbook.specs.Pages.{Book}
 use Rattle.names.specs.declared.commit.Commit.{Commit}
@@ -8,6 +9,9 @@ use Rattle.meaning.specs.Verdict.{Newest}
 use Rattle.rows.specs.Retained.{Retained, newest_of, with_commit}
 use Rattle.rows.specs.Loads.{retained_of}
 use Rattle.rows.specs.declared.loaded.Loaded.{Loaded}
+use Rattle.rows.specs.Follows.{IsNext}
+use Rattle.tables.specs.Device.{IsClean, Lasts, HasFailed}
+use Rattle.tables.specs.declared.tables.Tables.{Ghosts}
 use Rattle.shown.specs.declared.step.Step.{Step}
 use Rattle.shown.specs.declared.step.Step.TheVariants.{Open}
 use Rattle.shown.specs.Standing.{standing}
@@ -35,26 +39,32 @@ newest_posted d = newest_of (standing d.posted).kept
 abbrev pub newest_shown : {T : Type 0} → Posts T → Newest
 newest_shown d = newest_of (standing d.shown).kept
 
--- The tables hold the history, and a crash leaves no other. After a fault a crash leaves it, or it with one
--- commit more.
-abbrev pub Agrees : Bool → (Retained → Type 0) → ((Retained → Type 0) → Type 0) → Retained → Type 0
-Agrees false Holds LeavesOnly r = Holds r × LeavesOnly (λ x. x ≡ r)
-Agrees true Holds LeavesOnly r =
-    (commit : Commit Configured) × LeavesOnly (λ x. (x ≡ r) ⊎ (x ≡ with_commit r commit))
+-- The tables hold the history as long as they have not failed. After the end of the process or a crash the
+-- tables that are left hold it, or it with one commit that can follow.
+pub record Agrees {T : Type 0} (g : Ghosts T) (failed : Bool) (tables : T) (r : Retained) : Type 0 where
+  pub holds : failed ≡ false → g.holds tables r
+  pub more : List (Commit Configured)
+  pub follow : All (IsNext r) more
+  pub leaves : g.leaves tables (r ∷ map (with_commit r) more)
 
--- The tables hold the history of the posted steps, as `Agrees` says.
-abbrev pub TablesAgree : {T : Type 0} → (T → Retained → Type 0) → (T → (Retained → Type 0) → Type 0)
-    → Posts T → Type 0
-TablesAgree Holds LeavesOnly d =
-    Agrees d.failed (Holds d.tables) (LeavesOnly d.tables) (standing d.posted).kept
+-- The one posted step opens tables with a history that they hold. Where the device has returned what was
+-- written, it is the one that they held before.
+abbrev pub OpensWith : {T : Type 0} → Ghosts T → T → Posts T → Type 0
+OpensWith g tables d =
+    (loaded : Loaded) × (d.posted ≡ Open loaded ∷ []) × g.holds d.tables (retained_of loaded)
+    × ((r : Retained) → g.holds tables r → IsClean (g.device d.tables) → retained_of loaded ≡ r)
 
--- The one posted step opens tables with a history that they hold. Where the device is reliable, it is the one
--- that they held before.
-abbrev pub OpensWith : {T : Type 0} → (Retained → Type 0) → (T → Retained → Type 0) → (T → Type 0)
-    → Posts T → Type 0
-OpensWith Held Holds IsReliable d =
-    (loaded : Loaded) × (d.posted ≡ Open loaded ∷ []) × Holds d.tables (retained_of loaded)
-    × ((r : Retained) → Held r → IsReliable d.tables → retained_of loaded ≡ r)
+-- tables that were given and come back hold and leave what they did
+pub record ComesBack {T : Type 0} (g : Ghosts T) (given back : T) : Type 0 where
+  pub holds : (r : Retained) → g.holds given r → g.holds back r
+  pub leaves : (rs : List Retained) → g.leaves given rs → g.leaves back rs
+  pub lasts : Lasts (g.device given) (g.device back)
+
+-- the device failed, or the tables that were given hold no history
+abbrev pub FailsToLoad : {T : Type 0} → Ghosts T → T → T → Type 0
+FailsToLoad g given back =
+    HasFailed (g.device given) (g.device back)
+    ⊎ ((r : Retained) → IsClean (g.device given) → ¬ (g.holds given r))
 
 -- the tables are as they were
 abbrev pub SameTables : {T : Type 0} → Posts T → Posts T → Type 0

@@ -1,6 +1,6 @@
 //! The desk: what lies under a store's lock.
-ghost use Rattle.std.specs.Prelude.{◌≡◌, ◌↔◌, [], true, false, IsTrue, IfOk, IfErr, OnOk};
-ghost use Rattle.names.specs.declared.commit.Commit.TheVariants.{Tuples};
+ghost use Rattle.std.specs.Prelude.{◌≡◌, ◌↔◌, ◌∷◌, [], true, false, IsTrue, IfOk, IfErr, OnOk};
+ghost use Rattle.names.specs.declared.commit.Commit.TheVariants.{Config as ConfigCommit};
 ghost use Rattle.meaning.specs.Verdict.{config_cause};
 ghost use Rattle.rows.specs.Retained.{newest};
 ghost use Rattle.rows.specs.Follows.{IsAccepted, IsNext};
@@ -8,10 +8,12 @@ ghost use Rattle.rows.specs.Judging.{ConfigRefused};
 ghost use Rattle.shown.specs.declared.step.Step.TheVariants.{Commit as CommitStep, Take};
 ghost use Rattle.shown.specs.Standing.{standing, state_of, cursor_of, after_take};
 ghost use Rattle.shown.specs.Answers.{IsAnswer, IsRefusal};
-ghost use Rattle.keeper_core.specs.Posts.{TablesAgree, OpensWith, SameTables, ShowsMore, PostsStep, newest_posted, newest_shown};
+ghost use Rattle.tables.specs.Device.{IsOpen};
 ghost use Rattle.tables.specs.Opening.{CannotOpen};
-ghost use Rattle.keeper_core.specs.Changes.{Tells, WriteAccepted, ConfigAccepted, CatchUpAccepted, IsRefused, JudgedWith, WriteJudged, CatchUpJudged, receipt_at};
-ghost use Rattle.keeper_core.specs.inside.Posting.{NotReady, NotPosted};
+ghost use Rattle.tables.specs.Storing.{PutsAbsent};
+ghost use Rattle.keeper_core.specs.Posts.{Agrees, OpensWith, ComesBack, FailsToLoad, SameTables, ShowsMore, PostsStep, newest_posted, newest_shown};
+ghost use Rattle.keeper_core.specs.Changes.{Tells, IsStored, WriteAccepted, ConfigAccepted, CatchUpAccepted, IsRefused, IsCommitOf, IsNoCommit, JudgedWith, WriteJudged, CatchUpJudged, receipt_at};
+ghost use Rattle.keeper_core.specs.inside.Posting.{NotReady, IsMemory};
 
 use crate::book::{Book, Opened, StepPrefix};
 use crate::latched_tables::{LatchedTables, load};
@@ -24,7 +26,7 @@ use rows::{events_of, refuses_what_no_write_gives};
 use shown::{Answer, Refused, Shown, Step};
 use std::alloc::Global;
 use std::marker::Model;
-use tables::Tables;
+use tables::{Puts, Tables, puts_of};
 use tuple_keys::KeptCommit;
 use zookie::{Consistency, Zookie};
 
@@ -60,23 +62,34 @@ impl<T: Tables + Drop> Model for Desk<T> {
     } };
 
     ghost invariant = { λ d.
-        IsSound (T.holds d.tables.tables) (T.leaves_only d.tables.tables) d.tables.failed
-        d.book d.prefix d.shown d.waiting };
+        IsSound T.Tables d.tables.failed d.tables.tables d.book d.prefix d.shown d.waiting };
 }
 
 impl<T: Tables + Drop> Desk<T> {
-    /// A desk over tables, which shows what they hold.
-    pub fn open(alloc: Global, opened: Opened, tables: T) -> Result<Desk<T>, Refusal>
-        ensures posted { IfOk result (OpensWith (T.holds tables) T.holds T.is_reliable) }
+    /// A desk over tables, which shows what they hold. On a refusal the tables come back.
+    pub fn open(alloc: Global, opened: Opened, tables: T) -> Result<Desk<T>, (Refusal, T)>
+        ensures posted { IfOk result (OpensWith T.Tables tables) }
         ensures shown { IfOk result (λ desk. desk.shown ≡ desk.posted) }
         ensures book { IfOk result (λ desk. desk.book ≡ opened.book) }
         ensures failed { IfOk result (λ desk. desk.failed ≡ false) }
         ensures faults { IfOk result (λ desk. desk.faults ≡ T.count tables) }
-        ensures err { IfErr result CannotOpen }
+        ensures open { IfOk result (λ desk. IsOpen (T.device desk.tables)) }
+        ensures settled { IfOk result (λ desk.
+            T.leaves desk.tables ((standing desk.posted).kept ∷ [])) }
+        ensures back { IfOk result (λ desk. ComesBack T.Tables tables desk.tables) }
+        ensures err { IfErr result (λ refused. CannotOpen refused.0) }
+        ensures kept { IfErr result (λ refused. ComesBack T.Tables tables refused.1) }
+        ensures caused { IfErr result (λ refused. refused.0 ≡ Refusal.StoreFault
+            → IsOpen (T.device tables) → FailsToLoad T.Tables tables refused.1) }
     {
         let mut tables = tables;
-        let loaded = load(&mut tables, alloc)?;
-        let (prefix, shown) = show_first(alloc, &opened, &Step::Open(loaded))?;
+        let loaded = match load(&mut tables, alloc) {
+            Ok(loaded) => loaded,
+            Err(why) => return Err((why, tables)),
+        };
+        let Ok((prefix, shown)) = show_first(alloc, &opened, &Step::Open(loaded)) else {
+            return Err((Refusal::Memory, tables));
+        };
         Ok(Desk {
             alloc,
             tables: LatchedTables::new(tables),
@@ -87,30 +100,42 @@ impl<T: Tables + Drop> Desk<T> {
         })
     }
 
+    /// Gives the tables back. A posted step that waits to be shown is stored already.
+    pub fn close(self) -> T
+        ensures same { result ≡ self.tables }
+        ensures agrees { Agrees T.Tables self.failed result (standing self.posted).kept }
+    {
+        self.tables.into_tables()
+    }
+
     /// Does operations on distinct tuples together, or none of them. A write with a condition is
     /// malformed yet.
     pub fn write(&mut self, write: Write<Zookie>) -> Result<Receipt, Refusal>
-        ensures ok { IfOk result (λ receipt. WriteAccepted self.old write receipt self.new) }
+        ensures ok { IfOk result (λ receipt. WriteAccepted T.Tables self.old write receipt self.new) }
         ensures err { IfErr result (λ why.
-            IsRefused self.old (WriteJudged (newest_posted self.old) write) why self.new) }
+            IsRefused T.Tables self.old (IsCommitOf write.ops)
+            (WriteJudged (newest_posted self.old) write) why self.new) }
     {
         self.make_ready()?;
         let Write { conditions, ops } = write;
         self.judge(&conditions, &ops)?;
+        let puts = puts_of(ops.as_slice());
         let events = events_of(ops)?;
         refuses_what_no_write_gives();
-        self.post(Commit::Tuples(events))
+        self.post(Commit::Tuples(events), puts)
     }
 
     /// Puts a configuration in the place of the one before.
     pub fn configure(&mut self, config: Config) -> Result<Receipt, Refusal>
-        ensures ok { IfOk result (λ receipt. ConfigAccepted self.old config receipt self.new) }
+        ensures ok { IfOk result (λ receipt.
+            ConfigAccepted T.Tables self.old config receipt self.new) }
         ensures err { IfErr result (λ why.
-            IsRefused self.old (ConfigRefused (newest_posted self.old) config) why self.new) }
+            IsRefused T.Tables self.old (λ commit. commit ≡ ConfigCommit config)
+            (ConfigRefused (newest_posted self.old) config) why self.new) }
     {
         self.make_ready()?;
         self.shown.judge_config(&config)?;
-        self.post(Commit::Config(config))
+        self.post(Commit::Config(config), Puts::Absent)
     }
 
     /// Has a part take so many commits more, or as many as there are. Over 65,536 are malformed. The tables
@@ -119,7 +144,7 @@ impl<T: Tables + Drop> Desk<T> {
         ensures ok { IfOk result (λ posted.
             CatchUpAccepted self.old part commits posted.value posted.receipt self.new) }
         ensures err { IfErr result (λ why.
-            IsRefused self.old (CatchUpJudged commits) why self.new) }
+            IsRefused T.Tables self.old IsNoCommit (CatchUpJudged commits) why self.new) }
     {
         if commits > MAX_CATCH_UP && !self.tables.has_failed() {
             return Err(Refusal::Malformed);
@@ -178,11 +203,9 @@ impl<T: Tables + Drop> Desk<T> {
         self.shown.newest()
     }
 
-    /// Whether the tables failed. As long as they have not, they hold the history of the posted steps, and a
-    /// crash leaves no other; after that a crash leaves it, or it with one commit more.
+    /// Whether the tables failed. After that every change is refused.
     pub fn has_failed(&self) -> bool
-        ensures failed { result ≡ self.now.failed }
-        ensures agrees { TablesAgree T.holds T.leaves_only self.now }
+        ensures { result ≡ self.now.failed }
     {
         self.tables.has_failed()
     }
@@ -217,18 +240,20 @@ impl<T: Tables + Drop> Desk<T> {
     }
 
     // Stores a commit, posts it, and shows it. All who keep it share it.
-    fn post(&mut self, commit: Commit<Config>) -> Result<Receipt, Refusal>
+    fn post(&mut self, commit: Commit<Config>, puts: Puts) -> Result<Receipt, Refusal>
         requires open { self.old.failed ≡ false }
         requires whole { self.old.shown ≡ self.old.posted }
         requires next { IsNext (standing self.old.posted).kept commit }
+        requires puts { puts ≡ Puts.Absent → PutsAbsent (standing self.old.posted).kept commit }
         ensures posts { OnOk result (PostsStep self.old (CommitStep commit) self.new) }
         ensures tells { IfOk result (λ receipt. Tells receipt self.new) }
-        ensures stored { OnOk result (self.new.failed ≡ false) }
-        ensures err { IfErr result (λ why. NotPosted why self.old self.new) }
+        ensures stored { OnOk result (IsStored T.Tables self.old self.new) }
+        ensures err { IfErr result (λ why.
+            IsRefused T.Tables self.old (λ made. made ≡ commit) IsMemory why self.new) }
     {
         let rev = self.shown.newest() + 1;
         let kept = KeptCommit::of(self.alloc, &commit)?;
-        self.tables.write(rev, &kept)?;
+        self.tables.write(rev, &kept, puts)?;
         self.waiting = Some(Waiting {
             step: Step::Commit(kept),
             after: None,

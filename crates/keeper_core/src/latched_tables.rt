@@ -1,16 +1,17 @@
 //! Tables that are known to have failed.
-ghost use Rattle.std.specs.Prelude.{◌≡◌, false, IfOk, IfErr, OnOk, OnErr};
+ghost use Rattle.std.specs.Prelude.{◌≡◌, ◌∷◌, [], List, false, Err, IfOk, IfErr, OnOk, OnErr};
 ghost use Rattle.rows.specs.Retained.{Retained, with_commit};
 ghost use Rattle.rows.specs.Loads.{retained_of, IsWithin};
+ghost use Rattle.tables.specs.Device.{IsClean, IsOpen, Lasts};
 ghost use Rattle.tables.specs.Storing.{IsNextAt, CanStore};
 ghost use Rattle.tables.specs.Opening.{CannotOpen};
-ghost use Rattle.keeper_core.specs.Posts.{Agrees};
+ghost use Rattle.keeper_core.specs.Posts.{Agrees, ComesBack, FailsToLoad};
 ghost use Rattle.keeper_core.specs.inside.Latching.{IsLatched, AgreeWith};
 
 use names::Refusal;
 use rows::Loaded;
 use std::alloc::Global;
-use tables::{Tables, TablesError};
+use tables::{Puts, Tables, TablesError};
 use tuple_keys::KeptCommit;
 
 /// Tables, and whether they failed. Nothing outside this file can say that they did.
@@ -38,20 +39,33 @@ impl<T: Tables + Drop> LatchedTables<T> {
         self.failed
     }
 
-    /// Stores a commit, and notes a fault.
-    pub(crate) fn write(&mut self, rev: u64, commit: &KeptCommit) -> Result<(), Refusal>
-        requires works { self.old.failed ≡ false }
-        requires next { CanStore (T.holds self.old.tables) rev commit.now }
-        ensures ok { OnOk result (self.new.failed ≡ false) }
-        ensures quiet { OnOk result (T.count self.new.tables ≡ T.count self.old.tables) }
-        ensures err { IfErr result (λ why.
-            IsLatched why (T.count self.old.tables) self.new.failed (T.count self.new.tables)) }
-        ensures stored { (r : Retained) → T.holds self.old.tables r → IsNextAt r rev commit.now
-            → OnOk result (AgreeWith T.holds T.leaves_only self.new (with_commit r commit.now)) }
-        ensures unchanged { (r : Retained) → T.holds self.old.tables r → IsNextAt r rev commit.now
-            → OnErr result (AgreeWith T.holds T.leaves_only self.new r) }
+    /// The tables.
+    pub(crate) fn into_tables(self) -> T
+        ensures { result ≡ self.tables }
     {
-        match self.tables.write(rev, commit) {
+        self.tables
+    }
+
+    /// Stores a commit, and notes a fault.
+    pub(crate) fn write(&mut self, rev: u64, commit: &KeptCommit, puts: Puts) -> Result<(), Refusal>
+        requires works { self.old.failed ≡ false }
+        requires next { CanStore (T.holds self.old.tables) rev commit.now puts }
+        ensures ok { OnOk result (self.new.failed ≡ false) }
+        ensures open { OnOk result (IsOpen (T.device self.new.tables)) }
+        ensures quiet { OnOk result (T.count self.new.tables ≡ T.count self.old.tables) }
+        ensures err { IfErr result (λ why. IsLatched T.Tables self.old why self.new) }
+        ensures stored { (r : Retained) → AgreeWith T.Tables self.old r → IsNextAt r rev commit.now puts
+            → OnOk result (AgreeWith T.Tables self.new (with_commit r commit.now)) }
+        ensures settled { (r : Retained) → AgreeWith T.Tables self.old r → IsNextAt r rev commit.now puts
+            → OnOk result (T.leaves self.new.tables (with_commit r commit.now ∷ [])) }
+        ensures unstored { (r : Retained) → AgreeWith T.Tables self.old r → IsNextAt r rev commit.now puts
+            → OnErr result (AgreeWith T.Tables self.new r) }
+        ensures left { (r : Retained) (rs : List Retained) → AgreeWith T.Tables self.old r
+            → IsNextAt r rev commit.now puts → T.leaves self.old.tables rs
+            → T.leaves self.new.tables (with_commit r commit.now ∷ rs) }
+        ensures lasts { Lasts (T.device self.old.tables) (T.device self.new.tables) }
+    {
+        match self.tables.write(rev, commit, puts) {
             Ok(()) => Ok(()),
             Err(TablesError::Memory) => Err(Refusal::Memory),
             Err(TablesError::Fault) => {
@@ -65,12 +79,16 @@ impl<T: Tables + Drop> LatchedTables<T> {
 /// Loads tables.
 pub(crate) fn load<T: Tables>(tables: &mut T, alloc: Global) -> Result<Loaded, Refusal>
     ensures within { IfOk result IsWithin }
-    ensures agrees { IfOk result (λ loaded.
-        Agrees false (T.holds tables.new) (T.leaves_only tables.new) (retained_of loaded)) }
-    ensures same { (r : Retained) → T.holds tables.old r → T.is_reliable tables.new
+    ensures agrees { IfOk result (λ loaded. Agrees T.Tables false tables.new (retained_of loaded)) }
+    ensures settled { IfOk result (λ loaded. T.leaves tables.new (retained_of loaded ∷ [])) }
+    ensures open { OnOk result (IsOpen (T.device tables.new)) }
+    ensures same { (r : Retained) → T.holds tables.old r → IsClean (T.device tables.new)
         → IfOk result (λ loaded. retained_of loaded ≡ r) }
+    ensures back { ComesBack T.Tables tables.old tables.new }
     ensures quiet { OnOk result (T.count tables.new ≡ T.count tables.old) }
     ensures err { IfErr result CannotOpen }
+    ensures caused { result ≡ Err Refusal.StoreFault → IsOpen (T.device tables.old)
+        → FailsToLoad T.Tables tables.old tables.new }
 {
     match tables.load(alloc) {
         Ok(loaded) => Ok(loaded),

@@ -2,9 +2,9 @@
 
 use http_api::{Answers, End, serve};
 use names::{Call, Reply};
-use std::alloc::Global;
+use std::alloc::{AllocError, Global};
 use std::io;
-use std::io::{ErrorKind, Read};
+use std::io::{ErrorKind, Read, Write};
 use std::process::Abort;
 use std::test::Fail;
 use tracked_io::{TrackedReader, TrackedWriter};
@@ -44,6 +44,31 @@ impl<'a> Read for Slow<'a> {
         }
         let most = buf.len().min(self.most);
         self.bytes.read(&mut buf[..most])
+    }
+}
+
+/// A writer that takes few bytes at a time, and fails at one of its writes.
+#[derive(Drop)]
+struct Narrow {
+    bytes: Vec<u8>,
+    most: usize,
+    writes: u64,
+    fails_at: u64,
+}
+
+impl Write for Narrow {
+    fn write(&mut self, buf: &[u8]) -> io::Result<usize> {
+        self.writes = self.writes.wrapping_add(1);
+        if self.writes == self.fails_at {
+            return Err(io::Error::from(ErrorKind::BrokenPipe));
+        }
+        let most = buf.len().min(self.most);
+        self.bytes.extend_from_slice(&buf[..most])?;
+        Ok(most)
+    }
+
+    fn flush(&mut self) -> io::Result<()> {
+        Ok(())
     }
 }
 
@@ -323,5 +348,72 @@ fn a_reader_that_fails_is_told_after_whole_requests(rt: HostRuntime) {
         assert_eq!(rt; end, End::ReadFault);
         assert_eq!(rt; writer.inner().as_slice(), OK3.as_bytes());
         assert_eq!(rt; reader.has_failed(), true);
+    }
+}
+
+const CHECK3: &[u8] = b"POST /v1/check HTTP/1.1\r\nContent-Length: 3\r\n\r\nabc";
+
+// Requests one behind the other, by ends that take so many bytes; the writer fails at one of its writes, or at 0 at none.
+fn ends_so(
+    alloc: Global,
+    requests: usize,
+    most: usize,
+    fails_at: u64,
+    wanted: End,
+    text: &[u8],
+) -> Result<bool, AllocError> {
+    let mut input = Vec::new(alloc);
+    for _ in 0..requests {
+        input.extend_from_slice(CHECK3)?;
+    }
+    let bytes = input.as_slice();
+    let fails = false;
+    let mut reader = TrackedReader::new(Slow { bytes, most, fails });
+    let narrow = Narrow {
+        bytes: Vec::new(alloc),
+        most,
+        writes: 0,
+        fails_at,
+    };
+    let mut writer = TrackedWriter::new(narrow);
+    let end = serve(alloc, &mut reader, &mut writer, &mut Echo(alloc));
+    let known = !reader.has_failed() && writer.has_failed() == (wanted == End::WriteFault);
+    Ok(known && end == wanted && writer.inner().bytes.as_slice() == text)
+}
+
+fn many_are_answered(alloc: Global, most: usize) -> Result<bool, AllocError> {
+    let mut wanted = Vec::new(alloc);
+    for _ in 0..2000usize {
+        wanted.extend_from_slice(OK3.as_bytes())?;
+    }
+    ends_so(alloc, 2000, most, 0, End::Closed, wanted.as_slice())
+}
+
+#[test]
+fn ends_that_never_fail_are_never_told_as_failing(rt: HostRuntime) {
+    for most in [1usize, 99, 8_192, 1_000_000] {
+        assert!(rt;
+            many_are_answered(rt.alloc(), most).unwrap_or(false),
+            "by {most}"
+        );
+    }
+}
+
+// After so many bytes, of which the writer takes one at a time.
+fn writer_fails(alloc: Global, taken: usize) -> Result<bool, AllocError> {
+    if taken > OK3.len() {
+        return Ok(false);
+    }
+    let text = &OK3.as_bytes()[..taken];
+    ends_so(alloc, 1, 1, taken as u64 + 1, End::WriteFault, text)
+}
+
+#[test]
+fn a_writer_that_fails_has_taken_a_beginning(rt: HostRuntime) {
+    for taken in [0usize, 1, 39, 72] {
+        assert!(rt;
+            writer_fails(rt.alloc(), taken).unwrap_or(false),
+            "after {taken}"
+        );
     }
 }

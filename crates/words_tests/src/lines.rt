@@ -2,7 +2,7 @@
 
 use http_api::{Answers, End};
 use names::{Call, Reply};
-use std::alloc::Global;
+use std::alloc::{AllocError, Global};
 use std::io;
 use std::io::{ErrorKind, Read, Write};
 use tracked_io::{TrackedReader, TrackedWriter};
@@ -25,10 +25,11 @@ impl Answers for Echo {
     }
 }
 
-/// A reader that gives a byte at a time, is interrupted, and fails at one of its reads.
+/// A reader that gives few bytes at a time, is interrupted, and fails at one of its reads.
 #[derive(Drop)]
 struct Slow<'a> {
     bytes: &'a [u8],
+    most: usize,
     reads: u64,
     interrupted_each: u64,
     fails_at: u64,
@@ -38,6 +39,7 @@ impl<'a> Slow<'a> {
     fn new(bytes: &'a [u8]) -> Slow<'a> {
         Slow {
             bytes,
+            most: 1,
             reads: 0,
             interrupted_each: 0,
             fails_at: 0,
@@ -54,15 +56,16 @@ impl<'a> Read for Slow<'a> {
         if self.interrupted_each != 0 && self.reads % self.interrupted_each == 0 {
             return Err(io::Error::from(ErrorKind::Interrupted));
         }
-        let most = buf.len().min(1);
+        let most = buf.len().min(self.most);
         self.bytes.read(&mut buf[..most])
     }
 }
 
-/// A writer that takes a byte at a time, is interrupted, and fails at one of its writes or flushes.
+/// A writer that takes few bytes at a time, is interrupted, and fails at one of its writes or flushes.
 #[derive(Drop)]
 struct Narrow {
     bytes: Vec<u8>,
+    most: usize,
     writes: u64,
     flushes: u64,
     interrupted_each: u64,
@@ -74,6 +77,7 @@ impl Narrow {
     fn new(alloc: Global) -> Narrow {
         Narrow {
             bytes: Vec::new(alloc),
+            most: 1,
             writes: 0,
             flushes: 0,
             interrupted_each: 0,
@@ -92,7 +96,7 @@ impl Write for Narrow {
         if self.interrupted_each != 0 && self.writes % self.interrupted_each == 0 {
             return Err(io::Error::from(ErrorKind::Interrupted));
         }
-        let most = buf.len().min(1);
+        let most = buf.len().min(self.most);
         self.bytes.extend_from_slice(&buf[..most])?;
         Ok(most)
     }
@@ -145,6 +149,44 @@ fn slow_and_interrupted_ends_change_nothing(rt: HostRuntime) {
         assert!(rt;
             is_the_same(rt.alloc(), interrupted_each),
             "at {interrupted_each}"
+        );
+    }
+}
+
+// A line with a body of so many bytes, and its answer.
+fn add_line(input: &mut Vec<u8>, output: &mut Vec<u8>, len: usize) -> Result<(), AllocError> {
+    input.extend_from_slice(b"state ")?;
+    output.extend_from_slice(b"200 ")?;
+    for _ in 0..len {
+        input.push(b'x')?;
+        output.push(b'x')?;
+    }
+    input.push(b'\n')?;
+    output.push(b'\n')?;
+    Ok(())
+}
+
+// Two thousand lines, with bodies of 0 to 199 bytes and one of 65,536, by ends that take so many bytes and never fail.
+fn healthy_ends_go_on(alloc: Global, most: usize) -> Result<bool, AllocError> {
+    let mut input = Vec::new(alloc);
+    let mut output = Vec::new(alloc);
+    for i in 0..2000usize {
+        add_line(&mut input, &mut output, i % 200)?;
+    }
+    add_line(&mut input, &mut output, 65_536)?;
+    let mut slow = Slow::new(input.as_slice());
+    slow.most = most;
+    let mut narrow = Narrow::new(alloc);
+    narrow.most = most;
+    Ok(ends_so(alloc, slow, narrow, End::Closed, output.as_slice()))
+}
+
+#[test]
+fn ends_that_never_fail_are_never_told_as_failing(rt: HostRuntime) {
+    for most in [1usize, 99, 8_192, 1_000_000] {
+        assert!(rt;
+            healthy_ends_go_on(rt.alloc(), most).unwrap_or(false),
+            "by {most}"
         );
     }
 }

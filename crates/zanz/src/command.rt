@@ -1,16 +1,24 @@
 //! The program, but for its process.
-ghost use Rattle.std.specs.Prelude.{◌≡◌, ◌≢◌, ◌≤◌, ◌⊎◌, true, false, IfOk, IfErr, OnOk};
+ghost use Rattle.std.specs.Prelude.{◌≡◌, ◌≢◌, ◌≤◌, ◌⊎◌, true, false, None, IfOk, IfErr, OnOk};
+ghost use Rattle.sqlite_wal.specs.Files.{image_at};
+ghost use Rattle.tasks.specs.declared.fault.Fault.TheVariants.{Refused};
 ghost use Rattle.tasks.specs.Faults.{fault_status, IsRunFault};
-ghost use Rattle.zanz.specs.Runs.{AreWhole, Ran, RanFrom, Reported};
+ghost use Rattle.runs.specs.Runs.{is_read_fault, is_write_fault};
+ghost use Rattle.zanz.specs.Ran.{AreWhole, Ran, RanAt, Reported, BeganReport, Stopped, all_lines, whole_lines, first_lines};
 
-use crate::place::{create, open};
-use crate::run::run;
+use crate::place::{is_number, is_there};
+use names::Refusal;
+use runs::{run, run_in};
+use sqlite::{Connection, FileFrom, FileStore, Start};
 use std::alloc::Global;
 use std::io::{Read, Write};
 use std::rt::Files;
 use tables::Listed;
 use tasks::{Fault, Place, Task, read_file, report_of, task_of};
 use tracked_io::{TrackedReader, TrackedWriter, say};
+
+/// What is left of the file that a run was over.
+pub type Left<P> = Option<Connection<FileStore<FileFrom<P>>>>;
 
 // Prints what there is to say of a file's configuration, and answers the status that the process ends with.
 fn report<F: Files, W: Write>(
@@ -25,6 +33,10 @@ fn report<F: Files, W: Write>(
     ensures whole { IfOk result (λ _. (writer.new.failed ≡ false) × (writer.new.flushed ≡ true)) }
     ensures status { IfOk result (λ status. status ≤ 1) }
     ensures line { IfErr result (λ fault. fault ≢ Fault.CommandLine) }
+
+    // A beginning of it was written where the writer failed, and else nothing.
+    ensures failed { IfErr result (λ _. (writer.new.failed ≡ true) × BeganReport W.contents writer.old writer.new
+        ⊎ (writer.new ≡ writer.old)) }
 {
     let bytes = read_file(alloc, files, path)?;
     let report = report_of(alloc, &bytes)?;
@@ -34,84 +46,118 @@ fn report<F: Files, W: Write>(
     if report.accepted { Ok(0) } else { Ok(1) }
 }
 
-// Answers lines from the store at a place.
-fn run_at<R: Read, W: Write>(
+// Answers lines from the store at a place. `start` says what its file holds.
+fn run_at<P: Start, R: Read, W: Write>(
     rt: &HostRuntime,
     place: &Place,
+    start: P,
     reader: &mut TrackedReader<R>,
     writer: &mut TrackedWriter<W>,
-) -> Result<(), Fault>
+) -> (Result<(), Fault>, Left<P>)
     requires unbroken_reader { reader.old.failed ≡ false }
     requires unbroken_writer { writer.old.failed ≡ false }
-    ensures ok { OnOk result
-        (RanFrom place.now R.remaining W.contents (reader.old, writer.old) (reader.new, writer.new)) }
-    ensures whole { OnOk result (AreWhole reader.new writer.new) }
-    ensures cause { IfErr result IsRunFault }
+    ensures ok { OnOk result.0 (RanAt (image_at P.Start) all_lines place.now R.remaining W.contents (reader.old, writer.old) (reader.new, writer.new) result.1) }
+    ensures flushed { OnOk result.0 (writer.new.flushed ≡ true) }
+    ensures cannot_read { IfErr result.0 (λ fault. fault ≡ Fault.CannotRead
+        → RanAt (image_at P.Start) whole_lines place.now R.remaining W.contents (reader.old, writer.old) (reader.new, writer.new) result.1) }
+    ensures cannot_write { IfErr result.0 (λ fault. fault ≡ Fault.CannotWrite
+        → RanAt (image_at P.Start) first_lines place.now R.remaining W.contents (reader.old, writer.old) (reader.new, writer.new) result.1) }
+    ensures read_failed { reader.new.failed ≡ is_read_fault result.0 }
+    ensures write_failed { writer.new.failed ≡ is_write_fault result.0 }
+    ensures refused { IfErr result.0 (λ fault. (why : Refusal) → fault ≡ Refused why
+        → (reader.new ≡ reader.old) × (writer.new ≡ writer.old)) }
+    ensures cause { IfErr result.0 IsRunFault }
 {
-    let alloc = rt.alloc();
     match place {
-        Place::Memory { store } => run(alloc, Listed::new(alloc, *store), reader, writer),
-        Place::New { file, store } => {
-            run(alloc, create(rt, file.as_str(), *store)?, reader, writer)
+        Place::Memory { store } => {
+            let alloc = rt.alloc();
+            let ended = run(alloc, Listed::new(alloc, *store), reader, writer);
+            (ended.0, None)
         }
-        Place::There { file } => run(alloc, open(rt, file.as_str())?, reader, writer),
+        Place::New { file, store } => {
+            if !is_number(*store) {
+                return (Err(Fault::Refused(Refusal::StoreFault)), None);
+            }
+            run_in(rt, file.as_str(), Some(*store), start, reader, writer)
+        }
+        Place::There { file } => {
+            if let Err(fault) = is_there(rt, file.as_str()) {
+                return (Err(fault), None);
+            }
+            run_in(rt, file.as_str(), None, start, reader, writer)
+        }
     }
 }
 
 // Does what the words say, and answers the status that the process ends with.
-fn obey<R: Read, W: Write>(
+fn obey<P: Start, R: Read, W: Write>(
     rt: &HostRuntime,
     words: &[String],
+    start: P,
     reader: &mut TrackedReader<R>,
     writer: &mut TrackedWriter<W>,
-) -> Result<u8, Fault>
+) -> (Result<u8, Fault>, Left<P>)
     requires unbroken_reader { reader.old.failed ≡ false }
     requires unbroken_writer { writer.old.failed ≡ false }
-    ensures done { IfOk result (λ status. status ≡ 0
-        → Ran R.remaining W.contents (reader.old, writer.old) (reader.new, writer.new)
+    ensures done { IfOk result.0 (λ status. status ≡ 0
+        → Ran (image_at P.Start) all_lines R.remaining W.contents (reader.old, writer.old) (reader.new, writer.new) result.1
         ⊎ ((reader.new ≡ reader.old) × Reported W.contents true writer.old writer.new)) }
-    ensures told { IfOk result (λ status. status ≡ 1
+    ensures told { IfOk result.0 (λ status. status ≡ 1
         → (reader.new ≡ reader.old) × Reported W.contents false writer.old writer.new) }
-    ensures whole { IfOk result (λ _. AreWhole reader.new writer.new) }
-    ensures status { IfOk result (λ status. status ≤ 1) }
-    ensures refused { IfErr result (λ fault. fault ≡ Fault.CommandLine
+    ensures whole { IfOk result.0 (λ _. AreWhole reader.new writer.new) }
+    ensures status { IfOk result.0 (λ status. status ≤ 1) }
+    ensures stopped { IfErr result.0 (λ fault. fault ≢ Fault.CommandLine
+        → Stopped (image_at P.Start) R.remaining W.contents (reader.old, writer.old) (reader.new, writer.new) result.1) }
+    ensures refused { IfErr result.0 (λ fault. fault ≡ Fault.CommandLine
         → (reader.new ≡ reader.old) × (writer.new ≡ writer.old)) }
 {
     let alloc = rt.alloc();
-    match task_of(alloc, words)? {
-        Task::Run { place } => {
-            run_at(rt, &place, reader, writer)?;
-            Ok(0)
+    match task_of(alloc, words) {
+        Ok(Task::Run { place }) => {
+            let (ended, left) = run_at(rt, &place, start, reader, writer);
+            match ended {
+                Ok(()) => (Ok(0), left),
+                Err(fault) => (Err(fault), left),
+            }
         }
-        Task::Config { file } => report(alloc, rt, file.as_str(), writer),
+        Ok(Task::Config { file }) => (report(alloc, rt, file.as_str(), writer), None),
+        Err(fault) => (Err(fault), None),
     }
 }
 
-/// Does what the words say, tells of a fault on `errors`, and answers the status that the process ends with.
-pub fn command<R: Read, W: Write, E: Write>(
+/// Does what the words say, tells of a fault on `errors`, and answers the status that the process ends with, and
+/// what is left of the file that it ran over, of which `start` says what it held.
+pub fn command<P: Start, R: Read, W: Write, E: Write>(
     rt: &HostRuntime,
     words: &[String],
+    start: P,
     reader: &mut TrackedReader<R>,
     writer: &mut TrackedWriter<W>,
     errors: &mut E,
-) -> u8
+) -> (u8, Left<P>)
     requires unbroken_reader { reader.old.failed ≡ false }
     requires unbroken_writer { writer.old.failed ≡ false }
 
     // All that was there was read, each line answered, and the answers handed on; or the levels of a valid
     // configuration were printed, and nothing was read.
-    ensures done { result ≡ 0 → Ran R.remaining W.contents (reader.old, writer.old) (reader.new, writer.new)
+    ensures done { result.0 ≡ 0
+        → Ran (image_at P.Start) all_lines R.remaining W.contents (reader.old, writer.old) (reader.new, writer.new) result.1
         ⊎ ((reader.new ≡ reader.old) × Reported W.contents true writer.old writer.new) }
-    ensures whole { result ≡ 0 → AreWhole reader.new writer.new }
-    ensures quiet { result ≡ 0 → errors.new ≡ errors.old }
+    ensures whole { result.0 ≡ 0 → AreWhole reader.new writer.new }
+    ensures quiet { result.0 ≡ 0 → errors.new ≡ errors.old }
+
+    // What was written is a beginning of the text, or of a report.
+    ensures stopped { result.0 ≡ 1
+        → Stopped (image_at P.Start) R.remaining W.contents (reader.old, writer.old) (reader.new, writer.new) result.1 }
 
     // Nothing was read or written.
-    ensures refused { result ≡ 2 → (reader.new ≡ reader.old) × (writer.new ≡ writer.old) }
-    ensures status { result ≤ 2 }
+    ensures refused { result.0 ≡ 2 → (reader.new ≡ reader.old) × (writer.new ≡ writer.old) }
+    ensures status { result.0 ≤ 2 }
 {
-    match obey(rt, words, reader, writer) {
-        Ok(status) => status,
-        Err(fault) => tell(errors, &fault),
+    let (obeyed, left) = obey(rt, words, start, reader, writer);
+    match obeyed {
+        Ok(status) => (status, left),
+        Err(fault) => (tell(errors, &fault), left),
     }
 }
 

@@ -4,12 +4,12 @@
 #![tactic(auto)]
 
 mod command;
-mod lent;
 mod place;
-mod run;
 
 use command::{command, tell};
 use names::Refusal;
+use runs::close;
+use sqlite::Unknown;
 use std::io;
 use std::io::{BufWriter, ErrorKind};
 use std::process::ExitCode;
@@ -34,7 +34,21 @@ fn start(rt: &HostRuntime) -> Result<u8, Fault> {
     let mut reader = TrackedReader::new(rt.reader());
     let mut writer = TrackedWriter::new(out);
     let mut errors = rt.stderr();
-    Ok(command(rt, words.as_slice(), &mut reader, &mut writer, &mut errors))
+    let (status, left) = command(
+        rt,
+        words.as_slice(),
+        Unknown,
+        &mut reader,
+        &mut writer,
+        &mut errors,
+    );
+    // A file whose store was refused is left as it is. A refusal to close loses nothing.
+    if status == 0
+        && let Some(conn) = left
+    {
+        let _ = close(conn);
+    }
+    Ok(status)
 }
 
 // The words of the command line. One that is no text is on no command line of the program's.

@@ -1,19 +1,23 @@
--- What is noted of a refused write, and what the tables agree with.
-use Rattle.std.specs.Prelude.{◌≡◌, ℕ, Bool, true, false}
+-- What is noted of a refused write.
+use Rattle.std.specs.Prelude.{◌≡◌, true, false}
 use Rattle.names.specs.declared.refusal.Refusal.{Refusal}
 use Rattle.names.specs.declared.refusal.Refusal.TheVariants.{Memory, StoreFault}
+use Rattle.tables.specs.Device.{IsOpen, HasFailed}
 use Rattle.tables.specs.Storing.{one_more}
 use Rattle.rows.specs.Retained.{Retained}
+use Rattle.tables.specs.declared.tables.Tables.{Ghosts}
 use Rattle.keeper_core.specs.declared.latched_tables.LatchedTables.{LatchedTables}
 use Rattle.keeper_core.specs.Posts.{Agrees}
 
--- want of memory is no fault; a fault is noted, and counted
-abbrev pub IsLatched : Refusal → (faults : ℕ) → (failed : Bool) → (faults' : ℕ) → Type 0
-IsLatched Memory faults failed faults' = (failed ≡ false) × (faults' ≡ faults)
-IsLatched StoreFault faults failed faults' = (failed ≡ true) × (faults' ≡ one_more faults)
-IsLatched _ faults failed faults' = ⊥
+-- want of memory is no fault; a fault is noted, and counted, and is one of the device
+abbrev pub IsLatched : {T : Type 0}
+    → Ghosts T → LatchedTables T → Refusal → LatchedTables T → Type 0
+IsLatched g old Memory new = (new.failed ≡ false) × (g.count new.tables ≡ g.count old.tables)
+IsLatched g old StoreFault new =
+    (new.failed ≡ true) × (g.count new.tables ≡ one_more (g.count old.tables))
+    × (IsOpen (g.device old.tables) → HasFailed (g.device old.tables) (g.device new.tables))
+IsLatched g old _ new = ⊥
 
 -- the tables agree with the history, as a desk's do
-abbrev pub AgreeWith : {T : Type 0} → (T → Retained → Type 0) → (T → (Retained → Type 0) → Type 0)
-    → LatchedTables T → Retained → Type 0
-AgreeWith Holds LeavesOnly t r = Agrees t.failed (Holds t.tables) (LeavesOnly t.tables) r
+abbrev pub AgreeWith : {T : Type 0} → Ghosts T → LatchedTables T → Retained → Type 0
+AgreeWith g t r = Agrees g t.failed t.tables r

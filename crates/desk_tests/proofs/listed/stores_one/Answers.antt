@@ -10,6 +10,7 @@ use Rattle.meaning.proofs.TupleSets.{items_from_list}
 use Rattle.names.specs.declared.commit.Commit.{Commit}
 use Rattle.rows.specs.Follows.{IsNext}
 use Rattle.rows.specs.Retained.{empty_store}
+use Rattle.tables.specs.Storing.{PutsAbsent}
 use Rattle.tables.proofs.Storing.{none_ordered}
 use Rattle.desk_tests.proofs.listed.stores_one.Goals as goal
 
@@ -18,4 +19,4 @@ can_follow : (config : Configured) → or_else (in_the_way (find (λ t. not (adm
 can_follow config = ap (λ (ts : List Tuple). or_else (in_the_way (find (λ t. not (admits config t)) ts)) None) (items_from_list [] none_ordered)
 
 pub write-requires : goal.write-requires
-write-requires c = (empty_store 7, c.new-tables.ensures, (subst (λ (m : Commit Configured). IsNext (empty_store 7) m) (sym c.in-Ok.ensures) (can_follow c.empty.result), refl))
+write-requires c = (empty_store 7, c.new-tables.ensures, (subst (λ (m : Commit Configured). IsNext (empty_store 7) m) (sym c.in-Ok.ensures) (can_follow c.empty.result), refl, λ is. subst (λ (m : Commit Configured). PutsAbsent (empty_store 7) m) (sym c.in-Ok.ensures) tt))

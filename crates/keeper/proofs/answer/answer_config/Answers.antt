@@ -3,11 +3,11 @@ use Rattle.keeper.proofs.Answering.{config_unaccepted, config_done}
 use Rattle.keeper.proofs.answer.answer_config.Goals as goal
 
 pub returns-in-Err : goal.returns-in-Err
-returns-in-Err g c = config_unaccepted c.args.desk.now _ c.in-Err.why _ c.in-Err.ensures.err c.refusal.ensures
+returns-in-Err g c = config_unaccepted g.T.Tables c.args.desk.now _ c.in-Err.why _ c.in-Err.ensures.err c.refusal.ensures
 
 pub returns-in-Ok-configure : goal.returns-in-Ok-configure
 returns-in-Ok-configure g c =
-    config_done c.args.desk.now _ c.in-Ok.config c.in-Ok-configure.taken c.is_shown.result c.zookie.result _ _
+    config_done g.T.Tables c.args.desk.now _ c.in-Ok.config c.in-Ok-configure.taken c.is_shown.result c.zookie.result _ _
     c.in-Ok.ensures.ok c.in-Ok-configure.ensures.ok c.is_shown.ensures c.zookie.ensures c.receipt.ensures
 
 pub returns-in-Err-configure : goal.returns-in-Err-configure

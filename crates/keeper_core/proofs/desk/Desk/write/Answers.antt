@@ -1,4 +1,5 @@
-use Rattle.std.proofs.Common.{subst, List}
+use Rattle.std.proofs.Common.{refl, subst, List}
+use Rattle.names.specs.declared.commit.Commit.TheVariants.{Tuples}
 use Rattle.rows.specs.Retained.{newest_of}
 use Rattle.rows.specs.Follows.{IsAccepted}
 use Rattle.shown.specs.declared.step.Step.{Step}
@@ -16,10 +17,11 @@ post-requires-clause-next g c =
 pub returns-clause-ok : goal.returns-clause-ok
 returns-clause-ok g c =
     let ready = c.in_ok-make_ready.ensures in
-    write_accepted c.args.self.now c.make_ready.new.self c.post.new.self ready.more ready.same.2 ready.ok.0 c.args.write c.in_ok-events.events c.post.result ready.ok.1
+    write_accepted g.T.Tables c.args.self.now c.make_ready.new.self ready.more ready.same ready.ok.0 c.post.new.self c.args.write c.in_ok-events.events c.post.result ready.ok.1
     c.in_ok-judge.ensures.plain c.in_ok-judge.ensures.ok c.in_ok-events.ensures.ok c.post.ensures.posts c.post.ensures.tells c.post.ensures.stored
 
 pub returns-clause-err : goal.returns-clause-err
 returns-clause-err g c =
     let ready = c.in_ok-make_ready.ensures in
-    refuses_on c.args.self.now c.make_ready.new.self c.post.new.self ready.more ready.same.2 ready.ok.0 _ c.post.result (memory_judged (newest_posted c.args.self.now) c.args.write.ops c.args.write.conditions) c.post.ensures.err
+    refuses_on g.T.Tables c.args.self.now c.make_ready.new.self ready.more ready.same ready.ok.0 c.post.new.self _ (Tuples c.in_ok-events.events) _ c.post.result (c.in_ok-events.events, c.in_ok-events.ensures.ok, refl)
+    (memory_judged (newest_posted c.args.self.now) c.args.write.ops c.args.write.conditions) c.post.ensures.err

@@ -1,0 +1,51 @@
+-- A run over what two files held.
+use Rattle.std.proofs.Common.{◌≡◌, ℕ, Bool, false, List, refl, sym, ap, subst, ◌∙◌}
+use Rattle.std.specs.Prelude.{Option, Some, None, Result, Err}
+use Rattle.sqlite_disk.specs.declared.Disk as disk
+use Rattle.sqlite_wal.specs.Recovery.{Image}
+use Rattle.sqlite_store.specs.declared.store.FileStore.{FileStore}
+use Rattle.sqlite.specs.Store.{Ghosts}
+use Rattle.sqlite.specs.Files.{over_files}
+use Rattle.sqlite.specs.Held.{Held}
+use Rattle.names.specs.declared.refusal.Refusal.{Refusal}
+use Rattle.rows.specs.Retained.{Retained}
+use Rattle.keeper_core.specs.Posts.{Posts}
+use Rattle.store.specs.declared.store.Store.{Store}
+use Rattle.tasks.specs.declared.fault.Fault.{Fault}
+use Rattle.tasks.specs.declared.fault.Fault.TheVariants.{Refused, CannotRead, CannotWrite}
+use Rattle.runs.specs.Files.{FindsHistories}
+use Rattle.runs.specs.Runs.{is_read_fault, is_write_fault}
+use Rattle.runs.specs.Over.{Begins, BeginsIn, EndedOver}
+
+begins_in : {D : Type 0} {g : disk.Ghosts D} (image : Image) (conn : Held (FileStore D g)) → FindsHistories image conn → (store : Option ℕ) (r : Retained) → Begins over_files conn store r → BeginsIn image store r
+begins_in image conn found None r begins = λ held holds. begins held (found held holds)
+begins_in image conn found (Some number) r begins = begins
+
+pub ended_in : {D : Type 0} {g : disk.Ghosts D} (image : Image) (conn : Held (FileStore D g)) → FindsHistories image conn → (store : Option ℕ) (input : List ℕ) (Did : Posts (Store (FileStore D g) over_files) → Posts (Store (FileStore D g) over_files) → Type 0) (left : Held (FileStore D g))
+    → EndedOver over_files (Begins over_files conn store) input Did left → EndedOver over_files (BeginsIn image store) input Did left
+ended_in image conn found store input Did left e = record {
+  loaded = e.loaded;
+  first = e.first;
+  last = e.last;
+  opened = e.opened;
+  begins = λ clean. begins_in image conn found store _ (e.begins clean);
+  did = e.did;
+  keeps = e.keeps;
+  more = e.more;
+  follow = e.follow;
+  asked = e.asked;
+  leaves = e.leaves;
+}
+
+-- a refusal is no fault of the reader, and none of the writer
+pub is_unread : (A : Type 0) (fault : Fault) (why : Refusal) → fault ≡ Refused why → is_read_fault {A = A} (Err fault) ≡ false
+is_unread A fault why is = let e : is_read_fault {A = A} (Err fault) ≡ is_read_fault {A = A} (Err (Refused why)) = ap (λ f. is_read_fault {A = A} (Err f)) is in e
+
+pub is_unwritten : (A : Type 0) (fault : Fault) (why : Refusal) → fault ≡ Refused why → is_write_fault {A = A} (Err fault) ≡ false
+is_unwritten A fault why is = let e : is_write_fault {A = A} (Err fault) ≡ is_write_fault {A = A} (Err (Refused why)) = ap (λ f. is_write_fault {A = A} (Err f)) is in e
+
+pub is_no_read_fault : (fault : Fault) (why : Refusal) → fault ≡ Refused why → ¬ (fault ≡ CannotRead)
+is_no_read_fault fault why is other = let e : Refused why ≡ CannotRead = sym is ∙ other in cc
+
+pub is_no_write_fault : (fault : Fault) (why : Refusal) → fault ≡ Refused why → ¬ (fault ≡ CannotWrite)
+is_no_write_fault fault why is other = let e : Refused why ≡ CannotWrite = sym is ∙ other in cc

@@ -1,0 +1,43 @@
+-- What was done over tables was done over their connection.
+use Rattle.std.proofs.Common.{◌≡◌, ℕ, List, [], ◌∷◌, map, refl, sym, ap, subst, ◌∙◌, inl, inr}
+use Rattle.std.specs.Prelude.{Option, Some, None}
+use Rattle.std.proofs.Math.Logic.{∥∥₁_map}
+use Rattle.sqlite_wal.specs.Recovery.{Image}
+use Rattle.sqlite.specs.Store.{Ghosts}
+use Rattle.sqlite.specs.State.{HasCleanDisk}
+use Rattle.sqlite.specs.Held.{Held, state}
+use Rattle.rows.specs.Retained.{Retained, with_commit}
+use Rattle.rows.specs.Loads.{retained_of}
+use Rattle.rows.specs.declared.loaded.Loaded.{Loaded}
+use Rattle.shown.specs.declared.step.Step.{Step}
+use Rattle.shown.specs.declared.step.Step.TheVariants.{Open}
+use Rattle.shown.specs.Standing.{standing, after_opening}
+use Rattle.tables.specs.Leaving.{IsOneOf}
+use Rattle.keeper_core.specs.Posts.{Posts}
+use Rattle.store.specs.History.{KeepsHistory, LeavesHistory}
+use Rattle.store.specs.StoreParts.{connection}
+use Rattle.store.specs.declared.store.Store.{Store}
+use Rattle.runs.specs.Files.{ImageHolds, HoldsOneOf}
+use Rattle.runs.specs.Runs.{Ended, kept_by}
+use Rattle.runs.specs.Over.{over, Begins, BeginsIn, EndedOver, GoesOn}
+
+pub ended_over : {S : Type 0} (g : Ghosts S) (tables back : Store S g) (From : Retained → Type 0) (left : Held S) (input : List ℕ) (Did : Posts (Store S g) → Posts (Store S g) → Type 0)
+    → left ≡ connection back → ((loaded : Loaded) → ((r : Retained) → KeepsHistory g (connection tables) r → HasCleanDisk (state g left) → retained_of loaded ≡ r) → HasCleanDisk (state g left) → From (retained_of loaded))
+    → Ended (over g) tables input Did back → EndedOver g From input Did left
+ended_over {S} g tables back From left input Did same begins e = record {
+  loaded = e.loaded;
+  first = e.first;
+  last = e.last;
+  opened = e.opened;
+  begins = begins e.loaded (λ r held clean. e.same r held (subst (λ (c : Held S). HasCleanDisk (state g c)) same clean));
+  did = e.did;
+  keeps = λ works. subst (λ (c : Held S). KeepsHistory g c (kept_by e.last)) (sym same) (e.agrees.holds works);
+  more = e.agrees.more;
+  follow = e.agrees.follow;
+  asked = e.asked;
+  leaves = subst (λ (c : Held S). LeavesHistory g c (kept_by e.last ∷ map (with_commit (kept_by e.last)) e.agrees.more)) (sym same) e.agrees.leaves;
+}
+
+pub goes_on : (image : Image) (rs : List Retained) (loaded : Loaded) (posted : List Step) → HoldsOneOf image rs → BeginsIn image None (retained_of loaded) → posted ≡ Open loaded ∷ [] → GoesOn rs posted
+goes_on image rs loaded posted holds begins opened =
+    ∥∥₁_map holds (λ one. (one.0, one.1, ap standing opened ∙ ap after_opening (begins one.0 one.2)))

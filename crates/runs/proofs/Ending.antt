@@ -1,0 +1,84 @@
+-- A desk was opened, answered lines, and was closed.
+use Rattle.std.proofs.Common.{◌≡◌, ℕ, Bool, false, List, [], ◌∷◌, map, take, refl, sym, ap, subst, ◌∙◌}
+use Rattle.std.specs.Prelude.{Option}
+use Rattle.std.proofs.lemmas.List.Elements.{All-nil}
+use Rattle.names.specs.declared.commit.Commit.{Commit}
+use Rattle.meaning.specs.Config.{Configured}
+use Rattle.rows.specs.Retained.{Retained, with_commit}
+use Rattle.rows.specs.Loads.{retained_of}
+use Rattle.rows.specs.Follows.{IsNext}
+use Rattle.tables.specs.Device.{IsClean, Lasts}
+use Rattle.tables.specs.declared.tables.Tables.{Ghosts}
+use Rattle.tables.proofs.Lasting.{lasts_self, lasts_trans, clean_before}
+use Rattle.keeper_core.specs.Posts.{Posts, Agrees, OpensWith, ComesBack}
+use Rattle.keeper.specs.Rules.{DeskStep}
+use Rattle.http_api.specs.Text.{lines_of}
+use Rattle.http_api.specs.Machine.{Run}
+use Rattle.tracked_io.specs.Tracking.{TrackedWriting}
+use Rattle.runs.specs.Runs.{Ended, ServedBy, PausedBy, CutBy, IsAskedIn, kept_by}
+use Rattle.runs.specs.inside.Leaving.{HasLeft, Answered}
+use Rattle.runs.proofs.Leaving.{Weaker, after_run}
+use Rattle.runs.proofs.Asked.{asked_first, asked_fed}
+
+-- what is known of a desk that was opened on tables
+pub record Began {T : Type 0} (g : Ghosts T) (tables : T) (first : Posts T) : Type 0 where
+  pub posted : OpensWith g tables first
+  pub shown : first.shown ≡ first.posted
+  pub works : first.failed ≡ false
+  pub settled : g.leaves first.tables (kept_by first ∷ [])
+  pub back : ComesBack g tables first.tables
+
+-- and of one whose tables were given back
+pub record Closed {T : Type 0} (g : Ghosts T) (last : Posts T) (left : T) : Type 0 where
+  pub given : left ≡ last.tables
+  pub agrees : Agrees g last.failed left (kept_by last)
+
+module _ {T : Type 0} (g : Ghosts T) (weaker : Weaker g) (tables : T) (first last : Posts T) (left : T) (began : Began g tables first) (closed : Closed g last left) where
+  starts : (P : Commit Configured → Type 0) → HasLeft g P (g.device first.tables) first
+  starts P = record { more = []; follow = All-nil (IsNext (kept_by first)); asked = All-nil P; leaves = began.settled; lasts = lasts_self (g.device first.tables) }
+
+  lasts_to : (P : Commit Configured → Type 0) → HasLeft g P (g.device first.tables) last → Lasts (g.device first.tables) (g.device left)
+  lasts_to P h = subst (λ (t : T). Lasts (g.device first.tables) (g.device t)) (sym closed.given) h.lasts
+
+  pub device_lasts : Answered g first last → Lasts (g.device tables) (g.device left)
+  device_lasts ran =
+      lasts_trans (g.device tables) (g.device first.tables) (g.device left) began.back.lasts
+      (lasts_to (λ c. Unit {0}) (after_run g weaker (λ c. Unit {0}) (g.device first.tables) ran.0 first ran.1 last (λ c is. tt) ran.2 (starts (λ c. Unit {0}))))
+
+  ended : (input : List ℕ) (Did : Posts T → Posts T → Type 0) → HasLeft g (IsAskedIn (lines_of input)) (g.device first.tables) last → Did first last → Ended g tables input Did left
+  ended input Did h did = record {
+    loaded = began.posted.0;
+    first = first;
+    last = last;
+    opened = record { posted = began.posted.1; shown = began.shown; works = began.works };
+    same = λ r held clean. began.posted.3 r held (clean_before (g.device first.tables) (g.device left) (lasts_to (IsAskedIn (lines_of input)) h) clean);
+    did = did;
+    given = closed.given;
+    agrees = record {
+      holds = closed.agrees.holds;
+      more = h.more;
+      follow = h.follow;
+      leaves = subst (λ (t : T). g.leaves t (kept_by last ∷ map (with_commit (kept_by last)) h.more)) (sym closed.given) h.leaves;
+    };
+    asked = h.asked;
+  }
+
+  ran : (input : List ℕ) (lines : List (List ℕ)) (text : List ℕ) → ((c : Commit Configured) → IsAskedIn lines c → IsAskedIn (lines_of input) c) → Run (DeskStep g) first lines text last
+      → HasLeft g (IsAskedIn (lines_of input)) (g.device first.tables) last
+  ran input lines text asked run = after_run g weaker (IsAskedIn (lines_of input)) (g.device first.tables) lines first text last asked run (starts (IsAskedIn (lines_of input)))
+
+  pub ended_served : {W : Type 0} (contents : W → Option (List ℕ)) (old new : TrackedWriting W) (input : List ℕ) → ServedBy g contents old input new first last
+      → Ended g tables input (ServedBy g contents old input new) left
+  ended_served contents old new input v = ended input _ (ran input (lines_of input) v.text (λ c is. is) v.run) v
+
+  pub ended_paused : {W : Type 0} (contents : W → Option (List ℕ)) (old new : TrackedWriting W) (input : List ℕ) → PausedBy g contents old input new first last
+      → Ended g tables input (PausedBy g contents old input new) left
+  ended_paused contents old new input v = ended input _ (ran input v.fed.lines v.text (asked_fed (DeskStep g) first input v.rest v.text last v.fed) v.fed.run) v
+
+  pub ended_cut : {W : Type 0} (contents : W → Option (List ℕ)) (old new : TrackedWriting W) (input : List ℕ) → CutBy g contents old input new first last
+      → Ended g tables input (CutBy g contents old input new) left
+  ended_cut contents old new input v = ended input _ (ran input (take v.count (lines_of input)) v.text (asked_first v.count (lines_of input)) v.run) v
+
+-- nothing was done, and the tables are given back
+pub comes_back : {T : Type 0} (g : Ghosts T) (tables : T) (first last : Posts T) (left : T) → ComesBack g tables first.tables → last ≡ first → left ≡ last.tables → ComesBack g tables left
+comes_back g tables first last left back same given = subst (λ t. ComesBack g tables t) (sym (given ∙ ap (λ d. d.tables) same)) back

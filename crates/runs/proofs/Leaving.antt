@@ -1,0 +1,144 @@
+-- What the tables of a desk leave after each line.
+use Rattle.std.proofs.Common.{◌≡◌, ℕ, Bool, true, false, List, [], ◌∷◌, map, refl, sym, ap, subst, ◌∙◌, inl, inr}
+use Rattle.std.specs.Prelude.{Option, Some, None, nat_le, length}
+use Rattle.std.specs.List.{All}
+use Rattle.std.proofs.lemmas.List.Elements.{All-nil, All-cons}
+use Rattle.names.specs.Calls.{call_of}
+use Rattle.names.specs.declared.limits.TheConstants.{MAX_BODY_LEN}
+use Rattle.names.specs.declared.call.Call.{Call}
+use Rattle.names.specs.declared.call.Call.TheVariants as call
+use Rattle.names.specs.declared.commit.Commit.{Commit}
+use Rattle.names.specs.declared.refusal.Refusal.{Refusal}
+use Rattle.names.specs.declared.part.Part.{Part}
+use Rattle.names.specs.declared.part.Part.TheVariants.{Index, Hot}
+use Rattle.meaning.specs.Config.{Configured}
+use Rattle.rows.specs.Retained.{Retained, with_commit}
+use Rattle.rows.specs.Follows.{IsNext}
+use Rattle.tables.specs.Device.{Device, Lasts}
+use Rattle.tables.specs.Leaving.{IsOneOf, AreAmong}
+use Rattle.tables.specs.declared.tables.Tables.{Ghosts}
+use Rattle.shown.specs.declared.step.Step.{Step}
+use Rattle.shown.specs.declared.step.Step.TheVariants.{Take}
+use Rattle.shown.specs.Standing.{Standing, standing, nothing, after_step, after_take}
+use Rattle.std.proofs.lemmas.List.Sums.{fold-append}
+use Rattle.keeper_core.specs.Posts.{Posts}
+use Rattle.keeper_core.specs.Changes.{IsStored, IsRefused, Touches, leaves_alone, adds_one}
+use Rattle.keeper.specs.Rules.{DeskStep, WriteStep, write_malformed, write_accepted, write_refused, write_unread, ConfigStep, config_invalid, config_accepted, config_refused, config_unread, CheckStep, check_malformed, check_bad_zookie, check_answered, check_refused, check_unread, CatchUpStep, catch_up_malformed, catch_up_accepted, catch_up_refused, catch_up_unread}
+use Rattle.http_api.specs.Text.{word_of, body_of}
+use Rattle.http_api.specs.Machine.{IsAnswer, Run}
+use Rattle.runs.specs.Runs.{kept_by, AsksCommit, LineAsks, IsAskedIn}
+use Rattle.runs.specs.inside.Leaving.{HasLeft}
+use Rattle.tables.proofs.Lasting.{lasts_trans}
+
+-- what leaves one of these leaves one of more
+abbrev pub Weaker : {T : Type 0} → Ghosts T → Type 0
+Weaker {T} g = (t : T) (rs ss : List Retained) → AreAmong rs ss → g.leaves t rs → g.leaves t ss
+
+swap : (a b : Retained) (rs : List Retained) → AreAmong (a ∷ b ∷ rs) (b ∷ a ∷ rs)
+swap a b rs x (inl is) = inr (inl is)
+swap a b rs x (inr (inl is)) = inl is
+swap a b rs x (inr (inr more)) = inr (inr more)
+
+kept_by_take : (s : Standing) (part : Part) (n : ℕ) → (after_take s part n).kept ≡ s.kept
+kept_by_take s Index n = refl
+kept_by_take s Hot n = refl
+
+module _ {T : Type 0} (g : Ghosts T) (weaker : Weaker g) (P : Commit Configured → Type 0) (start : Device) where
+  same_desk : (old new : Posts T) → new ≡ old → HasLeft g P start old → HasLeft g P start new
+  same_desk old new same h = subst (λ (d : Posts T). HasLeft g P start d) (sym same) h
+
+  same_tables : (old new : Posts T) → new.tables ≡ old.tables → kept_by new ≡ kept_by old → HasLeft g P start old → HasLeft g P start new
+  same_tables old new tables kept h = record {
+    more = h.more;
+    follow = subst (λ (r : Retained). All (IsNext r) h.more) (sym kept) h.follow;
+    asked = h.asked;
+    leaves = subst (λ (r : Retained). g.leaves new.tables (r ∷ map (with_commit r) h.more)) (sym kept) (subst (λ (t : T). g.leaves t (kept_by old ∷ map (with_commit (kept_by old)) h.more)) (sym tables) h.leaves);
+    lasts = subst (λ (t : T). Lasts start (g.device t)) (sym tables) h.lasts;
+  }
+
+  one_more : (old new : Posts T) (commit : Commit Configured) → kept_by new ≡ kept_by old → P commit → IsNext (kept_by old) commit
+      → ((rs : List Retained) → g.leaves old.tables rs → g.leaves new.tables (with_commit (kept_by old) commit ∷ rs))
+      → Lasts (g.device old.tables) (g.device new.tables) → HasLeft g P start old → HasLeft g P start new
+  one_more old new commit kept asked next adds lasts h = record {
+    more = commit ∷ h.more;
+    follow = subst (λ (r : Retained). All (IsNext r) (commit ∷ h.more)) (sym kept) (All-cons (IsNext (kept_by old)) commit h.more next h.follow);
+    asked = All-cons P commit h.more asked h.asked;
+    leaves = subst (λ (r : Retained). g.leaves new.tables (r ∷ map (with_commit r) (commit ∷ h.more))) (sym kept)
+        (weaker new.tables _ _ (swap (with_commit (kept_by old) commit) (kept_by old) (map (with_commit (kept_by old)) h.more)) (adds _ h.leaves));
+    lasts = lasts_trans start (g.device old.tables) (g.device new.tables) h.lasts lasts;
+  }
+
+  stored : (old new : Posts T) → IsStored g old new → HasLeft g P start old → HasLeft g P start new
+  stored old new is h = record {
+    more = [];
+    follow = All-nil (IsNext (kept_by new));
+    asked = All-nil P;
+    leaves = is.settled;
+    lasts = lasts_trans start (g.device old.tables) (g.device new.tables) h.lasts is.lasts;
+  }
+
+  touched : (old new : Posts T) (made : Commit Configured → Type 0) → ((c : Commit Configured) → made c → P c) → kept_by new ≡ kept_by old → Lasts (g.device old.tables) (g.device new.tables)
+      → Touches g old made new → HasLeft g P start old → HasLeft g P start new
+  touched old new made asked kept lasts (leaves_alone same) h = same_tables old new same kept h
+  touched old new made asked kept lasts (adds_one commit is may) h = one_more old new commit kept (asked commit is) may.follows may.adds lasts h
+
+  refused : (old new : Posts T) (made : Commit Configured → Type 0) (judged : Refusal → Type 0) (why : Refusal) → ((c : Commit Configured) → made c → P c)
+      → IsRefused g old made judged why new → HasLeft g P start old → HasLeft g P start new
+  refused old new made judged why asked is h = touched old new made asked (ap (λ (steps : List Step). (standing steps).kept) is.shows.posted) is.lasts is.touches h
+
+  after_write : (old : Posts T) (body : List ℕ) (told : Option (ℕ × List ℕ)) (new : Posts T) → ((c : Commit Configured) → AsksCommit call.Write body c → P c)
+      → WriteStep g old body told new → HasLeft g P start old → HasLeft g P start new
+  after_write old body told new asked (write_malformed asks says same) h = same_desk old new same h
+  after_write old body told new asked (write_accepted ops receipt asks is says) h = stored old new is.stored h
+  after_write old body told new asked (write_refused ops why asks is says) h = refused old new _ _ why (λ c made. asked c (ops, asks, made)) is h
+  after_write old body told new asked (write_unread none same) h = same_desk old new same h
+
+  after_config : (old : Posts T) (body : List ℕ) (told : Option (ℕ × List ℕ)) (new : Posts T) → ((c : Commit Configured) → AsksCommit call.Config body c → P c)
+      → ConfigStep g old body told new → HasLeft g P start old → HasLeft g P start new
+  after_config old body told new asked (config_invalid cause is says same) h = same_desk old new same h
+  after_config old body told new asked (config_accepted config receipt accepts is says) h = stored old new is.stored h
+  after_config old body told new asked (config_refused config why accepts is says) h = refused old new _ _ why (λ c made. asked c (config, accepts, made)) is h
+  after_config old body told new asked (config_unread none same) h = same_desk old new same h
+
+  after_check : (old : Posts T) (body : List ℕ) (told : Option (ℕ × List ℕ)) (new : Posts T) → CheckStep old body told new → HasLeft g P start old → HasLeft g P start new
+  after_check old body told new (check_malformed asks says same) h = same_desk old new same h
+  after_check old body told new (check_bad_zookie asks says same) h = same_desk old new same h
+  after_check old body told new (check_answered consistency node user rev allowed asks is says same) h = same_desk old new same h
+  after_check old body told new (check_refused consistency node user why at asks is says same) h = same_desk old new same h
+  after_check old body told new (check_unread none same) h = same_desk old new same h
+
+  after_catch_up : (old : Posts T) (body : List ℕ) (told : Option (ℕ × List ℕ)) (new : Posts T) → CatchUpStep g old body told new → HasLeft g P start old → HasLeft g P start new
+  after_catch_up old body told new (catch_up_malformed asks says same) h = same_desk old new same h
+  after_catch_up old body told new (catch_up_accepted part commits cursor receipt asks is says) h =
+      same_tables old new is.tables (ap (λ (steps : List Step). (standing steps).kept) is.posts.posted ∙ (ap (λ (s : Standing). s.kept) (fold-append after_step nothing old.posted (Take part commits ∷ [])) ∙ kept_by_take (standing old.posted) part commits)) h
+  after_catch_up old body told new (catch_up_refused part commits why asks is says) h = refused old new _ _ why (λ c none. absurd none) is h
+  after_catch_up old body told new (catch_up_unread none same) h = same_desk old new same h
+
+  after_step_of : (old : Posts T) (k : Call) (body : List ℕ) (told : Option (ℕ × List ℕ)) (new : Posts T) → ((c : Commit Configured) → AsksCommit k body c → P c)
+      → DeskStep g old k body told new → HasLeft g P start old → HasLeft g P start new
+  after_step_of old call.Write body told new asked s h = after_write old body told new asked s h
+  after_step_of old call.Config body told new asked s h = after_config old body told new asked s h
+  after_step_of old call.Check body told new asked s h = after_check old body told new s h
+  after_step_of old call.CatchUp body told new asked s h = after_catch_up old body told new s h
+  after_step_of old call.State body told new asked s h = same_desk old new s.1 h
+  after_step_of old call.Read body told new asked s h = same_desk old new s.1 h
+  after_step_of old call.Expand body told new asked s h = same_desk old new s.1 h
+  after_step_of old call.Watch body told new asked s h = same_desk old new s.1 h
+  after_step_of old call.Leopard body told new asked s h = same_desk old new s.1 h
+  after_step_of old call.Hot body told new asked s h = same_desk old new s.1 h
+  after_step_of old call.Trim body told new asked s h = same_desk old new s.1 h
+  after_step_of old call.Rebuild body told new asked s h = same_desk old new s.1 h
+
+  after_answer : (old : Posts T) (fits : Bool) (k : Option Call) (body text : List ℕ) (new : Posts T) → ((it : Call) → k ≡ Some it → (c : Commit Configured) → AsksCommit it body c → P c)
+      → IsAnswer (DeskStep g) old fits k body text new → HasLeft g P start old → HasLeft g P start new
+  after_answer old false k body text new asked s h = same_desk old new s.1 h
+  after_answer old true None body text new asked s h = same_desk old new s.1 h
+  after_answer old true (Some it) body text new asked s h = after_step_of old it body s.reply new (asked it refl) s.may h
+
+  -- the tables of a desk that answered lines leave a commit more only where one of them asked for it
+  pub after_run : (lines : List (List ℕ)) (old : Posts T) (text : List ℕ) (new : Posts T) → ((c : Commit Configured) → IsAskedIn lines c → P c)
+      → Run (DeskStep g) old lines text new → HasLeft g P start old → HasLeft g P start new
+  after_run [] old text new asked r h = same_desk old new r.1 h
+  after_run (line ∷ lines) old text new asked r h =
+      after_run lines r.1 r.2 new (λ c is. asked c (inr is)) r.4
+      (after_answer old (nat_le (length (body_of line)) MAX_BODY_LEN) (call_of (word_of line)) (body_of line) r.0 r.1 (λ it named c asks. asked c (inl (it, named, asks))) r.3 h)

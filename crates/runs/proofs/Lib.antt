@@ -1,0 +1,10 @@
+pub mod Found
+pub mod Left
+pub mod Seen
+pub mod Asked
+pub mod Leaving
+pub mod Results
+pub mod Ending
+pub mod Starting
+pub mod Connected
+pub mod Carried

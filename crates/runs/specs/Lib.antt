@@ -1,0 +1,4 @@
+pub mod Files
+pub mod Runs
+pub mod Over
+pub mod inside

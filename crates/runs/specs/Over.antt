@@ -1,0 +1,88 @@
+-- What a run does over a connection, and over two files.
+use Rattle.std.specs.Prelude.{ℕ, ◌≡◌, ◌≢◌, ◌⊎◌, false, List, [], ◌∷◌, map, Option, Some, None}
+use Rattle.std.specs.List.{All}
+use Rattle.sqlite_wal.specs.Recovery.{Image}
+use Rattle.sqlite.specs.Store.{Ghosts}
+use Rattle.sqlite.specs.Tree.{Trees}
+use Rattle.sqlite.specs.State.{HasCleanDisk}
+use Rattle.sqlite.specs.Held.{Held, state}
+use Rattle.names.specs.declared.commit.Commit.{Commit}
+use Rattle.meaning.specs.Config.{Configured}
+use Rattle.rows.specs.Retained.{Retained, empty_store, with_commit}
+use Rattle.rows.specs.Loads.{retained_of}
+use Rattle.rows.specs.declared.loaded.Loaded.{Loaded}
+use Rattle.rows.specs.Follows.{IsNext}
+use Rattle.tables.specs.Device.{HasFailed, IsClean, sound_device}
+use Rattle.tables.specs.Leaving.{IsOneOf}
+use Rattle.tables.specs.declared.tables.Tables as tables
+use Rattle.shown.specs.declared.step.Step.{Step}
+use Rattle.shown.specs.Standing.{standing, after_opening}
+use Rattle.keeper_core.specs.Posts.{Posts}
+use Rattle.http_api.specs.Text.{lines_of}
+use Rattle.store_core.specs.Format.{schema}
+use Rattle.store_core.specs.Leaves.{IsBlank}
+use Rattle.store.specs.History.{TreesHold, KeepsHistory, LeavesHistory, device_below}
+use Rattle.store.specs.StoreParts.{connection, faults}
+use Rattle.store.specs.declared.store.Store.{Store}
+use Rattle.runs.specs.Files.{ImageHolds, HoldsOneOf}
+use Rattle.runs.specs.Runs.{IsOpened, IsAskedIn, kept_by}
+
+-- a store over a connection, as tables
+abbrev pub over : {S : Type 0} (g : Ghosts S) → tables.Ghosts (Store S g)
+over {S} g = record {
+  holds = λ s r. KeepsHistory g (connection s) r;
+  leaves = λ s rs. LeavesHistory g (connection s) rs;
+  device = λ s. device_below g (connection s);
+  count = λ s. faults s;
+}
+
+-- a list of commits in memory, as tables
+abbrev pub listed : tables.Ghosts Retained
+listed = record { holds = λ t r. t ≡ r; leaves = λ t rs. IsOneOf rs t; device = λ t. sound_device; count = λ t. 0 }
+
+-- the history that a run begins with: that of a new store with this number, or the one that the connection holds
+abbrev pub Begins : {S : Type 0} → Ghosts S → Held S → Option ℕ → Retained → Type 0
+Begins g conn None r = (held : Retained) → KeepsHistory g conn held → r ≡ held
+Begins g conn (Some number) r = r ≡ empty_store number
+
+-- the same of two files
+abbrev pub BeginsIn : Image → Option ℕ → Retained → Type 0
+BeginsIn image None r = (held : Retained) → ImageHolds image held → r ≡ held
+BeginsIn image (Some number) r = r ≡ empty_store number
+
+-- A desk was opened on a history from which a run begins, and did this for the input. The connection that is left holds the
+-- history of the posted steps; what is left of it holds that, perhaps with one commit more that a line asked for.
+pub record EndedOver {S : Type 0} (g : Ghosts S) (From : Retained → Type 0) (input : List ℕ) (Did : Posts (Store S g) → Posts (Store S g) → Type 0) (left : Held S) : Type 0 where
+  pub loaded : Loaded
+  pub first : Posts (Store S g)
+  pub last : Posts (Store S g)
+  pub opened : IsOpened loaded first
+  pub begins : HasCleanDisk (state g left) → From (retained_of loaded)
+  pub did : Did first last
+  pub keeps : last.failed ≡ false → KeepsHistory g left (kept_by last)
+  pub more : List (Commit Configured)
+  pub follow : All (IsNext (kept_by last)) more
+  pub asked : All (IsAskedIn (lines_of input)) more
+  pub leaves : LeavesHistory g left (kept_by last ∷ map (with_commit (kept_by last)) more)
+
+-- What a refusal leaves. Tables that were there hold and leave what they did. Of new ones a crash leaves nothing, or a new store.
+abbrev pub LeavesRefused : {S : Type 0} → Ghosts S → Held S → Option ℕ → Held S → Type 0
+LeavesRefused g conn None left = ((r : Retained) → KeepsHistory g conn r → KeepsHistory g left r) × ((rs : List Retained) → LeavesHistory g conn rs → LeavesHistory g left rs)
+LeavesRefused g conn (Some number) left = HasCleanDisk (state g left) → (trees : Trees) → (state g left).may_leave trees → (state g conn).may_leave trees ⊎ TreesHold trees (empty_store number)
+
+-- Where a run cannot begin: there is a table already in which a new store is to be made, or the tables are not those of the format.
+abbrev pub CannotBegin : {S : Type 0} → Ghosts S → Held S → Option ℕ → Type 0
+CannotBegin g conn None = (state g conn).now.schema ≢ schema
+CannotBegin g conn (Some number) = ¬ (IsBlank g conn)
+
+-- why a fault is told: the device failed, or there is no history to be found
+abbrev pub IsDeserved : {S : Type 0} → Ghosts S → Held S → Option ℕ → Held S → Type 0
+IsDeserved g conn None left = HasFailed (device_below g conn) (device_below g left) ⊎ ((r : Retained) → IsClean (device_below g conn) → ¬ (KeepsHistory g conn r))
+IsDeserved g conn (Some number) left = IsBlank g conn → HasFailed (device_below g conn) (device_below g left)
+
+-- ---- two runs
+
+-- A desk with these steps has just been opened on one of the histories: nothing is marked, nothing waits, and the cursors are
+-- at the newest revision.
+abbrev pub GoesOn : List Retained → List Step → Type 0
+GoesOn rs posted = ∥ ((r : Retained) × IsOneOf rs r × (standing posted ≡ after_opening r)) ∥₁

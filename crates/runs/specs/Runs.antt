@@ -1,0 +1,92 @@
+-- What a run does over tables, and what it leaves of them.
+use Rattle.std.specs.Prelude.{ℕ, ◌≡◌, ◌⊎◌, Bool, true, false, List, [], ◌∷◌, Option, Some, Result, Err}
+use Rattle.std.specs.List.{All}
+use Rattle.names.specs.Calls.{call_of}
+use Rattle.names.specs.declared.call.Call.{Call}
+use Rattle.names.specs.declared.call.Call.TheVariants as call
+use Rattle.names.specs.declared.commit.Commit.{Commit}
+use Rattle.names.specs.declared.commit.Commit.TheVariants.{Config}
+use Rattle.names.specs.declared.write.Op.{Op}
+use Rattle.meaning.specs.Config.{Configured}
+use Rattle.config.specs.Causes.{Accepts}
+use Rattle.bodies.specs.Requests.{AsksWrite}
+use Rattle.rows.specs.Retained.{Retained}
+use Rattle.rows.specs.Loads.{retained_of}
+use Rattle.rows.specs.declared.loaded.Loaded.{Loaded}
+use Rattle.tables.specs.Device.{IsClean}
+use Rattle.tables.specs.declared.tables.Tables.{Ghosts}
+use Rattle.shown.specs.declared.step.Step.TheVariants.{Open}
+use Rattle.shown.specs.Standing.{standing}
+use Rattle.keeper_core.specs.Posts.{Posts, Agrees}
+use Rattle.keeper_core.specs.Changes.{IsCommitOf}
+use Rattle.keeper.specs.Rules.{DeskStep}
+use Rattle.http_api.specs.Text.{lines_of, word_of, body_of}
+use Rattle.http_api.specs.Served.{Served, Paused, Cut}
+use Rattle.tracked_io.specs.Tracking.{TrackedWriting}
+use Rattle.tasks.specs.declared.fault.Fault.{Fault}
+use Rattle.tasks.specs.declared.fault.Fault.TheVariants.{CannotRead, CannotWrite}
+
+-- a desk that has just been opened on a history: all that it holds is shown
+pub record IsOpened {T : Type 0} (loaded : Loaded) (desk : Posts T) : Type 0 where
+  pub posted : desk.posted ≡ Open loaded ∷ []
+  pub shown : desk.shown ≡ desk.posted
+  pub works : desk.failed ≡ false
+
+-- the history of the posted steps
+abbrev pub kept_by : {T : Type 0} → Posts T → Retained
+kept_by desk = (standing desk.posted).kept
+
+-- ---- what was asked for
+
+-- the call with this body asks for the commit
+abbrev pub AsksCommit : Call → List ℕ → Commit Configured → Type 0
+AsksCommit call.Write body commit = (ops : List Op) × AsksWrite body ops × IsCommitOf ops commit
+AsksCommit call.Config body commit = (config : Configured) × Accepts body config × (commit ≡ Config config)
+AsksCommit _ body commit = ⊥
+
+-- the line asks for the commit
+abbrev pub LineAsks : List ℕ → Commit Configured → Type 0
+LineAsks line commit = (call : Call) × (call_of (word_of line) ≡ Some call) × AsksCommit call (body_of line) commit
+
+-- one of the lines asks for the commit
+abbrev pub IsAskedIn : List (List ℕ) → Commit Configured → Type 0
+IsAskedIn [] commit = ⊥
+IsAskedIn (line ∷ lines) commit = LineAsks line commit ⊎ IsAskedIn lines commit
+
+-- ---- what was written
+
+-- each line of the input was answered, and the answers written
+abbrev pub ServedBy : {T W : Type 0} → Ghosts T → (W → Option (List ℕ)) → TrackedWriting W → List ℕ → TrackedWriting W → Posts T → Posts T → Type 0
+ServedBy g contents old input new first last = Served (DeskStep g) first (contents old.inner) input last (contents new.inner)
+
+-- the same of the lines that end in the input
+abbrev pub PausedBy : {T W : Type 0} → Ghosts T → (W → Option (List ℕ)) → TrackedWriting W → List ℕ → TrackedWriting W → Posts T → Posts T → Type 0
+PausedBy g contents old input new first last = Paused (DeskStep g) first (contents old.inner) input last (contents new.inner)
+
+-- the same of some first lines, of whose answers a beginning was written
+abbrev pub CutBy : {T W : Type 0} → Ghosts T → (W → Option (List ℕ)) → TrackedWriting W → List ℕ → TrackedWriting W → Posts T → Posts T → Type 0
+CutBy g contents old input new first last = Cut (DeskStep g) first (contents old.inner) input last (contents new.inner)
+
+-- ---- what is left
+
+-- A desk was opened on what the tables held, did this for the input, and gave the tables back. They hold the history of the
+-- posted steps; what is left of them holds it, perhaps with one commit more that a line asked for.
+pub record Ended {T : Type 0} (g : Ghosts T) (tables : T) (input : List ℕ) (Did : Posts T → Posts T → Type 0) (left : T) : Type 0 where
+  pub loaded : Loaded
+  pub first : Posts T
+  pub last : Posts T
+  pub opened : IsOpened loaded first
+  pub same : (r : Retained) → g.holds tables r → IsClean (g.device left) → retained_of loaded ≡ r
+  pub did : Did first last
+  pub given : left ≡ last.tables
+  pub agrees : Agrees g last.failed left (kept_by last)
+  pub asked : All (IsAskedIn (lines_of input)) agrees.more
+
+-- which results tell that the reader, or the writer, failed
+abbrev pub is_read_fault : {A : Type 0} → Result A Fault → Bool
+is_read_fault (Err CannotRead) = true
+is_read_fault _ = false
+
+abbrev pub is_write_fault : {A : Type 0} → Result A Fault → Bool
+is_write_fault (Err CannotWrite) = true
+is_write_fault _ = false

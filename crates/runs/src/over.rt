@@ -1,0 +1,110 @@
+//! A run over a connection.
+ghost use Rattle.std.specs.Prelude.{ℕ, ◌≡◌, ◌≤◌, ◌<◌, ◌^◌, List, true, false, None, IfErr, IfOk, IfSome, IsErrAnd, OnOk, Err};
+ghost use Rattle.names.specs.declared.refusal.Refusal.TheVariants.{StoreFault};
+ghost use Rattle.tables.specs.Device.{IsOpen, Lasts};
+ghost use Rattle.tasks.specs.declared.fault.Fault.TheVariants.{Refused};
+ghost use Rattle.tasks.specs.Faults.{IsRunFault};
+ghost use Rattle.tracked_io.specs.Tracking.{Reads, ReadsAll};
+ghost use Rattle.store.specs.History.{device_below};
+ghost use Rattle.store.specs.StoreParts.{connection};
+ghost use Rattle.runs.specs.Runs.{ServedBy, PausedBy, CutBy, is_read_fault, is_write_fault};
+ghost use Rattle.runs.specs.inside.Starting.{StartsFrom, FailsToStart};
+ghost use Rattle.runs.specs.Over.{over, Begins, EndedOver, LeavesRefused, CannotBegin, IsDeserved};
+
+use crate::running::run;
+use names::Refusal;
+use sqlite::{Alter, Connection};
+use std::alloc::Global;
+use std::io::{Read, Write};
+use store::Store;
+use tables::TablesError;
+use tasks::Fault;
+use tracked_io::{TrackedReader, TrackedWriter};
+
+/// Answers lines from the store over a connection, and gives the connection back. With a number the tables of a
+/// new store are made, where there are none; else those that are there are opened.
+pub fn run_over<S: Alter + Drop, R: Read, W: Write>(
+    alloc: Global,
+    conn: Connection<S>,
+    store: Option<u64>,
+    reader: &mut TrackedReader<R>,
+    writer: &mut TrackedWriter<W>,
+) -> (Result<(), Fault>, Connection<S>)
+    requires idle { conn.in_transaction ≡ false }
+    requires unlimited { conn.step_limit ≡ None }
+    requires number { IfSome store (λ number. (1 ≤ number) × (number < 2 ^ 63)) }
+    requires unbroken_reader { reader.old.failed ≡ false }
+    requires unbroken_writer { writer.old.failed ≡ false }
+
+    // All that was there was read, each line answered, and the answers handed on.
+    ensures ok { OnOk result.0 ((input : List ℕ) × ReadsAll R.remaining reader.old reader.new input
+        × EndedOver S.Store (Begins S.Store conn store) input (ServedBy (over S.Store) W.contents writer.old input writer.new) result.1) }
+    ensures flushed { OnOk result.0 (writer.new.flushed ≡ true) }
+
+    // Each whole line of what was read was answered.
+    ensures cannot_read { IfErr result.0 (λ fault. fault ≡ Fault.CannotRead → (input : List ℕ)
+        × Reads R.remaining reader.old reader.new input
+        × EndedOver S.Store (Begins S.Store conn store) input (PausedBy (over S.Store) W.contents writer.old input writer.new) result.1) }
+
+    // Some first lines of what was read were answered, and a beginning of the answers was written.
+    ensures cannot_write { IfErr result.0 (λ fault. fault ≡ Fault.CannotWrite → (input : List ℕ)
+        × Reads R.remaining reader.old reader.new input
+        × EndedOver S.Store (Begins S.Store conn store) input (CutBy (over S.Store) W.contents writer.old input writer.new) result.1) }
+
+    // A fault is told exactly where the reader or the writer failed in the call.
+    ensures read_failed { reader.new.failed ≡ is_read_fault result.0 }
+    ensures write_failed { writer.new.failed ≡ is_write_fault result.0 }
+
+    // Nothing was read or written.
+    ensures refused { IfErr result.0 (λ fault. (why : Refusal) → fault ≡ Refused why
+        → (reader.new ≡ reader.old) × (writer.new ≡ writer.old) × LeavesRefused S.Store conn store result.1) }
+
+    // A database in which there is another thing than is asked for is left alone.
+    ensures taken { CannotBegin S.Store conn store
+        → (result.0 ≡ Err (Refused StoreFault)) × (result.1 ≡ conn) × (reader.new ≡ reader.old) × (writer.new ≡ writer.old) }
+    ensures caused { IfErr result.0 (λ fault. fault ≡ Refused StoreFault → IsOpen (device_below S.Store conn)
+        → IsDeserved S.Store conn store result.1) }
+    ensures cause { IfErr result.0 IsRunFault }
+    ensures lasts { Lasts (device_below S.Store conn) (device_below S.Store result.1) }
+{
+    match start(alloc, conn, store) {
+        Ok(tables) => {
+            let ended = run(alloc, tables, reader, writer);
+            (ended.0, ended.1.into_connection())
+        }
+        Err((why, conn)) => (Err(fault_of(why)), conn),
+    }
+}
+
+// The tables of a new store, or those that are there.
+fn start<S: Alter + Drop>(
+    alloc: Global,
+    conn: Connection<S>,
+    store: Option<u64>,
+) -> Result<Store<S>, (TablesError, Connection<S>)>
+    requires idle { conn.in_transaction ≡ false }
+    requires unlimited { conn.step_limit ≡ None }
+    requires number { IfSome store (λ number. (1 ≤ number) × (number < 2 ^ 63)) }
+    ensures ok { IfOk result (λ s. StartsFrom S.Store conn store (connection s)) }
+    ensures err { IfErr result (λ e. FailsToStart S.Store conn store e.0 e.1) }
+    ensures taken { CannotBegin S.Store conn store
+        → IsErrAnd result (λ e. (e.0 ≡ TablesError.Fault) × (e.1 ≡ conn)) }
+{
+    match store {
+        Some(number) => Store::create(alloc, conn, number),
+        None => Store::open(alloc, conn),
+    }
+}
+
+// What is told of a refusal.
+fn fault_of(why: TablesError) -> Fault
+    ensures memory { why ≡ TablesError.Memory → result ≡ Refused Refusal.Memory }
+    ensures fault { why ≡ TablesError.Fault → result ≡ Refused StoreFault }
+    ensures refused { (cause : Refusal) × (result ≡ Refused cause) }
+    ensures cause { IsRunFault result }
+{
+    match why {
+        TablesError::Memory => Fault::Refused(Refusal::Memory),
+        TablesError::Fault => Fault::Refused(Refusal::StoreFault),
+    }
+}

@@ -1,0 +1,112 @@
+//! A run over lines.
+ghost use Rattle.std.specs.Prelude.{ℕ, ◌≡◌, List, true, false, IfErr, OnOk};
+ghost use Rattle.names.specs.declared.refusal.Refusal.TheVariants.{StoreFault};
+ghost use Rattle.tables.specs.Device.{IsOpen, Lasts};
+ghost use Rattle.keeper_core.specs.Posts.{ComesBack, FailsToLoad};
+ghost use Rattle.tasks.specs.declared.fault.Fault.TheVariants.{Refused};
+ghost use Rattle.tasks.specs.Faults.{IsRunFault};
+ghost use Rattle.tracked_io.specs.Tracking.{Reads, ReadsAll};
+ghost use Rattle.runs.specs.inside.Leaving.{Answered};
+ghost use Rattle.runs.specs.Runs.{ServedBy, PausedBy, CutBy, Ended, is_read_fault, is_write_fault};
+
+use crate::answering::Answering;
+use http_api::End;
+use keeper_core::{Desk, Opened};
+use names::Refusal;
+use std::alloc::Global;
+use std::io::{Read, Write};
+use tables::Tables;
+use tasks::Fault;
+use tracked_io::{TrackedReader, TrackedWriter};
+use zanz_core::lines;
+
+/// Answers lines from the store that these tables keep, and gives the tables back.
+pub fn run<T: Tables + Drop, R: Read, W: Write>(
+    alloc: Global,
+    tables: T,
+    reader: &mut TrackedReader<R>,
+    writer: &mut TrackedWriter<W>,
+) -> (Result<(), Fault>, T)
+    requires unbroken_reader { reader.old.failed ≡ false }
+    requires unbroken_writer { writer.old.failed ≡ false }
+
+    // All that was there was read, each line answered, and the answers handed on.
+    ensures ok { OnOk result.0 ((input : List ℕ) × ReadsAll R.remaining reader.old reader.new input
+        × Ended T.Tables tables input (ServedBy T.Tables W.contents writer.old input writer.new) result.1) }
+    ensures flushed { OnOk result.0 (writer.new.flushed ≡ true) }
+
+    // Each whole line of what was read was answered.
+    ensures cannot_read { IfErr result.0 (λ fault. fault ≡ Fault.CannotRead → (input : List ℕ)
+        × Reads R.remaining reader.old reader.new input
+        × Ended T.Tables tables input (PausedBy T.Tables W.contents writer.old input writer.new) result.1) }
+
+    // Some first lines of what was read were answered, and a beginning of the answers was written.
+    ensures cannot_write { IfErr result.0 (λ fault. fault ≡ Fault.CannotWrite → (input : List ℕ)
+        × Reads R.remaining reader.old reader.new input
+        × Ended T.Tables tables input (CutBy T.Tables W.contents writer.old input writer.new) result.1) }
+
+    // A fault is told exactly where the reader or the writer failed in the call.
+    ensures read_failed { reader.new.failed ≡ is_read_fault result.0 }
+    ensures write_failed { writer.new.failed ≡ is_write_fault result.0 }
+
+    // Nothing was read or written, and the tables hold and leave what they did. They are at fault only where the
+    // device failed, or where they hold no history.
+    ensures refused { IfErr result.0 (λ fault. (why : Refusal) → fault ≡ Refused why
+        → (reader.new ≡ reader.old) × (writer.new ≡ writer.old) × ComesBack T.Tables tables result.1) }
+    ensures caused { IfErr result.0 (λ fault. fault ≡ Refused StoreFault → IsOpen (T.device tables)
+        → FailsToLoad T.Tables tables result.1) }
+    ensures cause { IfErr result.0 IsRunFault }
+    ensures lasts { Lasts (T.device tables) (T.device result.1) }
+{
+    match Desk::open(alloc, Opened::new(), tables) {
+        Ok(desk) => {
+            let mut answering = Answering { alloc, desk };
+            let ended = serve(&mut answering, reader, writer);
+            (ended, answering.desk.close())
+        }
+        Err((why, tables)) => (Err(Fault::Refused(why)), tables),
+    }
+}
+
+// Answers lines from a desk.
+fn serve<T: Tables + Drop, R: Read, W: Write>(
+    answering: &mut Answering<T>,
+    reader: &mut TrackedReader<R>,
+    writer: &mut TrackedWriter<W>,
+) -> Result<(), Fault>
+    requires unbroken_reader { reader.old.failed ≡ false }
+    requires unbroken_writer { writer.old.failed ≡ false }
+
+    // All that was there was read, each line answered, and the answers handed on.
+    ensures ok { OnOk result ((input : List ℕ) × ReadsAll R.remaining reader.old reader.new input
+        × ServedBy T.Tables W.contents writer.old input writer.new answering.old.desk answering.new.desk) }
+    ensures flushed { OnOk result (writer.new.flushed ≡ true) }
+
+    // Each whole line of what was read was answered.
+    ensures cannot_read { IfErr result (λ fault. fault ≡ Fault.CannotRead → (input : List ℕ)
+        × Reads R.remaining reader.old reader.new input
+        × PausedBy T.Tables W.contents writer.old input writer.new answering.old.desk answering.new.desk) }
+
+    // Some first lines of what was read were answered, and a beginning of the answers was written.
+    ensures cannot_write { IfErr result (λ fault. fault ≡ Fault.CannotWrite → (input : List ℕ)
+        × Reads R.remaining reader.old reader.new input
+        × CutBy T.Tables W.contents writer.old input writer.new answering.old.desk answering.new.desk) }
+
+    // A fault is told exactly where the reader or the writer failed in the call.
+    ensures read_failed { reader.new.failed ≡ is_read_fault result }
+    ensures write_failed { writer.new.failed ≡ is_write_fault result }
+
+    // Nothing was read or written, for want of memory.
+    ensures memory { IfErr result (λ fault. (why : Refusal) → fault ≡ Refused why → (why ≡ Refusal.Memory)
+        × (reader.new ≡ reader.old) × (writer.new ≡ writer.old) × (answering.new.desk ≡ answering.old.desk)) }
+    ensures cause { IfErr result IsRunFault }
+    ensures answered { Answered T.Tables answering.old.desk answering.new.desk }
+{
+    match lines(answering.alloc, reader, writer, answering) {
+        End::Closed => Ok(()),
+        End::ReadFault => Err(Fault::CannotRead),
+        End::WriteFault => Err(Fault::CannotWrite),
+        End::Memory => Err(Fault::Refused(Refusal::Memory)),
+        End::Asked | End::Broken => unreachable!(),
+    }
+}
