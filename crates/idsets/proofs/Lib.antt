@@ -1,0 +1,6 @@
+pub mod Having
+pub mod Rising
+pub mod Placing
+pub mod Merging
+pub mod Numbering
+pub mod Sameness

@@ -1,0 +1,4 @@
+pub mod Sets
+pub mod Places
+pub mod Naming
+pub mod Exact
