@@ -1,7 +1,7 @@
 #!/usr/bin/env python3
 """Lists the definitions that a public promise rests on, each with its file and its number of lines.
 
-usage: docs/statement.py [--inside] [CRATE::FUNCTION ..]      (default: zanz::run)
+usage: docs/statement.py [--inside] [CRATE::FUNCTION ..]      (default: runs::run_in)
 
 It reads the contract of each function that is named, the definitions of specs/ that its clauses cite, and those that these
 cite in turn, and prints them by file: lowest crate first. --inside prints in their place the files of specs/ of which no
@@ -175,7 +175,7 @@ def main(words):
             file = File(crate, path)
             files[file.module] = file
     inside = "--inside" in words
-    wanted = [it for it in words if not it.startswith("--")] or ["zanz::run"]
+    wanted = [it for it in words if not it.startswith("--")] or ["runs::run_in"]
     found = reached(files, of_functions(files, None if inside else wanted))
     if inside:
         for file in files.values():
