@@ -1,0 +1,103 @@
+#!/usr/bin/env python3
+"""Sees that each function, clause and definition that PROMISES.md and the README's table name is there, and each wrong body that WRONG.md names.
+
+usage: docs/promises.py
+
+In the last column of a line of the table, a group is functions and types, then a colon and clauses of one of them: `Desk::open`: `posted`, `kept` (`Agrees`). A function must stand in src/ of a
+crate of that line, a clause in a contract of one of the group's functions, and a definition, which begins with a capital, there or in the crate's specs/. In WRONG.md a group is a crate, a colon, and wrong bodies: files of its wrong/ or must-fail/. Ends with status 1 where a name is missing.
+"""
+import os
+import re
+import sys
+
+ROOT = os.path.dirname(os.path.dirname(os.path.realpath(__file__)))
+NAME = re.compile(r"`([^`]+)`")
+
+
+def text_of(crate, part, ending):
+    """The text of the crate's files of that part."""
+    texts = []
+    for folder, _, files in os.walk(f"{ROOT}/crates/{crate}/{part}"):
+        for file in sorted(files):
+            if file.endswith(ending):
+                with open(f"{folder}/{file}", encoding="utf-8") as it:
+                    texts.append(it.read())
+    return "\n".join(texts)
+
+
+def contracts_of(text, name):
+    """The signatures and contracts of the functions of that name; a type's name stands for all that its impls have."""
+    last = name.rpartition("::")[2]
+    found = re.findall(rf"(?ms)^\s*(?:pub(?:\(crate\))? )?fn {re.escape(last)}\b.*?(?=^\s*\{{|;\s*$)", text)
+    if not found:
+        found = re.findall(rf"(?ms)^(?:pub )?trait {re.escape(last)}\b.*?^\}}", text)
+    if not found:
+        found = re.findall(rf"(?ms)^impl[^\n]*\b{re.escape(last)}\b.*?^\}}", text)
+    return found
+
+
+def missing_in(crates, cell):
+    """What a cell names and the crates lack."""
+    text = "\n".join(text_of(it, "src", ".rt") for it in crates)
+    specs = "\n".join(text_of(it, "specs", ".antt") for it in crates)
+    for group in re.split(r";\s+", cell):
+        head, _, tail = group.partition(":  ") if ":  " in group else re.match(r"(.*?)(?:(?<=`): (.*))?$", group, re.S).group(1, 2, 2)
+        names = NAME.findall(head)
+        found = []
+        for name in names:
+            here = contracts_of(text, name)
+            if not here and not re.search(rf"\b{re.escape(name.rpartition('::')[2])}\b", text):
+                yield f"`{name}` is not in {', '.join(crates)}"
+            found += here
+        for clause in NAME.findall(tail or ""):
+            if clause[0].isupper() and re.search(rf"\b{re.escape(clause)}\b", specs):
+                continue
+            if not any(re.search(rf"\b{re.escape(clause.rpartition('::')[2])}\b", it) for it in found):
+                yield f"`{clause}` is no clause of {', '.join(names)}"
+
+
+def rows_of(file):
+    """The lines of a file's tables of crates: the crates and the last column."""
+    crates = []
+    with open(f"{ROOT}/{file}", encoding="utf-8") as it:
+        for line in it:
+            cells = [cell.strip() for cell in line.strip().strip("|").split("|")]
+            if len(cells) != 3 or not line.startswith("|"):
+                continue
+            named = NAME.findall(cells[0])
+            if cells[0] and not named:
+                crates = []
+            crates = named or crates
+            if crates and all(os.path.isdir(f"{ROOT}/crates/{name}") for name in crates):
+                yield crates, cells[2]
+
+
+def bodies_missing():
+    """The wrong bodies that WRONG.md names and no crate has."""
+    with open(f"{ROOT}/docs/WRONG.md", encoding="utf-8") as it:
+        cells = [line.strip().strip("|").split("|")[-1] for line in it if line.startswith("|")]
+    for group in (group for cell in cells for group in cell.split(";")):
+        crate, _, bodies = group.partition(": ")
+        crate = crate.strip().strip("`")
+        if not os.path.isdir(f"{ROOT}/crates/{crate}") or crate.endswith("_tests"):
+            continue
+        for body in NAME.findall(bodies):
+            if not any(os.path.isfile(f"{ROOT}/crates/{crate}/{folder}/{body}.edit") for folder in ("wrong", "must-fail")):
+                yield f"{crate} has no wrong body `{body}`"
+
+
+def main():
+    wrong = 0
+    for why in bodies_missing():
+        print(f"docs/WRONG.md: {why}")
+        wrong += 1
+    for file in ("README.md", "docs/PROMISES.md"):
+        for crates, cell in rows_of(file):
+            for why in missing_in(crates, cell):
+                print(f"{file}: {why}")
+                wrong += 1
+    return 1 if wrong else 0
+
+
+if __name__ == "__main__":
+    sys.exit(main())
