@@ -1,7 +1,7 @@
 -- The tuples of an object of which few were read.
 use Rattle.std.proofs.Common.{◌≡◌, ℕ, suc, ◌<◌, ◌+◌, List, [], ◌∷◌, ◌++◌, length, get_or, take, ap, ◌∙◌, sym, subst, arith, ⊎_elim, Bool, true, refl}
 use Rattle.std.specs.Global.{Global}
-use Rattle.std.specs.Prelude.{◌↔◌, Vec, Result, Ok, Err, IfOk, Contains, Option, Some, IfSome, filter}
+use Rattle.std.specs.Prelude.{◌↔◌, Vec, Result, Ok, Err, IfOk, Contains, Option, Some, None, IfSome, filter}
 use Rattle.std.specs.List.{filter_map}
 use Rattle.std.specs.Cmp.{eq_by_cmp_equiv}
 use Rattle.std.proofs.Math.Seq.{take-suc}
@@ -16,19 +16,24 @@ use Rattle.meaning.proofs.TupleSets.{objects_total}
 use Rattle.rows_core.specs.Named.{objects_in, nodes_in}
 use Rattle.tuple_keys.specs.Named.{is_at, is_of, user_tuple}
 use Rattle.rows.proofs.Naming.{contains_kept, kept_contains, of_node, is_of_itself, named_object, object_named, named_node, node_named}
+use Rattle.decide.specs.declared.facts.Named.{Named}
 use Rattle.decide.specs.declared.facts.Read.{Read}
 use Rattle.decide.specs.declared.facts.Reads.{Reads}
-use Rattle.decide.specs.inside.Reading.{IsRead, AreRead, IsReadAt}
+use Rattle.decide.specs.inside.Reading.{AreNamed, IsRead, AreRead, IsReadAt}
 
 pub object_parts : (o p : Object) → o.namespace ≡ p.namespace → o.id ≡ p.id → o ≡ p
 object_parts o p namespace id = ap (λ x. record { namespace = x; id = o.id }) namespace ∙ ap (λ x. record { namespace = p.namespace; id = x }) id
 
 -- one object more was read
 pub read_more : (S : Snap) (old now : List Read) (o : Object) (r : Read) → now ≡ old ++ r ∷ [] → r.object ≡ o → ((q : Read) → Contains old q → IsRead S q)
-    → IfSome r.few (λ v. v.items ≡ filter (is_at o) (set.items S.tuples)) → (q : Read) → Contains now q → IsRead S q
-read_more S old now o r more named before few q at = ⊎_elim
+    → IfSome r.few (λ v. v.items ≡ filter (is_at o) (set.items S.tuples)) → IfSome r.named (λ n. AreNamed S o n.tupleset n.objects.items)
+    → (q : Read) → Contains now q → IsRead S q
+read_more S old now o r more object before few named q at = ⊎_elim
     (before q)
-    (λ same. subst (IsRead S) same (subst (λ p. IfSome r.few (λ v. v.items ≡ filter (is_at p) (set.items S.tuples))) (sym named) few))
+    (λ same. subst (IsRead S) same (record {
+      few = subst (λ p. IfSome r.few (λ v. v.items ≡ filter (is_at p) (set.items S.tuples))) (sym object) few;
+      named = subst (λ p. IfSome r.named (λ n. AreNamed S p n.tupleset n.objects.items)) (sym object) named;
+    }))
     (Contains-push_cases old r q (subst (λ rs. Contains rs q) more at))
 
 -- what was read at the object's place has its tuples
@@ -36,9 +41,19 @@ pub read_held : (S : Snap) (reads : Reads) (o : Object) (i : ℕ) (r : Read) (v 
     → ts ≡ filter (is_at o) (set.items S.tuples)
 read_held S reads o i r v ts are (lt, at) is some items =
     let object : r.object ≡ o = ap (λ (q : Read). q.object) is ∙ at r in
-    let all = are r (i, lt, sym is) in
+    let all = (are r (i, lt, sym is)).few in
     let read : v.items ≡ filter (is_at r.object) (set.items S.tuples) = subst (λ f. IfSome f (λ w. w.items ≡ filter (is_at r.object) (set.items S.tuples))) some all in
     items ∙ read ∙ ap (λ p. filter (is_at p) (set.items S.tuples)) object
+
+-- what was read at the object's place has what its tupleset names
+pub read_named : (S : Snap) (reads : Reads) (o : Object) (i : ℕ) (r : Read) (n : Named) (tupleset : List ℕ) (objects : List Object) → AreRead S reads → IsReadAt reads o i → r ≡ get_or reads.read.items i r → r.named ≡ Some n
+    → n.tupleset ≡ tupleset → objects ≡ n.objects.items → AreNamed S o tupleset objects
+read_named S reads o i r n tupleset objects are (lt, at) is some same items =
+    let object : r.object ≡ o = ap (λ (q : Read). q.object) is ∙ at r in
+    let all = (are r (i, lt, sym is)).named in
+    let read : AreNamed S r.object n.tupleset n.objects.items = subst (λ f. IfSome f (λ m. AreNamed S r.object m.tupleset m.objects.items)) some all in
+    subst (AreNamed S o tupleset) (sym items)
+    (subst (λ t. AreNamed S o t n.objects.items) same (subst (λ p. AreNamed S p n.tupleset n.objects.items) object read))
 
 -- an object's tuples are all of those of its nodes
 pub held : (S : Snap) (o : Object) (ts : List Tuple) → ts ≡ filter (is_at o) (set.items S.tuples) → (t : Tuple) → t.node.object ≡ o → Contains ts t ↔ Contains (set.items S.tuples) t
@@ -74,6 +89,10 @@ picked_more h test xs i x lt at =
 
 pub both_ways : {A B C : Type 0} → A ↔ B → B ↔ C → A ↔ C
 both_ways f g = (λ a. g.0 (f.0 a), λ c. f.1 (g.1 c))
+
+pub some_mapped : {A : Type 0} (r : Option A) (P Q : A → Type 0) → ((a : A) → P a → Q a) → IfSome r P → IfSome r Q
+some_mapped (Some a) P Q f h = f a h
+some_mapped None P Q f h = tt
 
 pub ok_mapped : {A E : Type 0} (r : Result A E) (P Q : A → Type 0) → ((a : A) → P a → Q a) → IfOk r P → IfOk r Q
 ok_mapped (Ok a) P Q f h = f a h

@@ -17,7 +17,7 @@ use Rattle.decide.specs.declared.search.Search.{Search}
 use Rattle.decide.specs.declared.search.Opened.{Opened}
 use Rattle.decide.specs.declared.asking.Asking.{Asking}
 use Rattle.decide.specs.inside.Under.{Under}
-use Rattle.decide.specs.inside.Searches.{Stands, IsStacked, Waits, Grew, IsNumberOf}
+use Rattle.decide.specs.inside.Searches.{Stands, IsStacked, Waits, Grew, IsNodeAt, IsNumberOf}
 use Rattle.decide.specs.inside.Running.{IsRunning}
 use Rattle.std.proofs.lemmas.Bool.{cases_lt, false≢true}
 use Rattle.std.proofs.lemmas.List.{get_or_default}
@@ -26,7 +26,7 @@ use Rattle.decide.specs.declared.asking.Found.TheVariants as found
 use Rattle.config.specs.Places.{StandsAt}
 use Rattle.decide.proofs.Relations.{there_gives, gives_there}
 use Rattle.decide.specs.inside.Given.{RelationGave, Gave, HasNode, HasSome, no_or_later, opposite, BaseGives}
-use Rattle.decide.specs.inside.Asked.{high, Counts, IsLeft, IsAsking, GoesOn}
+use Rattle.decide.specs.inside.Asked.{high, Counts, IsCounted, IsLeft, IsAsking, GoesOn}
 use Rattle.decide.specs.inside.Reads.{AreNodesOf, AreOwn}
 use Rattle.decide.proofs.SearchLemmas.{grew_refl, grew_trans, grew_waits, grew_number}
 use Rattle.decide.proofs.Settling.{under_up, under_own, same_opened, settled}
@@ -88,6 +88,46 @@ module _ (S : Snap) (u : Object) (a : Asking) where
     where
       number_is : (j : ℕ) → Some a.number ≡ Some j → a.number ≡ j
       number_is j is = cc
+
+cond_low : (b : Bool) (l : ℕ) → cond b (suc l) l ≤ suc l
+cond_low true l = omega arith
+cond_low false l = omega arith
+
+pub high_low : (a : Asking) → high a ≤ suc a.level
+high_low a = cond_low a.plain a.level
+
+-- nodes with their numbers
+module _ (S : Snap) (u : Object) (a : Asking) (s : Search) (m : Node) (i : ℕ) where
+  pub opened_at : (but : Option ℕ) (k : ℕ) → IsRunning S u s but → IsNodeAt s m i → ((e : Opened) → Stands s i e → e.level ≡ k) → IsAt S.config m k
+  opened_at but k run (e, at, node) level = subst (IsAt S.config m) (level e at) (subst (λ x. IsAt S.config x e.level) node (run.at i e at))
+
+  pub opened_counts : (but : Option ℕ) (k : ℕ) → IsRunning S u s but → IsNodeAt s m i → ((e : Opened) → Stands s i e → e.level ≡ k) → k < high a → IsCounted S s a m i
+  opened_counts but k run (e, at, node) level low = (k, (e, at, node, level e at), opened_at but k run (e, at, node) level, low)
+
+  pub counted_there : IsCounted S s a m i → i < length s.opened.items
+  counted_there (k, number, at, low) = number.1.0
+
+  pub counted_sure : (but : Option ℕ) → IsRunning S u s but → IsCounted S s a m i → ((e : Opened) → Stands s i e → e.sure ≡ true) → Counts S u a m
+  counted_sure but run (k, number, at, low) sure = sure_counts S u a s but i k m run number sure low
+
+  pub counted_waits : (t : Search) → a.plain ≡ true → IsCounted S s a m i → ((e : Opened) → Stands s i e → e.sure ≡ false)
+      → ((e : Opened) → Stands s i e → e.sure ≡ false → Waits t e.node a.number) → IsLeft S u t a m → ⊥
+  counted_waits t plain (k, number, at, low) = not_left S u a s i k m t plain number
+
+  pub counted_stack : (but : Option ℕ) (l : ℕ) → IsRunning S u s but → IsCounted S s a m i → ((e : Opened) → Stands s i e → e.level ≡ l) → l < length s.stacks.items
+  counted_stack but l run (k, (e, at, node, is), there, low) level = subst (λ x. x < length s.stacks.items) (level e at) (run.stack_there i e at)
+
+  pub counted_settled : (l : ℕ) → IsAsking S u s a → a.plain ≡ false → IsCounted S s a m i → ((e : Opened) → Stands s i e → e.level ≡ l)
+      → ((e : Opened) → Stands s i e → e.sure ≡ false) → ((j n : ℕ) → j ≤ l → IsStacked s j n → ⊥) → IsLeft S u s a m → ⊥
+  counted_settled l h subtracted (k, (e, at, node, is), there, low) level unsure empty =
+      let same : k ≡ l = sym is ∙ level e at in
+      settled_no S u a s i k m h subtracted there low (e, at, node, is) unsure (λ j n below. empty j n (omega (arith, below, same)))
+
+-- the place of the asker's relation
+pub asker_place : (S : Snap) (u : Object) (a : Asking) (s : Search) (p : ℕ) → IsAsking S u s a → ((e : Opened) → Stands s a.number e → e.place ≡ p) → StandsAt S.config (rel_of a.node.now) p
+asker_place S u a s p h is =
+    let (e, at, node, _) = h.number in
+    subst (StandsAt S.config (rel_of a.node.now)) (is e at) (subst (λ m. StandsAt S.config (rel_of m) e.place) node (h.running.placed a.number e at))
 
 module _ (S : Snap) (u : Object) (a : Asking) where
   -- no node before a place is left

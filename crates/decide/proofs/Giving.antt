@@ -7,7 +7,8 @@ use Rattle.std.proofs.lemmas.List.Elements.{Contains-append_left, Contains-push,
 use Rattle.names.specs.declared.object.Object.{Object}
 use Rattle.names.specs.declared.node.Node.{Node}
 use Rattle.meaning.specs.Snap.{Snap}
-use Rattle.meaning.specs.Config.{IsAt}
+use Rattle.meaning.specs.Config.{IsAt, rel_of}
+use Rattle.config.specs.Places.{StandsAt}
 use Rattle.meaning.proofs.Lists.{contains_none}
 use Rattle.decide.specs.declared.search.Search.{Search}
 use Rattle.decide.specs.declared.search.Opened.{Opened}
@@ -51,6 +52,7 @@ pub record Gave (s t : Search) (i : ℕ) (e f : Opened) : Type 0 where
   pub opened : t.opened.items ≡ set s.opened.items i f
   pub node : f.node ≡ e.node
   pub level : f.level ≡ e.level
+  pub place : f.place ≡ e.place
   pub sure : f.sure ≡ true
   pub alone : f.waiting.items ≡ []
   pub own : f.own ≡ e.own
@@ -102,6 +104,15 @@ module _ (s t : Search) (i : ℕ) (e f : Opened) (gave : Gave s t i e f) where
         (λ (_, old). r.at j g old)
         (cases j g at)
 
+    placed_all : (j : ℕ) (g : Opened) → Stands t j g → StandsAt S.config (rel_of g.node) g.place
+    placed_all j g at = ⊎_elim
+        (λ (_, same).
+        let named : StandsAt S.config (rel_of f.node) e.place = subst (λ m. StandsAt S.config (rel_of m) e.place) (sym gave.node) (r.placed i e gave.at) in
+        let whole : StandsAt S.config (rel_of f.node) f.place = subst (StandsAt S.config (rel_of f.node)) (sym gave.place) named in
+        subst (λ (x : Opened). StandsAt S.config (rel_of x.node) x.place) (sym same) whole)
+        (λ (_, old). r.placed j g old)
+        (cases j g at)
+
     right_all : (j : ℕ) (g : Opened) → Stands t j g → g.sure ≡ true → Under S u (suc g.level) g.node
     right_all j g at sure = ⊎_elim
         (λ (_, same).
@@ -114,6 +125,7 @@ module _ (s t : Search) (i : ℕ) (e f : Opened) (gave : Gave s t i e f) where
     pub gave_running : IsRunning S u t None
     gave_running = record {
       at = at_all;
+      placed = placed_all;
       stack_there = λ j g at. ⊎_elim
           (λ (_, same).
           let lt = r.stack_there i e gave.at in

@@ -5,7 +5,8 @@ use Rattle.std.proofs.lemmas.Bool.{false≢true}
 use Rattle.names.specs.declared.object.Object.{Object}
 use Rattle.names.specs.declared.node.Node.{Node}
 use Rattle.meaning.specs.Snap.{Snap}
-use Rattle.meaning.specs.Config.{IsAt}
+use Rattle.meaning.specs.Config.{IsAt, rel_of}
+use Rattle.config.specs.Places.{StandsAt}
 use Rattle.meaning.proofs.Lists.{contains_none}
 use Rattle.decide.specs.declared.search.Search.{Search}
 use Rattle.decide.specs.declared.search.Opened.{Opened}
@@ -15,10 +16,10 @@ use Rattle.decide.proofs.Elements.{Holds, holds_left, holds_last, holds_back}
 use Rattle.decide.proofs.Pushing.{pushed_long, pushed_stays, pushed_here, pushed_back}
 use Rattle.decide.proofs.SearchLemmas.{more_refl, grew_stuck, kept_none}
 
-module _ (s t : Search) (n : Node) (k i : ℕ) (opens : Opens s t n k i) where
+module _ (s t : Search) (n : Node) (k p i : ℕ) (opens : Opens s t n k p i) where
   pub opens_grew : Grew s t
   opens_grew =
-      let (e, opened, _, _, _, _, _, _, _, pushes) = opens in
+      let (e, opened, _, _, _, _, _, _, _, _, pushes) = opens in
       record {
         stands = λ j f at. (f, subst (λ zs. Holds zs j f) (sym opened) (holds_left s.opened.items (e ∷ []) j f at), more_refl f);
         stacked = pushed_stays s.stacks.items t.stacks.items k i pushes;
@@ -27,14 +28,14 @@ module _ (s t : Search) (n : Node) (k i : ℕ) (opens : Opens s t n k i) where
 
   pub opens_number : IsNumberOf t i n k
   opens_number =
-      let (e, opened, node, level, _, _, _, _, is, _) = opens in
+      let (e, opened, node, level, _, _, _, _, _, is, _) = opens in
       let last : Holds (s.opened.items ++ e ∷ []) i e = subst (λ q. Holds (s.opened.items ++ e ∷ []) q e) (sym is) (holds_last s.opened.items e) in
       (e, subst (λ zs. Holds zs i e) (sym opened) last, node, level)
 
-  module _ (S : Snap) (u : Object) (but : Option ℕ) (there : k < length s.stacks.items) (here : IsAt S.config n k) (r : IsRunning S u s but) where
+  module _ (S : Snap) (u : Object) (but : Option ℕ) (there : k < length s.stacks.items) (here : IsAt S.config n k) (stands : StandsAt S.config (rel_of n) p) (r : IsRunning S u s but) where
     opens_back : (j : ℕ) (f : Opened) → Stands t j f → Stands s j f ⊎ ((j ≡ i) × (f ≡ opens.0))
     opens_back j f at =
-        let (e, opened, _, _, _, _, _, _, is, _) = opens in
+        let (e, opened, _, _, _, _, _, _, _, is, _) = opens in
         ⊎_elim inl (λ (last, same). inr (last ∙ sym is, same)) (holds_back s.opened.items e j f (subst (λ zs. Holds zs j f) opened at))
 
     longer : length t.opened.items ≡ length s.opened.items + 1
@@ -42,7 +43,7 @@ module _ (s t : Search) (n : Node) (k i : ℕ) (opens : Opens s t n k i) where
 
     pub opens_running : IsRunning S u t but
     opens_running =
-        let (e, opened, node, level, unsure, alone, own, parents, is, pushes) = opens in
+        let (e, opened, node, level, place, unsure, alone, own, parents, is, pushes) = opens in
         let grew = opens_grew in
         let level_of : (f : Opened) → f ≡ e → f.level ≡ k = λ f same. ap (λ (x : Opened). x.level) same ∙ level in
         record {
@@ -51,6 +52,12 @@ module _ (s t : Search) (n : Node) (k i : ℕ) (opens : Opens s t n k i) where
               let named : IsAt S.config e.node k = subst (λ m. IsAt S.config m k) (sym node) here in
               let whole : IsAt S.config e.node e.level = subst (IsAt S.config e.node) (sym level) named in
               subst (λ (x : Opened). IsAt S.config x.node x.level) (sym same) whole)
+              (opens_back j f at);
+          placed = λ j f at. ⊎_elim (r.placed j f)
+              (λ (_, same).
+              let named : StandsAt S.config (rel_of e.node) p = subst (λ m. StandsAt S.config (rel_of m) p) (sym node) stands in
+              let whole : StandsAt S.config (rel_of e.node) e.place = subst (StandsAt S.config (rel_of e.node)) (sym place) named in
+              subst (λ (x : Opened). StandsAt S.config (rel_of x.node) x.place) (sym same) whole)
               (opens_back j f at);
           stack_there = λ j f at. ⊎_elim
               (λ old. let lt = r.stack_there j f old in omega (arith, lt, grew.long))

@@ -62,6 +62,7 @@ module _ (S : Snap) (u : Object) (s t : Search) (opened : t.opened.items ≡ s.o
         let as_long : length t.opened.items ≡ length s.opened.items = ap length opened in
         record {
           at = λ j g at. r.at j g (old j g at);
+          placed = λ j g at. r.placed j g (old j g at);
           stack_there = λ j g at. let lt = r.stack_there j g (old j g at) in omega (arith, lt, long);
           waiting_there = λ j w g at c. let lt = r.waiting_there j w g (old j g at) c in omega (arith, lt, as_long);
           stacked_there = λ l j on. let lt = r.stacked_there l j (fewer l j on) in omega (arith, lt, as_long);

@@ -1,9 +1,11 @@
 -- The relations and the levels of a source.
 use Rattle.std.proofs.Common.{◌≡◌, ℕ, zero, suc, ◌<◌, List, [], ◌∷◌, length, get_or, refl, ap, ◌∙◌, sym, subst, arith}
 use Rattle.std.specs.Prelude.{◌↔◌, Contains, map}
+use Rattle.std.proofs.lemmas.List.{length-map}
 use Rattle.names.specs.declared.object.Object.{Object}
 use Rattle.names.specs.declared.node.Node.{Node}
-use Rattle.meaning.specs.Config.{Configured, Defined, IsAt, Step, rel_of}
+use Rattle.names.specs.declared.relation.RelationName.{RelationName}
+use Rattle.meaning.specs.Config.{Configured, Defined, Has, IsAt, Step, rel_of}
 use Rattle.meaning.specs.Levels.{IsLevel}
 use Rattle.meaning.specs.Membership.{Gives, RelationGives, HasOne}
 use Rattle.meaning.specs.Snap.{Snap}
@@ -25,6 +27,15 @@ level_there config m i levels are stands = (
   (stands.defined, ((i, stands.within, stands.there), stands.rel)),
   subst (λ r. IsLevel (Step config) r (get_or levels i 0)) stands.rel (are.each i stands.defined stands.within stands.there),
 )
+
+pub has_there : (config : Configured) (r : RelationName) (i : ℕ) → StandsAt config r i → Has config r
+has_there config r i stands = (stands.defined, ((i, stands.within, stands.there), stands.rel))
+
+pub within_relations : (config view : Configured) (ds : List Relation) (m : Node) (i : ℕ) → map defined_of ds ≡ config.relations → config ≡ view → StandsAt view (rel_of m) i → i < length ds
+within_relations config view ds m i are same stands =
+    let lt = stands.within in
+    let long = ap (λ (xs : List Defined). length xs) (are ∙ ap (λ (x : Configured). x.relations) same) in
+    omega (arith, lt, long, length-map ds defined_of)
 
 -- what the relation at a place gives, the node's own does
 module _ (S : Snap) (u : Object) (n : Node) (X L : Node → Type 0) (i : ℕ) (stands : StandsAt S.config (rel_of n) i) (d : Relation) (is : stands.defined ≡ defined_of d) where

@@ -6,7 +6,8 @@ use Rattle.std.proofs.lemmas.List.{length-set}
 use Rattle.std.proofs.lemmas.List.Elements.{Contains-push_cases}
 use Rattle.names.specs.declared.object.Object.{Object}
 use Rattle.meaning.specs.Snap.{Snap}
-use Rattle.meaning.specs.Config.{IsAt}
+use Rattle.meaning.specs.Config.{IsAt, rel_of}
+use Rattle.config.specs.Places.{StandsAt}
 use Rattle.decide.specs.declared.search.Search.{Search}
 use Rattle.decide.specs.declared.search.Opened.{Opened}
 use Rattle.decide.specs.inside.Under.{Under}
@@ -29,6 +30,10 @@ module _ (S : Snap) (u : Object) (s t : Search) (but except : Option ℕ) (grew 
         let (h, old, more) = back j g at in
         let named : IsAt S.config g.node h.level = subst (λ m. IsAt S.config m h.level) (sym more.node) (r.at j h old) in
         subst (IsAt S.config g.node) (sym more.level) named;
+    placed = λ j g at.
+        let (h, old, more) = back j g at in
+        let named : StandsAt S.config (rel_of g.node) h.place = subst (λ m. StandsAt S.config (rel_of m) h.place) (sym more.node) (r.placed j h old) in
+        subst (StandsAt S.config (rel_of g.node)) (sym more.place) named;
     stack_there = λ j g at.
         let (h, old, more) = back j g at in
         let lt = r.stack_there j h old in

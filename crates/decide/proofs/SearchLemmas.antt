@@ -17,12 +17,13 @@ use Rattle.decide.specs.inside.Reads.{AreOwn, AreParents, IsKept}
 use Rattle.decide.specs.inside.Running.{IsHope, IsStuck}
 
 pub more_refl : (e : Opened) → IsMore e e
-more_refl e = record { node = refl; level = refl; sure = refl; waiting = λ i c. c }
+more_refl e = record { node = refl; level = refl; place = refl; sure = refl; waiting = λ i c. c }
 
 pub more_trans : (e f g : Opened) → IsMore e f → IsMore f g → IsMore e g
 more_trans e f g a b = record {
   node = b.node ∙ a.node;
   level = b.level ∙ a.level;
+  place = b.place ∙ a.place;
   sure = b.sure ∙ a.sure;
   waiting = λ i c. b.waiting i (a.waiting i c);
 }

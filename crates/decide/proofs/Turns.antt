@@ -36,6 +36,7 @@ module _ (S : Snap) (u : Object) where
   pub covered_too : (s : Search) (number : ℕ) → IsRunning S u s (Some number) → ((e : Opened) → Stands s number e → e.sure ≡ false → IsStuck S u s number e) → IsRunning S u s None
   covered_too s number run stuck = record {
     at = run.at;
+    placed = run.placed;
     stack_there = run.stack_there;
     waiting_there = run.waiting_there;
     stacked_there = run.stacked_there;
@@ -106,6 +107,7 @@ module _ (S : Snap) (u : Object) where
   pub running_new : (s : Search) → s.opened.items ≡ [] → ((l i : ℕ) → IsStacked s l i → ⊥) → IsRunning S u s None
   running_new s none empty = record {
     at = λ i e st. absurd (nothing i e st);
+    placed = λ i e st. absurd (nothing i e st);
     stack_there = λ i e st. absurd (nothing i e st);
     waiting_there = λ i w e st. absurd (nothing i e st);
     stacked_there = λ l i x. absurd (empty l i x);

@@ -3,7 +3,8 @@ ghost use Rattle.std.specs.Prelude.{◌≡◌, ◌<◌, ◌^◌, ℕ, IfOk, IfEr
 ghost use Rattle.std.proofs.Common.{suc};
 ghost use Rattle.meaning.specs.Admits.{has_relation};
 ghost use Rattle.meaning.specs.Causes.{CheckCause};
-ghost use Rattle.meaning.specs.Config.{IsAt, rel_of};
+ghost use Rattle.meaning.specs.Config.{rel_of};
+ghost use Rattle.config.specs.Places.{StandsAt};
 ghost use Rattle.names.specs.declared.node.Node.{Node as NodeValue};
 ghost use Rattle.decide.specs.Answers.{IsAnswer};
 ghost use Rattle.decide.specs.inside.Under.{Under};
@@ -13,6 +14,7 @@ ghost use Rattle.decide.specs.inside.Asked.{IsSource, IsAsking};
 
 use crate::asking::{Asking, Found};
 use crate::facts::Facts;
+use crate::numbers::key_of;
 use crate::oracle::Oracle;
 use crate::rewrites::relation_gives;
 use crate::search::Search;
@@ -43,30 +45,30 @@ pub fn check_at<O: Oracle>(
         user,
         config: view.config(),
     };
-    let Some(level) = source.level_of(node) else {
+    let Some(place) = source.place_of(node) else {
         return Err(Refusal::UnknownRelation);
     };
-    let answer = is_member(&source, oracle, node, level)?;
+    let answer = is_member(&source, oracle, node, place)?;
     Ok(answer)
 }
 
-/// Whether the user is a member of a node of the level. Each turn looks at one node. The count of turns stands
+/// Whether the user is a member of a node whose relation stands at the place. Each turn looks at one node. The count of turns stands
 /// in place of a measure; no contract says that a search ends before it.
 fn is_member<O: Oracle>(
     source: &Source,
     oracle: &mut O,
     node: &Node,
-    level: usize,
+    place: usize,
 ) -> Result<bool, AllocError>
     requires source { IsSource source.now }
     requires tells { O.tells oracle.old source.now.view.now }
-    requires at { IsAt source.now.view.now.config node.now level }
-    requires small { level < 2 ^ 32 }
+    requires at { StandsAt source.now.view.now.config (rel_of node.now) place }
     ensures { IfOk result (IsAnswer source.now.view.now source.now.user.now node.now) }
 {
     let mut facts = Facts::of(source.alloc, source.view);
+    let level = source.level_at(place);
     let mut search = Search::new(source.alloc, level)?;
-    let root = search.number_of(node, level)?;
+    let root = search.open(node, level, place, key_of(node))?;
     'turns: for _ in 0..u64::MAX {
         if search.is_sure(root) {
             return Ok(true);

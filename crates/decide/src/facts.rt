@@ -1,5 +1,5 @@
 //! What was read of a view. The tuples of an object stand together, and most objects have few: they are found
-//! once, for all of the object's relations, and borrowed.
+//! once, for all of the object's relations, and borrowed; so are the objects that those of a tupleset name.
 ghost use Rattle.std.specs.Prelude.{◌≡◌, ◌↔◌, ◌++◌, ◌∷◌, [], Contains, IfOk, IfSome, IsTrue, OnOk, filter};
 ghost use Rattle.meaning.specs.Config.{Has, rel_of};
 ghost use Rattle.meaning.specs.Membership.{HasOne, HasSet};
@@ -11,11 +11,12 @@ ghost use Rattle.names.specs.declared.object.Object.{Object};
 ghost use Rattle.rows_core.specs.Named.{objects_in, nodes_in};
 ghost use Rattle.tuple_keys.specs.Named.{user_tuple, is_at, is_of};
 ghost use Rattle.tuple_keys.specs.Spelled.{spelled_node};
-ghost use Rattle.decide.specs.inside.Reading.{AreRead, IsReadAt};
+ghost use Rattle.decide.specs.inside.Reading.{AreNamed, AreRead, IsReadAt};
 
 use crate::numbers::{Numbers, key_of_object};
+use crate::source::node_of;
 use config_core::Rewrite;
-use names::{Node, Object};
+use names::{Name, Node, Object};
 use rows::View;
 use std::alloc::{AllocError, Global};
 use std::marker::Model;
@@ -24,11 +25,19 @@ use tuple_keys::{Scratch, Start, TupleRef};
 /// So many tuples of an object are few.
 const FEW: usize = 8;
 
-/// What was read of an object: its tuples, where they are few.
+/// What was read of an object: its tuples, where they are few, and the objects that those of a tupleset name.
 #[derive(Drop)]
 pub(crate) struct Read<'a> {
     object: Object,
     few: Option<Vec<TupleRef<'a>>>,
+    named: Option<Named>,
+}
+
+/// The objects that the tupleset's tuples name.
+#[derive(Drop)]
+pub(crate) struct Named {
+    tupleset: Name,
+    objects: Vec<Object>,
 }
 
 /// What was read, where an object's stands, and where that of the object stands that was asked for last.
@@ -79,6 +88,24 @@ impl<'a> Reads<'a> {
             None => None,
         }
     }
+
+    /// The objects that the object's tuples of the tupleset name, where they were read.
+    fn named(&self, object: &Object, tupleset: &Name) -> Option<&[Object]>
+        ensures { IfSome result (λ os. (S : Snap) → AreRead S self.now → AreNamed S object.now tupleset.now os.now) }
+    {
+        let Ok(place) = self.seen(object) else {
+            return None;
+        };
+        match &self.read[place].named {
+            Some(named) => {
+                if named.tupleset == *tupleset {
+                    return Some(named.objects.as_slice());
+                }
+                None
+            }
+            None => None,
+        }
+    }
 }
 
 /// A view, and what was read of it. Contracts see the view.
@@ -123,7 +150,7 @@ impl<'a> Facts<'a> {
     {
         match rewrite {
             Rewrite::This => Ok(()),
-            _ => read_object(self.alloc, self.view, &mut self.reads, object),
+            _ => read_object(self.alloc, self.view, &mut self.reads, rewrite, object),
         }
     }
 
@@ -149,6 +176,13 @@ impl<'a> Facts<'a> {
         }
     }
 
+    /// The objects that the object's tuples of the tupleset name, where they were read.
+    pub(crate) fn named(&self, object: &Object, tupleset: &Name) -> Option<&[Object]>
+        ensures { IfSome result (λ os. AreNamed self.now object.now tupleset.now os.now) }
+    {
+        self.reads.named(object, tupleset)
+    }
+
     /// The objects that the node's tuples name.
     pub(crate) fn objects_of(&self, node: &Node) -> Result<Vec<Object>, AllocError>
         ensures { IfOk result (λ v. (p : Object) → Contains v.items p ↔ HasOne self.now node.now p) }
@@ -164,6 +198,7 @@ fn read_object<'a>(
     alloc: Global,
     view: &View<'a>,
     reads: &mut Reads<'a>,
+    rewrite: &Rewrite,
     object: &Object,
 ) -> Result<(), AllocError>
     requires { AreRead view.now reads.old }
@@ -177,15 +212,71 @@ fn read_object<'a>(
         Err(key) => key,
     };
     let few = view.few_of(alloc, object, FEW)?;
+    let named = named_by(alloc, &few, rewrite, object)?;
     let read = Read {
         object: object.clone()?,
         few,
+        named,
     };
     let place = reads.read.len();
     reads.places.insert(key, place)?;
     reads.read.push(read)?;
     reads.last = place;
     Ok(())
+}
+
+/// What those of the object's tuples name that are of the rewrite's tupleset, where it has few.
+fn named_by(
+    alloc: Global,
+    few: &Option<Vec<TupleRef<'_>>>,
+    rewrite: &Rewrite,
+    object: &Object,
+) -> Result<Option<Named>, AllocError>
+    ensures { IfOk result (λ o. IfSome o (λ named. (S : Snap)
+        → IfSome few.now (λ v. v.items ≡ filter (is_at object.now) (set.items S.tuples))
+        → AreNamed S object.now named.tupleset named.objects.items)) }
+{
+    let Some(tuples) = few else {
+        return Ok(None);
+    };
+    let Some(tupleset) = tupleset_of(rewrite) else {
+        return Ok(None);
+    };
+    let from = node_of(object, tupleset)?;
+    let objects = named_objects(alloc, tuples.as_slice(), &from)?;
+    Ok(Some(Named {
+        tupleset: tupleset.clone()?,
+        objects,
+    }))
+}
+
+/// A tupleset of the rewrite, if it has one in its first part.
+fn tupleset_of(rewrite: &Rewrite) -> Option<&Name> {
+    match rewrite {
+        Rewrite::Exclusion(base, _) => among_parts(base),
+        _ => among_parts(rewrite),
+    }
+}
+
+fn among_parts(rewrite: &Rewrite) -> Option<&Name> {
+    match rewrite {
+        Rewrite::Union(parts) => {
+            for part in parts {
+                if let Some(tupleset) = own_tupleset(part) {
+                    return Some(tupleset);
+                }
+            }
+            None
+        }
+        _ => own_tupleset(rewrite),
+    }
+}
+
+fn own_tupleset(rewrite: &Rewrite) -> Option<&Name> {
+    match rewrite {
+        Rewrite::TupleTo { tupleset, .. } => Some(tupleset),
+        _ => None,
+    }
 }
 
 /// Whether one of the tuples is the node's of the user.

@@ -1,4 +1,6 @@
 //! Numbers, found by a hash of texts.
+ghost use Rattle.std.specs.Prelude.{◌<◌};
+
 use names::{Node, Object};
 use std::alloc::{AllocError, Global};
 use std::collections::BTreeMap;
@@ -35,6 +37,24 @@ pub(crate) fn key_of(node: &Node) -> u64 {
 /// The key of an object, unless another object has it.
 pub(crate) fn key_of_object(object: &Object) -> u64 {
     mixed(0, object.id.as_str())
+}
+
+/// So many kinds of relations are told apart.
+pub(crate) const KINDS: usize = 16;
+
+/// A number for the node's relation, which a few others may have.
+pub(crate) fn kind_of(node: &Node) -> usize
+    ensures { result < 16 }
+{
+    let relation = node.relation.as_str();
+    (relation.len() ^ first_byte(relation) ^ first_byte(node.object.namespace.as_str())) % KINDS
+}
+
+fn first_byte(text: &str) -> usize {
+    match text.as_bytes().first() {
+        Some(byte) => usize::from(*byte),
+        None => 0,
+    }
 }
 
 /// FNV-1a's step for each byte.

@@ -1,9 +1,13 @@
 //! What a rewrite gives the node that asks.
-ghost use Rattle.std.specs.Prelude.{◌≡◌, Contains, IfOk, IfSome, IfNone, OnOk, map};
+ghost use Rattle.std.specs.Prelude.{◌≡◌, ℕ, Contains, Option, IfOk, IfSome, IfNone, OnOk, map};
+ghost use Rattle.meaning.specs.Config.{Has, rel_of};
 ghost use Rattle.meaning.specs.Membership.{HasOne};
 ghost use Rattle.meaning.specs.Form.{This, Computed, TupleTo, Union, Intersection};
+ghost use Rattle.names.specs.declared.object.Object.{Object};
+ghost use Rattle.config.specs.Places.{StandsAt};
 ghost use Rattle.config_core.specs.Forms.{form_of, rewrite_forms};
-ghost use Rattle.decide.specs.inside.Asked.{IsSource, IsAsking, GoesOn};
+ghost use Rattle.decide.specs.inside.Asked.{IsSource, IsAsking, IsCounted, IsLeft, GoesOn};
+ghost use Rattle.decide.specs.inside.Running.{IsRunning};
 ghost use Rattle.decide.specs.inside.Reads.{AreOwn, AreNodesOf};
 ghost use Rattle.decide.specs.inside.Given.{Gave, BaseGives, HasNode, HasSome, RelationGave, opposite, no_or_later};
 
@@ -14,6 +18,53 @@ use crate::source::{Source, node_of};
 use config_core::Rewrite;
 use names::{Name, Node};
 use std::alloc::AllocError;
+
+/// Where the node's relation stands, if it is there.
+fn place_of(source: &Source, search: &Search, node: &Node) -> Option<usize>
+    requires { IsSource source.now }
+    ensures some { IfSome result (λ p. (u : Object) (but : Option ℕ) → IsRunning source.now.view.now u search.now but
+        → StandsAt source.now.view.now.config (rel_of node.now) p) }
+    ensures none { IfNone result (Has source.now.view.now.config (rel_of node.now) → ⊥) }
+{
+    match search.likely_place(node) {
+        Some(place) => Some(place),
+        None => source.place_of(node),
+    }
+}
+
+/// The number of the node, where it counts. It is opened if it was not.
+fn number_of(
+    source: &Source,
+    search: &mut Search,
+    asking: &Asking,
+    node: &Node,
+) -> Result<Option<usize>, AllocError>
+    requires source { IsSource source.now }
+    requires asking { IsAsking source.now.view.now source.now.user.now search.old asking.now }
+    ensures goes_on { OnOk result (GoesOn source.now.view.now source.now.user.now search.old search.new asking.now) }
+    ensures some { IfOk result (λ o. IfSome o (IsCounted source.now.view.now search.new asking.now node.now)) }
+    ensures none { IfOk result (λ o. IfNone o
+        (IsLeft source.now.view.now source.now.user.now search.new asking.now node.now → ⊥)) }
+{
+    let key = match search.seen(node) {
+        Ok(number) => {
+            if search.level_of(number) >= asking.high() {
+                return Ok(None);
+            }
+            return Ok(Some(number));
+        }
+        Err(key) => key,
+    };
+    let Some(place) = place_of(source, search, node) else {
+        return Ok(None);
+    };
+    let level = source.level_at(place);
+    if level >= asking.high() {
+        return Ok(None);
+    }
+    let number = search.open(node, level, place, key)?;
+    Ok(Some(number))
+}
 
 /// Whether the node counts and has the user. Where that is not known, the asker waits for it.
 fn asked(
@@ -27,13 +78,9 @@ fn asked(
     ensures goes_on { OnOk result (GoesOn source.now.view.now source.now.user.now search.old search.new asking.now) }
     ensures found { IfOk result (HasNode source.now.view.now source.now.user.now search.new asking.now node.now) }
 {
-    let Some(level) = source.level_of(node) else {
+    let Some(number) = number_of(source, search, asking, node)? else {
         return Ok(Found::No);
     };
-    if level >= asking.high() {
-        return Ok(Found::No);
-    }
-    let number = search.number_of(node, level)?;
     if search.is_sure(number) {
         return Ok(Found::Yes);
     }
@@ -41,6 +88,7 @@ fn asked(
         search.wait(number, asking.number)?;
         return Ok(Found::No);
     }
+    let level = search.level_of(number);
     if search.is_settled(level) {
         return Ok(Found::No);
     }
@@ -314,9 +362,7 @@ pub(crate) fn relation_gives(
     ensures goes_on { OnOk result (GoesOn source.now.view.now source.now.user.now search.old search.new asking.now) }
     ensures found { IfOk result (RelationGave source.now.view.now source.now.user.now search.new asking.now) }
 {
-    let Some(place) = source.config.place_of(asking.node) else {
-        return Ok(Found::No);
-    };
+    let place = search.place_of(asking.number);
     let relation = &source.config.relations()[place];
     facts.read_for(&relation.rewrite, &asking.node.object)?;
     let known = Source {

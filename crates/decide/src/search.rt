@@ -1,17 +1,18 @@
 //! The nodes that a question has reached.
 ghost use Rattle.std.specs.Prelude.{◌≡◌, ◌≤◌, ◌<◌, ◌+◌, ◌^◌, ◌⊎◌, [], ◌∷◌, ◌++◌, ℕ, true, false, Contains, Option, Some, None, IfOk, IfSome, IfNone, IsTrue, OnOk, length, slice_index_or};
 ghost use Rattle.std.proofs.Common.{suc};
-ghost use Rattle.meaning.specs.Config.{IsAt};
+ghost use Rattle.meaning.specs.Config.{rel_of};
 ghost use Rattle.meaning.specs.Snap.{Snap};
+ghost use Rattle.config.specs.Places.{StandsAt};
 ghost use Rattle.names.specs.declared.object.Object.{Object};
 ghost use Rattle.names.specs.declared.node.Node.{Node as NodeValue};
 ghost use Rattle.decide.specs.declared.search.Opened.{Opened};
 ghost use Rattle.decide.specs.inside.Under.{Under};
-ghost use Rattle.decide.specs.inside.Searches.{Stands, IsStacked, Waits, Grew, IsNumberOf, Opens, Pushes, IsThere, Wakes};
+ghost use Rattle.decide.specs.inside.Searches.{Stands, IsStacked, Waits, Grew, IsNodeAt, IsNumberOf, Opens, Pushes, IsThere, Wakes};
 ghost use Rattle.decide.specs.inside.Reads.{AreOwn, AreParents};
 ghost use Rattle.decide.specs.inside.Running.{IsRunning};
 
-use crate::numbers::{Numbers, key_of};
+use crate::numbers::{KINDS, Numbers, key_of, kind_of};
 use names::{Name, Node};
 use std::alloc::{AllocError, Global};
 use std::mem::replace;
@@ -19,13 +20,14 @@ use std::mem::replace;
 /// So many nodes are opened before the list of them grows.
 const ROOM: usize = 16;
 
-/// A node that was opened: its relation's level, whether it is known to have the user, the numbers of the
-/// nodes that wait for it, and what was read of it: the usersets of its own tuples, where none names the
-/// user, and the nodes of one tupleset.
+/// A node that was opened: its relation's level and place, whether it is known to have the user, the numbers
+/// of the nodes that wait for it, and what was read of it: the usersets of its own tuples, where none names
+/// the user, and the nodes of one tupleset.
 #[derive(Drop)]
 pub(crate) struct Opened {
     node: Node,
     level: usize,
+    place: usize,
     sure: bool,
     waiting: Vec<usize>,
     own: Option<Vec<Node>>,
@@ -47,12 +49,14 @@ struct Frame {
     asker: usize,
 }
 
-/// The nodes that were opened, in the order of their numbers, and for each level those to be looked at.
+/// The nodes that were opened, in the order of their numbers, for each kind of relation the one that was opened
+/// last, and for each level those to be looked at.
 #[derive(Drop)]
 pub(crate) struct Search {
     alloc: Global,
     opened: Vec<Opened>,
     numbers: Numbers,
+    likely: [usize; KINDS],
     stacks: Vec<Vec<usize>>,
     frames: Vec<Frame>,
 }
@@ -69,21 +73,22 @@ impl Search {
             alloc,
             opened: Vec::with_capacity(alloc, ROOM)?,
             numbers: Numbers::new(alloc),
+            likely: [0; KINDS],
             stacks: empty_stacks(alloc, level)?,
             frames: Vec::new(alloc),
         })
     }
 
     /// The number of a node that was opened, or else a key that is free for it.
-    fn seen(&self, node: &Node, level: usize) -> Result<usize, u64>
-        ensures { IfOk result (λ i. IsNumberOf self.now i node.now level) }
+    pub(crate) fn seen(&self, node: &Node) -> Result<usize, u64>
+        ensures { IfOk result (IsNodeAt self.now node.now) }
     {
         let mut key = key_of(node);
         'keys: for _ in 0..self.opened.len() {
             let Some(number) = self.numbers.get(key) else {
                 return Err(key);
             };
-            if self.is_number_of(number, node, level) {
+            if self.is_number_of(number, node) {
                 return Ok(number);
             }
             key = key.wrapping_add(1);
@@ -91,27 +96,44 @@ impl Search {
         Err(key)
     }
 
-    fn is_number_of(&self, number: usize, node: &Node, level: usize) -> bool
-        ensures { IsTrue result → IsNumberOf self.now number node.now level }
+    fn is_number_of(&self, number: usize, node: &Node) -> bool
+        ensures { IsTrue result → IsNodeAt self.now node.now number }
     {
-        if number < self.opened.len() {
-            let opened = &self.opened[number];
-            if opened.node == *node && opened.level == level {
-                return true;
-            }
-        }
-        false
+        number < self.opened.len() && self.opened[number].node == *node
     }
 
-    /// Opens the node, which is to be looked at.
-    fn open(&mut self, node: &Node, level: usize, key: u64) -> Result<usize, AllocError>
+    /// The place of the node's relation, where the node that was opened last for a relation of its kind has the
+    /// same one.
+    pub(crate) fn likely_place(&self, node: &Node) -> Option<usize>
+        ensures { IfSome result (λ p. (S : Snap) (u : Object) (but : Option ℕ) → IsRunning S u self.now but
+            → StandsAt S.config (rel_of node.now) p) }
+    {
+        let number = self.likely[kind_of(node)];
+        if number < self.opened.len() {
+            let opened = &self.opened[number];
+            if has_relation_of(&opened.node, node) {
+                return Some(opened.place);
+            }
+        }
+        None
+    }
+
+    /// Opens the node, which is to be looked at, under a key that is free.
+    pub(crate) fn open(
+        &mut self,
+        node: &Node,
+        level: usize,
+        place: usize,
+        key: u64,
+    ) -> Result<usize, AllocError>
         requires { level < length self.old.stacks.items }
-        ensures { IfOk result (λ i. Opens self.old self.new node.now level i) }
+        ensures { IfOk result (Opens self.old self.new node.now level place) }
     {
         let number = self.opened.len();
         self.opened.push(Opened {
             node: node.clone()?,
             level,
+            place,
             sure: false,
             waiting: Vec::new(self.alloc),
             own: None,
@@ -119,22 +141,7 @@ impl Search {
         })?;
         self.numbers.insert(key, number)?;
         self.stacks[level].push(number)?;
-        Ok(number)
-    }
-
-    /// The number of the node, which is opened if it was not.
-    pub(crate) fn number_of(&mut self, node: &Node, level: usize) -> Result<usize, AllocError>
-        requires { level < length self.old.stacks.items }
-        ensures grew { OnOk result (Grew self.old self.new) }
-        ensures number { IfOk result (λ i. IsNumberOf self.new i node.now level) }
-        ensures running { OnOk result ((S : Snap) (u : Object) (but : Option ℕ) → IsAt S.config node.now level
-            → IsRunning S u self.old but → IsRunning S u self.new but) }
-    {
-        let key = match self.seen(node, level) {
-            Ok(number) => return Ok(number),
-            Err(key) => key,
-        };
-        let number = self.open(node, level, key)?;
+        self.likely[kind_of(node)] = number;
         Ok(number)
     }
 
@@ -158,6 +165,13 @@ impl Search {
         ensures { (e : Opened) → Stands self.now number e → e.level ≡ result }
     {
         self.opened[number].level
+    }
+
+    pub(crate) fn place_of(&self, number: usize) -> usize
+        requires { number < length self.now.opened.items }
+        ensures { (e : Opened) → Stands self.now number e → e.place ≡ result }
+    {
+        self.opened[number].place
     }
 
     /// The usersets of the node's own tuples, if they were read and kept. They are kept no more.
@@ -358,4 +372,11 @@ fn empty_stacks(alloc: Global, level: usize) -> Result<Vec<Vec<usize>>, AllocErr
         stacks.push(Vec::new(alloc))?;
     }
     Ok(stacks)
+}
+
+/// Whether the nodes have the same relation.
+fn has_relation_of(node: &Node, other: &Node) -> bool
+    ensures { IsTrue result → rel_of node.now ≡ rel_of other.now }
+{
+    node.relation == other.relation && node.object.namespace == other.object.namespace
 }

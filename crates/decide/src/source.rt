@@ -1,12 +1,13 @@
 //! What a question reads.
 ghost use Rattle.std.specs.Prelude.{◌≡◌, ℕ, ◌<◌, ◌^◌, ◌∷◌, ◌++◌, [], Contains, IfOk, OnOk, IfSome, IfNone, length, map, slice_index_or, true, false};
 ghost use Rattle.meaning.specs.Config.{IsAt, Has, rel_of};
+ghost use Rattle.config.specs.Places.{StandsAt};
 ghost use Rattle.meaning.specs.Membership.{HasOne};
 ghost use Rattle.meaning.specs.Admits.{is_relation};
 ghost use Rattle.config_core.specs.Forms.{defined_of};
 ghost use Rattle.config_core.specs.declared.relation.Relation.{Relation};
 ghost use Rattle.names.specs.declared.object.Object.{Object};
-ghost use Rattle.names.specs.declared.node.Node.{Node};
+ghost use Rattle.names.specs.declared.node.Node.{Node as NodeValue};
 ghost use Rattle.decide.specs.inside.Asked.{IsSource};
 ghost use Rattle.decide.specs.inside.Reads.{AreNodesOf, node_with};
 
@@ -27,17 +28,24 @@ pub(crate) struct Source<'a, 'f> {
 }
 
 impl<'a, 'f> Source<'a, 'f> {
-    /// The level of a node's relation, where it is there.
-    pub(crate) fn level_of(&self, node: &Node) -> Option<usize>
+    /// Where a node's relation stands, if it is there.
+    pub(crate) fn place_of(&self, node: &Node) -> Option<usize>
         requires { IsSource self.now }
-        ensures some { IfSome result (λ k. IsAt self.now.view.now.config node.now k) }
-        ensures small { IfSome result (λ k. k < 2 ^ 32) }
+        ensures some { IfSome result (StandsAt self.now.view.now.config (rel_of node.now)) }
         ensures none { IfNone result (Has self.now.view.now.config (rel_of node.now) → ⊥) }
     {
-        match self.config.place_of(node) {
-            None => None,
-            Some(place) => Some(self.config.levels()[place]),
-        }
+        self.config.place_of(node)
+    }
+
+    /// The level of the relation at a place.
+    pub(crate) fn level_at(&self, place: usize) -> usize
+        requires source { IsSource self.now }
+        requires place { place < length self.now.view.now.config.relations }
+        ensures at { (n : NodeValue) → StandsAt self.now.view.now.config (rel_of n) place
+            → IsAt self.now.view.now.config n result }
+        ensures small { result < 2 ^ 32 }
+    {
+        self.config.levels()[place]
     }
 
     /// The nodes of the relation of the objects that the tupleset's tuples name.
@@ -50,6 +58,10 @@ impl<'a, 'f> Source<'a, 'f> {
         requires { IsSource self.now }
         ensures { IfOk result (λ v. AreNodesOf self.now.view.now node.now tupleset.now relation.now v.items) }
     {
+        if let Some(objects) = self.facts.named(&node.object, tupleset) {
+            let known = nodes_of(self.alloc, objects, relation)?;
+            return Ok(known);
+        }
         let from = node_of(&node.object, tupleset)?;
         let objects = self.facts.objects_of(&from)?;
         let nodes = nodes_of(self.alloc, &objects, relation)?;

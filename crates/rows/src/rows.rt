@@ -191,6 +191,21 @@ impl Rows {
         self.tuples.tuples_of(alloc, rev, node)
     }
 
+    /// The first of the node's tuples at a revision, at most so many.
+    pub(crate) fn first_of(
+        &self,
+        alloc: Global,
+        rev: u64,
+        node: &Node,
+        most: usize,
+    ) -> Result<Vec<Tuple>, AllocError>
+        requires { IsRetained self.now rev }
+        ensures { IfOk result
+            (λ v. v.items ≡ take most (filter (is_of node.now) (set.items (snap_at self.now rev).tuples))) }
+    {
+        self.tuples.first_of(alloc, rev, node, most)
+    }
+
     /// The object's tuples at a revision, where the map has no more than `most` of them. Otherwise `None`.
     pub(crate) fn tuples_at_object(
         &self,
@@ -267,6 +282,19 @@ impl Rows {
         let start = (from - self.floor) as usize;
         let end = (to - self.floor) as usize;
         copies(alloc, &self.commits[start..end])
+    }
+
+    /// The commits of the revisions above one, up to another, lent.
+    pub fn commits(&self, from: u64, to: u64) -> &[KeptCommit]
+        requires from { self.now.floor ≤ from }
+        requires order { from ≤ to }
+        requires to { to ≤ newest self.now }
+        ensures { result.now ≡ commits_between self.now from to }
+    {
+        let start = (from - self.floor) as usize;
+        let end = (to - self.floor) as usize;
+        let commits = self.commits.as_slice();
+        &commits[start..end]
     }
 
     /// The revision of the last configuration among the commits above `from`, up to `to`, or else `base`.

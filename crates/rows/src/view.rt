@@ -1,5 +1,5 @@
 //! Views.
-ghost use Rattle.std.specs.Prelude.{◌≡◌, ◌<◌, ◌↔◌, true, false, length, filter, IfOk, IfSome, IsTrue, Contains};
+ghost use Rattle.std.specs.Prelude.{◌≡◌, ◌<◌, ◌↔◌, true, false, length, filter, take, IfOk, IfSome, IsTrue, Contains};
 ghost use Rattle.meaning.specs.Config.{Has, rel_of};
 ghost use Rattle.meaning.specs.Membership.{HasOne, HasSet};
 ghost use Rattle.meaning.specs.TupleSet as set;
@@ -68,6 +68,18 @@ impl<'a> View<'a> {
         ensures { IfOk result (λ v. v.items ≡ filter (is_of node.now) (set.items self.now.tuples)) }
     {
         self.rows.tuples_of(alloc, self.rev, node)
+    }
+
+    /// The first of the node's tuples, in order, at most so many. Those after them are not read.
+    pub fn first_of(
+        &self,
+        alloc: Global,
+        node: &Node,
+        most: usize,
+    ) -> Result<Vec<Tuple>, AllocError>
+        ensures { IfOk result (λ v. v.items ≡ take most (filter (is_of node.now) (set.items self.now.tuples))) }
+    {
+        self.rows.first_of(alloc, self.rev, node, most)
     }
 
     /// The object's tuples, in order, where it has few: no more than `most` are gone over, those that were

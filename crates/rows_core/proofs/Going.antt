@@ -1,5 +1,7 @@
 -- Going over the texts that begin alike: what was found, and what is left.
-use Rattle.std.proofs.Common.{◌≡◌, ℕ, List, [], ◌∷◌, ◌++◌, refl, ap, sym, subst, ◌∙◌, append_assoc, append-nil}
+use Rattle.std.proofs.Common.{◌≡◌, ℕ, ◌≤◌, length, take, arith, List, [], ◌∷◌, ◌++◌, refl, ap, sym, subst, ◌∙◌, append_assoc, append-nil}
+use Rattle.std.proofs.lemmas.List.{take_all}
+use Rattle.std.proofs.Math.Seq.{take-append_seam}
 use Rattle.std.specs.Prelude.{Bool, true, false, cond, ◌&&◌, filter, Option, Some, None}
 use Rattle.std.specs.List.{filter_map, cons_option, starts_with}
 use Rattle.std.specs.List.Sorted.{IsStrictlySortedBy}
@@ -75,6 +77,10 @@ module _ {X : Type 0} (h : Tuple → Option X) (p : List ℕ) (g : Tuple → Boo
     pub left_none : it ≡ [] → IsStrictlySortedBy tuple_cmp (keys m) → found ≡ start ++ filter_map h (filter g (tuples_at m rev))
     left_none none ordered = at_end (ap (λ (us : Texts). given h g rev (entries_of us)) none) ordered
 
+    -- what was found is first
+    pub left_first_found : IsStrictlySortedBy tuple_cmp (keys m) → found ++ given h g rev (entries_of it) ≡ start ++ filter_map h (filter g (tuples_at m rev))
+    left_first_found ordered = left.all ∙ ap (λ (xs : List X). start ++ xs) (given_all m ordered)
+
     module _ (e : List ℕ × List Version) (rest : Texts) (steps : it ≡ e ∷ rest) where
       spelled_now : AreSpelled (e ∷ rest)
       spelled_now = subst AreSpelled steps left.spelled
@@ -129,3 +135,13 @@ module _ {X : Type 0} (h : Tuple → Option X) (p : List ℕ) (g : Tuple → Boo
             (one_left (λ x. stands x.1 rev && g x.0) (entries_of it) (entries_of rest) (entry_of e) (ap entries_of steps) (first_fails p g begins (stands_then rev) (entry_of e) fell))
             ∙ left.all;
       }
+
+-- ---- the first of some
+
+pub first_all : {X : Type 0} (most : ℕ) (found all : List X) → length found ≤ most → found ≡ all → found ≡ take most all
+first_all most found all few same = same ∙ sym (take_all most all (subst (λ xs. length xs ≤ most) same few))
+
+pub first_enough : {X : Type 0} (most : ℕ) (found rest all : List X) → length found ≤ most → most ≤ length found → found ++ rest ≡ all → found ≡ take most all
+first_enough most found rest all few enough same =
+    let exactly : length found ≡ most = omega (arith, few, enough) in
+    sym (take-append_seam found rest) ∙ ap (λ n. take n (found ++ rest)) exactly ∙ ap (take most) same

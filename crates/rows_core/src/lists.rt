@@ -1,5 +1,5 @@
 //! The tuples of a revision, in order.
-ghost use Rattle.std.specs.Prelude.{◌≡◌, ◌++◌, ◌∷◌, [], filter, IfOk, OnOk};
+ghost use Rattle.std.specs.Prelude.{◌≡◌, ◌++◌, ◌∷◌, [], filter, take, IfOk, OnOk};
 ghost use Rattle.std.specs.List.{find};
 ghost use Rattle.std.specs.List.Sorted.{IsStrictlySortedBy};
 ghost use Rattle.names.specs.Order.{tuple_cmp};
@@ -44,6 +44,35 @@ impl VersionMap {
             let Some(_) = least.rest_of(text) else {
                 return Ok(tuples);
             };
+            if versions.stands_at(rev) {
+                push_tuple(&mut tuples, text)?;
+            }
+        }
+        Ok(tuples)
+    }
+
+    /// The first of the node's tuples that stand at a revision, at most so many. Those after them are not read.
+    pub fn first_of(
+        &self,
+        alloc: Global,
+        rev: u64,
+        node: &Node,
+        most: usize,
+    ) -> Result<Vec<Tuple>, AllocError>
+        requires { AreRising self.now }
+        ensures found { IfOk result (λ v. v.items ≡ take most (filter (is_of node.now) (tuples_at self.now rev))) }
+        ensures ordered { IfOk result (λ v. IsStrictlySortedBy tuple_cmp (keys self.now)) }
+    {
+        let texts = self.texts();
+        let least = Start::of_node(node);
+        let mut tuples = Vec::new(alloc);
+        for (text, versions) in texts.range(least.as_str()) {
+            let Some(_) = least.rest_of(text) else {
+                return Ok(tuples);
+            };
+            if tuples.as_slice().len() >= most {
+                return Ok(tuples);
+            }
             if versions.stands_at(rev) {
                 push_tuple(&mut tuples, text)?;
             }

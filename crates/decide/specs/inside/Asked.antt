@@ -1,7 +1,8 @@
 -- What is read of a snapshot, and who asks.
-use Rattle.std.specs.Prelude.{◌≡◌, ℕ, cond, true, Some}
+use Rattle.std.specs.Prelude.{◌≡◌, ◌<◌, ℕ, cond, true, Some}
 use Rattle.std.proofs.Common.{suc}
 use Rattle.meaning.specs.Snap.{Snap}
+use Rattle.meaning.specs.Config.{IsAt}
 use Rattle.names.specs.declared.object.Object.{Object}
 use Rattle.names.specs.declared.node.Node.{Node}
 use Rattle.decide.specs.declared.source.Source.{Source}
@@ -27,6 +28,10 @@ Counts S u a m = Under S u (high a) m
 -- the same, where the asker does not wait for it
 abbrev pub IsLeft : Snap → Object → Search → Asking → Node → Type 0
 IsLeft S u s a m = Under S u (high a) m × (a.plain ≡ true → Waits s m a.number → ⊥)
+
+-- the node has the number, and counts
+abbrev pub IsCounted : Snap → Search → Asking → Node → ℕ → Type 0
+IsCounted S s a m i = (k : ℕ) × IsNumberOf s i m k × IsAt S.config m k × (k < high a)
 
 -- the asker is being looked at
 pub record IsAsking (S : Snap) (u : Object) (s : Search) (a : Asking) : Type 0 where

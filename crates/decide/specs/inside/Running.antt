@@ -4,7 +4,8 @@ use Rattle.std.proofs.Common.{suc}
 use Rattle.names.specs.declared.object.Object.{Object}
 use Rattle.names.specs.declared.node.Node.{Node}
 use Rattle.meaning.specs.Snap.{Snap}
-use Rattle.meaning.specs.Config.{IsAt}
+use Rattle.meaning.specs.Config.{IsAt, rel_of}
+use Rattle.config.specs.Places.{StandsAt}
 use Rattle.meaning.specs.Membership.{RelationGives}
 use Rattle.decide.specs.declared.search.Search.{Search}
 use Rattle.decide.specs.declared.search.Opened.{Opened}
@@ -22,6 +23,7 @@ IsStuck S u s i e = RelationGives S u e.node (IsHope S u s i e.level) (Under S u
 
 pub record IsRunning (S : Snap) (u : Object) (s : Search) (but : Option ℕ) : Type 0 where
   pub at : (i : ℕ) (e : Opened) → Stands s i e → IsAt S.config e.node e.level
+  pub placed : (i : ℕ) (e : Opened) → Stands s i e → StandsAt S.config (rel_of e.node) e.place
   pub stack_there : (i : ℕ) (e : Opened) → Stands s i e → e.level < length s.stacks.items
   pub waiting_there : (i w : ℕ) (e : Opened) → Stands s i e → Contains e.waiting.items w → w < length s.opened.items
   pub stacked_there : (l i : ℕ) → IsStacked s l i → i < length s.opened.items

@@ -18,10 +18,11 @@ IsStacked s l i =
 abbrev pub Waits : Search → Node → ℕ → Type 0
 Waits s m i = (j : ℕ) × (e : Opened) × Stands s j e × (e.node ≡ m) × (e.sure ≡ false) × Contains e.waiting.items i
 
--- the same node at the same level, of which as much is known, and at least the same wait for it
+-- the same node at the same level and place, of which as much is known, and at least the same wait for it
 pub record IsMore (e f : Opened) : Type 0 where
   pub node : f.node ≡ e.node
   pub level : f.level ≡ e.level
+  pub place : f.place ≡ e.place
   pub sure : f.sure ≡ e.sure
   pub waiting : (i : ℕ) → Contains e.waiting.items i → Contains f.waiting.items i
 
@@ -30,6 +31,10 @@ pub record Grew (s t : Search) : Type 0 where
   pub stands : (i : ℕ) (e : Opened) → Stands s i e → (f : Opened) × Stands t i f × IsMore e f
   pub stacked : (l i : ℕ) → IsStacked s l i → IsStacked t l i
   pub long : length t.stacks.items ≡ length s.stacks.items
+
+-- the node has the number
+abbrev pub IsNodeAt : Search → Node → ℕ → Type 0
+IsNodeAt s n i = (e : Opened) × Stands s i e × (e.node ≡ n)
 
 -- a node with this number stands at a level
 abbrev pub IsNumberOf : Search → ℕ → Node → ℕ → Type 0
@@ -42,9 +47,9 @@ Pushes before after l i =
     × (after ≡ slice_set before l w)
 
 -- the node was opened, with this number
-abbrev pub Opens : Search → Search → Node → ℕ → ℕ → Type 0
-Opens s t n k i =
-    (e : Opened) × (t.opened.items ≡ s.opened.items ++ e ∷ []) × (e.node ≡ n) × (e.level ≡ k) × (e.sure ≡ false)
+abbrev pub Opens : Search → Search → Node → (level place number : ℕ) → Type 0
+Opens s t n k p i =
+    (e : Opened) × (t.opened.items ≡ s.opened.items ++ e ∷ []) × (e.node ≡ n) × (e.level ≡ k) × (e.place ≡ p) × (e.sure ≡ false)
     × (e.waiting.items ≡ []) × (e.own ≡ None) × (e.parents ≡ None) × (i ≡ length s.opened.items) × Pushes s.stacks.items t.stacks.items k i
 
 -- there is a stack for the node's level

@@ -1,23 +1,26 @@
-use Rattle.std.proofs.Common.{◌≡◌, sym, subst}
-use Rattle.meaning.specs.Config.{Configured, Has, rel_of}
-use Rattle.config_core.specs.Forms.{defined_of}
-use Rattle.config_core.specs.declared.relation.Relation.{Relation}
+use Rattle.std.proofs.Common.{ap, ◌∙◌}
+use Rattle.meaning.specs.Config.{Configured, rel_of}
 use Rattle.config.specs.Places.{StandsAt}
 use Rattle.config.proofs.Searching.{read_there}
-use Rattle.decide.proofs.Found.{relation_gave}
+use Rattle.decide.proofs.Found.{asker_place, relation_gave}
+use Rattle.decide.proofs.Relations.{within_relations}
 use Rattle.decide.proofs.rewrites.relation_gives.Goals as goal
 
-pub returns-in_default-clause-found : goal.returns-in_default-clause-found
-returns-in_default-clause-found c = λ (d, defines, _). c.in_default.ensures.none (subst (λ (k : Configured). Has k (rel_of c.args.asking.now.node.now)) (sym c.requires.source.config) (d, defines))
+pub bounds-relations-place : goal.bounds-relations-place
+bounds-relations-place c =
+    let view = c.args.source.now.view.now in
+    let a = c.args.asking.now in
+    let place = c.place_of-place.result in
+    let stands = asker_place view c.args.source.now.user.now a c.args.search.now place c.requires.asking c.place_of-place.ensures in
+    within_relations c.args.source.now.config.now view.config c.relations.result.now a.node.now place c.relations.ensures.relations c.requires.source.config stands
 
 pub returns-clause-found : goal.returns-clause-found
 returns-clause-found c =
-    let config = c.args.source.now.config.now in
-    let r = rel_of c.args.asking.now.node.now in
-    let d : Relation = c.index-relations-place.result in
-    let stands : StandsAt config r c.in-Some.place = c.in-Some.ensures.found in
     let view = c.args.source.now.view.now in
-    let is = read_there config c.relations.result.now r c.in-Some.place d c.relations.ensures.relations stands c.index-relations-place.is in
-    let moved : (stands' : StandsAt view.config r c.in-Some.place) × (stands'.defined ≡ defined_of d) = subst (λ (k : Configured). (x : StandsAt k r c.in-Some.place) × (x.defined ≡ defined_of d)) c.requires.source.config (stands, is) in
-    relation_gave view c.args.source.now.user.now c.args.asking.now c.gives.new.search c.in_ok-found.found c.in-Some.place moved.0 d moved.1
-    c.in_ok-found.ensures.found
+    let a = c.args.asking.now in
+    let place = c.place_of-place.result in
+    let stands : StandsAt view.config (rel_of a.node.now) place = asker_place view c.args.source.now.user.now a c.args.search.now place c.requires.asking c.place_of-place.ensures in
+    let d = c.index-relations-place.result in
+    let relations = c.relations.ensures.relations ∙ ap (λ (x : Configured). x.relations) c.requires.source.config in
+    let is = read_there view.config c.relations.result.now (rel_of a.node.now) place d relations stands c.index-relations-place.is in
+    relation_gave view c.args.source.now.user.now a c.gives.new.search c.in_ok-found.found place stands d is c.in_ok-found.ensures.found

@@ -15,7 +15,7 @@ wake_all-requires c w asked =
     let xs = c.args.self.now.opened.items in
     let number = c.args.number in
     let e = c.index_mut.result.now in
-    let b : Opened = record { node = e.node; level = e.level; sure = e.sure; waiting = c.replace-waiting.new.dest; own = e.own; parents = e.parents } in
+    let b : Opened = record { node = e.node; level = e.level; place = e.place; sure = e.sure; waiting = c.replace-waiting.new.dest; own = e.own; parents = e.parents } in
     let stood : Holds xs number e = (c.requires.number, sym c.index_mut.ensures.value) in
     let waits : Contains e.waiting.items w = subst (λ ys. Contains ys w) (c.deref.ensures.value ∙ ap (λ (x : Vec ℕ Global). x.items) c.replace-waiting.ensures.value) asked in
     let there = c.requires.there w number e stood waits in
@@ -31,16 +31,17 @@ abbrev before : After-drop-waiting-2 → Opened
 before c = c.index_mut.result.now
 
 abbrev emptied : After-drop-waiting-2 → Opened
-emptied c = record { node = (before c).node; level = (before c).level; sure = (before c).sure; waiting = c.replace-waiting.new.dest; own = (before c).own; parents = (before c).parents }
+emptied c = record { node = (before c).node; level = (before c).level; place = (before c).place; sure = (before c).sure; waiting = c.replace-waiting.new.dest; own = (before c).own; parents = (before c).parents }
 
 abbrev after : After-drop-waiting-2 → Opened
-after c = record { node = c.index_mut-2.result.now.node; level = c.index_mut-2.result.now.level; sure = true; waiting = c.index_mut-2.result.now.waiting; own = c.index_mut-2.result.now.own; parents = c.index_mut-2.result.now.parents }
+after c = record { node = c.index_mut-2.result.now.node; level = c.index_mut-2.result.now.level; place = c.index_mut-2.result.now.place; sure = true; waiting = c.index_mut-2.result.now.waiting; own = c.index_mut-2.result.now.own; parents = c.index_mut-2.result.now.parents }
 
 abbrev given : After-drop-waiting-2 → Search
 given c = record {
   alloc = c.wake_all.new.self.alloc;
   opened = Rattle.std.specs.Vec.with_item c.wake_all.new.self.opened c.args.number (after c);
   numbers = c.wake_all.new.self.numbers;
+  likely = c.wake_all.new.self.likely;
   stacks = c.wake_all.new.self.stacks;
   frames = c.wake_all.new.self.frames;
 }
@@ -67,6 +68,7 @@ gave c =
       opened = ap (λ ys. set ys c.args.number (after c)) c.in_ok-wake_all.ensures.opened ∙ set-set xs c.args.number (emptied c) (after c);
       node = ap (λ (x : Opened). x.node) (same c);
       level = ap (λ (x : Opened). x.level) (same c);
+      place = ap (λ (x : Opened). x.place) (same c);
       sure = refl;
       alone = ap (λ (x : Opened). x.waiting.items) (same c) ∙ ap (λ (x : Vec ℕ Global). x.items) c.replace-waiting.ensures.after ∙ c.new.ensures.items;
       own = ap (λ (x : Opened). x.own) (same c);

@@ -12,7 +12,7 @@ abbrev before : In_ok-push → Opened
 before c = c.index_mut.result.now
 
 abbrev after : In_ok-push → Opened
-after c = record { node = (before c).node; level = (before c).level; sure = (before c).sure; waiting = c.push.new.self; own = (before c).own; parents = (before c).parents }
+after c = record { node = (before c).node; level = (before c).level; place = (before c).place; sure = (before c).sure; waiting = c.push.new.self; own = (before c).own; parents = (before c).parents }
 
 stood : (c : In_ok-push) → Holds c.args.self.now.opened.items c.args.number (before c)
 stood c = (c.requires, sym c.index_mut.ensures.value)
@@ -24,6 +24,7 @@ more : (c : In_ok-push) → IsMore (before c) (after c)
 more c = record {
   node = refl;
   level = refl;
+  place = refl;
   sure = refl;
   waiting = λ i w. subst (λ xs. Contains xs i) (sym (pushed c)) (Contains-append_left (before c).waiting.items (c.args.asker ∷ []) i w);
 }

@@ -1,0 +1,26 @@
+use Rattle.std.proofs.Common.{◌≡◌, ◌∙◌, List, ap, subst, sym}
+use Rattle.std.specs.Prelude.{◌↔◌, Contains, IfSome, filter}
+use Rattle.names.specs.declared.node.Node.{Node}
+use Rattle.names.specs.declared.tuple.Tuple.{Tuple}
+use Rattle.names.specs.declared.object.Object.{Object}
+use Rattle.meaning.specs.Membership.{HasOne}
+use Rattle.meaning.specs.TupleSet as set
+use Rattle.tuple_keys.specs.Named.{is_at, is_of}
+use Rattle.rows_core.specs.Named.{objects_in}
+use Rattle.decide.specs.inside.Reads.{node_with}
+use Rattle.decide.specs.inside.Reading.{AreNamed}
+use Rattle.decide.proofs.Few.{few_objects}
+use Rattle.decide.proofs.facts.named_by.Goals as goal
+
+pub returns : goal.returns
+returns c = λ S is.
+    let o = c.args.object.now in
+    let from = c.in_ok-from.from in
+    let objects = c.in_ok-objects.objects.items in
+    let tuples = c.as_slice.result.now in
+    let read : c.in-Some.tuples.items ≡ filter (is_at o) (set.items S.tuples) = subst (λ f. IfSome f (λ v. v.items ≡ filter (is_at o) (set.items S.tuples))) c.in-Some.is is in
+    let all : tuples ≡ filter (is_at o) (set.items S.tuples) = c.as_slice.ensures.value ∙ read in
+    let its : tuples ≡ filter (is_at from.object) (set.items S.tuples) = subst (λ (n : Node). tuples ≡ filter (is_at n.object) (set.items S.tuples)) (sym c.in_ok-from.ensures) all in
+    let named : (p : Object) → Contains objects p ↔ HasOne S from p = few_objects S from tuples its objects c.in_ok-objects.ensures in
+    let here : AreNamed S o c.in-Some-tupleset_of.tupleset.now objects = subst (λ (n : Node). (p : Object) → Contains objects p ↔ HasOne S n p) c.in_ok-from.ensures named in
+    subst (λ t. AreNamed S o t objects) (sym c.in_ok-clone.ensures.cases) here

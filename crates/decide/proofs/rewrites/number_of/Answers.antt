@@ -1,0 +1,68 @@
+use Rattle.std.proofs.Common.{◌<◌, ◌≤◌, subst, arith}
+use Rattle.std.specs.Prelude.{Some}
+use Rattle.decide.proofs.Found.{goes_on, too_high, no_relation, opened_at, opened_counts, asker_there, high_low}
+use Rattle.decide.proofs.Opening.{opens_grew, opens_number, opens_running}
+use Rattle.decide.proofs.rewrites.number_of.Goals as goal
+
+pub returns-then-level_of-high-clause-none : goal.returns-then-level_of-high-clause-none
+returns-then-level_of-high-clause-none c =
+    let view = c.args.source.now.view.now in
+    let user = c.args.source.now.user.now in
+    let a = c.args.asking.now in
+    let level = c.level_of.result in
+    too_high view user a c.args.search.now c.args.node.now level
+    (opened_at view user a c.args.search.now c.args.node.now c.in-Ok.number (Some a.number) level c.requires.asking.running c.in-Ok.ensures c.level_of.ensures)
+    (subst (λ h. h ≤ level) c.high.ensures c.if-level_of-high.true)
+
+pub returns-in-Ok-clause-some : goal.returns-in-Ok-clause-some
+returns-in-Ok-clause-some c =
+    let view = c.args.source.now.view.now in
+    let user = c.args.source.now.user.now in
+    let a = c.args.asking.now in
+    let level = c.level_of.result in
+    opened_counts view user a c.args.search.now c.args.node.now c.in-Ok.number (Some a.number) level c.requires.asking.running c.in-Ok.ensures c.level_of.ensures
+    (subst (λ h. level < h) c.high.ensures c.if-level_of-high.false)
+
+pub returns-in_default-clause-none : goal.returns-in_default-clause-none
+returns-in_default-clause-none c = no_relation c.args.source.now.view.now c.args.source.now.user.now c.args.asking.now c.args.search.now c.args.node.now c.in_default.ensures.none
+
+pub returns-then-level-high-clause-none : goal.returns-then-level-high-clause-none
+returns-then-level-high-clause-none c =
+    let view = c.args.source.now.view.now in
+    let user = c.args.source.now.user.now in
+    let a = c.args.asking.now in
+    let level = c.level_at-level.result in
+    let stands = c.in-Some.ensures.some user (Some a.number) c.requires.asking.running in
+    too_high view user a c.args.search.now c.args.node.now level (c.level_at-level.ensures.at c.args.node.now stands)
+    (subst (λ h. h ≤ level) c.high-2.ensures c.if-level-high.true)
+
+pub returns-clause-goes_on : goal.returns-clause-goes_on
+returns-clause-goes_on c =
+    let view = c.args.source.now.view.now in
+    let user = c.args.source.now.user.now in
+    let a = c.args.asking.now in
+    let s = c.args.search.now in
+    let t = c.open.new.self in
+    let m = c.args.node.now in
+    let level = c.level_at-level.result in
+    let place = c.in-Some.place in
+    let number = c.in_ok-number.number in
+    let opens = c.in_ok-number.ensures in
+    let stands = c.in-Some.ensures.some user (Some a.number) c.requires.asking.running in
+    let low : level < c.high-2.result = c.if-level-high.false in
+    let there = (asker_there view user a s c.requires.asking).0 in
+    let up = high_low a in
+    goes_on view user a s t c.requires.asking (opens_grew s t m level place number opens)
+    (opens_running s t m level place number opens view user (Some a.number) (omega (arith, low, there, up, c.high-2.ensures)) (c.level_at-level.ensures.at m stands) stands c.requires.asking.running)
+
+pub returns-clause-some : goal.returns-clause-some
+returns-clause-some c =
+    let a = c.args.asking.now in
+    let m = c.args.node.now in
+    let level = c.level_at-level.result in
+    let stands = c.in-Some.ensures.some c.args.source.now.user.now (Some a.number) c.requires.asking.running in (
+      level,
+      opens_number c.args.search.now c.open.new.self m level c.in-Some.place c.in_ok-number.number c.in_ok-number.ensures,
+      c.level_at-level.ensures.at m stands,
+      subst (λ h. level < h) c.high-2.ensures c.if-level-high.false,
+    )
