@@ -10,15 +10,20 @@ ghost use Rattle.store.specs.Refused.{DeservedBy, IsWholeAbove, IsWholeAt};
 
 use crate::configs::config_at;
 use crate::parts::{Head, Parts, Placed, ReadConfig, ReadSpan};
+use crate::placed_event::{PlacedEvent, events_in};
 use crate::placing::{place_spans, take_events};
 use crate::unread::Unread;
 use config::Config;
+use names::EventKind;
 use names::limits::MAX_ROWS;
-use names::{Event, EventKind};
 use std::alloc::Global;
 use tuple_keys::{KeptCommit, KeptEvents};
 
-fn config_commit(alloc: Global, config: &Config, events: &[Event]) -> Result<KeptCommit, Unread>
+fn config_commit(
+    alloc: Global,
+    config: &Config,
+    events: &[PlacedEvent],
+) -> Result<KeptCommit, Unread>
     ensures is { IfOk result (IsCommitOf (Some config.now) events.now) }
     ensures fault { IfErr result (DeservedBy (length events.now ≡ 0)) }
 {
@@ -28,7 +33,7 @@ fn config_commit(alloc: Global, config: &Config, events: &[Event]) -> Result<Kep
     Ok(KeptCommit::of_config(alloc, config.again(alloc)?)?)
 }
 
-fn tuples_commit(alloc: Global, events: &[Event]) -> Result<KeptCommit, Unread>
+fn tuples_commit(alloc: Global, events: &[PlacedEvent]) -> Result<KeptCommit, Unread>
     requires { IsStrictlySortedBy tuple_cmp (tuples_in events.now) }
     ensures is { IfOk result (IsCommitOf None events.now) }
     ensures fault { IfErr result (DeservedBy (0 < length events.now)) }
@@ -36,7 +41,8 @@ fn tuples_commit(alloc: Global, events: &[Event]) -> Result<KeptCommit, Unread>
     if events.len() == 0 {
         return Err(Unread::Fault);
     }
-    Ok(KeptCommit::of_events(alloc, events)?)
+    let events = events_in(alloc, events)?;
+    Ok(KeptCommit::of_events(alloc, &events)?)
 }
 
 // The commit of a revision with these events.
@@ -44,7 +50,7 @@ fn commit_at(
     alloc: Global,
     configs: &[ReadConfig],
     rev: u64,
-    events: Vec<Event>,
+    events: Vec<PlacedEvent>,
 ) -> Result<KeptCommit, Unread>
     requires { IsStrictlySortedBy tuple_cmp (tuples_in events.items) }
     ensures is { IfOk result (IsCommitAt rev (config_at rev (map as_config configs.now)) events.items) }

@@ -1,6 +1,7 @@
 //! The configurations, read.
-ghost use Rattle.std.specs.Prelude.{◌≡◌, ◌≤◌, ◌⊎◌, false, map, IsTrue, IfOk, IfErr, All};
+ghost use Rattle.std.specs.Prelude.{◌≡◌, ◌≤◌, ◌⊎◌, true, false, map, IsTrue, IfOk, IfErr, All};
 ghost use Rattle.std.specs.Option.{option_copied};
+ghost use Rattle.meaning.specs.Admits.{admits};
 ghost use Rattle.meaning.specs.Config.{empty_config};
 ghost use Rattle.store_core.specs.Stored.{config_row_in};
 ghost use Rattle.store.specs.Written.{IsConfigAt, config_row_of, config_at, config_up_to};
@@ -11,6 +12,7 @@ ghost use Rattle.store.specs.Refused.{DeservedBy, IsOfConfig, ConfigsListed, Are
 use crate::parts::{Head, ReadConfig, ReadSpan};
 use crate::unread::Unread;
 use config::Config;
+use names::Tuple;
 use std::alloc::Global;
 use store_core::StoredConfig;
 
@@ -98,6 +100,14 @@ fn is_between(span: &ReadSpan, from: u64, rev: u64) -> bool
     from < rev && (span.removed == 0 || rev < span.removed)
 }
 
+// Whether the configuration admits the tuple, or does not come while the span is there.
+fn is_borne(revised: &ReadConfig, span: &ReadSpan, from: u64, tuple: &Tuple) -> bool
+    ensures passes { IsTrue result → is_between from span.now.removed revised.now.rev ≡ true → admits revised.now.config tuple.now ≡ true }
+    ensures refuses { result ≡ false → (is_between from span.now.removed revised.now.rev ≡ true) × (admits revised.now.config tuple.now ≡ false) }
+{
+    !is_between(span, from, revised.rev) || revised.config.allows(tuple)
+}
+
 fn later(a: u64, b: u64) -> u64
     ensures either { (result ≡ a) ⊎ (result ≡ b) }
     ensures most { (a ≤ result) × (b ≤ result) }
@@ -117,11 +127,12 @@ pub(crate) fn is_admitted(
     ensures refuses { result ≡ false → IsNotAdmitted floor configs.now span.now }
 {
     let from = later(floor, span.added);
-    if !config_up_to(empty, configs, from).allows(&span.tuple) {
+    let tuple = span.tuple.tuple();
+    if !config_up_to(empty, configs, from).allows(&tuple) {
         return false;
     }
     for revised in configs {
-        if is_between(span, from, revised.rev) && !revised.config.allows(&span.tuple) {
+        if !is_borne(revised, span, from, &tuple) {
             return false;
         }
     }

@@ -9,11 +9,13 @@ mod configs;
 mod head;
 mod history;
 mod parts;
+mod placed_event;
 mod placing;
 mod reading;
 mod spans;
 mod store;
 mod texts;
+mod tuple_key;
 mod unread;
 
 pub use reading::read;

@@ -1,13 +1,15 @@
 //! Rows, read.
 
+use crate::placed_event::PlacedEvent;
+use crate::tuple_key::TupleKey;
 use config::Config;
-use names::{Event, Tuple};
+use names::Tuple;
 use tuple_keys::KeptCommit;
 
 /// The revisions from which and before which a tuple is there; `removed` is 0 while it still is.
 #[derive(Debug, PartialEq, Eq, PartialOrd, Ord, Drop)]
 pub(crate) struct ReadSpan {
-    pub(crate) tuple: Tuple,
+    pub(crate) tuple: TupleKey,
     pub(crate) added: u64,
     pub(crate) removed: u64,
 }
@@ -16,7 +18,7 @@ pub(crate) struct ReadSpan {
 #[derive(Debug, Drop)]
 pub(crate) struct Placed {
     pub(crate) tuples: Vec<Tuple>,
-    pub(crate) slots: Vec<Vec<Event>>,
+    pub(crate) slots: Vec<Vec<PlacedEvent>>,
 }
 
 /// The tuples at the floor, and the commits above it, oldest first.

@@ -8,13 +8,15 @@ ghost use Rattle.store.specs.inside.Reading.{as_span};
 ghost use Rattle.store.specs.declared.unread.Unread.TheVariants.{Memory};
 
 use crate::parts::{Head, Placed, ReadSpan};
+use crate::placed_event::PlacedEvent;
+use crate::tuple_key::TupleKey;
 use crate::unread::Unread;
-use names::{Event, EventKind, Tuple};
+use names::{EventKind, Tuple};
 use std::alloc::Global;
 use std::collections::VecDeque;
 use std::mem;
 
-fn no_events(alloc: Global, count: usize) -> Result<Vec<Vec<Event>>, Unread>
+fn no_events(alloc: Global, count: usize) -> Result<Vec<Vec<PlacedEvent>>, Unread>
     ensures len { IfOk result (λ v. length v.items ≡ count) }
     ensures none { IfOk result (λ v. (k : ℕ) → slot v.items k ≡ []) }
     ensures fault { IfErr result (λ e. e ≡ Memory) }
@@ -26,7 +28,7 @@ fn no_events(alloc: Global, count: usize) -> Result<Vec<Vec<Event>>, Unread>
     Ok(slots)
 }
 
-fn add(events: &mut Vec<Event>, event: Event) -> Result<(), Unread>
+fn add(events: &mut Vec<PlacedEvent>, event: PlacedEvent) -> Result<(), Unread>
     ensures pushed { OnOk result (events.new.items ≡ events.old.items ++ event ∷ []) }
     ensures fault { IfErr result (λ e. e ≡ Memory) }
 {
@@ -34,7 +36,7 @@ fn add(events: &mut Vec<Event>, event: Event) -> Result<(), Unread>
     Ok(())
 }
 
-fn push_at(slots: &mut Vec<Vec<Event>>, at: usize, event: Event) -> Result<(), Unread>
+fn push_at(slots: &mut Vec<Vec<PlacedEvent>>, at: usize, event: PlacedEvent) -> Result<(), Unread>
     ensures len { OnOk result (length slots.new.items ≡ length slots.old.items) }
     ensures placed { OnOk result (Adds slots.old.items slots.new.items (λ k. event_if (at == k) event)) }
     ensures fault { IfErr result (λ e. e ≡ Memory) }
@@ -47,7 +49,12 @@ fn push_at(slots: &mut Vec<Vec<Event>>, at: usize, event: Event) -> Result<(), U
 }
 
 // Above the floor, the event goes to its revision.
-fn place(slots: &mut Vec<Vec<Event>>, floor: u64, rev: u64, event: Event) -> Result<(), Unread>
+fn place(
+    slots: &mut Vec<Vec<PlacedEvent>>,
+    floor: u64,
+    rev: u64,
+    event: PlacedEvent,
+) -> Result<(), Unread>
     ensures len { OnOk result (length slots.new.items ≡ length slots.old.items) }
     ensures placed { OnOk result (Adds slots.old.items slots.new.items (event_at_place floor rev event.tuple event.kind)) }
     ensures fault { IfErr result (λ e. e ≡ Memory) }
@@ -66,7 +73,7 @@ fn is_alive(span: &ReadSpan, rev: u64) -> bool
 }
 
 // Its tuple once more, where the span ends above the floor and the tuple does not go on.
-fn copy_ended(floor: u64, span: &ReadSpan, on: bool) -> Result<Option<Tuple>, Unread>
+fn copy_ended(floor: u64, span: &ReadSpan, on: bool) -> Result<Option<TupleKey>, Unread>
     ensures copied { IfOk result (λ o. o ≡ cond (not on && nat_lt floor span.now.removed) (Some span.now.tuple) None) }
     ensures fault { IfErr result (λ e. e ≡ Memory) }
 {
@@ -88,7 +95,7 @@ fn keep(tuples: &mut Vec<Tuple>, tuple: Tuple) -> Result<(), Unread>
 // The tuple is there at the floor, or is put above it.
 fn begin(
     tuples: &mut Vec<Tuple>,
-    slots: &mut Vec<Vec<Event>>,
+    slots: &mut Vec<Vec<PlacedEvent>>,
     floor: u64,
     span: ReadSpan,
 ) -> Result<(), Unread>
@@ -98,19 +105,16 @@ fn begin(
     ensures fault { IfErr result (λ e. e ≡ Memory) }
 {
     if is_alive(&span, floor) {
-        return keep(tuples, span.tuple);
+        return keep(tuples, span.tuple.tuple());
     }
-    let event = Event {
-        tuple: span.tuple,
-        kind: EventKind::Put,
-    };
+    let event = PlacedEvent::of(span.tuple, EventKind::Put);
     place(slots, floor, span.added, event)
 }
 
 // A tuple is copied only where its span ends above the floor.
 fn place_span(
     tuples: &mut Vec<Tuple>,
-    slots: &mut Vec<Vec<Event>>,
+    slots: &mut Vec<Vec<PlacedEvent>>,
     floor: u64,
     span: ReadSpan,
     on: bool,
@@ -126,8 +130,8 @@ fn place_span(
     let Some(tuple) = ended else {
         return Ok(());
     };
-    let kind = EventKind::Del;
-    place(slots, floor, removed, Event { tuple, kind })?;
+    let event = PlacedEvent::of(tuple, EventKind::Del);
+    place(slots, floor, removed, event)?;
     Ok(())
 }
 
@@ -160,7 +164,11 @@ pub(crate) fn place_spans(alloc: Global, head: Head, spans: Vec<ReadSpan>) -> Re
 }
 
 /// Takes the events of one revision out.
-pub(crate) fn take_events(alloc: Global, slots: &mut Vec<Vec<Event>>, at: usize) -> Vec<Event>
+pub(crate) fn take_events(
+    alloc: Global,
+    slots: &mut Vec<Vec<PlacedEvent>>,
+    at: usize,
+) -> Vec<PlacedEvent>
     requires { at < length slots.old.items }
     ensures taken { result.items ≡ slot slots.old.items at }
     ensures rest { (k : ℕ) → k ≢ at → slot slots.new.items k ≡ slot slots.old.items k }

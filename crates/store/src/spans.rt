@@ -8,13 +8,14 @@ ghost use Rattle.store.specs.inside.Reading.{as_span, AreInTurn, Spells};
 ghost use Rattle.store.specs.Refused.{DeservedBy, IsOfTuple, IsOfSpan, SpansListed, Overlap};
 
 use crate::parts::{Head, ReadSpan};
+use crate::tuple_key::TupleKey;
 use crate::unread::Unread;
 use names::{Name, Node, Object, ObjectId, Subject, Tuple};
 use std::alloc::Global;
 use std::cmp::Ordering;
 use store_core::{StoredSpan, TupleText};
 
-fn read_tuple(alloc: Global, text: &TupleText) -> Result<Tuple, Unread>
+fn read_tuple(text: &TupleText) -> Result<Tuple, Unread>
     ensures same { IfOk result (Spells text.now) }
     ensures is { IfOk result IsTuple }
     ensures fault { IfErr result (DeservedBy (IsOfTuple text.now)) }
@@ -48,7 +49,7 @@ fn read_span(alloc: Global, head: Head, stored: &StoredSpan) -> Result<ReadSpan,
     if !is_span(head, stored.added, stored.removed) {
         return Err(Unread::Fault);
     }
-    let tuple = read_tuple(alloc, &stored.tuple)?;
+    let tuple = TupleKey::of(alloc, &read_tuple(&stored.tuple)?)?;
     Ok(ReadSpan {
         tuple,
         added: stored.added,
