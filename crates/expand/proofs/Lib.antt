@@ -1,0 +1,5 @@
+pub mod Meanings
+pub mod Making
+pub mod Measures
+pub mod Paths
+pub mod Relations

@@ -1,0 +1,23 @@
+use Rattle.std.proofs.Common.{◌≡◌, true, sym, subst}
+use Rattle.meaning.specs.Config.{Configured, Has, rel_of}
+use Rattle.meaning.specs.Admits.{has_relation}
+use Rattle.meaning.proofs.KnownRelations.{not_known}
+use Rattle.expand.specs.Causes.{ExpandCause}
+use Rattle.expand.proofs.Making.{exit, expand_cause}
+use Rattle.expand.proofs.Relations.{stands_known}
+use Rattle.expand.proofs.expanding.expand_at.Goals as goal
+
+pub returns-in_default-clause-err : goal.returns-in_default-clause-err
+returns-in_default-clause-err c =
+    not_known c.args.view.now.config (rel_of c.args.node.now) (λ has. c.in_default.ensures.none (subst (λ (k : Configured). Has k (rel_of c.args.node.now)) (sym c.config-config.ensures.config) has))
+
+pub returns-in_err-tree-clause-err : goal.returns-in_err-tree-clause-err
+returns-in_err-tree-clause-err c =
+    let n = c.args.node.now in
+    let known = subst (λ (k : Configured). has_relation k (rel_of n) ≡ true) c.config-config.ensures.config (stands_known c.config-config.result.now n _ c.in-Some.ensures.found) in
+    exit (ExpandCause c.args.view.now n c.args.depth) c.from_residual.result c.in_err-tree.field-0.0 c.from_residual.ensures.1
+    (expand_cause c.args.view.now n c.args.depth c.new-walk.result c.in_err-tree.field-0.0 c.new-walk.ensures.path c.new-walk.ensures.room known c.in_err-tree.ensures.err)
+
+pub returns-clause-known : goal.returns-clause-known
+returns-clause-known c =
+    subst (λ (k : Configured). has_relation k (rel_of c.args.node.now) ≡ true) c.config-config.ensures.config (stands_known c.config-config.result.now c.args.node.now _ c.in-Some.ensures.found)
