@@ -1,0 +1,288 @@
+-- A walk that asks.
+use Rattle.std.proofs.Common.{ℕ, ◌≡◌, ◌≤◌, ◌<◌, ◌+◌, Bool, true, false, not, ◌&&◌, ◌||◌, take, length, nat_eq, List, [], ◌∷◌, ◌++◌, get_or, refl, sym, ◌∙◌, ap, subst, arith, ⊎_elim, ◌⊎◌, append_assoc, append-nil, zero, suc}
+use Rattle.std.specs.List.{IsDistinct, AllByRecursion}
+use Rattle.std.specs.Cmp.{nat_eq_equiv}
+use Rattle.std.proofs.lemmas.Map.Keys.{IsDistinct-push}
+use Rattle.std.proofs.lemmas.List.{take_more, take_all}
+use Rattle.std.proofs.lemmas.List.Folds.{list_any-append, list_any_more}
+use Rattle.std.proofs.lemmas.Bool.{or_cases, cases_Bool, or_left, or_right, and_parts, and_from, false≢true, eqb-true, eq-eqb, not_from_true, not_from_false, false_from_ne_true}
+use Rattle.region_core.specs.World.{Fact, has}
+use Rattle.region_core.specs.Walks.{Adds, Walk, here, on, arc_of, IsTouched}
+use Rattle.region_core.proofs.Gives.{has-append}
+use Rattle.region_core.proofs.Found.{SearchAt, search_none, search_more, search_end, distinct_none, has_at, has_take}
+use Rattle.region.specs.declared.rule.Told.{Told}
+use Rattle.region.specs.Rules.{fact_of}
+use Rattle.region.specs.Steps.{is_told, Tells}
+use Rattle.region.specs.Tables.{Rows, kept, arc_in, IsClosed}
+use Rattle.region.specs.Gathered.{nodes_of, stays, IsGathered, IsAskedOnce, IsAskedSome}
+use Rattle.region.specs.Walking.{IsVisit, IsWalked, IsAskedSomeOf}
+
+pick : (h e s b : Bool) → (e ≡ true → s ≡ b) → ((h && s) || (e && b)) ≡ ((h || e) && s)
+pick true true true b f = refl
+pick true true false b f = sym (f refl)
+pick true false true b f = refl
+pick true false false b f = refl
+pick false true s b f = sym (f refl)
+pick false false s b f = refl
+
+or_join : (a b c : Bool) → ((a || b) || c) ≡ (a || (b || c))
+or_join true b c = refl
+or_join false b c = refl
+
+or_last : (b : Bool) → (b || false) ≡ b
+or_last true = refl
+or_last false = refl
+
+-- one more node of a list is added, if it passes a test
+pub adds_picked : (xs : List ℕ) (i x : ℕ) (b : Bool) (s : ℕ → Bool) (first now next : List ℕ) → x ≡ get_or xs i x → i < length xs → b ≡ s x
+    → Adds first now (λ u. has (take i xs) u && s u) → Adds now next (λ u. nat_eq u x && b) → Adds first next (λ u. has (take (i + 1) xs) u && s u)
+adds_picked xs i x b s first now next e lt is before after = record {
+  members = λ u. after.members u ∙ ap (λ c. c || (nat_eq u x && b)) (before.members u)
+      ∙ or_join (has first u) (has (take i xs) u && s u) (nat_eq u x && b)
+      ∙ ap (λ c. has first u || c) (pick (has (take i xs) u) (nat_eq u x) (s u) b (λ q. ap s (eqb-true u x q) ∙ sym is)
+      ∙ ap (λ c. c && s u) (sym (list_any_more (nat_eq u) xs i x lt ∙ ap (λ y. has (take i xs) u || nat_eq u y) (sym e))));
+  distinct = after.distinct;
+  front = λ j le. after.front j (let l = before.longer in omega arith) ∙ before.front j le;
+  longer = let l = before.longer in let m = after.longer in omega arith;
+}
+
+pub adds_same : (xs ys : List ℕ) (p q : ℕ → Bool) → ((u : ℕ) → p u ≡ q u) → Adds xs ys p → Adds xs ys q
+adds_same xs ys p q e a = record { members = λ u. a.members u ∙ ap (λ b. has xs u || b) (e u); distinct = a.distinct; front = a.front; longer = a.longer }
+
+-- those of some nodes that pass a test are all that do
+pub adds_those : (xs ys zs : List ℕ) (s : ℕ → Bool) → ((u : ℕ) → s u ≡ true → has zs u ≡ true) → Adds xs ys (λ u. has zs u && s u) → Adds xs ys s
+adds_those xs ys zs s all a = adds_same xs ys (λ u. has zs u && s u) s
+    (λ u. ⊎_elim (λ h. ap (λ b. b && s u) (all u h)) (λ h. both (has zs u) (s u) h) (cases_Bool (s u))) a
+  where
+    both : (a b : Bool) → b ≡ false → (a && b) ≡ b
+    both true b h = refl
+    both false b h = sym h
+
+told_push : (told : List Told) (t : Told) (n : ℕ) → is_told (told ++ t ∷ []) n ≡ (is_told told n || nat_eq n t.node)
+told_push told t n = list_any-append (λ (x : Told). nat_eq n x.node) told (t ∷ []) ∙ ap (λ b. is_told told n || b) (or_last (nat_eq n t.node))
+
+has_push : (xs : List ℕ) (x n : ℕ) → has (xs ++ x ∷ []) n ≡ (has xs n || nat_eq n x)
+has_push xs x n = has-append xs (x ∷ []) n ∙ ap (λ b. has xs n || b) (or_last (nat_eq n x))
+
+tells_push : (world : ℕ → Fact) (told : List Told) (t : Told) → Tells world told → world t.node ≡ fact_of t → Tells world (told ++ t ∷ [])
+tells_push world [] t a e = (e, tt)
+tells_push world (x ∷ xs) t a e = (a.0, tells_push world xs t a.1 e)
+
+nodes_push : (told : List Told) (t : Told) → nodes_of (told ++ t ∷ []) ≡ nodes_of told ++ t.node ∷ []
+nodes_push [] t = refl
+nodes_push (x ∷ xs) t = ap (λ ys. x.node ∷ ys) (nodes_push xs t)
+
+pub told_nodes : (told : List Told) (n : ℕ) → has (nodes_of told) n ≡ is_told told n
+told_nodes [] n = refl
+told_nodes (x ∷ xs) n = ap (λ b. nat_eq n x.node || b) (told_nodes xs n)
+
+all_at : (y : ℕ) (ys : List ℕ) (at x : ℕ) → AllByRecursion (λ z. nat_eq y z ≡ false) ys → at < length ys → nat_eq y (get_or ys at x) ≡ false
+all_at y [] at x a lt = absurd (omega arith)
+all_at y (z ∷ zs) zero x a lt = a.0
+all_at y (z ∷ zs) (suc at) x a lt = all_at y zs at x a.1 (omega arith)
+
+apart_back : (x y : ℕ) → nat_eq y x ≡ false → nat_eq x y ≡ false
+apart_back x y h = false_from_ne_true (nat_eq x y) (λ t. false≢true (sym h ∙ eq-eqb y x (sym (eqb-true x y t))))
+
+or_none : (a b : Bool) → a ≡ false → b ≡ false → (a || b) ≡ false
+or_none a b e f = ap (λ c. c || b) e ∙ f
+
+-- a node is not among those before it
+distinct_front : (xs : List ℕ) (at x : ℕ) → IsDistinct nat_eq xs → at < length xs → x ≡ get_or xs at x → has (take at xs) x ≡ false
+unfolding IsDistinct
+distinct_front [] at x d lt e = absurd (omega arith)
+distinct_front (y ∷ ys) zero x d lt e = refl
+distinct_front (y ∷ ys) (suc at) x d lt e =
+    or_none (nat_eq x y) (has (take at ys) x)
+    (apart_back x y (subst (λ i. nat_eq y i ≡ false) (sym e) (all_at y ys at x d.0 (omega arith))))
+    (distinct_front ys at x d.1 (omega arith) e)
+
+-- the arcs to what does not stay
+pub needed : (ℕ → Fact) → Rows → List ℕ → ℕ → ℕ → Bool
+needed world old touched a b = arc_of world a b && not (stays old touched b)
+
+needed_to : (world : ℕ → Fact) (old : Rows) (touched : List ℕ) (a b : ℕ) → needed world old touched a b ≡ true → arc_of world a b ≡ true
+unfolding needed
+needed_to world old touched a b h = (and_parts (arc_of world a b) (not (stays old touched b)) h).0
+
+needed_from : (world : ℕ → Fact) (old : Rows) (touched : List ℕ) (a b : ℕ) → arc_of world a b ≡ true → stays old touched b ≡ false → needed world old touched a b ≡ true
+unfolding needed
+needed_from world old touched a b h s = and_from (arc_of world a b) (not (stays old touched b)) h (not_from_false (stays old touched b) s)
+
+needed_same : (world : ℕ → Fact) (old : Rows) (touched : List ℕ) (a b : ℕ) → (arc_of world a b && not (stays old touched b)) ≡ needed world old touched a b
+unfolding needed
+needed_same world old touched a b = refl
+
+not_stays : (b : Bool) → not b ≡ true → b ≡ false
+not_stays true h = sym h
+not_stays false h = refl
+
+pub record GatherAt (world : ℕ → Fact) (old : Rows) (touched roots first : List ℕ) (at : ℕ) (found : List ℕ) (told : List Told) (asked : List ℕ) : Type 0 where
+  pub start : List ℕ
+  pub start_is : (n : ℕ) → has start n ≡ (has roots n && not (stays old touched n))
+  pub search : SearchAt (needed world old touched) start at found
+  pub off : (n : ℕ) → has found n ≡ true → stays old touched n ≡ false
+  pub done : (n : ℕ) → has (take at found) n ≡ is_told told n
+  pub tells : Tells world told
+  pub askings : IsAskedOnce told first asked
+
+pub gather_none : (world : ℕ → Fact) (old : Rows) (touched roots first nothing found : List ℕ) (told : List Told)
+    → nothing ≡ [] → Adds nothing found (λ u. has roots u && not (stays old touched u)) → told ≡ []
+    → GatherAt world old touched roots first 0 found told first
+gather_none world old touched roots first nothing found told e adds no_told = record {
+  start = found;
+  start_is = is;
+  search = search_none (needed world old touched) found found [] refl (record {
+    members = λ u. refl;
+    distinct = adds.distinct;
+    front = λ i le. (let z : i ≡ 0 = omega arith in subst (λ (k : ℕ). take k found ≡ take k []) (sym z) refl);
+    longer = omega arith;
+  });
+  off = λ n h. not_stays (stays old touched n) (and_parts (has roots n) (not (stays old touched n)) (sym (is n) ∙ h)).1;
+  done = λ n. ap (λ (xs : List Told). is_told xs n) (sym no_told);
+  tells = subst (λ (xs : List Told). Tells world xs) (sym no_told) tt;
+  askings = record {
+    asked = sym (append-nil first) ∙ ap (λ (xs : List Told). first ++ nodes_of xs) (sym no_told);
+    once = distinct_none (nodes_of told) (ap (λ (xs : List Told). nodes_of xs) no_told);
+  };
+}
+  where
+    is : (n : ℕ) → has found n ≡ (has roots n && not (stays old touched n))
+    is n = adds.members n ∙ ap (λ xs. has xs n || (has roots n && not (stays old touched n))) e
+
+taken : (xs ys : List ℕ) (more : ℕ → Bool) (at node n : ℕ) → Adds xs ys more → at < length xs → node ≡ get_or xs at node
+    → has (take (at + 1) ys) n ≡ (has (take at xs) n || nat_eq n node)
+taken xs ys more at node n a lt e =
+    ap (λ zs. has zs n) (a.front (at + 1) (omega arith) ∙ take_more xs at node lt ∙ ap (λ x. take at xs ++ x ∷ []) (sym e))
+    ∙ has_push (take at xs) node n
+
+-- a node that the walk comes to was not asked yet
+pub not_asked : (world : ℕ → Fact) (old : Rows) (touched roots first : List ℕ) (at : ℕ) (found : List ℕ) (told : List Told) (asked : List ℕ) (node : ℕ)
+    → GatherAt world old touched roots first at found told asked → at < length found → node ≡ get_or found at node → is_told told node ≡ false
+not_asked world old touched roots first at found told asked node so_far lt e =
+    sym (so_far.done node) ∙ distinct_front found at node so_far.search.distinct lt e
+
+pub off_at : (world : ℕ → Fact) (old : Rows) (touched roots first : List ℕ) (at : ℕ) (found : List ℕ) (told : List Told) (asked : List ℕ) (node : ℕ)
+    → GatherAt world old touched roots first at found told asked → at < length found → node ≡ get_or found at node → stays old touched node ≡ false
+off_at world old touched roots first at found told asked node so_far lt e = so_far.off node (has_at found at node lt e)
+
+pub gather_more : (world : ℕ → Fact) (old : Rows) (touched roots first : List ℕ) (at node : ℕ) (found found' : List ℕ) (told told' : List Told) (asked asked' : List ℕ)
+    → GatherAt world old touched roots first at found told asked → at < length found → node ≡ get_or found at node
+    → IsVisit world old touched node found told asked found' told' asked' → GatherAt world old touched roots first (at + 1) found' told' asked'
+gather_more world old touched roots first at node found found' told told' asked asked' so_far lt e v = record {
+  start = so_far.start;
+  start_is = so_far.start_is;
+  search = search_more (needed world old touched) so_far.start at node found found' so_far.search lt e
+      (adds_same found found' (λ u. arc_of world node u && not (stays old touched u)) (needed world old touched node) (λ u. needed_same world old touched node u) v.adds);
+  off = λ n h. ⊎_elim (λ f. so_far.off n f)
+      (λ f. not_stays (stays old touched n) (and_parts (arc_of world node n) (not (stays old touched n)) f).1)
+      (or_cases (has found n) (arc_of world node n && not (stays old touched n)) (sym (v.adds.members n) ∙ h));
+  done = λ n. taken found found' (λ u. arc_of world node u && not (stays old touched u)) at node n v.adds lt e
+      ∙ ap (λ b. b || nat_eq n node) (so_far.done n) ∙ sym (told_has n);
+  tells = subst (λ (xs : List Told). Tells world xs) (sym v.told_is)
+      (tells_push world told v.t so_far.tells (ap world v.node_is ∙ sym v.fact_is));
+  askings = record {
+    asked = v.asked_is ∙ ap (λ xs. xs ++ node ∷ []) so_far.askings.asked ∙ append_assoc first (nodes_of told) (node ∷ [])
+        ∙ ap (λ xs. first ++ xs) (sym nodes_is);
+    once = subst (λ xs. IsDistinct nat_eq xs) (sym nodes_is)
+        (IsDistinct-push nat_eq_equiv (nodes_of told) node so_far.askings.once
+        (told_nodes told node ∙ not_asked world old touched roots first at found told asked node so_far lt e));
+  };
+}
+  where
+    told_has : (n : ℕ) → is_told told' n ≡ (is_told told n || nat_eq n node)
+    told_has n = ap (λ (xs : List Told). is_told xs n) v.told_is ∙ told_push told v.t n ∙ ap (λ i. is_told told n || nat_eq n i) v.node_is
+
+    nodes_is : nodes_of told' ≡ nodes_of told ++ node ∷ []
+    nodes_is = ap (λ (xs : List Told). nodes_of xs) v.told_is ∙ nodes_push told v.t ∙ ap (λ i. nodes_of told ++ i ∷ []) v.node_is
+
+walk_as : (p q : ℕ → ℕ → Bool) (a b : ℕ) → ((n m : ℕ) → p n m ≡ true → q n m ≡ true) → Walk p a b → Walk q a b
+walk_as p q a b f here = here
+walk_as p q a b f (on {b = m} w h) = on (walk_as p q a m f w) (f m b h)
+
+pub walked : (world : ℕ → Fact) (old : Rows) (touched roots first : List ℕ) (at : ℕ) (found : List ℕ) (told : List Told) (asked : List ℕ)
+    → GatherAt world old touched roots first at found told asked → length found ≤ at → IsWalked world old touched roots told
+walked world old touched roots first at found told asked so_far le = record {
+  tells = so_far.tells;
+  needed = λ n h. so_far.off n (all n ∙ h);
+  from_roots = λ n h s. sym (all n) ∙ so_far.search.starts_in n (so_far.start_is n ∙ and_from (has roots n) (not (stays old touched n)) h (not_from_false (stays old touched n) s));
+  told_arcs = λ n m h a s. sym (all m) ∙ search_end (needed world old touched) so_far.start at found so_far.search le n m (all n ∙ h) (needed_from world old touched n m a s);
+  reached = λ n h.
+      let r = so_far.search.sound n (all n ∙ h) in
+      record {
+        start = r.start;
+        among = (and_parts (has roots r.start) (not (stays old touched r.start)) (sym (so_far.start_is r.start) ∙ r.among)).0;
+        walk = walk_as (needed world old touched) (arc_of world) r.start n (needed_to world old touched) r.walk;
+      };
+}
+  where
+    all : (n : ℕ) → has found n ≡ is_told told n
+    all n = ap (λ xs. has xs n) (sym (take_all at found le)) ∙ so_far.done n
+
+pub touched_if : (world : ℕ → Fact) (old : Rows) (touched changed : List ℕ) → ((n : ℕ) → has touched n ≡ true → IsTouched (arc_in old) changed n)
+    → (n : ℕ) → stays old touched n ≡ false → kept old n ≡ true → IsTouched (arc_in old) changed n
+touched_if world old touched changed sound n s k = sound n (⊎_elim (λ t. t)
+    (λ f. absurd (false≢true (sym s ∙ and_from (kept old n) (not (has touched n)) k (not_from_false (has touched n) f))))
+    (cases_Bool (has touched n)))
+
+pub gathered : (world : ℕ → Fact) (old : Rows) (touched roots changed : List ℕ) (told : List Told)
+    → IsWalked world old touched roots told → IsClosed old
+    → ((n : ℕ) → has changed n ≡ true → has touched n ≡ true)
+    → ((n m : ℕ) → arc_in old n m ≡ true → has touched m ≡ true → has touched n ≡ true)
+    → ((n : ℕ) → has touched n ≡ true → IsTouched (arc_in old) changed n)
+    → IsGathered world old roots changed told touched
+gathered world old touched roots changed told w closed has_changed back sound = record {
+  tells = w.tells;
+  new_or_touched = λ n h k. touched_if world old touched changed sound n (w.needed n h) k;
+  apart = λ n h. false_from_ne_true (is_told told n) (λ t. false≢true (sym (w.needed n t) ∙ h));
+  untouched = λ n h. let two = and_parts (kept old n) (not (has touched n)) h in
+      (two.0, false_from_ne_true (has changed n) (λ c. false≢true (sym (not_from_true (has touched n) (has_changed n c)) ∙ two.1)));
+  stay_arcs = λ n m h a.
+      let two = and_parts (kept old n) (not (has touched n)) h in
+      and_from (kept old m) (not (has touched m)) (closed n m two.0 a)
+      (not_from_false (has touched m) (false_from_ne_true (has touched m) (λ t. false≢true (sym (not_from_true (has touched n) (back n m a t)) ∙ two.1))));
+  from_roots = λ n h. ⊎_elim (λ s. or_left (stays old touched n) (is_told told n) s)
+      (λ s. or_right (stays old touched n) (is_told told n) (w.from_roots n h s)) (cases_Bool (stays old touched n));
+  told_arcs = λ n m h a. ⊎_elim (λ s. or_left (stays old touched m) (is_told told m) s)
+      (λ s. or_right (stays old touched m) (is_told told m) (w.told_arcs n m h a s)) (cases_Bool (stays old touched m));
+  reached = w.reached;
+}
+
+pub some_none : (s : ℕ → Bool) (asked : List ℕ) → IsAskedSomeOf s asked asked
+some_none s asked = record { nodes = []; asked = sym (append-nil asked); once = distinct_none [] refl; needed = λ n h. absurd (false≢true h) }
+
+pub some_at : (world : ℕ → Fact) (old : Rows) (touched roots first : List ℕ) (at : ℕ) (found : List ℕ) (told : List Told) (asked later : List ℕ) (node : ℕ)
+    → GatherAt world old touched roots first at found told asked → at < length found → node ≡ get_or found at node
+    → (later ≡ asked) ⊎ (later ≡ asked ++ node ∷ []) → IsAskedSomeOf (stays old touched) first later
+some_at world old touched roots first at found told asked later node so_far lt e which = ⊎_elim
+    (λ same. record {
+      nodes = nodes_of told;
+      asked = same ∙ so_far.askings.asked;
+      once = so_far.askings.once;
+      needed = off;
+    })
+    (λ more. record {
+      nodes = nodes_of told ++ node ∷ [];
+      asked = more ∙ ap (λ xs. xs ++ node ∷ []) so_far.askings.asked ∙ append_assoc first (nodes_of told) (node ∷ []);
+      once = IsDistinct-push nat_eq_equiv (nodes_of told) node so_far.askings.once
+          (told_nodes told node ∙ not_asked world old touched roots first at found told asked node so_far lt e);
+      needed = λ n h. ⊎_elim (λ f. off n f)
+          (λ q. subst (λ i. stays old touched i ≡ false) (sym (eqb-true n node q)) (off_at world old touched roots first at found told asked node so_far lt e))
+          (or_cases (has (nodes_of told) n) (nat_eq n node) (sym (has_push (nodes_of told) node n) ∙ h));
+    })
+    which
+  where
+    off : (n : ℕ) → has (nodes_of told) n ≡ true → stays old touched n ≡ false
+    off n h = so_far.off n (has_take found at n (so_far.done n ∙ sym (told_nodes told n) ∙ h))
+
+pub some_touched : (world : ℕ → Fact) (old : Rows) (touched changed first later : List ℕ) → ((n : ℕ) → has touched n ≡ true → IsTouched (arc_in old) changed n)
+    → IsAskedSomeOf (stays old touched) first later → IsAskedSome old changed first later
+some_touched world old touched changed first later sound s = record {
+  nodes = s.nodes;
+  asked = s.asked;
+  once = s.once;
+  few = λ n h k. touched_if world old touched changed sound n (s.needed n h) k;
+}
+
+pub none_asked : (old : Rows) (changed asked : List ℕ) → IsAskedSome old changed asked asked
+none_asked old changed asked = record { nodes = []; asked = sym (append-nil asked); once = distinct_none [] refl; few = λ n h. absurd (false≢true h) }

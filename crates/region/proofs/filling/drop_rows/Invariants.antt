@@ -1,0 +1,13 @@
+use Rattle.std.proofs.Common.{ℕ, ◌≡◌, cond, take}
+use Rattle.std.specs.Prelude.{None, is_some}
+use Rattle.std.specs.Ordering.{nat_cmp}
+use Rattle.std.specs.BTreeMap.{get}
+use Rattle.region_core.specs.World.{has}
+use Rattle.region.specs.Tables.{row_of}
+use Rattle.region.proofs.filling.drop_rows.Given as goal
+
+abbrev pub invariant-loop-node : goal.invariant-loop-node
+invariant-loop-node l = record {
+  row : (n : ℕ) → row_of l.rows n ≡ cond (has (take l.node-index l.nodes) n) None (row_of l.initial.rows n);
+  keys : (n : ℕ) → is_some (get nat_cmp l.rows n) ≡ is_some (get nat_cmp l.initial.rows n);
+}

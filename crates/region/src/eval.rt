@@ -1,0 +1,148 @@
+//! What a rule gives, and which nodes it names.
+ghost use Rattle.std.specs.Prelude.{◌≡◌, ◌<◌, ◌^◌, ℕ, true, false, ◌||◌, ◌&&◌, IfOk, OnOk, IfSome, IfNone};
+ghost use Rattle.std.specs.List.{list_any};
+ghost use Rattle.std.specs.Option.{option_map};
+ghost use Rattle.region_core.specs.World.{has, gives, arcs_of};
+ghost use Rattle.region.specs.Rules.{shape_of};
+ghost use Rattle.region.specs.Tables.{over, ids_or_none};
+
+use crate::rule::Rule;
+use crate::sets::Sets;
+use idsets::{Galloping, IdSet, exclude, intersect, union};
+use std::alloc::{AllocError, Global};
+use std::collections::BTreeMap;
+
+/// The members of a node: its new ones, if it has such, and else those that are kept.
+pub(crate) fn members_at<'a>(
+    fresh: &'a BTreeMap<u64, IdSet>,
+    kept: &'a Sets,
+    node: u64,
+) -> Option<&'a IdSet>
+    ensures { (user : ℕ) → has (ids_or_none (option_map (λ ids. ids.now) result)) user ≡ over fresh.now kept.now.rows user node }
+{
+    match fresh.get(&node) {
+        Some(ids) => Some(ids),
+        None => kept.members(node),
+    }
+}
+
+// Adds the members of a node at the end.
+fn push_members(
+    ids: &mut Vec<u64>,
+    fresh: &BTreeMap<u64, IdSet>,
+    kept: &Sets,
+    node: u64,
+) -> Result<(), AllocError>
+    ensures { OnOk result ((u : ℕ) → has ids.new.items u ≡ (has ids.old.items u || over fresh.now kept.now.rows u node)) }
+{
+    if let Some(more) = members_at(fresh, kept, node) {
+        ids.extend_from_slice(more.as_slice())?;
+    }
+    Ok(())
+}
+
+// The members of any of the nodes.
+fn members_of_any(
+    alloc: Global,
+    fresh: &BTreeMap<u64, IdSet>,
+    kept: &Sets,
+    nodes: &[u64],
+) -> Result<IdSet, AllocError>
+    ensures { IfOk result (λ r. (u : ℕ) → has r u ≡ list_any (over fresh.now kept.now.rows u) nodes.now) }
+{
+    let mut ids = Vec::new(alloc);
+    for node in nodes {
+        push_members(&mut ids, fresh, kept, *node)?;
+    }
+    Ok(IdSet::of(ids))
+}
+
+// What both have. The larger one is searched.
+fn in_both(alloc: Global, a: &IdSet, b: &IdSet) -> Result<IdSet, AllocError>
+    ensures { IfOk result (λ r. (u : ℕ) → has r u ≡ (has a.now u && has b.now u)) }
+{
+    if a.len() <= b.len() {
+        let mut many = Galloping::new(b);
+        intersect(alloc, a, &mut many)
+    } else {
+        let mut many = Galloping::new(a);
+        intersect(alloc, b, &mut many)
+    }
+}
+
+/// Whom the rule gives.
+pub(crate) fn value(
+    alloc: Global,
+    own: &IdSet,
+    fresh: &BTreeMap<u64, IdSet>,
+    kept: &Sets,
+    rule: &Rule,
+) -> Result<IdSet, AllocError>
+    ensures { IfOk result (λ r. (u : ℕ) → has r u ≡ gives (has own.now u) (over fresh.now kept.now.rows u) (over fresh.now kept.now.rows u) (shape_of rule.now)) }
+{
+    match rule {
+        Rule::Own => own.again(),
+        Rule::AnyOf(nodes) => members_of_any(alloc, fresh, kept, nodes),
+        Rule::Reads(_) => Ok(IdSet::new(alloc)),
+        Rule::Either(a, b) => {
+            let first = value(alloc, own, fresh, kept, a)?;
+            let second = value(alloc, own, fresh, kept, b)?;
+            union(alloc, &first, &second)
+        }
+        Rule::Both(a, b) => {
+            let first = value(alloc, own, fresh, kept, a)?;
+            let second = value(alloc, own, fresh, kept, b)?;
+            in_both(alloc, &first, &second)
+        }
+        Rule::Except(a, b) => {
+            let first = value(alloc, own, fresh, kept, a)?;
+            let second = value(alloc, own, fresh, kept, b)?;
+            exclude(alloc, &first, &second)
+        }
+    }
+}
+
+// Adds the nodes that a rule names at the end.
+fn push_named(nodes: &mut Vec<u64>, rule: &Rule) -> Result<(), AllocError>
+    ensures { OnOk result ((m : ℕ) → has nodes.new.items m ≡ (has nodes.old.items m || has (arcs_of (shape_of rule.now)) m)) }
+{
+    match rule {
+        Rule::Own => Ok(()),
+        Rule::AnyOf(more) => nodes.extend_from_slice(more),
+        Rule::Reads(more) => nodes.extend_from_slice(more),
+        Rule::Either(a, b) => {
+            push_named(nodes, a)?;
+            push_named(nodes, b)
+        }
+        Rule::Both(a, b) => {
+            push_named(nodes, a)?;
+            push_named(nodes, b)
+        }
+        Rule::Except(a, b) => {
+            push_named(nodes, a)?;
+            push_named(nodes, b)
+        }
+    }
+}
+
+/// The nodes that a rule names.
+pub(crate) fn named(alloc: Global, rule: &Rule) -> Result<IdSet, AllocError>
+    ensures { IfOk result (λ r. (m : ℕ) → has r m ≡ has (arcs_of (shape_of rule.now)) m) }
+{
+    let mut nodes = Vec::new(alloc);
+    push_named(&mut nodes, rule)?;
+    Ok(IdSet::of(nodes))
+}
+
+/// An id of the first that the second lacks.
+pub(crate) fn missing(ids: &[u64], others: &IdSet) -> Option<u64>
+    ensures found { IfSome result (λ u. (u < 2 ^ 64) × (has ids.now u ≡ true) × (has others.now u ≡ false)) }
+    ensures none { IfNone result ((u : ℕ) → has ids.now u ≡ true → has others.now u ≡ true) }
+{
+    for id in ids {
+        if !others.contains(*id) {
+            return Some(*id);
+        }
+    }
+    None
+}
