@@ -1,95 +1,10 @@
--- Each answer is a step of the desk.
-use Rattle.std.proofs.Common.{◌≡◌, ℕ, Bool, List, [], refl}
-use Rattle.std.specs.Prelude.{Option, option_map}
-use Rattle.names.specs.Refusals.{ReadCause}
+-- The answer to a call is that to the call of its name.
+use Rattle.std.proofs.Common.{◌≡◌, ℕ, List}
+use Rattle.std.specs.Prelude.{Option}
 use Rattle.names.specs.declared.call.Call.{Call}
-use Rattle.names.specs.declared.node.Node.{Node}
-use Rattle.names.specs.declared.object.Object.{Object}
-use Rattle.names.specs.declared.write.Op.{Op}
-use Rattle.names.specs.declared.write.Condition.{Condition}
-use Rattle.names.specs.declared.refusal.Refusal.{Refusal}
-use Rattle.names.specs.declared.refusal.Refusal.TheVariants.{Malformed, BadZookie, ConfigRefused, Memory}
-use Rattle.meaning.specs.Config.{Configured}
-use Rattle.config.specs.Causes.{Accepts, ConfigCause}
-use Rattle.zookie.specs.Text.{zookie_text}
-use Rattle.zookie.specs.declared.Zookie.{Zookie}
-use Rattle.zookie.specs.declared.consistency.Consistency.{Consistency}
-use Rattle.names.specs.declared.part.Part.{Part}
-use Rattle.names.specs.declared.state.State.{State}
-use Rattle.shown.specs.Standing.{standing, state_of}
-use Rattle.shown.specs.Answers.{IsChecked, CheckRefused}
 use Rattle.tables.specs.declared.tables.Tables.{Ghosts}
-use Rattle.keeper_core.specs.Posts.{Posts, newest_posted}
-use Rattle.keeper_core.specs.Changes.{ReceiptFacts, WriteAccepted, ConfigAccepted, CatchUpAccepted, WriteJudged, IsCommitOf, IsRefused}
-use Rattle.bodies.specs.Requests.{AsksWrite, AsksCheck, CheckCause, AsksCatchUp}
-use Rattle.bodies.specs.Replies.{Says, SaysRefusal, SaysRefusalAt, receipt_data, answer_data, cursor_data, state_data}
-use Rattle.keeper.specs.Rules.{WriteStep, ConfigStep, CheckStep, CatchUpStep, StateStep, DeskStep}
-use Rattle.keeper.specs.Rules.{write_malformed, write_accepted, write_refused, write_unread, config_invalid, config_accepted, config_unread, check_malformed, check_bad_zookie, check_answered, check_refused, check_unread, catch_up_malformed, catch_up_accepted, catch_up_unread}
-
-pub write_unasked : {T : Type 0} (g : Ghosts T) (old : Posts T) (body : List ℕ) (why : Refusal) (told : Option (ℕ × List ℕ))
-    → ReadCause ((ops : List Op) → AsksWrite body ops → ⊥) why → SaysRefusal told why → WriteStep g old body told old
-write_unasked g old body Malformed told cause says = write_malformed cause says refl
-write_unasked g old body Memory told cause says = write_unread says refl
-write_unasked g old body _ told cause says = absurd cause
-
-pub write_done : {T : Type 0} (g : Ghosts T) (old : Posts T) (body : List ℕ) (ops : List Op) (conditions : List (Condition Zookie)) (receipt : ReceiptFacts) (shown : Bool) (zookie : Zookie) (told : Option (ℕ × List ℕ)) (new : Posts T)
-    → AsksWrite body ops → conditions ≡ [] → WriteAccepted g old (record { conditions = conditions; ops = ops }) receipt new
-    → shown ≡ receipt.shown → zookie ≡ record { store = receipt.number; rev = receipt.rev }
-    → Says told 200 (receipt_data shown (zookie_text zookie.store zookie.rev)) → WriteStep g old body told new
-write_done g old body ops conditions receipt shown zookie told new asks plain accepted shows is says =
-    write_accepted ops receipt asks (rw plain at accepted) (let s = rw is at says in rw shows at s)
-
-pub write_not_done : {T : Type 0} (g : Ghosts T) (old : Posts T) (body : List ℕ) (ops : List Op) (conditions : List (Condition Zookie)) (why : Refusal) (told : Option (ℕ × List ℕ)) (new : Posts T)
-    → AsksWrite body ops → conditions ≡ [] → IsRefused g old (IsCommitOf ops) (WriteJudged (newest_posted old) (record { conditions = conditions; ops = ops })) why new
-    → SaysRefusal told why → WriteStep g old body told new
-write_not_done g old body ops conditions why told new asks plain refused says = write_refused ops why asks (rw plain at refused) says
-
-pub config_unaccepted : {T : Type 0} (g : Ghosts T) (old : Posts T) (body : List ℕ) (why : Refusal) (told : Option (ℕ × List ℕ))
-    → ConfigCause body why → SaysRefusal told why → ConfigStep g old body told old
-config_unaccepted g old body (ConfigRefused cause) told is says = config_invalid cause is says refl
-config_unaccepted g old body Memory told is says = config_unread says refl
-config_unaccepted g old body _ told is says = absurd is
-
-pub config_done : {T : Type 0} (g : Ghosts T) (old : Posts T) (body : List ℕ) (config : Configured) (receipt : ReceiptFacts) (shown : Bool) (zookie : Zookie) (told : Option (ℕ × List ℕ)) (new : Posts T)
-    → Accepts body config → ConfigAccepted g old config receipt new
-    → shown ≡ receipt.shown → zookie ≡ record { store = receipt.number; rev = receipt.rev }
-    → Says told 200 (receipt_data shown (zookie_text zookie.store zookie.rev)) → ConfigStep g old body told new
-config_done g old body config receipt shown zookie told new accepts accepted shows is says =
-    config_accepted config receipt accepts accepted (let s = rw is at says in rw shows at s)
-
-pub check_unasked : {T : Type 0} (old : Posts T) (body : List ℕ) (why : Refusal) (told : Option (ℕ × List ℕ))
-    → CheckCause body why → SaysRefusal told why → CheckStep old body told old
-check_unasked old body Malformed told cause says = check_malformed cause says refl
-check_unasked old body BadZookie told cause says = check_bad_zookie cause says refl
-check_unasked old body Memory told cause says = check_unread says refl
-check_unasked old body _ told cause says = absurd cause
-
-pub check_done : {T : Type 0} (old : Posts T) (body : List ℕ) (consistency : Consistency) (node : Node) (user : Object) (store rev : ℕ) (allowed : Bool) (told : Option (ℕ × List ℕ))
-    → AsksCheck body consistency node user → IsChecked (standing old.shown) consistency node user rev allowed → store ≡ (standing old.posted).kept.number
-    → Says told 200 (answer_data allowed (zookie_text store rev)) → CheckStep old body told old
-check_done old body consistency node user store rev allowed told asks checked number says = check_answered consistency node user rev allowed asks checked (rw number at says) refl
-
-pub check_not_done : {T : Type 0} (old : Posts T) (body : List ℕ) (consistency : Consistency) (node : Node) (user : Object) (store : ℕ) (why : Refusal) (at : Option ℕ) (told : Option (ℕ × List ℕ))
-    → AsksCheck body consistency node user → CheckRefused (standing old.shown) consistency node why at → store ≡ (standing old.posted).kept.number
-    → SaysRefusalAt told why (option_map (zookie_text store) at) → CheckStep old body told old
-check_not_done old body consistency node user store why at told asks refused number says = check_refused consistency node user why at asks refused (rw number at says) refl
-
-pub catch_up_unasked : {T : Type 0} (g : Ghosts T) (old : Posts T) (body : List ℕ) (why : Refusal) (told : Option (ℕ × List ℕ))
-    → ReadCause ((part : Part) (commits : ℕ) → AsksCatchUp body part commits → ⊥) why → SaysRefusal told why → CatchUpStep g old body told old
-catch_up_unasked g old body Malformed told cause says = catch_up_malformed cause says refl
-catch_up_unasked g old body Memory told cause says = catch_up_unread says refl
-catch_up_unasked g old body _ told cause says = absurd cause
-
-pub catch_up_done : {T : Type 0} (g : Ghosts T) (old : Posts T) (body : List ℕ) (part : Part) (commits cursor : ℕ) (receipt : ReceiptFacts) (shown : Bool) (zookie : Zookie) (told : Option (ℕ × List ℕ)) (new : Posts T)
-    → AsksCatchUp body part commits → CatchUpAccepted old part commits cursor receipt new
-    → shown ≡ receipt.shown → zookie ≡ record { store = receipt.number; rev = receipt.rev }
-    → Says told 200 (cursor_data (zookie_text zookie.store cursor) shown) → CatchUpStep g old body told new
-catch_up_done g old body part commits cursor receipt shown zookie told new asks accepted shows is says =
-    catch_up_accepted part commits cursor receipt asks accepted (let s = rw is at says in rw shows at s)
-
-pub state_told : {T : Type 0} (old : Posts T) (store : ℕ) (state : State) (told : Option (ℕ × List ℕ))
-    → store ≡ (standing old.posted).kept.number → state ≡ state_of (standing old.shown) → Says told 200 (state_data store state) → StateStep old told old
-state_told old store state told number is says = let s = rw is at says in (rw number at s, refl)
+use Rattle.keeper_core.specs.Posts.{Posts}
+use Rattle.keeper.specs.Rules.{DeskStep}
 
 pub step_of : {T : Type 0} (g : Ghosts T) (old : Posts T) (call named : Call) (body : List ℕ) (told : Option (ℕ × List ℕ)) (new : Posts T) → call ≡ named → DeskStep g old named body told new → DeskStep g old call body told new
 step_of g old call named body told new is step = rw is step
