@@ -2,13 +2,15 @@
 ghost use Rattle.std.specs.Prelude.{◌≡◌, true};
 
 use config::Config;
-use keeper_core::{Desk, Opened, Receipt, StepPrefix};
-use names::{Items, Op, OpKind, Part, Refusal, Tuple, Write};
+use keeper_core::Desk;
+use names::{Items, Node, Object, Op, OpKind, Part, Refusal, Tuple, Write};
+use published::{Opened, Receipt, Session, StepPrefix};
 use rows::Loaded;
 use std::alloc::Global;
+use std::sync::Wait;
 use tables::{Listed, Puts, Tables, TablesError};
 use tuple_keys::KeptCommit;
-use zookie::Zookie;
+use zookie::{Consistency, Zookie};
 
 const GROUPS: &str = r#"{"namespaces":{"group":{"member":{"types":["user"]}},"user":{}}}"#;
 
@@ -51,7 +53,10 @@ impl Tables for Broken {
     ghost weaker = { λ t rs ss among left. among t.inner left };
 }
 
-fn configure<T: Tables + Drop>(alloc: Global, desk: &mut Desk<T>) -> Result<Receipt, Refusal> {
+fn configure<T: Tables + Drop, H: Wait + Drop>(
+    alloc: Global,
+    desk: &mut Desk<T, H>,
+) -> Result<Receipt, Refusal> {
     let config = Config::from_json(alloc, GROUPS.as_bytes())?;
     desk.configure(config)
 }
@@ -64,23 +69,28 @@ fn number_of<A: Drop>(answer: &Result<A, Refusal>) -> u8 {
     }
 }
 
-fn faults_close(alloc: Global) -> Result<bool, Refusal> {
+// Sessions go on: of the one that was given before the fault, and of one that is given after it, the newest
+// revision is 0.
+fn faults_close<H: Wait + Drop>(alloc: Global, rt: H) -> Result<bool, Refusal> {
     let inner = Listed::new(alloc, 7);
-    let Ok(mut desk) = Desk::open(alloc, Opened::new(), Broken { inner, faults: 0 }) else {
+    let Ok(mut desk) = Desk::open(alloc, rt, Opened::new(), Broken { inner, faults: 0 }) else {
         return Err(Refusal::Memory);
     };
+    let mut session = desk.session()?;
     let many = number_of(&desk.catch_up(Part::Hot, 65_537));
     let worked = !desk.has_failed();
     let fault = number_of(&configure(alloc, &mut desk));
     let next = number_of(&configure(alloc, &mut desk));
     let closed = number_of(&desk.catch_up(Part::Hot, 65_537));
+    let mut other = desk.session()?;
+    let goes_on = session.state()?.newest == 0 && other.state()?.newest == 0;
     let failed = desk.has_failed() && desk.close().faults() == 1;
-    Ok(worked && failed && many == 1 && fault == 22 && next == 23 && closed == 23)
+    Ok(worked && failed && goes_on && many == 1 && fault == 22 && next == 23 && closed == 23)
 }
 
 #[test]
 fn after_a_fault_changes_are_refused(rt: HostRuntime) {
-    assert!(rt; faults_close(rt.alloc()).unwrap_or(false));
+    assert!(rt; faults_close(rt.alloc(), &rt).unwrap_or(false));
 }
 
 fn insert_of(alloc: Global, text: &str) -> Result<Write<Zookie>, Refusal> {
@@ -100,9 +110,19 @@ fn has_steps(prefix: &StepPrefix, steps: u64) -> bool {
     prefix.len() == steps && prefix.begins(prefix) && prefix.longer(prefix).len() == steps
 }
 
+// Whether ann is a member of group a at revision 2, as the session is answered at the zookie.
+fn finds_ann(session: &mut Session, zookie: Zookie) -> Result<bool, Refusal> {
+    let node = Node::parse("group:a#member")?;
+    let user = Object::parse("user:ann")?;
+    match session.check(&Consistency::AtLeast(zookie), &node, &user) {
+        Ok(found) => Ok(found.value && found.rev == 2),
+        Err(refused) => Err(refused.why),
+    }
+}
+
 // The opening, a configuration and a write are three steps.
-fn publishes(alloc: Global) -> Result<bool, Refusal> {
-    let Ok(mut desk) = Desk::open(alloc, Opened::new(), Listed::new(alloc, 7)) else {
+fn publishes<H: Wait + Drop>(alloc: Global, rt: H) -> Result<bool, Refusal> {
+    let Ok(mut desk) = Desk::open(alloc, rt, Opened::new(), Listed::new(alloc, 7)) else {
         return Err(Refusal::Memory);
     };
     let first = configure(alloc, &mut desk)?;
@@ -113,5 +133,29 @@ fn publishes(alloc: Global) -> Result<bool, Refusal> {
 
 #[test]
 fn receipts_have_the_list_of_shown_steps(rt: HostRuntime) {
-    assert!(rt; publishes(rt.alloc()).unwrap_or(false));
+    assert!(rt; publishes(rt.alloc(), &rt).unwrap_or(false));
+}
+
+// A session learns a receipt, and another is refreshed. The index has taken one commit.
+fn sessions_learn<H: Wait + Drop>(alloc: Global, rt: H) -> Result<bool, Refusal> {
+    let Ok(mut desk) = Desk::open(alloc, rt, Opened::new(), Listed::new(alloc, 7)) else {
+        return Err(Refusal::Memory);
+    };
+    let mut one = desk.session()?;
+    let mut other = desk.session()?;
+    configure(alloc, &mut desk)?;
+    let receipt = desk.write(insert_of(alloc, "group:a#member@user:ann")?)?;
+    one.learn(&receipt);
+    let learnt = finds_ann(&mut one, receipt.zookie())? && desk.has_shown(&one);
+    let taken = desk.catch_up(Part::Index, 1)?;
+    let refreshed = desk.refresh(&mut other);
+    let state = other.state()?;
+    let told = refreshed.is_shown() && refreshed.zookie() == Zookie { store: 7, rev: 2 };
+    let numbers = state.index == 1 && state.newest == 2 && desk.newest() == 2 && desk.number() == 7;
+    Ok(learnt && told && numbers && taken.value == 1 && taken.receipt.zookie().rev == 2)
+}
+
+#[test]
+fn sessions_know_what_they_are_told(rt: HostRuntime) {
+    assert!(rt; sessions_learn(rt.alloc(), &rt).unwrap_or(false));
 }

@@ -1,5 +1,5 @@
 -- What the desk may answer to a call, and what it holds after that.
-use Rattle.std.specs.Prelude.{ℕ, ◌≡◌, List, Bool, Option, None, option_map}
+use Rattle.std.specs.Prelude.{ℕ, ◌≡◌, ◌⊎◌, List, Bool, Option, None, option_map}
 use Rattle.names.specs.declared.call.Call.{Call}
 use Rattle.names.specs.declared.call.Call.TheVariants.{Write, Config, Check, CatchUp, State}
 use Rattle.names.specs.declared.commit.Commit.TheVariants.{Config as ConfigCommit}
@@ -8,7 +8,7 @@ use Rattle.names.specs.declared.object.Object.{Object}
 use Rattle.names.specs.declared.write.Op.{Op}
 use Rattle.names.specs.declared.cause.Cause.{Cause}
 use Rattle.names.specs.declared.refusal.Refusal.{Refusal}
-use Rattle.names.specs.declared.refusal.Refusal.TheVariants.{Malformed, BadZookie, ConfigRefused}
+use Rattle.names.specs.declared.refusal.Refusal.TheVariants.{Malformed, BadZookie, ConfigRefused, Reopen}
 use Rattle.meaning.specs.Config.{Configured}
 use Rattle.config.specs.Causes.{Accepts, IsCause}
 use Rattle.zookie.specs.Text.{zookie_text}
@@ -18,8 +18,9 @@ use Rattle.names.specs.declared.part.Part.{Part}
 use Rattle.shown.specs.Standing.{standing, state_of}
 use Rattle.shown.specs.Answers.{IsChecked, CheckRefused}
 use Rattle.tables.specs.declared.tables.Tables.{Ghosts}
-use Rattle.keeper_core.specs.Posts.{Posts, newest_posted}
-use Rattle.keeper_core.specs.Changes.{ReceiptFacts, WriteAccepted, ConfigAccepted, CatchUpAccepted, CatchUpJudged, IsCommitOf, IsNoCommit, IsRefused}
+use Rattle.keeper_core.specs.Posts.{Posts, ShowsMore, SameTables, newest_posted}
+use Rattle.published.specs.Receipts.{ReceiptFacts}
+use Rattle.keeper_core.specs.Changes.{WriteAccepted, ConfigAccepted, CatchUpAccepted, CatchUpJudged, IsCommitOf, IsNoCommit, IsRefused}
 use Rattle.bodies.specs.Requests.{AsksWrite, AsksCheck, IsCheckForm, HasBadZookie, AsksCatchUp, AsksNoWrite, AsksNoCatchUp, unconditional_write}
 use Rattle.bodies.specs.Replies.{Says, SaysRefusal, SaysRefusalAt, receipt_data, answer_data, cursor_data, state_data, no_route_data}
 
@@ -57,8 +58,14 @@ pub data ConfigStep {T : Type 0} (g : Ghosts T)
 abbrev pub zookie_at : {T : Type 0} → Posts T → ℕ → List ℕ
 zookie_at desk rev = zookie_text (standing desk.posted).kept.number rev
 
--- `check`: the body asks no question; its zookie is none; it is answered, or refused, from the shown steps;
--- or there was no memory to read it
+-- nothing is changed, but more of the posted steps may be shown
+pub record OnlyShows {T : Type 0} (old new : Posts T) : Type 0 where
+  pub shows : ShowsMore old new
+  pub tables : SameTables old new
+  pub seats : new.seats ≡ old.seats
+
+-- `check`: the body asks no question; its zookie is none; it is answered, or refused, from the steps that are then
+-- shown; no session can ask any more; or there was no memory to read it
 pub data CheckStep {T : Type 0}
     (old : Posts T) (body : List ℕ) (told : Option (ℕ × List ℕ)) (new : Posts T) : Type 0 where
   check_malformed :
@@ -68,15 +75,16 @@ pub data CheckStep {T : Type 0}
   check_answered :
       (consistency : Consistency) (node : Node) (user : Object) (rev : ℕ) (allowed : Bool)
       → AsksCheck body consistency node user
-      → IsChecked (standing old.shown) consistency node user rev allowed
-      → Says told 200 (answer_data allowed (zookie_at old rev)) → new ≡ old
+      → IsChecked (standing new.shown) consistency node user rev allowed
+      → Says told 200 (answer_data allowed (zookie_at old rev)) → OnlyShows old new
       → CheckStep old body told new
   check_refused :
       (consistency : Consistency) (node : Node) (user : Object) (why : Refusal) (at : Option ℕ)
       → AsksCheck body consistency node user
-      → CheckRefused (standing old.shown) consistency node why at
-      → SaysRefusalAt told why (option_map (zookie_at old) at) → new ≡ old
+      → CheckRefused (standing new.shown) consistency node why at
+      → SaysRefusalAt told why (option_map (zookie_at old) at) → OnlyShows old new
       → CheckStep old body told new
+  check_shut : SaysRefusal told Reopen → OnlyShows old new → CheckStep old body told new
   check_unread : told ≡ None → new ≡ old → CheckStep old body told new
 
 -- `catchup`: the body asks for no such move; the part takes the commits, and its cursor is told; or that is
@@ -94,10 +102,11 @@ pub data CatchUpStep {T : Type 0} (g : Ghosts T)
       → SaysRefusal told why → CatchUpStep g old body told new
   catch_up_unread : told ≡ None → new ≡ old → CatchUpStep g old body told new
 
--- `state`: the numbers of the standing of the shown steps
+-- `state`: the numbers of the standing of the shown steps; or no session can ask any more
 abbrev pub StateStep : {T : Type 0} → Posts T → Option (ℕ × List ℕ) → Posts T → Type 0
 StateStep old told new =
-    Says told 200 (state_data (standing old.posted).kept.number (state_of (standing old.shown)))
+    (Says told 200 (state_data (standing old.posted).kept.number (state_of (standing old.shown)))
+    ⊎ SaysRefusal told Reopen)
     × (new ≡ old)
 
 -- from old, the desk may tell this to the call with this body, and go on to new
