@@ -11,18 +11,19 @@ ghost use Rattle.runs.specs.Runs.{ServedBy, PausedBy, CutBy, Ended, is_read_faul
 
 use crate::answering::Answering;
 use http_api::End;
-use keeper_core::{Desk, Opened};
 use names::Refusal;
 use std::alloc::Global;
 use std::io::{Read, Write};
+use std::sync::Wait;
 use tables::Tables;
 use tasks::Fault;
 use tracked_io::{TrackedReader, TrackedWriter};
 use zanz_core::lines;
 
 /// Answers lines from the store that these tables keep, and gives the tables back.
-pub fn run<T: Tables + Drop, R: Read, W: Write>(
+pub fn run<T: Tables + Drop, H: Wait + Drop, R: Read, W: Write>(
     alloc: Global,
+    rt: H,
     tables: T,
     reader: &mut TrackedReader<R>,
     writer: &mut TrackedWriter<W>,
@@ -58,19 +59,19 @@ pub fn run<T: Tables + Drop, R: Read, W: Write>(
     ensures cause { IfErr result.0 IsRunFault }
     ensures lasts { Lasts (T.device tables) (T.device result.1) }
 {
-    match Desk::open(alloc, Opened::new(), tables) {
-        Ok(desk) => {
-            let mut answering = Answering { alloc, desk };
-            let ended = serve(&mut answering, reader, writer);
-            (ended, answering.desk.close())
+    match Answering::open(alloc, rt, tables) {
+        Ok(mut answering) => {
+            let ended = serve(alloc, &mut answering, reader, writer);
+            (ended, answering.close())
         }
         Err((why, tables)) => (Err(Fault::Refused(why)), tables),
     }
 }
 
 // Answers lines from a desk.
-fn serve<T: Tables + Drop, R: Read, W: Write>(
-    answering: &mut Answering<T>,
+fn serve<T: Tables + Drop, H: Wait + Drop, R: Read, W: Write>(
+    alloc: Global,
+    answering: &mut Answering<T, H>,
     reader: &mut TrackedReader<R>,
     writer: &mut TrackedWriter<W>,
 ) -> Result<(), Fault>
@@ -79,18 +80,18 @@ fn serve<T: Tables + Drop, R: Read, W: Write>(
 
     // All that was there was read, each line answered, and the answers handed on.
     ensures ok { OnOk result ((input : List ℕ) × ReadsAll R.remaining reader.old reader.new input
-        × ServedBy T.Tables W.contents writer.old input writer.new answering.old.desk answering.new.desk) }
+        × ServedBy T.Tables W.contents writer.old input writer.new answering.old answering.new) }
     ensures flushed { OnOk result (writer.new.flushed ≡ true) }
 
     // Each whole line of what was read was answered.
     ensures cannot_read { IfErr result (λ fault. fault ≡ Fault.CannotRead → (input : List ℕ)
         × Reads R.remaining reader.old reader.new input
-        × PausedBy T.Tables W.contents writer.old input writer.new answering.old.desk answering.new.desk) }
+        × PausedBy T.Tables W.contents writer.old input writer.new answering.old answering.new) }
 
     // Some first lines of what was read were answered, and a beginning of the answers was written.
     ensures cannot_write { IfErr result (λ fault. fault ≡ Fault.CannotWrite → (input : List ℕ)
         × Reads R.remaining reader.old reader.new input
-        × CutBy T.Tables W.contents writer.old input writer.new answering.old.desk answering.new.desk) }
+        × CutBy T.Tables W.contents writer.old input writer.new answering.old answering.new) }
 
     // A fault is told exactly where the reader or the writer failed in the call.
     ensures read_failed { reader.new.failed ≡ is_read_fault result }
@@ -98,11 +99,11 @@ fn serve<T: Tables + Drop, R: Read, W: Write>(
 
     // Nothing was read or written, for want of memory.
     ensures memory { IfErr result (λ fault. (why : Refusal) → fault ≡ Refused why → (why ≡ Refusal.Memory)
-        × (reader.new ≡ reader.old) × (writer.new ≡ writer.old) × (answering.new.desk ≡ answering.old.desk)) }
+        × (reader.new ≡ reader.old) × (writer.new ≡ writer.old) × (answering.new ≡ answering.old)) }
     ensures cause { IfErr result IsRunFault }
-    ensures answered { Answered T.Tables answering.old.desk answering.new.desk }
+    ensures answered { Answered T.Tables answering.old answering.new }
 {
-    match lines(answering.alloc, reader, writer, answering) {
+    match lines(alloc, reader, writer, answering) {
         End::Closed => Ok(()),
         End::ReadFault => Err(Fault::CannotRead),
         End::WriteFault => Err(Fault::CannotWrite),
