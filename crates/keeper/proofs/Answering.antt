@@ -1,5 +1,5 @@
 -- Each answer is a step of the desk.
-use Rattle.std.proofs.Common.{◌≡◌, ℕ, Bool, List, [], refl}
+use Rattle.std.proofs.Common.{◌≡◌, ℕ, Bool, List, [], refl, ap, sym, ◌∙◌, subst}
 use Rattle.std.specs.Prelude.{Option, option_map}
 use Rattle.names.specs.Refusals.{ReadCause}
 use Rattle.names.specs.declared.call.Call.{Call}
@@ -9,22 +9,27 @@ use Rattle.names.specs.declared.write.Op.{Op}
 use Rattle.names.specs.declared.write.Condition.{Condition}
 use Rattle.names.specs.declared.refusal.Refusal.{Refusal}
 use Rattle.names.specs.declared.refusal.Refusal.TheVariants.{Malformed, BadZookie, ConfigRefused, Memory}
+use Rattle.names.specs.declared.commit.Commit.TheVariants.{Config as ConfigCommit}
 use Rattle.meaning.specs.Config.{Configured}
 use Rattle.config.specs.Causes.{Accepts, ConfigCause}
+use Rattle.rows.specs.Judging.{ConfigRefused as ConfigJudged}
 use Rattle.zookie.specs.Text.{zookie_text}
 use Rattle.zookie.specs.declared.Zookie.{Zookie}
 use Rattle.zookie.specs.declared.consistency.Consistency.{Consistency}
 use Rattle.names.specs.declared.part.Part.{Part}
 use Rattle.names.specs.declared.state.State.{State}
+use Rattle.shown.specs.declared.step.Step.{Step}
 use Rattle.shown.specs.Standing.{standing, state_of}
 use Rattle.shown.specs.Answers.{IsChecked, CheckRefused}
 use Rattle.tables.specs.declared.tables.Tables.{Ghosts}
-use Rattle.keeper_core.specs.Posts.{Posts, newest_posted}
-use Rattle.keeper_core.specs.Changes.{ReceiptFacts, WriteAccepted, ConfigAccepted, CatchUpAccepted, WriteJudged, IsCommitOf, IsRefused}
+use Rattle.keeper_core.specs.Posts.{Posts, ShowsMore, SameTables, newest_posted}
+use Rattle.published.specs.Receipts.{ReceiptFacts}
+use Rattle.keeper_core.specs.Changes.{WriteAccepted, ConfigAccepted, CatchUpAccepted, CatchUpJudged, WriteJudged, IsCommitOf, IsNoCommit, IsRefused}
 use Rattle.bodies.specs.Requests.{AsksWrite, AsksCheck, CheckCause, AsksCatchUp}
 use Rattle.bodies.specs.Replies.{Says, SaysRefusal, SaysRefusalAt, receipt_data, answer_data, cursor_data, state_data}
-use Rattle.keeper.specs.Rules.{WriteStep, ConfigStep, CheckStep, CatchUpStep, StateStep, DeskStep}
-use Rattle.keeper.specs.Rules.{write_malformed, write_accepted, write_refused, write_unread, config_invalid, config_accepted, config_unread, check_malformed, check_bad_zookie, check_answered, check_refused, check_unread, catch_up_malformed, catch_up_accepted, catch_up_unread}
+use Rattle.keeper.specs.Rules.{WriteStep, ConfigStep, OnlyShows, CheckStep, CatchUpStep, StateStep, DeskStep}
+use Rattle.keeper.proofs.Refreshing.{still_refused}
+use Rattle.keeper.specs.Rules.{write_malformed, write_accepted, write_refused, write_unread, config_invalid, config_accepted, config_refused, config_unread, check_malformed, check_bad_zookie, check_answered, check_refused, check_unread, catch_up_malformed, catch_up_accepted, catch_up_refused, catch_up_unread}
 
 pub write_unasked : {T : Type 0} (g : Ghosts T) (old : Posts T) (body : List ℕ) (why : Refusal) (told : Option (ℕ × List ℕ))
     → ReadCause ((ops : List Op) → AsksWrite body ops → ⊥) why → SaysRefusal told why → WriteStep g old body told old
@@ -39,10 +44,10 @@ pub write_done : {T : Type 0} (g : Ghosts T) (old : Posts T) (body : List ℕ) (
 write_done g old body ops conditions receipt shown zookie told new asks plain accepted shows is says =
     write_accepted ops receipt asks (rw plain at accepted) (let s = rw is at says in rw shows at s)
 
-pub write_not_done : {T : Type 0} (g : Ghosts T) (old : Posts T) (body : List ℕ) (ops : List Op) (conditions : List (Condition Zookie)) (why : Refusal) (told : Option (ℕ × List ℕ)) (new : Posts T)
-    → AsksWrite body ops → conditions ≡ [] → IsRefused g old (IsCommitOf ops) (WriteJudged (newest_posted old) (record { conditions = conditions; ops = ops })) why new
-    → SaysRefusal told why → WriteStep g old body told new
-write_not_done g old body ops conditions why told new asks plain refused says = write_refused ops why asks (rw plain at refused) says
+pub write_not_done : {T : Type 0} (g : Ghosts T) (old mid : Posts T) (body : List ℕ) (ops : List Op) (conditions : List (Condition Zookie)) (why : Refusal) (told : Option (ℕ × List ℕ)) (new : Posts T)
+    → AsksWrite body ops → conditions ≡ [] → IsRefused g old (IsCommitOf ops) (WriteJudged (newest_posted old) (record { conditions = conditions; ops = ops })) why mid
+    → ShowsMore mid new → SameTables mid new → SaysRefusal told why → WriteStep g old body told new
+write_not_done g old mid body ops conditions why told new asks plain refused more same says = write_refused ops why asks (still_refused g old mid new _ _ why (rw plain at refused) more same) says
 
 pub config_unaccepted : {T : Type 0} (g : Ghosts T) (old : Posts T) (body : List ℕ) (why : Refusal) (told : Option (ℕ × List ℕ))
     → ConfigCause body why → SaysRefusal told why → ConfigStep g old body told old
@@ -57,6 +62,11 @@ pub config_done : {T : Type 0} (g : Ghosts T) (old : Posts T) (body : List ℕ) 
 config_done g old body config receipt shown zookie told new accepts accepted shows is says =
     config_accepted config receipt accepts accepted (let s = rw is at says in rw shows at s)
 
+pub config_not_done : {T : Type 0} (g : Ghosts T) (old mid : Posts T) (body : List ℕ) (config : Configured) (why : Refusal) (told : Option (ℕ × List ℕ)) (new : Posts T)
+    → Accepts body config → IsRefused g old (λ commit. commit ≡ ConfigCommit config) (ConfigJudged (newest_posted old) config) why mid
+    → ShowsMore mid new → SameTables mid new → SaysRefusal told why → ConfigStep g old body told new
+config_not_done g old mid body config why told new accepts refused more same says = config_refused config why accepts (still_refused g old mid new _ _ why refused more same) says
+
 pub check_unasked : {T : Type 0} (old : Posts T) (body : List ℕ) (why : Refusal) (told : Option (ℕ × List ℕ))
     → CheckCause body why → SaysRefusal told why → CheckStep old body told old
 check_unasked old body Malformed told cause says = check_malformed cause says refl
@@ -64,15 +74,23 @@ check_unasked old body BadZookie told cause says = check_bad_zookie cause says r
 check_unasked old body Memory told cause says = check_unread says refl
 check_unasked old body _ told cause says = absurd cause
 
-pub check_done : {T : Type 0} (old : Posts T) (body : List ℕ) (consistency : Consistency) (node : Node) (user : Object) (store rev : ℕ) (allowed : Bool) (told : Option (ℕ × List ℕ))
-    → AsksCheck body consistency node user → IsChecked (standing old.shown) consistency node user rev allowed → store ≡ (standing old.posted).kept.number
-    → Says told 200 (answer_data allowed (zookie_text store rev)) → CheckStep old body told old
-check_done old body consistency node user store rev allowed told asks checked number says = check_answered consistency node user rev allowed asks checked (rw number at says) refl
+-- a desk that only showed more
+module _ {T : Type 0} (old new : Posts T) (body : List ℕ) (consistency : Consistency) (node : Node) (store : ℕ) (told : Option (ℕ × List ℕ))
+    (number : store ≡ (standing new.posted).kept.number) (only : OnlyShows old new) where
+  same_store : store ≡ (standing old.posted).kept.number
+  same_store = number ∙ ap (λ (xs : List Step). (standing xs).kept.number) only.shows.posted
 
-pub check_not_done : {T : Type 0} (old : Posts T) (body : List ℕ) (consistency : Consistency) (node : Node) (user : Object) (store : ℕ) (why : Refusal) (at : Option ℕ) (told : Option (ℕ × List ℕ))
-    → AsksCheck body consistency node user → CheckRefused (standing old.shown) consistency node why at → store ≡ (standing old.posted).kept.number
-    → SaysRefusalAt told why (option_map (zookie_text store) at) → CheckStep old body told old
-check_not_done old body consistency node user store why at told asks refused number says = check_refused consistency node user why at asks refused (rw number at says) refl
+  pub check_done : (user : Object) (rev : ℕ) (allowed : Bool) → AsksCheck body consistency node user → IsChecked (standing new.shown) consistency node user rev allowed
+      → Says told 200 (answer_data allowed (zookie_text store rev)) → CheckStep old body told new
+  check_done user rev allowed asks checked says =
+      check_answered consistency node user rev allowed asks checked
+      (subst (λ (n : ℕ). Says told 200 (answer_data allowed (zookie_text n rev))) same_store says) only
+
+  pub check_not_done : (user : Object) (why : Refusal) (at : Option ℕ) → AsksCheck body consistency node user → CheckRefused (standing new.shown) consistency node why at
+      → SaysRefusalAt told why (option_map (zookie_text store) at) → CheckStep old body told new
+  check_not_done user why at asks cause says =
+      check_refused consistency node user why at asks cause
+      (subst (λ (n : ℕ). SaysRefusalAt told why (option_map (zookie_text n) at)) same_store says) only
 
 pub catch_up_unasked : {T : Type 0} (g : Ghosts T) (old : Posts T) (body : List ℕ) (why : Refusal) (told : Option (ℕ × List ℕ))
     → ReadCause ((part : Part) (commits : ℕ) → AsksCatchUp body part commits → ⊥) why → SaysRefusal told why → CatchUpStep g old body told old
@@ -86,6 +104,11 @@ pub catch_up_done : {T : Type 0} (g : Ghosts T) (old : Posts T) (body : List ℕ
     → Says told 200 (cursor_data (zookie_text zookie.store cursor) shown) → CatchUpStep g old body told new
 catch_up_done g old body part commits cursor receipt shown zookie told new asks accepted shows is says =
     catch_up_accepted part commits cursor receipt asks accepted (let s = rw is at says in rw shows at s)
+
+pub catch_up_not_done : {T : Type 0} (g : Ghosts T) (old mid : Posts T) (body : List ℕ) (part : Part) (commits : ℕ) (why : Refusal) (told : Option (ℕ × List ℕ)) (new : Posts T)
+    → AsksCatchUp body part commits → IsRefused g old IsNoCommit (CatchUpJudged commits) why mid
+    → ShowsMore mid new → SameTables mid new → SaysRefusal told why → CatchUpStep g old body told new
+catch_up_not_done g old mid body part commits why told new asks refused more same says = catch_up_refused part commits why asks (still_refused g old mid new _ _ why refused more same) says
 
 pub state_told : {T : Type 0} (old : Posts T) (store : ℕ) (state : State) (told : Option (ℕ × List ℕ))
     → store ≡ (standing old.posted).kept.number → state ≡ state_of (standing old.shown) → Says told 200 (state_data store state) → StateStep old told old

@@ -18,8 +18,9 @@ use Rattle.names.specs.declared.part.Part.{Part}
 use Rattle.shown.specs.Standing.{standing, state_of}
 use Rattle.shown.specs.Answers.{IsChecked, CheckRefused}
 use Rattle.tables.specs.declared.tables.Tables.{Ghosts}
-use Rattle.keeper_core.specs.Posts.{Posts, newest_posted}
-use Rattle.keeper_core.specs.Changes.{ReceiptFacts, WriteAccepted, ConfigAccepted, CatchUpAccepted, CatchUpJudged, IsCommitOf, IsNoCommit, IsRefused}
+use Rattle.keeper_core.specs.Posts.{Posts, ShowsMore, SameTables, newest_posted}
+use Rattle.published.specs.Receipts.{ReceiptFacts}
+use Rattle.keeper_core.specs.Changes.{WriteAccepted, ConfigAccepted, CatchUpAccepted, CatchUpJudged, IsCommitOf, IsNoCommit, IsRefused}
 use Rattle.bodies.specs.Requests.{AsksWrite, AsksCheck, IsCheckForm, HasBadZookie, AsksCatchUp, AsksNoWrite, AsksNoCatchUp, unconditional_write}
 use Rattle.bodies.specs.Replies.{Says, SaysRefusal, SaysRefusalAt, receipt_data, answer_data, cursor_data, state_data, no_route_data}
 
@@ -57,8 +58,14 @@ pub data ConfigStep {T : Type 0} (g : Ghosts T)
 abbrev pub zookie_at : {T : Type 0} → Posts T → ℕ → List ℕ
 zookie_at desk rev = zookie_text (standing desk.posted).kept.number rev
 
--- `check`: the body asks no question; its zookie is none; it is answered, or refused, from the shown steps;
--- or there was no memory to read it
+-- nothing is changed, but more of the posted steps may be shown
+pub record OnlyShows {T : Type 0} (old new : Posts T) : Type 0 where
+  pub shows : ShowsMore old new
+  pub tables : SameTables old new
+  pub seats : new.seats ≡ old.seats
+
+-- `check`: the body asks no question; its zookie is none; it is answered, or refused, from the steps that are then
+-- shown; or there was no memory to read it
 pub data CheckStep {T : Type 0}
     (old : Posts T) (body : List ℕ) (told : Option (ℕ × List ℕ)) (new : Posts T) : Type 0 where
   check_malformed :
@@ -68,14 +75,14 @@ pub data CheckStep {T : Type 0}
   check_answered :
       (consistency : Consistency) (node : Node) (user : Object) (rev : ℕ) (allowed : Bool)
       → AsksCheck body consistency node user
-      → IsChecked (standing old.shown) consistency node user rev allowed
-      → Says told 200 (answer_data allowed (zookie_at old rev)) → new ≡ old
+      → IsChecked (standing new.shown) consistency node user rev allowed
+      → Says told 200 (answer_data allowed (zookie_at old rev)) → OnlyShows old new
       → CheckStep old body told new
   check_refused :
       (consistency : Consistency) (node : Node) (user : Object) (why : Refusal) (at : Option ℕ)
       → AsksCheck body consistency node user
-      → CheckRefused (standing old.shown) consistency node why at
-      → SaysRefusalAt told why (option_map (zookie_at old) at) → new ≡ old
+      → CheckRefused (standing new.shown) consistency node why at
+      → SaysRefusalAt told why (option_map (zookie_at old) at) → OnlyShows old new
       → CheckStep old body told new
   check_unread : told ≡ None → new ≡ old → CheckStep old body told new
 

@@ -1,23 +1,52 @@
 //! Calls by bytes.
-ghost use Rattle.std.specs.Prelude.{option_map};
+ghost use Rattle.std.specs.Prelude.{◌≡◌, option_map};
 ghost use Rattle.names.specs.Calls.{told};
 ghost use Rattle.zookie.specs.Text.{zookie_text};
-ghost use Rattle.bodies.specs.Replies.{SaysRefusalAt};
+ghost use Rattle.bodies.specs.Replies.{SaysRefusal, SaysRefusalAt};
+ghost use Rattle.published.specs.Known.{Begins};
+ghost use Rattle.keeper_core.specs.Posts.{ShowsMore, SameTables, shown_by};
 ghost use Rattle.keeper.specs.Rules.{DeskStep, WriteStep, ConfigStep, CheckStep, CatchUpStep, StateStep};
 
+use crate::asking::ask;
 use bodies::refusals::{refusal, refusal_at};
 use bodies::replies::{answer, cursor, no_route, receipt, state};
 use bodies::requests::{catch_up_body, check_body, write_body};
 use config::Config;
 use keeper_core::Desk;
-use names::{Call, Items, Reply, Write};
+use names::{Call, Items, Refusal, Reply, Write};
+use published::Session;
 use shown::Refused;
 use std::alloc::Global;
+use std::sync::Wait;
 use tables::Tables;
 use zookie::Zookie;
 
-fn answer_write<T: Tables + Drop>(alloc: Global, desk: &mut Desk<T>, body: &[u8]) -> Reply
-    ensures { WriteStep T.Tables desk.old body.now (told result) desk.new }
+// What a refused change is answered. The session then knows what is shown.
+fn refuse<T: Tables + Drop, R: Wait + Drop>(
+    alloc: Global,
+    desk: &mut Desk<T, R>,
+    session: &mut Session,
+    why: &Refusal,
+) -> Reply
+    requires { session.old.book ≡ desk.old.book }
+    ensures says { SaysRefusal (told result) why.now }
+    ensures more { ShowsMore desk.old desk.new }
+    ensures same { SameTables desk.old desk.new }
+    ensures known { Begins (shown_by desk.new) session.new }
+{
+    desk.refresh(session);
+    refusal(alloc, why)
+}
+
+fn answer_write<T: Tables + Drop, R: Wait + Drop>(
+    alloc: Global,
+    desk: &mut Desk<T, R>,
+    session: &mut Session,
+    body: &[u8],
+) -> Reply
+    requires { Begins (shown_by desk.old) session.old }
+    ensures step { WriteStep T.Tables desk.old body.now (told result) desk.new }
+    ensures known { Begins (shown_by desk.new) session.new }
 {
     let ops = match write_body(alloc, body) {
         Ok(ops) => ops,
@@ -25,21 +54,34 @@ fn answer_write<T: Tables + Drop>(alloc: Global, desk: &mut Desk<T>, body: &[u8]
     };
     let conditions = Items::of(Vec::new(alloc));
     match desk.write(Write { conditions, ops }) {
-        Ok(accepted) => receipt(alloc, accepted.is_shown(), &accepted.zookie()),
-        Err(why) => refusal(alloc, &why),
+        Ok(accepted) => {
+            session.learn(&accepted);
+            receipt(alloc, accepted.is_shown(), &accepted.zookie())
+        }
+        Err(why) => refuse(alloc, desk, session, &why),
     }
 }
 
-fn answer_config<T: Tables + Drop>(alloc: Global, desk: &mut Desk<T>, body: &[u8]) -> Reply
-    ensures { ConfigStep T.Tables desk.old body.now (told result) desk.new }
+fn answer_config<T: Tables + Drop, R: Wait + Drop>(
+    alloc: Global,
+    desk: &mut Desk<T, R>,
+    session: &mut Session,
+    body: &[u8],
+) -> Reply
+    requires { Begins (shown_by desk.old) session.old }
+    ensures step { ConfigStep T.Tables desk.old body.now (told result) desk.new }
+    ensures known { Begins (shown_by desk.new) session.new }
 {
     let config = match Config::from_json(alloc, body) {
         Ok(config) => config,
         Err(why) => return refusal(alloc, &why),
     };
     match desk.configure(config) {
-        Ok(taken) => receipt(alloc, taken.is_shown(), &taken.zookie()),
-        Err(why) => refusal(alloc, &why),
+        Ok(taken) => {
+            session.learn(&taken);
+            receipt(alloc, taken.is_shown(), &taken.zookie())
+        }
+        Err(why) => refuse(alloc, desk, session, &why),
     }
 }
 
@@ -54,15 +96,23 @@ fn refused_question(alloc: Global, store: u64, refused: &Refused) -> Reply
     }
 }
 
-fn answer_check<T: Tables + Drop>(alloc: Global, desk: &Desk<T>, body: &[u8]) -> Reply
-    ensures { CheckStep desk.now body.now (told result) desk.now }
+fn answer_check<T: Tables + Drop, R: Wait + Drop>(
+    alloc: Global,
+    desk: &mut Desk<T, R>,
+    session: &mut Session,
+    body: &[u8],
+) -> Reply
+    requires { Begins (shown_by desk.old) session.old }
+    ensures step { CheckStep desk.old body.now (told result) desk.new }
+    ensures known { Begins (shown_by desk.new) session.new }
 {
     let (consistency, node, user) = match check_body(alloc, body) {
         Ok(asked) => asked,
         Err(why) => return refusal(alloc, &why),
     };
+    let asked = ask(desk, session, &consistency, &node, &user);
     let store = desk.number();
-    match desk.check(&consistency, &node, &user) {
+    match asked {
         Ok(found) => {
             let rev = found.rev;
             answer(alloc, found.value, &Zookie { store, rev })
@@ -71,8 +121,15 @@ fn answer_check<T: Tables + Drop>(alloc: Global, desk: &Desk<T>, body: &[u8]) ->
     }
 }
 
-fn answer_catch_up<T: Tables + Drop>(alloc: Global, desk: &mut Desk<T>, body: &[u8]) -> Reply
-    ensures { CatchUpStep T.Tables desk.old body.now (told result) desk.new }
+fn answer_catch_up<T: Tables + Drop, R: Wait + Drop>(
+    alloc: Global,
+    desk: &mut Desk<T, R>,
+    session: &mut Session,
+    body: &[u8],
+) -> Reply
+    requires { Begins (shown_by desk.old) session.old }
+    ensures step { CatchUpStep T.Tables desk.old body.now (told result) desk.new }
+    ensures known { Begins (shown_by desk.new) session.new }
 {
     let (part, commits) = match catch_up_body(alloc, body) {
         Ok(asked) => asked,
@@ -80,15 +137,16 @@ fn answer_catch_up<T: Tables + Drop>(alloc: Global, desk: &mut Desk<T>, body: &[
     };
     match desk.catch_up(part, commits) {
         Ok(posted) => {
+            session.learn(&posted.receipt);
             let rev = posted.value;
             let store = posted.receipt.zookie().store;
             cursor(alloc, &Zookie { store, rev }, posted.receipt.is_shown())
         }
-        Err(why) => refusal(alloc, &why),
+        Err(why) => refuse(alloc, desk, session, &why),
     }
 }
 
-fn answer_state<T: Tables + Drop>(alloc: Global, desk: &Desk<T>) -> Reply
+fn answer_state<T: Tables + Drop, R: Wait + Drop>(alloc: Global, desk: &Desk<T, R>) -> Reply
     ensures { StateStep desk.now (told result) desk.now }
 {
     let store = desk.number();
@@ -96,20 +154,24 @@ fn answer_state<T: Tables + Drop>(alloc: Global, desk: &Desk<T>) -> Reply
     state(alloc, store, &numbers)
 }
 
-/// Answers a call, whose body is these bytes.
-pub fn answer_on<T: Tables + Drop>(
+/// Answers a call, whose body is these bytes, on a desk that the caller holds. The session then knows all that is
+/// shown. A question of the future is asked once more after what waits was shown.
+pub fn answer_on<T: Tables + Drop, R: Wait + Drop>(
     alloc: Global,
-    desk: &mut Desk<T>,
+    desk: &mut Desk<T, R>,
+    session: &mut Session,
     call: Call,
     body: &[u8],
 ) -> Reply
-    ensures { DeskStep T.Tables desk.old call body.now (told result) desk.new }
+    requires { Begins (shown_by desk.old) session.old }
+    ensures step { DeskStep T.Tables desk.old call body.now (told result) desk.new }
+    ensures known { Begins (shown_by desk.new) session.new }
 {
     match call {
-        Call::Write => answer_write(alloc, desk, body),
-        Call::Config => answer_config(alloc, desk, body),
-        Call::Check => answer_check(alloc, desk, body),
-        Call::CatchUp => answer_catch_up(alloc, desk, body),
+        Call::Write => answer_write(alloc, desk, session, body),
+        Call::Config => answer_config(alloc, desk, session, body),
+        Call::Check => answer_check(alloc, desk, session, body),
+        Call::CatchUp => answer_catch_up(alloc, desk, session, body),
         Call::State => answer_state(alloc, desk),
         _ => no_route(alloc),
     }

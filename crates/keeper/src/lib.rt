@@ -1,6 +1,7 @@
-//! Calls by bytes: what a desk does for each, and what it is answered.
+//! Calls by bytes: what a desk and a session of it do for each, and what is answered.
 #![tactic(auto)]
 
 mod answer;
+mod asking;
 
 pub use answer::answer_on;

@@ -1,8 +1,7 @@
 -- A change, from the readiness for it on.
-use Rattle.std.proofs.Common.{◌≡◌, Bool, true, false, List, [], ◌∷◌, ◌++◌, ◌<◌, ℕ, refl, ap, sym, ◌∙◌, subst, true≢false}
+use Rattle.std.proofs.Common.{◌≡◌, Bool, true, false, List, [], ◌∷◌, ◌++◌, ◌<◌, ◌≤◌, ℕ, refl, ap, sym, ◌∙◌, subst, true≢false}
 use Rattle.std.specs.Prelude.{Result, Ok, Err, IfOk, IfErr, IsErrAnd, OnOk, Option, Some, None}
 use Rattle.names.specs.declared.limits.TheConstants.{MAX_CATCH_UP}
-use Rattle.logbook.specs.Pages.{Book}
 use Rattle.names.specs.declared.tuple.Tuple.{Tuple}
 use Rattle.names.specs.declared.write.Op.{Op}
 use Rattle.names.specs.declared.write.Condition.{Condition}
@@ -19,18 +18,18 @@ use Rattle.rows.specs.Retained.{Retained, newest_of, with_commit}
 use Rattle.rows.specs.Follows.{AreEventsOf, IsAccepted, IsNext}
 use Rattle.rows.specs.Judging.{ConfigRefused}
 use Rattle.shown.specs.declared.step.Step.{Step}
-use Rattle.shown.specs.declared.step.Step.TheVariants.{Commit}
-use Rattle.shown.specs.Standing.{Standing, standing}
+use Rattle.names.specs.declared.part.Part.{Part}
+use Rattle.shown.specs.declared.step.Step.TheVariants.{Commit, Take}
+use Rattle.shown.specs.Standing.{standing, cursor_of}
 use Rattle.tables.specs.Device.{IsOpen, HasFailed, Lasts}
 use Rattle.tables.specs.Storing.{one_more}
 use Rattle.tables.specs.declared.tables.Tables.{Ghosts}
 use Rattle.tables.proofs.Lasting.{lasts_self}
-use Rattle.keeper_core.specs.declared.latched_tables.LatchedTables.{LatchedTables}
-use Rattle.keeper_core.specs.Posts.{Posts, ShowsMore, SameTables, PostsStep, newest_posted, newest_shown}
-use Rattle.keeper_core.specs.Changes.{ReceiptFacts, Tells, IsStored, WriteAccepted, ConfigAccepted, JudgedWith, CatchUpJudged, IsNoCommit, MayLeave, Touches, leaves_alone, adds_one, Refuses, IsRefused}
-use Rattle.keeper_core.specs.inside.Latching.{IsLatched}
-use Rattle.keeper_core.specs.inside.Posting.{NotReady, IsMemory}
-use Rattle.keeper_core.proofs.Prefixes.{prefix_self, prefix_trans}
+use Rattle.keeper_core.specs.Posts.{Posts, ShowsMore, SameTables, PostsStep, newest_posted}
+use Rattle.published.specs.Receipts.{ReceiptFacts}
+use Rattle.keeper_core.specs.Changes.{Tells, TellsShown, IsStored, WriteAccepted, ConfigAccepted, JudgedWith, CatchUpAccepted, CatchUpJudged, IsNoCommit, MayLeave, Touches, leaves_alone, adds_one, Refuses, IsRefused}
+use Rattle.keeper_core.specs.inside.Posting.{IsMemory}
+use Rattle.published.proofs.Prefixes.{prefix_trans}
 
 tuple_or_limit : (o : Option Tuple) (b : Bool) (why : Refusal) → or_else (in_the_way o) (refused_if Full b) ≡ Some why → ((t : Tuple) → ¬ (TupleInTheWay t ≡ why)) → ¬ (Full ≡ why) → ⊥
 tuple_or_limit (Some t) b why is way full = way t (cc is)
@@ -44,12 +43,12 @@ config_faults : (n : Newest) (config : Configured) → ¬ (ConfigRefused n confi
 config_faults n config is = tuple_or_limit _ _ StoreFault is (λ t same. absurd (cc same)) (λ same. absurd (cc same))
 
 -- what the exit of a `?` returns
-refused_exit : {A : Type 0} (P : Refusal → Type 0) (r : Result A Refusal) (e : Refusal) → IsErrAnd r (λ why. why ≡ e) → P e → IfErr r P
+pub refused_exit : {A : Type 0} (P : Refusal → Type 0) (r : Result A Refusal) (e : Refusal) → IsErrAnd r (λ why. why ≡ e) → P e → IfErr r P
 refused_exit P (Ok a) e was is = tt
 refused_exit P (Err why) e was is = subst P (sym was) is
 
 -- where the tables are the same, so is the device
-lasts_same : {T : Type 0} (g : Ghosts T) (old new : T) → new ≡ old → Lasts (g.device old) (g.device new)
+pub lasts_same : {T : Type 0} (g : Ghosts T) (old new : T) → new ≡ old → Lasts (g.device old) (g.device new)
 lasts_same {T} g old new same = subst (λ (t : T). Lasts (g.device old) (g.device t)) (sym same) (lasts_self (g.device old))
 
 module _ {T : Type 0} (g : Ghosts T) (old mid : Posts T) (more : ShowsMore old mid) (same : SameTables old mid) where
@@ -57,13 +56,12 @@ module _ {T : Type 0} (g : Ghosts T) (old mid : Posts T) (more : ShowsMore old m
   pub refused_early : (made : Stored Configured → Type 0) (judged : Refusal → Type 0) (why : Refusal) → Refuses g old judged why mid → IsRefused g old made judged why mid
   refused_early made judged why cause = record { shows = more; cause = cause; touches = leaves_alone same.0; lasts = lasts_same g old.tables mid.tables same.0 }
 
-  unready : (judged : Refusal → Type 0) (why : Refusal) → judged Memory → NotReady old.failed why → Refuses g old judged why mid
-  unready judged Reopen memory failed = (failed, same.1 ∙ failed, same.2, same.0)
-  unready judged Memory memory works = (works, same.1 ∙ works, same.2, memory)
-  unready judged _ memory not = absurd not
-
-  pub not_ready : (made : Stored Configured → Type 0) (judged : Refusal → Type 0) (why : Refusal) → judged Memory → NotReady old.failed why → IsRefused g old made judged why mid
-  not_ready made judged why memory not = refused_early made judged why (unready judged why memory not)
+  -- the tables failed before
+  pub not_ready : {A : Type 0} (made : Stored Configured → Type 0) (judged : Refusal → Type 0) (r : Result A Refusal) (why : Refusal) → IsErrAnd r (λ e. e ≡ why)
+      → (why ≡ Reopen) × (old.failed ≡ true) → IfErr r (λ e. IsRefused g old made judged e mid)
+  not_ready made judged r why was is =
+      refused_exit (λ e. IsRefused g old made judged e mid) r why was
+      (subst (λ (e : Refusal). IsRefused g old made judged e mid) (sym is.0) (refused_early made judged Reopen (is.1, same.1 ∙ is.1, same.2, same.0)))
 
   module _ (works : old.failed ≡ false) where
     judged_cause : (judged : Refusal → Type 0) (why : Refusal) → ¬ (judged Reopen) → ¬ (judged StoreFault) → judged why → Refuses g old judged why mid
@@ -77,14 +75,17 @@ module _ {T : Type 0} (g : Ghosts T) (old mid : Posts T) (more : ShowsMore old m
     refused_judged made judged why asks fails is = refused_early made judged why (judged_cause judged why asks fails is)
 
     -- a configuration is refused for a tuple in the way, or for a limit
-    pub config_refused : {A : Type 0} (r : Result A Refusal) (shown : Standing) (config : Configured) (why : Refusal) → IsErrAnd r (λ e. e ≡ why)
-        → shown ≡ standing mid.shown → mid.shown ≡ mid.posted → ConfigRefused (newest_of shown.kept) config why
+    pub config_refused : {A : Type 0} (r : Result A Refusal) (config : Configured) (why : Refusal) → IsErrAnd r (λ e. e ≡ why)
+        → ConfigRefused (newest_posted mid) config why
         → IfErr r (λ e. IsRefused g old (λ commit. commit ≡ Config config) (ConfigRefused (newest_posted old) config) e mid)
-    config_refused r shown config why was stands all is =
-        let here : shown ≡ standing old.posted = stands ∙ ap standing (all ∙ more.posted) in
+    config_refused r config why was is =
         refused_exit (λ e. IsRefused g old (λ commit. commit ≡ Config config) (ConfigRefused (newest_posted old) config) e mid) r why was
         (refused_judged (λ commit. commit ≡ Config config) (ConfigRefused (newest_posted old) config) why (config_reopens (newest_posted old) config) (config_faults (newest_posted old) config)
-        (subst (λ (s : Standing). ConfigRefused (newest_of s.kept) config why) here is))
+        (subst (λ (steps : List Step). ConfigRefused (newest_of (standing steps).kept) config why) more.posted is))
+
+    -- too many commits at once
+    pub too_many : (commits : ℕ) → MAX_CATCH_UP < commits → IsRefused g old IsNoCommit (CatchUpJudged commits) Malformed mid
+    too_many commits many = refused_early IsNoCommit (CatchUpJudged commits) Malformed (works, same.1 ∙ works, same.2, same.0, many)
 
     module _ (new : Posts T) where
       posts_on : (step : Step) → PostsStep mid step new → PostsStep old step new
@@ -115,39 +116,50 @@ module _ {T : Type 0} (g : Ghosts T) (old mid : Posts T) (more : ShowsMore old m
             lasts = subst (λ (t : T). Lasts (g.device t) (g.device new.tables)) same.0 stored.lasts;
           }
 
-      -- what is shown then is what was posted before
-      all_shown : mid.shown ≡ mid.posted → mid.shown ≡ old.posted
-      all_shown all = all ∙ more.posted
-
-      pub write_accepted : (write : Write Zookie) (events : List Event) (r : Result ReceiptFacts Refusal) → mid.shown ≡ mid.posted → write.conditions ≡ []
-          → IsAccepted (newest_shown mid) write.ops → AreEventsOf write.ops events
+      pub write_accepted : (write : Write Zookie) (events : List Event) (r : Result ReceiptFacts Refusal) → write.conditions ≡ []
+          → IsAccepted (newest_posted mid) write.ops → AreEventsOf write.ops events
           → OnOk r (PostsStep mid (Commit (Tuples events)) new) → IfOk r (λ receipt. Tells receipt new) → OnOk r (IsStored g mid new)
           → IfOk r (λ receipt. WriteAccepted g old write receipt new)
-      write_accepted write events (Ok receipt) all plain accepted are posts tells stored =
+      write_accepted write events (Ok receipt) plain accepted are posts tells stored =
           record {
             works = works;
             plain = plain;
-            accepted = subst (λ (steps : List Step). IsAccepted (newest_of (standing steps).kept) write.ops) (all_shown all) accepted;
+            accepted = subst (λ (steps : List Step). IsAccepted (newest_of (standing steps).kept) write.ops) more.posted accepted;
             events = events;
             events_of = are;
             posts = posts_on (Commit (Tuples events)) posts;
             stored = stored_on stored;
             tells = tells;
           }
-      write_accepted write events (Err why) all plain accepted are posts tells stored = tt
+      write_accepted write events (Err why) plain accepted are posts tells stored = tt
 
-      pub config_accepted : (config : Configured) (r : Result ReceiptFacts Refusal) → mid.shown ≡ mid.posted → config_cause (newest_shown mid) config ≡ Option.None
+      pub config_accepted : (config : Configured) (r : Result ReceiptFacts Refusal) → config_cause (newest_posted mid) config ≡ Option.None
           → OnOk r (PostsStep mid (Commit (Config config)) new) → IfOk r (λ receipt. Tells receipt new) → OnOk r (IsStored g mid new)
           → IfOk r (λ receipt. ConfigAccepted g old config receipt new)
-      config_accepted config (Ok receipt) all accepted posts tells stored =
+      config_accepted config (Ok receipt) accepted posts tells stored =
           record {
             works = works;
-            accepted = subst (λ (steps : List Step). config_cause (newest_of (standing steps).kept) config ≡ Option.None) (all_shown all) accepted;
+            accepted = subst (λ (steps : List Step). config_cause (newest_of (standing steps).kept) config ≡ Option.None) more.posted accepted;
             posts = posts_on (Commit (Config config)) posts;
             stored = stored_on stored;
             tells = tells;
           }
-      config_accepted config (Err why) all accepted posts tells stored = tt
+      config_accepted config (Err why) accepted posts tells stored = tt
+
+      -- the part has taken the commits
+      pub caught_up : {A : Type 0} (value : A → ℕ) (receipt : A → ReceiptFacts) (part : Part) (commits : ℕ) (r : Result A Refusal) → commits ≤ MAX_CATCH_UP
+          → OnOk r (PostsStep mid (Take part commits) new) → new.tables ≡ mid.tables → new.failed ≡ false → IfOk r (λ p. value p ≡ cursor_of part (standing new.posted)) → IfOk r (λ p. TellsShown (receipt p) new)
+          → IfOk r (λ p. CatchUpAccepted old part commits (value p) (receipt p) new)
+      caught_up value receipt part commits (Ok p) few posts tables sound moved tells =
+          record { works = works; few = few; posts = posts_on (Take part commits) posts; tables = tables ∙ same.0; stored = sound; moved = moved; tells = tells }
+      caught_up value receipt part commits (Err why) few posts tables sound moved tells = tt
+
+      -- there was no room for its step
+      pub not_caught_up : {A : Type 0} (commits : ℕ) (r : Result A Refusal) → IfErr r (λ why. (why ≡ Memory) × (new ≡ mid)) → IfErr r (λ why. IsRefused g old IsNoCommit (CatchUpJudged commits) why new)
+      not_caught_up commits (Ok p) is = tt
+      not_caught_up commits (Err why) is =
+          subst (λ (d : Posts T). IsRefused g old IsNoCommit (CatchUpJudged commits) why d) (sym is.1)
+          (subst (λ (e : Refusal). IsRefused g old IsNoCommit (CatchUpJudged commits) e mid) (sym is.0) (refused_early IsNoCommit (CatchUpJudged commits) Memory (works, same.1 ∙ works, same.2, tt)))
 
       cause_on : (judged : Refusal → Type 0) (why : Refusal) → judged Memory → Refuses g mid IsMemory why new → Refuses g old judged why new
       cause_on judged Reopen memory cause = absurd (true≢false (sym cause.0 ∙ same.1 ∙ works))
@@ -184,52 +196,7 @@ module _ {T : Type 0} (g : Ghosts T) (old mid : Posts T) (more : ShowsMore old m
       refuses_on made commit judged (Ok receipt) asked memory refused = tt
       refuses_on made commit judged (Err why) asked memory refused = refused_on made commit judged why asked memory refused
 
--- a desk at which nothing happens
-pub shows_itself : {T : Type 0} (tables : T) (b : Book) (prefix : List Step) (waiting : List Step) (failed : Bool) (faults : ℕ)
-    → ShowsMore (record { tables = tables; book = b; posted = prefix ++ waiting; shown = prefix; failed = failed; faults = faults })
-    (record { tables = tables; book = b; posted = prefix ++ waiting; shown = prefix; failed = failed; faults = faults })
-shows_itself tables b prefix waiting failed faults = record { posted = refl; book = refl; later = prefix_self prefix; beginning = (waiting, refl) }
-
 -- want of memory is never the write's fault
 pub memory_judged : (newest : Newest) (ops : List Op) (conditions : List (Condition Zookie)) → JudgedWith newest ops conditions Memory
 memory_judged newest ops [] = tt
 memory_judged newest ops (condition ∷ conditions) = tt
-
--- what was judged on the kept state was judged on what is shown
-pub config_judged : {T : Type 0} (shown : Standing) (steps : List Step) (config : Configured) (d : Posts T) → shown ≡ standing steps → config_cause (newest_of shown.kept) config ≡ Option.None
-    → d.shown ≡ steps → config_cause (newest_shown d) config ≡ Option.None
-config_judged shown steps config d is judged here =
-    subst (λ (xs : List Step). config_cause (newest_of (standing xs).kept) config ≡ Option.None) (sym here) (subst (λ (s : Standing). config_cause (newest_of s.kept) config ≡ Option.None) is judged)
-
--- too many commits at once
-pub too_many : {T : Type 0} (g : Ghosts T) (tables : T) (b : Book) (prefix : List Step) (waiting : List Step) (failed : Bool) (faults : ℕ) (commits : ℕ) → failed ≡ false → MAX_CATCH_UP < commits
-    → IsRefused g (record { tables = tables; book = b; posted = prefix ++ waiting; shown = prefix; failed = failed; faults = faults }) IsNoCommit (CatchUpJudged commits) Malformed
-    (record { tables = tables; book = b; posted = prefix ++ waiting; shown = prefix; failed = failed; faults = faults })
-too_many g tables b prefix waiting failed faults commits sound many =
-    refused_early g _ _ (shows_itself tables b prefix waiting failed faults) (refl, refl, refl) IsNoCommit (CatchUpJudged commits) Malformed (sound, sound, refl, refl, many)
-
-module _ {T : Type 0} (g : Ghosts T) (b : Book) (prefix waiting : List Step) where
-  -- a desk over these tables
-  abbrev pub seen_over : LatchedTables T → Posts T
-  seen_over t = record { tables = t.tables; book = b; posted = prefix ++ waiting; shown = prefix; failed = t.failed; faults = g.count t.tables }
-
-  latched_cause : (was is : LatchedTables T) (why : Refusal) → was.failed ≡ false → IsLatched g was why is → Refuses g (seen_over was) IsMemory why (seen_over is)
-  latched_cause was is Memory works latched = (works, latched.0, latched.1, refl)
-  latched_cause was is StoreFault works latched = (works, latched.0, latched.1, latched.2)
-  latched_cause was is _ works latched = absurd latched
-
-  -- the tables refused to store the copy of the commit
-  pub not_stored : {A : Type 0} (r : Result A Refusal) (why : Refusal) (d : Posts T) (was is : LatchedTables T) (commit kept : Stored Configured) → IsErrAnd r (λ e. e ≡ why)
-      → seen_over was ≡ d → d.failed ≡ false → kept ≡ commit → IsLatched g was why is → IsNext (standing (prefix ++ waiting)).kept kept
-      → ((rs : List Retained) → g.leaves was.tables rs → g.leaves is.tables (with_commit (standing (prefix ++ waiting)).kept kept ∷ rs)) → Lasts (g.device was.tables) (g.device is.tables)
-      → IfErr r (λ e. IsRefused g d (λ made. made ≡ commit) IsMemory e (seen_over is))
-  not_stored r why d was is commit kept exit view works copied latched next adds lasts =
-      let refused : IsRefused g (seen_over was) (λ made. made ≡ commit) IsMemory why (seen_over is) =
-      record {
-        shows = record { posted = refl; book = refl; later = prefix_self prefix; beginning = (waiting, refl) };
-        cause = latched_cause was is why (ap (λ (seen : Posts T). seen.failed) view ∙ works) latched;
-        touches = adds_one kept copied (record { follows = next; adds = adds });
-        lasts = lasts;
-      } in
-      refused_exit (λ e. IsRefused g d (λ made. made ≡ commit) IsMemory e (seen_over is)) r why exit
-      (subst (λ (seen : Posts T). IsRefused g seen (λ made. made ≡ commit) IsMemory why (seen_over is)) view refused)

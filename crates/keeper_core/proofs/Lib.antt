@@ -1,8 +1,5 @@
-pub mod Prefixes
-pub mod Adding
-pub mod Beginnings
 pub mod Standings
 pub mod Agreeing
-pub mod Steps
 pub mod Changed
-pub mod Storable
+pub mod Sound
+pub mod Unposted

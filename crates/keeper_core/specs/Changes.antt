@@ -22,21 +22,20 @@ use Rattle.tables.specs.declared.tables.Tables.{Ghosts}
 use Rattle.names.specs.declared.part.Part.{Part}
 use Rattle.shown.specs.declared.step.Step.TheVariants.{Commit as CommitStep, Take}
 use Rattle.shown.specs.Standing.{standing, cursor_of}
-use Rattle.keeper_core.specs.Known.{Known}
+use Rattle.published.specs.Receipts.{ReceiptFacts}
 use Rattle.keeper_core.specs.Posts.{Posts, ShowsMore, PostsStep, shown_by, newest_posted}
-
--- What a receipt says: the store's number, a revision, whether all posted steps are shown, and the list of
--- shown steps.
-pub record ReceiptFacts : Type 0 where
-  pub number : ℕ
-  pub rev : ℕ
-  pub shown : Bool
-  pub published : Known
 
 -- the receipt tells of the desk as it is, and names the newest posted revision
 pub record Tells {T : Type 0} (receipt : ReceiptFacts) (desk : Posts T) : Type 0 where
   pub number : receipt.number ≡ (standing desk.posted).kept.number
   pub rev : receipt.rev ≡ newest (standing desk.posted).kept
+  pub shown : IsTrue receipt.shown ↔ (desk.shown ≡ desk.posted)
+  pub published : receipt.published ≡ shown_by desk
+
+-- the same, but for the revision, which is the newest that is shown
+pub record TellsShown {T : Type 0} (receipt : ReceiptFacts) (desk : Posts T) : Type 0 where
+  pub number : receipt.number ≡ (standing desk.posted).kept.number
+  pub rev : receipt.rev ≡ newest (standing desk.shown).kept
   pub shown : IsTrue receipt.shown ↔ (desk.shown ≡ desk.posted)
   pub published : receipt.published ≡ shown_by desk
 
@@ -78,8 +77,8 @@ pub record ConfigAccepted {T : Type 0} (g : Ghosts T)
   pub stored : IsStored g old new
   pub tells : Tells receipt new
 
--- The part has taken the commits, which is posted and changes nothing of the tables. The revision of the
--- receipt is shown.
+-- The part has taken the commits, which is posted and changes nothing of the tables. The receipt names the
+-- newest shown revision.
 pub record CatchUpAccepted {T : Type 0}
     (old : Posts T) (part : Part) (commits : ℕ) (cursor : ℕ) (receipt : ReceiptFacts)
     (new : Posts T) : Type 0 where
@@ -89,8 +88,7 @@ pub record CatchUpAccepted {T : Type 0}
   pub tables : new.tables ≡ old.tables
   pub stored : new.failed ≡ false
   pub moved : cursor ≡ cursor_of part (standing new.posted)
-  pub tells : Tells receipt new
-  pub seen : receipt.rev ≡ newest (standing new.shown).kept
+  pub tells : TellsShown receipt new
 
 -- Why a write is refused on a revision. Conditions are not answered yet: a write with one is
 -- malformed.

@@ -1,5 +1,3 @@
-pub mod Book
-pub mod Known
 pub mod Posts
 pub mod Changes
 pub mod Invariant

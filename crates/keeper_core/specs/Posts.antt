@@ -15,10 +15,10 @@ use Rattle.tables.specs.declared.tables.Tables.{Ghosts}
 use Rattle.shown.specs.declared.step.Step.{Step}
 use Rattle.shown.specs.declared.step.Step.TheVariants.{Open}
 use Rattle.shown.specs.Standing.{standing}
-use Rattle.keeper_core.specs.Known.{Known}
+use Rattle.published.specs.Known.{Known}
 
 -- The tables, the book, the posted steps, and those of them that are shown; whether the tables failed, and
--- how often they did.
+-- how often they did; how many sessions can still be had.
 pub record Posts (T : Type 0) : Type 0 where
   pub tables : T
   pub book : Book
@@ -26,6 +26,7 @@ pub record Posts (T : Type 0) : Type 0 where
   pub shown : List Step
   pub failed : Bool
   pub faults : ℕ
+  pub seats : ℕ
 
 -- the published list, with its book
 abbrev pub shown_by : {T : Type 0} → Posts T → Known

@@ -1,5 +1,4 @@
 -- What no promise rests on, which a reader of the promises can pass over.
 pub mod Latching
 pub mod Posting
-pub mod Codes
 pub mod DeskCodes

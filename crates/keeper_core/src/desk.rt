@@ -1,48 +1,59 @@
 //! The desk: what lies under a store's lock.
-ghost use Rattle.std.specs.Prelude.{◌≡◌, ◌↔◌, ◌∷◌, [], true, false, IsTrue, IfOk, IfErr, OnOk};
+ghost use Rattle.std.specs.Prelude.{◌≡◌, ◌↔◌, ◌⊎◌, ◌+◌, ◌∷◌, [], None, true, false, Err, IsTrue, IfOk, IfErr, OnOk};
+ghost use mathlib.Core.List.{IsPrefix};
 ghost use Rattle.names.specs.declared.commit.Commit.TheVariants.{Config as ConfigCommit};
+ghost use Rattle.names.specs.declared.refusal.Refusal.TheVariants.{Memory, NoSeat, Reopen};
 ghost use Rattle.meaning.specs.Verdict.{config_cause};
 ghost use Rattle.rows.specs.Retained.{newest};
 ghost use Rattle.rows.specs.Follows.{IsAccepted, IsNext};
 ghost use Rattle.rows.specs.Judging.{ConfigRefused};
 ghost use Rattle.shown.specs.declared.step.Step.TheVariants.{Commit as CommitStep, Take};
-ghost use Rattle.shown.specs.Standing.{standing, state_of, cursor_of, after_take};
+ghost use Rattle.shown.specs.Standing.{standing, state_of, cursor_of};
 ghost use Rattle.shown.specs.Answers.{IsAnswer, IsRefusal};
 ghost use Rattle.tables.specs.Device.{IsOpen};
 ghost use Rattle.tables.specs.Opening.{CannotOpen};
 ghost use Rattle.tables.specs.Storing.{PutsAbsent};
-ghost use Rattle.keeper_core.specs.Posts.{Agrees, OpensWith, ComesBack, FailsToLoad, SameTables, ShowsMore, PostsStep, newest_posted, newest_shown};
-ghost use Rattle.keeper_core.specs.Changes.{Tells, IsStored, WriteAccepted, ConfigAccepted, CatchUpAccepted, IsRefused, IsCommitOf, IsNoCommit, JudgedWith, WriteJudged, CatchUpJudged, receipt_at};
-ghost use Rattle.keeper_core.specs.inside.Posting.{NotReady, IsMemory};
+ghost use Rattle.published.specs.declared.publication.TheConstants.{MAX_SESSIONS};
+ghost use Rattle.published.specs.Known.{Begins};
+ghost use Rattle.keeper_core.specs.Posts.{Agrees, OpensWith, ComesBack, FailsToLoad, SameTables, ShowsMore, PostsStep, newest_posted, shown_by};
+ghost use Rattle.keeper_core.specs.Changes.{Tells, TellsShown, IsStored, WriteAccepted, ConfigAccepted, CatchUpAccepted, IsRefused, IsCommitOf, IsNoCommit, JudgedWith, WriteJudged, CatchUpJudged, receipt_at};
+ghost use Rattle.keeper_core.specs.inside.Posting.{IsMemory};
 
-use crate::book::{Book, Opened, StepPrefix};
 use crate::latched_tables::{LatchedTables, load};
-use crate::receipt::{Posted, Receipt};
-use crate::showing::{Waiting, show_first, show_waiting};
+use crate::opening::publish_first;
+use crate::storing::store;
 use config::Config;
 use names::limits::MAX_CATCH_UP;
 use names::{Commit, Condition, Items, Node, Object, Op, Part, Refusal, State, Write};
+use published::{Opened, Publication, Receipt, Session};
 use rows::{events_of, refuses_what_no_write_gives};
 use shown::{Answer, Refused, Shown, Step};
 use std::alloc::Global;
 use std::marker::Model;
+use std::sync::Wait;
 use tables::{Puts, Tables, puts_of};
 use tuple_keys::KeptCommit;
 use zookie::{Consistency, Zookie};
 
-/// The tables, the steps that were posted, and what is shown of them. One posted step at most waits to
-/// be shown.
+/// What a caller is told of a part that takes commits: the revision up to which the part has read them, once
+/// all that is posted is shown, and the receipt, which names the newest shown revision.
 #[derive(Drop)]
-pub struct Desk<T: Tables + Drop> {
-    alloc: Global,
-    tables: LatchedTables<T>,
-    book: Book,
-    prefix: StepPrefix,
-    shown: Shown,
-    waiting: Option<Waiting>,
+pub struct Posted {
+    pub value: u64,
+    pub receipt: Receipt,
 }
 
-impl<T: Tables + Drop> Model for Desk<T> {
+/// The tables, the standing of all posted steps, and what is published of them. A posted step waits as long
+/// as there is no memory to publish it.
+#[derive(Drop)]
+pub struct Desk<T: Tables + Drop, R: Wait + Drop> {
+    alloc: Global,
+    tables: LatchedTables<T>,
+    own: Shown,
+    publication: Publication<R>,
+}
+
+impl<T: Tables + Drop, R: Wait + Drop> Model for Desk<T, R> {
     ghost use Rattle.keeper_core.specs.Posts.{Posts};
     ghost use Rattle.keeper_core.specs.inside.DeskCodes.{coded_posts};
 
@@ -50,27 +61,29 @@ impl<T: Tables + Drop> Model for Desk<T> {
 
     ghost coded = { coded_posts T.code };
 
-    ghost use Rattle.keeper_core.specs.Invariant.{IsSound, posted_of};
+    ghost use Rattle.keeper_core.specs.Invariant.{IsSound};
 
     ghost view = { λ d. record {
       tables = d.tables.tables;
-      book = d.book;
-      posted = posted_of d.prefix d.waiting;
-      shown = d.prefix.steps;
+      book = d.publication.book;
+      posted = d.publication.posted;
+      shown = d.publication.shown;
       failed = d.tables.failed;
       faults = T.count d.tables.tables;
+      seats = d.publication.seats;
     } };
 
     ghost invariant = { λ d.
-        IsSound T.Tables d.tables.failed d.tables.tables d.book d.prefix d.shown d.waiting };
+        IsSound T.Tables d.tables.failed d.tables.tables d.own d.publication };
 }
 
-impl<T: Tables + Drop> Desk<T> {
+impl<T: Tables + Drop, R: Wait + Drop> Desk<T, R> {
     /// A desk over tables, which shows what they hold. On a refusal the tables come back.
-    pub fn open(alloc: Global, opened: Opened, tables: T) -> Result<Desk<T>, (Refusal, T)>
+    pub fn open(alloc: Global, rt: R, opened: Opened, tables: T) -> Result<Desk<T, R>, (Refusal, T)>
         ensures posted { IfOk result (OpensWith T.Tables tables) }
         ensures shown { IfOk result (λ desk. desk.shown ≡ desk.posted) }
         ensures book { IfOk result (λ desk. desk.book ≡ opened.book) }
+        ensures seats { IfOk result (λ desk. desk.seats ≡ MAX_SESSIONS) }
         ensures failed { IfOk result (λ desk. desk.failed ≡ false) }
         ensures faults { IfOk result (λ desk. desk.faults ≡ T.count tables) }
         ensures open { IfOk result (λ desk. IsOpen (T.device desk.tables)) }
@@ -87,20 +100,19 @@ impl<T: Tables + Drop> Desk<T> {
             Ok(loaded) => loaded,
             Err(why) => return Err((why, tables)),
         };
-        let Ok((prefix, shown)) = show_first(alloc, &opened, &Step::Open(loaded)) else {
+        let Ok((own, publication)) = publish_first(alloc, rt, opened, Step::Open(loaded)) else {
             return Err((Refusal::Memory, tables));
         };
         Ok(Desk {
             alloc,
             tables: LatchedTables::new(tables),
-            book: opened.book,
-            prefix,
-            shown,
-            waiting: None,
+            own,
+            publication,
         })
     }
 
-    /// Gives the tables back. A posted step that waits to be shown is stored already.
+    /// Gives the tables back. Sessions are answered no more. A posted step that waits to be shown is stored
+    /// already.
     pub fn close(self) -> T
         ensures same { result ≡ self.tables }
         ensures agrees { Agrees T.Tables self.failed result (standing self.posted).kept }
@@ -115,6 +127,7 @@ impl<T: Tables + Drop> Desk<T> {
         ensures err { IfErr result (λ why.
             IsRefused T.Tables self.old (IsCommitOf write.ops)
             (WriteJudged (newest_posted self.old) write) why self.new) }
+        ensures seats { self.new.seats ≡ self.old.seats }
     {
         self.make_ready()?;
         let Write { conditions, ops } = write;
@@ -132,9 +145,10 @@ impl<T: Tables + Drop> Desk<T> {
         ensures err { IfErr result (λ why.
             IsRefused T.Tables self.old (λ commit. commit ≡ ConfigCommit config)
             (ConfigRefused (newest_posted self.old) config) why self.new) }
+        ensures seats { self.new.seats ≡ self.old.seats }
     {
         self.make_ready()?;
-        self.shown.judge_config(&config)?;
+        self.judge_config(&config)?;
         self.post(Commit::Config(config), Puts::Absent)
     }
 
@@ -145,12 +159,54 @@ impl<T: Tables + Drop> Desk<T> {
             CatchUpAccepted self.old part commits posted.value posted.receipt self.new) }
         ensures err { IfErr result (λ why.
             IsRefused T.Tables self.old IsNoCommit (CatchUpJudged commits) why self.new) }
+        ensures seats { self.new.seats ≡ self.old.seats }
     {
-        if commits > MAX_CATCH_UP && !self.tables.has_failed() {
+        self.make_ready()?;
+        if commits > MAX_CATCH_UP {
             return Err(Refusal::Malformed);
         }
-        self.make_ready()?;
-        Ok(self.take(part, commits as u32))
+        self.take(part, commits as u32)
+    }
+
+    /// A session that knows what is shown now. It is refused exactly where all have been given out; the place of
+    /// one that is dropped is not given out again.
+    pub fn session(&mut self) -> Result<Session, Refusal>
+        ensures more { ShowsMore self.old self.new }
+        ensures same { SameTables self.old self.new }
+        ensures known { IfOk result (λ session. Begins (shown_by self.new) session) }
+        ensures seats { IfOk result (λ _. self.new.seats + 1 ≡ self.old.seats) }
+        ensures none { (result ≡ Err NoSeat) ↔ (self.old.seats ≡ 0) }
+        ensures err { IfErr result (λ why. (why ≡ NoSeat) × (self.new.seats ≡ self.old.seats)) }
+    {
+        self.publish();
+        self.publication.session()
+    }
+
+    /// Lets a session know what is shown now. The receipt names the newest shown revision.
+    pub fn refresh(&mut self, session: &mut Session) -> Receipt
+        requires { session.old.book ≡ self.old.book }
+        ensures more { ShowsMore self.old self.new }
+        ensures same { SameTables self.old self.new }
+        ensures seats { self.new.seats ≡ self.old.seats }
+        ensures tells { TellsShown result self.new }
+        ensures kept { Begins session.old session.new }
+        ensures known { Begins (shown_by self.new) session.new }
+        ensures least { (session.new ≡ session.old) ⊎ (session.new ≡ shown_by self.new) }
+    {
+        let shown = self.publish();
+        let receipt = self.shown_receipt(shown);
+        session.learn(&receipt);
+        receipt
+    }
+
+    /// Shows what waits, as far as there is memory, and says whether all that is posted is shown.
+    pub fn publish(&mut self) -> bool
+        ensures more { ShowsMore self.old self.new }
+        ensures all { IsTrue result ↔ (self.new.shown ≡ self.new.posted) }
+        ensures same { SameTables self.old self.new }
+        ensures seats { self.new.seats ≡ self.old.seats }
+    {
+        self.publication.publish()
     }
 
     /// Whether the user is a member of the node, at a shown revision that is as fresh as is asked.
@@ -163,29 +219,16 @@ impl<T: Tables + Drop> Desk<T> {
         ensures ok { IfOk result
             (IsAnswer (standing self.now.shown) consistency.now node.now user.now) }
         ensures err { IfErr result (IsRefusal (standing self.now.shown) consistency.now node.now) }
+        ensures beginning { IsPrefix self.now.shown self.now.posted }
     {
-        self.shown.check(consistency, node, user)
+        self.publication.shown().check(consistency, node, user)
     }
 
     /// The shown revisions, and how large the history is at the newest of them.
     pub fn state(&self) -> State
         ensures { result ≡ state_of (standing self.now.shown) }
     {
-        self.shown.state()
-    }
-
-    /// Shows what waits, as far as there is memory, and says whether all that is posted is shown.
-    pub fn publish(&mut self) -> bool
-        ensures more { ShowsMore self.old self.new }
-        ensures all { IsTrue result ↔ (self.new.shown ≡ self.new.posted) }
-        ensures same { SameTables self.old self.new }
-    {
-        show_waiting(
-            &self.book,
-            &mut self.prefix,
-            &mut self.shown,
-            &mut self.waiting,
-        )
+        self.publication.shown().state()
     }
 
     /// The store's number.
@@ -193,14 +236,14 @@ impl<T: Tables + Drop> Desk<T> {
         ensures posted { result ≡ (standing self.now.posted).kept.number }
         ensures shown { result ≡ (standing self.now.shown).kept.number }
     {
-        self.shown.number()
+        self.own.number()
     }
 
     /// The newest shown revision.
     pub fn newest(&self) -> u64
         ensures { result ≡ newest (standing self.now.shown).kept }
     {
-        self.shown.newest()
+        self.publication.newest()
     }
 
     /// Whether the tables failed. After that every change is refused.
@@ -210,39 +253,45 @@ impl<T: Tables + Drop> Desk<T> {
         self.tables.has_failed()
     }
 
-    // Whether a change can be judged: the tables have not failed, and all that is posted is shown.
+    // Shows what waits. No change is judged where the tables have failed.
     fn make_ready(&mut self) -> Result<(), Refusal>
         ensures more { ShowsMore self.old self.new }
         ensures same { SameTables self.old self.new }
-        ensures ok { OnOk result ((self.old.failed ≡ false) × (self.new.shown ≡ self.new.posted)) }
-        ensures err { IfErr result (NotReady self.old.failed) }
+        ensures seats { self.new.seats ≡ self.old.seats }
+        ensures ok { OnOk result (self.old.failed ≡ false) }
+        ensures err { IfErr result (λ why. (why ≡ Reopen) × (self.old.failed ≡ true)) }
     {
-        if self.tables.has_failed() {
-            return Err(Refusal::Reopen);
-        }
-        if self.publish() {
-            Ok(())
+        self.publish();
+        if self.has_failed() {
+            Err(Refusal::Reopen)
         } else {
-            Err(Refusal::Memory)
+            Ok(())
         }
     }
 
     // Why a write is refused, if it is.
     fn judge(&self, conditions: &Items<Condition<Zookie>>, ops: &Items<Op>) -> Result<(), Refusal>
         ensures plain { OnOk result (conditions.now ≡ []) }
-        ensures ok { OnOk result (IsAccepted (newest_shown self.now) ops.now) }
-        ensures err { IfErr result (JudgedWith (newest_shown self.now) ops.now conditions.now) }
+        ensures ok { OnOk result (IsAccepted (newest_posted self.now) ops.now) }
+        ensures err { IfErr result (JudgedWith (newest_posted self.now) ops.now conditions.now) }
     {
         if !conditions.as_slice().is_empty() {
             return Err(Refusal::Malformed);
         }
-        self.shown.judge(ops.as_slice())
+        self.own.judge(ops.as_slice())
     }
 
-    // Stores a commit, posts it, and shows it. All who keep it share it.
+    // Why a configuration is refused, if it is.
+    fn judge_config(&self, config: &Config) -> Result<(), Refusal>
+        ensures ok { OnOk result (config_cause (newest_posted self.now) config.now ≡ None) }
+        ensures err { IfErr result (ConfigRefused (newest_posted self.now) config.now) }
+    {
+        self.own.judge_config(config)
+    }
+
+    // Stores a commit, posts it, and shows it. All who keep it share it. Room is taken for its step first.
     fn post(&mut self, commit: Commit<Config>, puts: Puts) -> Result<Receipt, Refusal>
         requires open { self.old.failed ≡ false }
-        requires whole { self.old.shown ≡ self.old.posted }
         requires next { IsNext (standing self.old.posted).kept commit }
         requires puts { puts ≡ Puts.Absent → PutsAbsent (standing self.old.posted).kept commit }
         ensures posts { OnOk result (PostsStep self.old (CommitStep commit) self.new) }
@@ -250,49 +299,46 @@ impl<T: Tables + Drop> Desk<T> {
         ensures stored { OnOk result (IsStored T.Tables self.old self.new) }
         ensures err { IfErr result (λ why.
             IsRefused T.Tables self.old (λ made. made ≡ commit) IsMemory why self.new) }
+        ensures seats { self.new.seats ≡ self.old.seats }
     {
-        let rev = self.shown.newest() + 1;
         let kept = KeptCommit::of(self.alloc, &commit)?;
-        self.tables.write(rev, &kept, puts)?;
-        self.waiting = Some(Waiting {
-            step: Step::Commit(kept),
-            after: None,
-        });
+        self.publication.reserve()?;
+        let step = store(&mut self.tables, &mut self.own, &kept, puts)?;
+        self.publication.post(step);
         let shown = self.publish();
-        Ok(self.receipt(rev, shown))
+        Ok(self.receipt(self.own.newest(), shown))
     }
 
     // Posts that a part takes commits, and shows it.
-    fn take(&mut self, part: Part, commits: u32) -> Posted
+    fn take(&mut self, part: Part, commits: u32) -> Result<Posted, Refusal>
         requires open { self.old.failed ≡ false }
-        requires whole { self.old.shown ≡ self.old.posted }
-        ensures posted { PostsStep self.old (Take part commits) self.new }
+        ensures posted { OnOk result (PostsStep self.old (Take part commits) self.new) }
         ensures same { (self.new.tables ≡ self.old.tables) × (self.new.failed ≡ false) }
-        ensures moved { result.value ≡ cursor_of part (standing self.new.posted) }
-        ensures tells { Tells result.receipt self.new }
-        ensures seen { result.receipt.rev ≡ newest (standing self.new.shown).kept }
+        ensures moved { IfOk result (λ posted.
+            posted.value ≡ cursor_of part (standing self.new.posted)) }
+        ensures tells { IfOk result (λ posted. TellsShown posted.receipt self.new) }
+        ensures err { IfErr result (λ why. (why ≡ Memory) × (self.new ≡ self.old)) }
+        ensures seats { self.new.seats ≡ self.old.seats }
     {
-        let rev = self.shown.newest();
-        let value = self.cursor_after(part, commits);
-        self.waiting = Some(Waiting {
-            step: Step::Take(part, commits),
-            after: None,
-        });
+        self.publication.reserve()?;
+        let step = Step::Take(part, commits);
+        self.own.apply(&step)?;
+        self.publication.post(step);
         let shown = self.publish();
-        let receipt = self.receipt(rev, shown);
-        Posted { value, receipt }
+        let value = self.cursor(part);
+        let receipt = self.shown_receipt(shown);
+        Ok(Posted { value, receipt })
     }
 
-    // The cursor of a part that would take so many commits more.
-    fn cursor_after(&self, part: Part, commits: u32) -> u64
-        ensures { result ≡ cursor_of part (after_take (standing self.now.shown) part commits) }
+    // The cursor of a part.
+    fn cursor(&self, part: Part) -> u64
+        ensures { result ≡ cursor_of part (standing self.now.posted) }
     {
-        let state = self.shown.state();
-        let cursor = match part {
+        let state = self.own.state();
+        match part {
             Part::Index => state.index,
             Part::Hot => state.hot,
-        };
-        cursor.saturating_add(u64::from(commits)).min(state.newest)
+        }
     }
 
     // The receipt of a change at this revision.
@@ -303,6 +349,13 @@ impl<T: Tables + Drop> Desk<T> {
             store: self.number(),
             rev,
         };
-        Receipt::new(zookie, shown, self.prefix.again())
+        Receipt::new(zookie, shown, self.publication.shown_steps())
+    }
+
+    // The receipt that names the newest shown revision.
+    fn shown_receipt(&self, shown: bool) -> Receipt
+        ensures { result ≡ receipt_at self.now (newest (standing self.now.shown).kept) shown }
+    {
+        self.receipt(self.publication.newest(), shown)
     }
 }

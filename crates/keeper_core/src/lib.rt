@@ -1,13 +1,10 @@
-//! The desk of one store: changes are judged, stored and posted, and questions are answered from what
-//! is shown of the posted steps.
+//! The desk of one store: changes are judged, stored, posted and published, and sessions are given out that are
+//! answered by what is published of the posted steps.
 #![tactic(auto)]
 
-mod book;
 mod desk;
 mod latched_tables;
-mod receipt;
-mod showing;
+mod opening;
+mod storing;
 
-pub use book::{Book, Naming, Opened, StepPrefix};
-pub use desk::Desk;
-pub use receipt::{Posted, Receipt};
+pub use desk::{Desk, Posted};

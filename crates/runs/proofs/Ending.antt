@@ -10,25 +10,17 @@ use Rattle.rows.specs.Follows.{IsNext}
 use Rattle.tables.specs.Device.{IsClean, Lasts}
 use Rattle.tables.specs.declared.tables.Tables.{Ghosts}
 use Rattle.tables.proofs.Lasting.{lasts_self, lasts_trans, clean_before}
-use Rattle.keeper_core.specs.Posts.{Posts, Agrees, OpensWith, ComesBack}
+use Rattle.keeper_core.specs.Posts.{Posts, Agrees, ComesBack}
 use Rattle.keeper.specs.Rules.{DeskStep}
 use Rattle.http_api.specs.Text.{lines_of}
 use Rattle.http_api.specs.Machine.{Run}
 use Rattle.tracked_io.specs.Tracking.{TrackedWriting}
 use Rattle.runs.specs.Runs.{Ended, ServedBy, PausedBy, CutBy, IsAskedIn, kept_by}
-use Rattle.runs.specs.inside.Leaving.{HasLeft, Answered}
+use Rattle.runs.specs.inside.Leaving.{Began, HasLeft, Answered}
 use Rattle.runs.proofs.Leaving.{Weaker, after_run}
 use Rattle.runs.proofs.Asked.{asked_first, asked_fed}
 
--- what is known of a desk that was opened on tables
-pub record Began {T : Type 0} (g : Ghosts T) (tables : T) (first : Posts T) : Type 0 where
-  pub posted : OpensWith g tables first
-  pub shown : first.shown ≡ first.posted
-  pub works : first.failed ≡ false
-  pub settled : g.leaves first.tables (kept_by first ∷ [])
-  pub back : ComesBack g tables first.tables
-
--- and of one whose tables were given back
+-- what is known of a desk whose tables were given back
 pub record Closed {T : Type 0} (g : Ghosts T) (last : Posts T) (left : T) : Type 0 where
   pub given : left ≡ last.tables
   pub agrees : Agrees g last.failed left (kept_by last)

@@ -23,7 +23,7 @@ use Rattle.shown.specs.Standing.{Standing, standing, nothing, after_step, after_
 use Rattle.std.proofs.lemmas.List.Sums.{fold-append}
 use Rattle.keeper_core.specs.Posts.{Posts}
 use Rattle.keeper_core.specs.Changes.{IsStored, IsRefused, Touches, leaves_alone, adds_one}
-use Rattle.keeper.specs.Rules.{DeskStep, WriteStep, write_malformed, write_accepted, write_refused, write_unread, ConfigStep, config_invalid, config_accepted, config_refused, config_unread, CheckStep, check_malformed, check_bad_zookie, check_answered, check_refused, check_unread, CatchUpStep, catch_up_malformed, catch_up_accepted, catch_up_refused, catch_up_unread}
+use Rattle.keeper.specs.Rules.{DeskStep, WriteStep, write_malformed, write_accepted, write_refused, write_unread, ConfigStep, config_invalid, config_accepted, config_refused, config_unread, OnlyShows, CheckStep, check_malformed, check_bad_zookie, check_answered, check_refused, check_unread, CatchUpStep, catch_up_malformed, catch_up_accepted, catch_up_refused, catch_up_unread}
 use Rattle.http_api.specs.Text.{word_of, body_of}
 use Rattle.http_api.specs.Machine.{IsAnswer, Run}
 use Rattle.runs.specs.Runs.{kept_by, AsksCommit, LineAsks, IsAskedIn}
@@ -55,6 +55,9 @@ module _ {T : Type 0} (g : Ghosts T) (weaker : Weaker g) (P : Commit Configured 
     leaves = subst (λ (r : Retained). g.leaves new.tables (r ∷ map (with_commit r) h.more)) (sym kept) (subst (λ (t : T). g.leaves t (kept_by old ∷ map (with_commit (kept_by old)) h.more)) (sym tables) h.leaves);
     lasts = subst (λ (t : T). Lasts start (g.device t)) (sym tables) h.lasts;
   }
+
+  shows_only : (old new : Posts T) → OnlyShows old new → HasLeft g P start old → HasLeft g P start new
+  shows_only old new only h = same_tables old new only.tables.0 (ap (λ (steps : List Step). (standing steps).kept) only.shows.posted) h
 
   one_more : (old new : Posts T) (commit : Commit Configured) → kept_by new ≡ kept_by old → P commit → IsNext (kept_by old) commit
       → ((rs : List Retained) → g.leaves old.tables rs → g.leaves new.tables (with_commit (kept_by old) commit ∷ rs))
@@ -103,8 +106,8 @@ module _ {T : Type 0} (g : Ghosts T) (weaker : Weaker g) (P : Commit Configured 
   after_check : (old : Posts T) (body : List ℕ) (told : Option (ℕ × List ℕ)) (new : Posts T) → CheckStep old body told new → HasLeft g P start old → HasLeft g P start new
   after_check old body told new (check_malformed asks says same) h = same_desk old new same h
   after_check old body told new (check_bad_zookie asks says same) h = same_desk old new same h
-  after_check old body told new (check_answered consistency node user rev allowed asks is says same) h = same_desk old new same h
-  after_check old body told new (check_refused consistency node user why at asks is says same) h = same_desk old new same h
+  after_check old body told new (check_answered consistency node user rev allowed asks is says only) h = shows_only old new only h
+  after_check old body told new (check_refused consistency node user why at asks is says only) h = shows_only old new only h
   after_check old body told new (check_unread none same) h = same_desk old new same h
 
   after_catch_up : (old : Posts T) (body : List ℕ) (told : Option (ℕ × List ℕ)) (new : Posts T) → CatchUpStep g old body told new → HasLeft g P start old → HasLeft g P start new

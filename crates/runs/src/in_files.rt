@@ -14,13 +14,15 @@ use crate::over::run_over;
 use names::Refusal;
 use sqlite::{Connection, Error, ErrorCode, FileFrom, FileStore, Start};
 use std::io::{Read, Write};
+use std::sync::Wait;
 use tasks::Fault;
 use tracked_io::{TrackedReader, TrackedWriter};
 
 /// Answers lines from the store in the files at a path, of which `start` says what they hold, and hands on what
 /// is left of them. With a number the tables of a new store are made.
-pub fn run_in<P: Start, R: Read, W: Write>(
+pub fn run_in<P: Start, H: Wait + Drop, R: Read, W: Write>(
     rt: &HostRuntime,
+    wait: H,
     path: &str,
     store: Option<u64>,
     start: P,
@@ -60,7 +62,7 @@ pub fn run_in<P: Start, R: Read, W: Write>(
 {
     match connect(rt, path, start) {
         Ok(conn) => {
-            let ended = run_over(rt.alloc(), conn, store, reader, writer);
+            let ended = run_over(rt.alloc(), wait, conn, store, reader, writer);
             (ended.0, Some(ended.1))
         }
         Err(fault) => (Err(fault), None),

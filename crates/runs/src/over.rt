@@ -16,6 +16,7 @@ use names::Refusal;
 use sqlite::{Alter, Connection};
 use std::alloc::Global;
 use std::io::{Read, Write};
+use std::sync::Wait;
 use store::Store;
 use tables::TablesError;
 use tasks::Fault;
@@ -23,8 +24,9 @@ use tracked_io::{TrackedReader, TrackedWriter};
 
 /// Answers lines from the store over a connection, and gives the connection back. With a number the tables of a
 /// new store are made, where there are none; else those that are there are opened.
-pub fn run_over<S: Alter + Drop, R: Read, W: Write>(
+pub fn run_over<S: Alter + Drop, H: Wait + Drop, R: Read, W: Write>(
     alloc: Global,
+    rt: H,
     conn: Connection<S>,
     store: Option<u64>,
     reader: &mut TrackedReader<R>,
@@ -69,7 +71,7 @@ pub fn run_over<S: Alter + Drop, R: Read, W: Write>(
 {
     match start(alloc, conn, store) {
         Ok(tables) => {
-            let ended = run(alloc, tables, reader, writer);
+            let ended = run(alloc, rt, tables, reader, writer);
             (ended.0, ended.1.into_connection())
         }
         Err((why, conn)) => (Err(fault_of(why)), conn),

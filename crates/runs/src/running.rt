@@ -1,28 +1,32 @@
 //! A run over lines.
-ghost use Rattle.std.specs.Prelude.{ℕ, ◌≡◌, List, true, false, IfErr, OnOk};
+ghost use Rattle.std.specs.Prelude.{ℕ, ◌≡◌, List, true, false, IfOk, IfErr, OnOk};
 ghost use Rattle.names.specs.declared.refusal.Refusal.TheVariants.{StoreFault};
 ghost use Rattle.tables.specs.Device.{IsOpen, Lasts};
+ghost use Rattle.tables.specs.Opening.{CannotOpen};
 ghost use Rattle.keeper_core.specs.Posts.{ComesBack, FailsToLoad};
 ghost use Rattle.tasks.specs.declared.fault.Fault.TheVariants.{Refused};
 ghost use Rattle.tasks.specs.Faults.{IsRunFault};
 ghost use Rattle.tracked_io.specs.Tracking.{Reads, ReadsAll};
-ghost use Rattle.runs.specs.inside.Leaving.{Answered};
+ghost use Rattle.runs.specs.inside.Leaving.{Answered, Began};
 ghost use Rattle.runs.specs.Runs.{ServedBy, PausedBy, CutBy, Ended, is_read_fault, is_write_fault};
 
 use crate::answering::Answering;
 use http_api::End;
-use keeper_core::{Desk, Opened};
+use keeper_core::Desk;
 use names::Refusal;
+use published::Opened;
 use std::alloc::Global;
 use std::io::{Read, Write};
+use std::sync::Wait;
 use tables::Tables;
 use tasks::Fault;
 use tracked_io::{TrackedReader, TrackedWriter};
 use zanz_core::lines;
 
 /// Answers lines from the store that these tables keep, and gives the tables back.
-pub fn run<T: Tables + Drop, R: Read, W: Write>(
+pub fn run<T: Tables + Drop, H: Wait + Drop, R: Read, W: Write>(
     alloc: Global,
+    rt: H,
     tables: T,
     reader: &mut TrackedReader<R>,
     writer: &mut TrackedWriter<W>,
@@ -58,19 +62,37 @@ pub fn run<T: Tables + Drop, R: Read, W: Write>(
     ensures cause { IfErr result.0 IsRunFault }
     ensures lasts { Lasts (T.device tables) (T.device result.1) }
 {
-    match Desk::open(alloc, Opened::new(), tables) {
-        Ok(desk) => {
-            let mut answering = Answering { alloc, desk };
-            let ended = serve(&mut answering, reader, writer);
-            (ended, answering.desk.close())
+    match begin(alloc, rt, tables) {
+        Ok(mut answering) => {
+            let ended = serve(alloc, &mut answering, reader, writer);
+            (ended, answering.close())
         }
         Err((why, tables)) => (Err(Fault::Refused(why)), tables),
     }
 }
 
+// A desk over tables, with a session.
+fn begin<T: Tables + Drop, H: Wait + Drop>(
+    alloc: Global,
+    rt: H,
+    tables: T,
+) -> Result<Answering<T, H>, (Refusal, T)>
+    ensures ok { IfOk result (λ answering. Began T.Tables tables answering) }
+    ensures err { IfErr result (λ refused. CannotOpen refused.0) }
+    ensures kept { IfErr result (λ refused. ComesBack T.Tables tables refused.1) }
+    ensures caused { IfErr result (λ refused. refused.0 ≡ StoreFault
+        → IsOpen (T.device tables) → FailsToLoad T.Tables tables refused.1) }
+{
+    match Desk::open(alloc, rt, Opened::new(), tables) {
+        Ok(desk) => Ok(Answering::of_desk(alloc, desk)),
+        Err(refused) => Err(refused),
+    }
+}
+
 // Answers lines from a desk.
-fn serve<T: Tables + Drop, R: Read, W: Write>(
-    answering: &mut Answering<T>,
+fn serve<T: Tables + Drop, H: Wait + Drop, R: Read, W: Write>(
+    alloc: Global,
+    answering: &mut Answering<T, H>,
     reader: &mut TrackedReader<R>,
     writer: &mut TrackedWriter<W>,
 ) -> Result<(), Fault>
@@ -79,18 +101,18 @@ fn serve<T: Tables + Drop, R: Read, W: Write>(
 
     // All that was there was read, each line answered, and the answers handed on.
     ensures ok { OnOk result ((input : List ℕ) × ReadsAll R.remaining reader.old reader.new input
-        × ServedBy T.Tables W.contents writer.old input writer.new answering.old.desk answering.new.desk) }
+        × ServedBy T.Tables W.contents writer.old input writer.new answering.old answering.new) }
     ensures flushed { OnOk result (writer.new.flushed ≡ true) }
 
     // Each whole line of what was read was answered.
     ensures cannot_read { IfErr result (λ fault. fault ≡ Fault.CannotRead → (input : List ℕ)
         × Reads R.remaining reader.old reader.new input
-        × PausedBy T.Tables W.contents writer.old input writer.new answering.old.desk answering.new.desk) }
+        × PausedBy T.Tables W.contents writer.old input writer.new answering.old answering.new) }
 
     // Some first lines of what was read were answered, and a beginning of the answers was written.
     ensures cannot_write { IfErr result (λ fault. fault ≡ Fault.CannotWrite → (input : List ℕ)
         × Reads R.remaining reader.old reader.new input
-        × CutBy T.Tables W.contents writer.old input writer.new answering.old.desk answering.new.desk) }
+        × CutBy T.Tables W.contents writer.old input writer.new answering.old answering.new) }
 
     // A fault is told exactly where the reader or the writer failed in the call.
     ensures read_failed { reader.new.failed ≡ is_read_fault result }
@@ -98,11 +120,11 @@ fn serve<T: Tables + Drop, R: Read, W: Write>(
 
     // Nothing was read or written, for want of memory.
     ensures memory { IfErr result (λ fault. (why : Refusal) → fault ≡ Refused why → (why ≡ Refusal.Memory)
-        × (reader.new ≡ reader.old) × (writer.new ≡ writer.old) × (answering.new.desk ≡ answering.old.desk)) }
+        × (reader.new ≡ reader.old) × (writer.new ≡ writer.old) × (answering.new ≡ answering.old)) }
     ensures cause { IfErr result IsRunFault }
-    ensures answered { Answered T.Tables answering.old.desk answering.new.desk }
+    ensures answered { Answered T.Tables answering.old answering.new }
 {
-    match lines(answering.alloc, reader, writer, answering) {
+    match lines(alloc, reader, writer, answering) {
         End::Closed => Ok(()),
         End::ReadFault => Err(Fault::CannotRead),
         End::WriteFault => Err(Fault::CannotWrite),

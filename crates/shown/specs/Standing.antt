@@ -1,8 +1,8 @@
 -- What a list of steps leaves.
-use Rattle.std.specs.Prelude.{◌≤◌, ◌+◌, ℕ, List, [], fold, min}
+use Rattle.std.specs.Prelude.{◌≤◌, ◌<◌, ◌+◌, ℕ, List, [], fold, min}
 use Rattle.meaning.specs.Snap.{empty_snap}
 use Rattle.meaning.specs.TupleSet as set
-use Rattle.rows.specs.Retained.{Retained, newest, newest_of, spans_of, with_commit, commits_between, last_config}
+use Rattle.rows.specs.Retained.{Retained, newest, newest_of, spans_of, with_commit, without_newest, commits_between, last_config}
 use Rattle.rows.specs.Loads.{IsWithin, retained_of}
 use Rattle.rows.specs.Follows.{IsNext}
 use Rattle.names.specs.declared.part.Part.{Part}
@@ -71,6 +71,17 @@ pub record IsSteady (s : Standing) : Type 0 where
   pub index_there : s.index ≤ newest s.kept
   pub hot_retained : s.kept.floor ≤ s.hot
   pub hot_there : s.hot ≤ newest s.kept
+
+-- there is a commit above the floor, and no cursor has come to the newest
+pub record CanGoBack (s : Standing) : Type 0 where
+  pub above : s.kept.floor < newest s.kept
+  pub index_before : s.index < newest s.kept
+  pub hot_before : s.hot < newest s.kept
+
+-- without the newest commit
+abbrev pub before_commit : Standing → Standing
+before_commit s =
+    record { kept = without_newest s.kept; base = s.base; index = s.index; hot = s.hot }
 
 -- the numbers of a standing
 abbrev pub state_of : Standing → State

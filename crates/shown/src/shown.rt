@@ -10,7 +10,7 @@ ghost use Rattle.meaning.specs.Verdict.{config_cause};
 ghost use Rattle.rows.specs.Follows.{IsAccepted};
 ghost use Rattle.rows.specs.Judging.{WriteRefused, ConfigRefused};
 ghost use Rattle.rows.specs.Retained.{IsRetained, newest, newest_of, snap_at};
-ghost use Rattle.shown.specs.Standing.{nothing, after_step, after_take, cursor_after, state_of, HasRoom};
+ghost use Rattle.shown.specs.Standing.{nothing, after_step, after_take, before_commit, cursor_after, state_of, CanGoBack, HasRoom, IsSteady};
 ghost use Rattle.shown.specs.Answers.{IsAskedAt, IsAnswer, IsRefusal};
 
 use crate::answer::{Answer, Refused};
@@ -78,6 +78,14 @@ impl Shown {
         }
     }
 
+    /// Takes the newest commit off again, which no part has taken. It takes no memory.
+    pub fn back(&mut self)
+        requires { CanGoBack self.old }
+        ensures { self.new ≡ before_commit self.old }
+    {
+        self.rows.back();
+    }
+
     /// The store's number.
     pub fn number(&self) -> u64
         ensures { result ≡ self.now.kept.number }
@@ -89,6 +97,7 @@ impl Shown {
     pub fn newest(&self) -> u64
         ensures newest { result ≡ newest self.now.kept }
         ensures within { result ≤ MAX_REV }
+        ensures steady { IsSteady self.now }
     {
         self.rows.newest()
     }

@@ -13,6 +13,7 @@ use sqlite::{Connection, FileFrom, FileStore, Start};
 use std::alloc::Global;
 use std::io::{Read, Write};
 use std::rt::Files;
+use std::sync::Wait;
 use tables::Listed;
 use tasks::{Fault, Place, Task, read_file, report_of, task_of};
 use tracked_io::{TrackedReader, TrackedWriter, say};
@@ -47,8 +48,9 @@ fn report<F: Files, W: Write>(
 }
 
 // Answers lines from the store at a place. `start` says what its file holds.
-fn run_at<P: Start, R: Read, W: Write>(
+fn run_at<P: Start, H: Wait + Drop, R: Read, W: Write>(
     rt: &HostRuntime,
+    wait: H,
     place: &Place,
     start: P,
     reader: &mut TrackedReader<R>,
@@ -71,27 +73,28 @@ fn run_at<P: Start, R: Read, W: Write>(
     match place {
         Place::Memory { store } => {
             let alloc = rt.alloc();
-            let ended = run(alloc, Listed::new(alloc, *store), reader, writer);
+            let ended = run(alloc, wait, Listed::new(alloc, *store), reader, writer);
             (ended.0, None)
         }
         Place::New { file, store } => {
             if !is_number(*store) {
                 return (Err(Fault::Refused(Refusal::StoreFault)), None);
             }
-            run_in(rt, file.as_str(), Some(*store), start, reader, writer)
+            run_in(rt, wait, file.as_str(), Some(*store), start, reader, writer)
         }
         Place::There { file } => {
             if let Err(fault) = is_there(rt, file.as_str()) {
                 return (Err(fault), None);
             }
-            run_in(rt, file.as_str(), None, start, reader, writer)
+            run_in(rt, wait, file.as_str(), None, start, reader, writer)
         }
     }
 }
 
 // Does what the words say, and answers the status that the process ends with.
-fn obey<P: Start, R: Read, W: Write>(
+fn obey<P: Start, H: Wait + Drop, R: Read, W: Write>(
     rt: &HostRuntime,
+    wait: H,
     words: &[String],
     start: P,
     reader: &mut TrackedReader<R>,
@@ -114,7 +117,7 @@ fn obey<P: Start, R: Read, W: Write>(
     let alloc = rt.alloc();
     match task_of(alloc, words) {
         Ok(Task::Run { place }) => {
-            let (ended, left) = run_at(rt, &place, start, reader, writer);
+            let (ended, left) = run_at(rt, wait, &place, start, reader, writer);
             match ended {
                 Ok(()) => (Ok(0), left),
                 Err(fault) => (Err(fault), left),
@@ -127,8 +130,9 @@ fn obey<P: Start, R: Read, W: Write>(
 
 /// Does what the words say, tells of a fault on `errors`, and answers the status that the process ends with, and
 /// what is left of the file that it ran over, of which `start` says what it held.
-pub fn command<P: Start, R: Read, W: Write, E: Write>(
+pub fn command<P: Start, H: Wait + Drop, R: Read, W: Write, E: Write>(
     rt: &HostRuntime,
+    wait: H,
     words: &[String],
     start: P,
     reader: &mut TrackedReader<R>,
@@ -154,7 +158,7 @@ pub fn command<P: Start, R: Read, W: Write, E: Write>(
     ensures refused { result.0 ≡ 2 → (reader.new ≡ reader.old) × (writer.new ≡ writer.old) }
     ensures status { result.0 ≤ 2 }
 {
-    let (obeyed, left) = obey(rt, words, start, reader, writer);
+    let (obeyed, left) = obey(rt, wait, words, start, reader, writer);
     match obeyed {
         Ok(status) => (status, left),
         Err(fault) => (tell(errors, &fault), left),

@@ -13,19 +13,20 @@ use sqlite::Unknown;
 use std::io;
 use std::io::{BufWriter, ErrorKind};
 use std::process::ExitCode;
+use std::sync::Wait;
 use tasks::Fault;
 use tracked_io::{TrackedReader, TrackedWriter};
 
 fn main(rt: HostRuntime) -> ExitCode {
-    let status = match start(&rt) {
+    let status = match start(&rt, &rt) {
         Ok(status) => status,
         Err(fault) => tell(&mut rt.stderr(), &fault),
     };
     ExitCode::from(status)
 }
 
-// Hands on the process's words and streams.
-fn start(rt: &HostRuntime) -> Result<u8, Fault> {
+// Hands on the process's words and streams, and the leave to wait.
+fn start<H: Wait + Drop>(rt: &HostRuntime, wait: H) -> Result<u8, Fault> {
     let alloc = rt.alloc();
     let words = words_of(rt)?;
     let Ok(out) = BufWriter::new(alloc, io::writer(rt)) else {
@@ -36,6 +37,7 @@ fn start(rt: &HostRuntime) -> Result<u8, Fault> {
     let mut errors = rt.stderr();
     let (status, left) = command(
         rt,
+        wait,
         words.as_slice(),
         Unknown,
         &mut reader,

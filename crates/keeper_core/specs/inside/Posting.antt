@@ -1,13 +1,7 @@
--- Why a change is not judged or not posted.
-use Rattle.std.specs.Prelude.{◌≡◌, Bool, true, false}
+-- Why a change is not posted.
+use Rattle.std.specs.Prelude.{◌≡◌}
 use Rattle.names.specs.declared.refusal.Refusal.{Refusal}
-use Rattle.names.specs.declared.refusal.Refusal.TheVariants.{Memory, Reopen}
-
--- the tables failed before, or there was no memory to show what waits
-abbrev pub NotReady : Bool → Refusal → Type 0
-NotReady failed Reopen = failed ≡ true
-NotReady failed Memory = failed ≡ false
-NotReady failed _ = ⊥
+use Rattle.names.specs.declared.refusal.Refusal.TheVariants.{Memory}
 
 -- want of memory alone
 abbrev pub IsMemory : Refusal → Type 0

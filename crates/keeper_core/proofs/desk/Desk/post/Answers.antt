@@ -1,47 +1,34 @@
-use Rattle.std.proofs.Common.{ap, ◌∙◌}
-use Rattle.rows.specs.Retained.{Retained}
-use Rattle.shown.specs.Standing.{standing}
-use Rattle.keeper_core.specs.Invariant.{posted_of, steps_of}
-use Rattle.keeper_core.proofs.Changed.{not_stored}
-use Rattle.keeper_core.proofs.Storable.{can_store, goes_on, waits_soundly, stored_with}
+use Rattle.std.proofs.Common.{◌≡◌, ap, sym, ◌∙◌, subst}
+use Rattle.rows.specs.Follows.{IsNext}
+use Rattle.shown.specs.Standing.{Standing, after_step, standing}
+use Rattle.published.specs.Posts.{IsLater}
+use Rattle.keeper_core.proofs.Sound.{sound_same, sound_next}
+use Rattle.keeper_core.proofs.Unposted.{no_room, not_stored}
 use Rattle.keeper_core.proofs.desk.Desk.post.Goals as goal
 
-pub write-requires-clause-next : goal.write-requires-clause-next
-write-requires-clause-next g c =
-    let is = c.self.view_is in
-    can_store g.T.Tables c.args.self.now c.self.inside.tables.tables c.self.inside.tables.failed c.self.inside.book c.self.inside.prefix c.self.inside.shown c.self.inside.waiting c.args.commit c.in_ok-kept.kept
-    c.newest-rev.result c.args.puts c.self.invariant (ap (λ d. d.posted) is) (ap (λ d. d.shown) is) c.requires.whole c.requires.next c.requires.puts c.newest-rev.ensures.newest c.in_ok-kept.ensures
-    (ap (λ d. d.failed) is ∙ c.requires.open)
-
-pub returns-in_err-write-clause-err : goal.returns-in_err-write-clause-err
-returns-in_err-write-clause-err g c =
-    let is = c.self.view_is in
+pub returns-in_err-reserve-clause-err : goal.returns-in_err-reserve-clause-err
+returns-in_err-reserve-clause-err g c =
     let inside = c.self.inside in
-    let r : Retained = (standing (posted_of inside.prefix inside.waiting)).kept in
-    let next = goes_on g.T.Tables c.args.self.now inside.tables.tables inside.tables.failed inside.book inside.prefix inside.shown inside.waiting c.args.commit c.in_ok-kept.kept c.newest-rev.result c.args.puts c.self.invariant
-    (ap (λ d. d.posted) is) (ap (λ d. d.shown) is) c.requires.whole c.requires.next c.requires.puts c.newest-rev.ensures.newest c.in_ok-kept.ensures in
-    not_stored g.T.Tables inside.book inside.prefix.steps (steps_of inside.waiting) c.from_residual-in_err-write.result c.in_err-write.field-0.0 c.args.self.now inside.tables c.write.new.self c.args.commit
-    c.in_ok-kept.kept c.from_residual-in_err-write.ensures.1 is c.requires.open c.in_ok-kept.ensures c.in_err-write.ensures.err next.0 (λ rs left. c.write.ensures.left r rs c.self.invariant.agrees next left) c.write.ensures.lasts
+    let room = c.reserve.ensures.same in
+    no_room g.T.Tables c.args.self.now inside.tables inside.own inside.publication c.reserve.new.self c.self.view_is c.requires.open c.self.invariant.stands c.self.invariant.beginning
+    room.0 room.1 room.2 c.from_residual-in_err-reserve.result _ c.from_residual-in_err-reserve.ensures.1
+
+pub returns-in_err-step-clause-err : goal.returns-in_err-step-clause-err
+returns-in_err-step-clause-err g c =
+    let inside = c.self.inside in
+    let stands : inside.own ≡ standing c.args.self.now.posted = c.self.invariant.stands ∙ ap standing (ap (λ d. d.posted) c.self.view_is) in
+    let next : IsNext inside.own.kept c.in_ok-kept.kept = subst (IsNext inside.own.kept) (sym c.in_ok-kept.ensures) (subst (λ (s : Standing). IsNext s.kept c.args.commit) (sym stands) c.requires.next) in
+    let room = c.reserve.ensures.same in
+    not_stored g.T.Tables c.args.self.now inside.tables inside.own inside.publication c.reserve.new.self c.self.view_is c.requires.open c.self.invariant.stands c.self.invariant.beginning
+    room.0 room.1 room.2 c.from_residual-in_err-step.result c.in_err-step.field-0.0 c.store.new.tables c.args.commit c.in_ok-kept.kept c.from_residual-in_err-step.ensures.1
+    c.in_ok-kept.ensures next c.in_err-step.ensures.err c.store.ensures.lasts
 
 pub invariant_of-self-2 : goal.invariant_of-self-2
 invariant_of-self-2 g c =
-    let is = c.self.view_is in
     let inside = c.self.inside in
-    let r : Retained = (standing (posted_of inside.prefix inside.waiting)).kept in
-    let next = goes_on g.T.Tables c.args.self.now inside.tables.tables inside.tables.failed inside.book inside.prefix inside.shown inside.waiting c.args.commit c.in_ok-kept.kept c.newest-rev.result c.args.puts c.self.invariant
-    (ap (λ d. d.posted) is) (ap (λ d. d.shown) is) c.requires.whole c.requires.next c.requires.puts c.newest-rev.ensures.newest c.in_ok-kept.ensures in
-    waits_soundly g.T.Tables c.args.self.now inside.tables.tables inside.tables.failed inside.book inside.prefix inside.shown inside.waiting c.args.commit c.in_ok-kept.kept c.newest-rev.result c.args.puts c.self.invariant
-    (ap (λ d. d.posted) is) (ap (λ d. d.shown) is) c.requires.whole c.requires.next c.requires.puts c.newest-rev.ensures.newest c.in_ok-kept.ensures
-    c.write.new.self.tables c.write.new.self.failed (c.in_ok-write.ensures.stored r c.self.invariant.agrees next)
-
-pub returns-clause-stored : goal.returns-clause-stored
-returns-clause-stored g c =
-    let is = c.self.view_is in
-    let inside = c.self.inside in
-    let r : Retained = (standing (posted_of inside.prefix inside.waiting)).kept in
-    let next = goes_on g.T.Tables c.args.self.now inside.tables.tables inside.tables.failed inside.book inside.prefix inside.shown inside.waiting c.args.commit c.in_ok-kept.kept c.newest-rev.result c.args.puts c.self.invariant
-    (ap (λ d. d.posted) is) (ap (λ d. d.shown) is) c.requires.whole c.requires.next c.requires.puts c.newest-rev.ensures.newest c.in_ok-kept.ensures in
-    stored_with g.T.Tables c.args.self.now inside.tables.tables inside.tables.failed inside.book inside.prefix inside.shown inside.waiting c.args.commit c.in_ok-kept.kept c.newest-rev.result c.args.puts c.self.invariant
-    (ap (λ d. d.posted) is) (ap (λ d. d.shown) is) c.requires.whole c.requires.next c.requires.puts c.newest-rev.ensures.newest c.in_ok-kept.ensures
-    c.publish-shown.new.self c.write.new.self.tables (ap (λ d. d.tables) is) c.publish-shown.ensures.more.posted c.publish-shown.ensures.same.0 (c.publish-shown.ensures.same.1 ∙ c.in_ok-write.ensures.ok)
-    (c.in_ok-write.ensures.settled r c.self.invariant.agrees next) c.in_ok-write.ensures.open c.write.ensures.lasts
+    let room = c.reserve.ensures.same in
+    let stored = c.in_ok-step.ensures in
+    sound_next g.T.Tables inside.tables.failed inside.tables.tables inside.own c.reserve.new.self c.post.new.self
+    (sound_same g.T.Tables inside.tables.failed inside.tables.tables inside.own inside.publication c.reserve.new.self c.self.invariant room.1 room.2)
+    c.in_ok-step.step (subst IsLater (sym stored.step) tt) c.post.ensures.posted c.post.ensures.same.1 c.store.new.tables.failed c.store.new.tables.tables c.store.new.own
+    (stored.done ∙ ap (after_step inside.own) (sym stored.step)) c.store.ensures.agrees

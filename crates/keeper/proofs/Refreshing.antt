@@ -1,0 +1,55 @@
+-- A desk that shows more, and what was refused before that.
+use Rattle.std.proofs.Common.{List, ◌∷◌, refl, sym, ◌∙◌, subst}
+use mathlib.Core.List.{IsPrefix}
+use Rattle.names.specs.declared.commit.Commit.{Commit}
+use Rattle.names.specs.declared.refusal.Refusal.{Refusal}
+use Rattle.names.specs.declared.refusal.Refusal.TheVariants.{Memory, StoreFault, Reopen}
+use Rattle.meaning.specs.Config.{Configured}
+use Rattle.rows.specs.Retained.{Retained, with_commit}
+use Rattle.shown.specs.Standing.{standing}
+use Rattle.tables.specs.Device.{IsOpen, HasFailed, Lasts}
+use Rattle.tables.specs.declared.tables.Tables.{Ghosts}
+use Rattle.published.proofs.Prefixes.{prefix_self, prefix_trans}
+use Rattle.keeper_core.specs.Posts.{Posts, ShowsMore, SameTables}
+use Rattle.keeper_core.specs.Changes.{Touches, leaves_alone, adds_one, Refuses, IsRefused}
+use Rattle.keeper.specs.Rules.{OnlyShows}
+
+-- a desk that stayed as it was shows no less
+pub shows_itself : {T : Type 0} (d : Posts T) → IsPrefix d.shown d.posted → OnlyShows d d
+shows_itself d beginning =
+    record {
+      shows = record { posted = refl; book = refl; later = prefix_self d.shown; beginning = beginning };
+      tables = (refl, refl, refl);
+      seats = refl;
+    }
+
+-- a change that was refused is so still where more was shown since
+module _ {T : Type 0} (g : Ghosts T) (old mid new : Posts T) (made : Commit Configured → Type 0) (judged : Refusal → Type 0) (why : Refusal) where
+  refuses_still : (why : Refusal) → SameTables mid new → Refuses g old judged why mid → Refuses g old judged why new
+  refuses_still Reopen same cause = (cause.0, same.1 ∙ cause.1, same.2 ∙ cause.2, same.0 ∙ cause.3)
+  refuses_still StoreFault same cause =
+      (cause.0, same.1 ∙ cause.1, same.2 ∙ cause.2, subst (λ (t : T). IsOpen (g.device old.tables) → HasFailed (g.device old.tables) (g.device t)) (sym same.0) cause.3)
+  refuses_still Memory same cause = (cause.0, same.1 ∙ cause.1, same.2 ∙ cause.2, cause.3)
+  refuses_still _ same cause = (cause.0, same.1 ∙ cause.1, same.2 ∙ cause.2, same.0 ∙ cause.3, cause.4)
+
+  touches_still : SameTables mid new → Touches g old made mid → Touches g old made new
+  touches_still same (leaves_alone alone) = leaves_alone (same.0 ∙ alone)
+  touches_still same (adds_one commit asked may) =
+      adds_one commit asked (record {
+        follows = may.follows;
+        adds = subst (λ (t : T). (rs : List Retained) → g.leaves old.tables rs → g.leaves t (with_commit (standing old.posted).kept commit ∷ rs)) (sym same.0) may.adds;
+      })
+
+  pub still_refused : IsRefused g old made judged why mid → ShowsMore mid new → SameTables mid new → IsRefused g old made judged why new
+  still_refused refused more same =
+      record {
+        shows = record {
+          posted = more.posted ∙ refused.shows.posted;
+          book = more.book ∙ refused.shows.book;
+          later = prefix_trans old.shown mid.shown new.shown refused.shows.later more.later;
+          beginning = more.beginning;
+        };
+        cause = refuses_still why same refused.cause;
+        touches = touches_still same refused.touches;
+        lasts = subst (λ (t : T). Lasts (g.device old.tables) (g.device t)) (sym same.0) refused.lasts;
+      }

@@ -1,0 +1,29 @@
+//! What is published first.
+ghost use Rattle.std.specs.Prelude.{◌≡◌, ◌∷◌, [], IfOk};
+ghost use Rattle.published.specs.declared.publication.TheConstants.{MAX_SESSIONS};
+ghost use Rattle.shown.specs.Standing.{nothing, standing, HasRoom};
+
+use published::{Opened, Publication};
+use shown::{Shown, Step};
+use std::alloc::{AllocError, Global};
+use std::sync::Wait;
+
+/// The state after the first step, and its publication.
+pub(crate) fn publish_first<R: Wait + Drop>(
+    alloc: Global,
+    rt: R,
+    opened: Opened,
+    first: Step,
+) -> Result<(Shown, Publication<R>), AllocError>
+    requires { HasRoom nothing first }
+    ensures own { IfOk result (λ begun. begun.0 ≡ standing (first ∷ [])) }
+    ensures book { IfOk result (λ begun. begun.1.book ≡ opened.book) }
+    ensures posted { IfOk result (λ begun. begun.1.posted ≡ first ∷ []) }
+    ensures shown { IfOk result (λ begun. begun.1.shown ≡ first ∷ []) }
+    ensures seats { IfOk result (λ begun. begun.1.seats ≡ MAX_SESSIONS) }
+{
+    let mut own = Shown::new(alloc);
+    own.apply(&first)?;
+    let publication = Publication::open(alloc, rt, opened, first)?;
+    Ok((own, publication))
+}

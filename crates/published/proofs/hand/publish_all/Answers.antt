@@ -1,0 +1,36 @@
+use Rattle.std.proofs.Common.{subst, option_to_list}
+use Rattle.published.specs.declared.copy.ShownCopy.{ShownCopy}
+use Rattle.published.specs.Known.{Begins}
+use Rattle.published.proofs.Leading.{chain_part, ok_leads, ok_later, shown_where_done, not_shown_where_left, none_left}
+use Rattle.published.proofs.hand.publish_all.Goals as goal
+
+pub publish-requires : goal.publish-requires
+publish-requires g c =
+    let p = c.hand_over.new.publisher in
+    chain_part p.published.prefix p.waiting (option_to_list c.hand_over.new.stuck) c.hand_over.new.entered c.hand_over.ensures.leads.chain
+
+pub returns-then-not-is_waiting-clause-all : goal.returns-then-not-is_waiting-clause-all
+returns-then-not-is_waiting-clause-all g c =
+    let h = c.hand_over.new in
+    shown_where_done c.args.book.now h.entered h.publisher h.stuck h.backlog.items c.hand_over.ensures.leads c.is_done.result (none_left c.is_waiting.result h.publisher.waiting c.if-not-is_waiting.true c.is_waiting.ensures) c.is_done.ensures
+
+pub returns-in-Ok-clause-leads : goal.returns-in-Ok-clause-leads
+returns-in-Ok-clause-leads g c =
+    let ok = c.in-Ok.ensures.ok in
+    ok_leads c.args.book.now c.hand_over.new.entered c.hand_over.new.publisher c.publish.new.self c.hand_over.new.stuck c.hand_over.ensures.leads ok.0 ok.1 ok.2
+
+pub returns-in-Ok-clause-later : goal.returns-in-Ok-clause-later
+returns-in-Ok-clause-later g c =
+    subst (λ (x : ShownCopy). Begins x.prefix c.publish.new.self.published.prefix) c.hand_over.ensures.same
+    (ok_later c.args.book.now c.hand_over.new.entered c.hand_over.new.publisher c.publish.new.self c.hand_over.new.stuck c.hand_over.ensures.leads c.in-Ok.ensures.ok.0)
+
+pub returns-in-Ok-clause-all : goal.returns-in-Ok-clause-all
+returns-in-Ok-clause-all g c =
+    let ok = c.in-Ok.ensures.ok in
+    let leads = ok_leads c.args.book.now c.hand_over.new.entered c.hand_over.new.publisher c.publish.new.self c.hand_over.new.stuck c.hand_over.ensures.leads ok.0 ok.1 ok.2 in
+    shown_where_done c.args.book.now c.hand_over.new.entered c.publish.new.self c.hand_over.new.stuck c.hand_over.new.backlog.items leads c.is_done-in-Ok.result ok.1 c.is_done-in-Ok.ensures
+
+pub returns-in-Err-clause-all : goal.returns-in-Err-clause-all
+returns-in-Err-clause-all g c =
+    let h = c.hand_over.new in
+    not_shown_where_left c.args.book.now h.entered h.publisher h.stuck h.backlog.items c.hand_over.ensures.leads c.publish.new.self c.is_waiting.result c.in-Err.ensures.err c.if-not-is_waiting.false c.is_waiting.ensures

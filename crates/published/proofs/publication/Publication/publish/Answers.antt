@@ -1,0 +1,8 @@
+use Rattle.published.proofs.Leading.{shows_more, room_left}
+use Rattle.published.proofs.publication.Publication.publish.Goals as goal
+
+pub returns-clause-more : goal.returns-clause-more
+returns-clause-more g c =
+    let h = c.publish_all.ensures in
+    let i = c.self.inside in
+    rw (← c.self.view_is) (shows_more i.book _ _ _ i.entered c.publish_all.new.entered i.backlog.items c.publish_all.new.backlog.items i.publisher c.publish_all.new.publisher c.publish_all.new.stuck h.leads h.posted h.later (room_left _ _ _ _ h.capacity h.fewer))

@@ -1,0 +1,10 @@
+pub mod Book
+pub mod Known
+pub mod Receipts
+pub mod Posts
+pub mod Copies
+pub mod Writing
+pub mod Publishing
+pub mod Answering
+pub mod Invariant
+pub mod inside

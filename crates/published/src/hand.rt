@@ -1,0 +1,128 @@
+//! How posted steps get to the writer.
+ghost use Rattle.std.specs.Prelude.{◌≡◌, ◌↔◌, ◌<◌, ◌≤◌, ◌++◌, [], length, true, None, IsTrue, IfSome, IfNone, All, option_to_list};
+ghost use Rattle.std.specs.VecDeque.{deque_len, deque_capacity};
+ghost use Rattle.published.specs.Known.{Begins, next_of};
+ghost use Rattle.published.specs.Posts.{IsPostable};
+ghost use Rattle.published.specs.Invariant.{Leads};
+
+use crate::book::{Book, StepPrefix};
+use crate::post::{Post, touches_in};
+use crate::publisher::Publisher;
+use shown::Step;
+use std::alloc::Global;
+use std::collections::VecDeque;
+use std::sync::Wait;
+
+/// Publishes what waits, in order, as far as there is memory, and says whether nothing waits any more.
+pub(crate) fn publish_all<R: Wait + Drop>(
+    alloc: Global,
+    book: &Book,
+    entered: &mut StepPrefix,
+    backlog: &mut VecDeque<Step>,
+    publisher: &mut Publisher<R>,
+    stuck: &mut Option<Post>,
+) -> bool
+    requires leads { Leads book.now entered.old publisher.old stuck.old }
+    requires postable { All IsPostable backlog.old.items }
+    ensures leads { Leads book.now entered.new publisher.new stuck.new }
+    ensures postable { All IsPostable backlog.new.items }
+    ensures posted { entered.new.steps ++ backlog.new.items ≡ entered.old.steps ++ backlog.old.items }
+    ensures fewer { deque_len backlog.new ≤ deque_len backlog.old }
+    ensures capacity { deque_capacity backlog.new ≡ deque_capacity backlog.old }
+    ensures later { Begins publisher.old.published.prefix publisher.new.published.prefix }
+    ensures all { IsTrue result
+        ↔ (publisher.new.published.prefix.steps ≡ entered.new.steps ++ backlog.new.items) }
+{
+    hand_over(alloc, book, entered, backlog, publisher, stuck);
+    if !publisher.is_waiting() {
+        return is_done(stuck, backlog);
+    }
+    match publisher.publish() {
+        Ok(()) => is_done(stuck, backlog),
+        Err(_) => false,
+    }
+}
+
+// Hands the backlog to the writer, in order, as far as there is memory.
+fn hand_over<R: Wait + Drop>(
+    alloc: Global,
+    book: &Book,
+    entered: &mut StepPrefix,
+    backlog: &mut VecDeque<Step>,
+    publisher: &mut Publisher<R>,
+    stuck: &mut Option<Post>,
+)
+    requires leads { Leads book.now entered.old publisher.old stuck.old }
+    requires postable { All IsPostable backlog.old.items }
+    ensures leads { Leads book.now entered.new publisher.new stuck.new }
+    ensures postable { All IsPostable backlog.new.items }
+    ensures posted { entered.new.steps ++ backlog.new.items ≡ entered.old.steps ++ backlog.old.items }
+    ensures fewer { deque_len backlog.new ≤ deque_len backlog.old }
+    ensures capacity { deque_capacity backlog.new ≡ deque_capacity backlog.old }
+    ensures same { publisher.new.published ≡ publisher.old.published }
+{
+    while retry(publisher, stuck) {
+        let Some(post) = enter_next(alloc, book, entered, backlog) else {
+            break;
+        };
+        *stuck = Some(post);
+    }
+}
+
+// Hands over the post that found no memory before, if there is one, and says whether none is left.
+fn retry<R: Wait + Drop>(publisher: &mut Publisher<R>, stuck: &mut Option<Post>) -> bool
+    ensures order { publisher.new.waiting ++ option_to_list stuck.new
+        ≡ publisher.old.waiting ++ option_to_list stuck.old }
+    ensures same { (publisher.new.published ≡ publisher.old.published)
+        × (publisher.new.told ≡ publisher.old.told) }
+    ensures none { result ≡ true → stuck.new ≡ None }
+{
+    let Some(post) = stuck.take() else {
+        return true;
+    };
+    match publisher.append(post) {
+        Ok(()) => true,
+        Err(post) => {
+            *stuck = Some(post);
+            false
+        }
+    }
+}
+
+// Enters the next step of the backlog in the book.
+fn enter_next(
+    alloc: Global,
+    book: &Book,
+    entered: &mut StepPrefix,
+    backlog: &mut VecDeque<Step>,
+) -> Option<Post>
+    requires book { entered.old.book ≡ book.now }
+    requires postable { All IsPostable backlog.old.items }
+    ensures some { IfSome result (λ post.
+        (post.after ≡ entered.new) × (entered.new ≡ next_of entered.old post.step)) }
+    ensures postable { All IsPostable backlog.new.items }
+    ensures book { entered.new.book ≡ entered.old.book }
+    ensures posted { entered.new.steps ++ backlog.new.items ≡ entered.old.steps ++ backlog.old.items }
+    ensures capacity { deque_capacity backlog.new ≡ deque_capacity backlog.old }
+    ensures len { deque_len backlog.new ≤ deque_len backlog.old }
+    ensures fewer { IfSome result (λ _. length backlog.new.items < length backlog.old.items) }
+    ensures none { IfNone result (entered.new ≡ entered.old) }
+{
+    let next = backlog.front()?;
+    let Ok(ops) = touches_in(alloc, next) else {
+        return None;
+    };
+    let after = entered.add_step(book, next)?;
+    let step = backlog.pop_front()?;
+    *entered = after.again();
+    Some(Post { step, ops, after })
+}
+
+fn is_done(stuck: &Option<Post>, backlog: &VecDeque<Step>) -> bool
+    ensures { IsTrue result ↔ ((stuck.now ≡ None) × (backlog.now.items ≡ [])) }
+{
+    match stuck {
+        None => backlog.is_empty(),
+        Some(_) => false,
+    }
+}

@@ -1,0 +1,188 @@
+//! The publication of one store.
+ghost use Rattle.std.specs.Prelude.{◌≡◌, ◌↔◌, ◌+◌, ◌≤◌, [], ◌∷◌, ◌++◌, All, IsTrue, IfOk, IfErr, OnOk, Err, Some, vec_len};
+ghost use Rattle.names.specs.declared.refusal.Refusal.TheVariants.{NoSeat};
+ghost use Rattle.rows.specs.Retained.{newest};
+ghost use Rattle.shown.specs.Standing.{nothing, standing, HasRoom};
+ghost use Rattle.published.specs.Known.{Begins};
+ghost use Rattle.published.specs.Posts.{IsLater};
+ghost use Rattle.published.specs.Publishing.{ShowsMoreOf, IsSameBut, shown_by};
+
+use crate::book::{Book, Opened, StepPrefix};
+use crate::copy::ShownCopy;
+use crate::hand::publish_all;
+use crate::post::Post;
+use crate::publisher::Publisher;
+use crate::session::Session;
+use names::Refusal;
+use shown::{Shown, Step};
+use std::alloc::{AllocError, Global};
+use std::collections::VecDeque;
+use std::marker::Model;
+use std::sync::Wait;
+
+/// How many sessions a store gives out.
+pub const MAX_SESSIONS: usize = 32;
+
+/// The posted steps, those that are shown, and the sessions that were not given out. Any number of posted
+/// steps may wait to be shown, each in memory that was taken before it was posted.
+#[derive(Drop)]
+pub struct Publication<R: Wait + Drop> {
+    alloc: Global,
+    publisher: Publisher<R>,
+    book: Book,
+    entered: StepPrefix,
+    backlog: VecDeque<Step>,
+    stuck: Option<Post>,
+    sessions: Vec<Session>,
+}
+
+impl<R: Wait + Drop> Model for Publication<R> {
+    ghost use Rattle.std.specs.Prelude.{◌++◌, ◌-◌, vec_len};
+    ghost use Rattle.std.specs.VecDeque.{deque_len, deque_capacity};
+    ghost use Rattle.published.specs.Publishing.{Publishing};
+    ghost use Rattle.published.specs.inside.Codes.{coded_publishing};
+
+    ghost Value = { Publishing };
+
+    ghost coded = { coded_publishing };
+
+    ghost use Rattle.published.specs.Invariant.{IsSound};
+
+    ghost view = { λ p. record {
+      book = p.book;
+      posted = p.entered.steps ++ p.backlog.items;
+      shown = p.publisher.published.prefix.steps;
+      seats = vec_len p.sessions;
+      room = deque_capacity p.backlog - deque_len p.backlog;
+    } };
+
+    ghost invariant = { λ p.
+        IsSound p.book p.entered p.backlog.items p.publisher p.stuck p.sessions.items };
+}
+
+impl<R: Wait + Drop> Publication<R> {
+    /// A publication that shows the first step.
+    pub fn open(
+        alloc: Global,
+        rt: R,
+        opened: Opened,
+        first: Step,
+    ) -> Result<Publication<R>, AllocError>
+        requires { HasRoom nothing first }
+        ensures book { IfOk result (λ p. p.book ≡ opened.book) }
+        ensures posted { IfOk result (λ p. p.posted ≡ first ∷ []) }
+        ensures shown { IfOk result (λ p. p.shown ≡ p.posted) }
+        ensures seats { IfOk result (λ p. p.seats ≡ MAX_SESSIONS) }
+    {
+        let Opened { book, prefix } = opened;
+        let Some(entered) = prefix.add_step(&book, &first) else {
+            return Err(AllocError);
+        };
+        let one = ShownCopy::after_first(alloc, &first, &entered)?;
+        let other = ShownCopy::after_first(alloc, &first, &entered)?;
+        let mut publisher = Publisher::new(alloc, rt, one, other, MAX_SESSIONS)?;
+        publisher.publish()?;
+        let sessions = make_sessions(alloc, &mut publisher, &entered)?;
+        Ok(Publication {
+            alloc,
+            publisher,
+            book,
+            entered,
+            backlog: VecDeque::new(alloc),
+            stuck: None,
+            sessions,
+        })
+    }
+
+    /// Makes room for one step more to wait.
+    pub fn reserve(&mut self) -> Result<(), AllocError>
+        ensures room { OnOk result (1 ≤ self.new.room) }
+        ensures same { IsSameBut self.old self.new }
+    {
+        self.backlog.reserve(1)
+    }
+
+    /// Posts a step, which waits from then on to be shown. It takes no memory.
+    pub fn post(&mut self, step: Step)
+        requires room { 1 ≤ self.old.room }
+        requires follows { HasRoom (standing self.old.posted) step }
+        requires later { IsLater step }
+        ensures posted { self.new.posted ≡ self.old.posted ++ step ∷ [] }
+        ensures same { (self.new.book ≡ self.old.book) × (self.new.shown ≡ self.old.shown)
+            × (self.new.seats ≡ self.old.seats) }
+    {
+        self.backlog.push_back_reserved(step);
+    }
+
+    /// Shows what waits, in order, as far as there is memory, and says whether nothing waits any more.
+    pub fn publish(&mut self) -> bool
+        ensures more { ShowsMoreOf self.old self.new }
+        ensures all { IsTrue result ↔ (self.new.shown ≡ self.new.posted) }
+    {
+        publish_all(
+            self.alloc,
+            &self.book,
+            &mut self.entered,
+            &mut self.backlog,
+            &mut self.publisher,
+            &mut self.stuck,
+        )
+    }
+
+    /// The shown steps.
+    pub fn shown_steps(&self) -> StepPrefix
+        ensures { result ≡ shown_by self.now }
+    {
+        self.publisher.published().prefix.again()
+    }
+
+    /// The state that is shown, for whoever holds the publication. Sessions ask it with no lock.
+    pub fn shown(&self) -> &Shown
+        ensures { result.now ≡ standing self.now.shown }
+    {
+        &self.publisher.published().shown
+    }
+
+    /// The newest shown revision.
+    pub fn newest(&self) -> u64
+        ensures { result ≡ newest (standing self.now.shown).kept }
+    {
+        self.shown().newest()
+    }
+
+    /// A session that knows what is shown now. It is refused exactly where all were given out.
+    pub fn session(&mut self) -> Result<Session, Refusal>
+        ensures known { IfOk result (λ session. Begins (shown_by self.new) session) }
+        ensures seats { IfOk result (λ _. self.new.seats + 1 ≡ self.old.seats) }
+        ensures none { (result ≡ Err NoSeat) ↔ (self.old.seats ≡ 0) }
+        ensures err { IfErr result (λ why.
+            (why ≡ NoSeat) × (self.new.seats ≡ self.old.seats)) }
+        ensures same { (self.new.book ≡ self.old.book) × (self.new.posted ≡ self.old.posted)
+            × (self.new.shown ≡ self.old.shown) × (self.new.room ≡ self.old.room) }
+    {
+        let prefix = self.shown_steps();
+        let Some(mut session) = self.sessions.pop() else {
+            return Err(Refusal::NoSeat);
+        };
+        session.learn_steps(&prefix);
+        Ok(session)
+    }
+}
+
+fn make_sessions<R: Wait + Drop>(
+    alloc: Global,
+    publisher: &mut Publisher<R>,
+    entered: &StepPrefix,
+) -> Result<Vec<Session>, AllocError>
+    requires { publisher.old.told ≡ Some entered.now }
+    ensures same { OnOk result (publisher.new ≡ publisher.old) }
+    ensures sessions { IfOk result (λ v.
+        (vec_len v ≡ 32) × All (λ s. s.book ≡ entered.now.book) v.items) }
+{
+    let mut sessions = Vec::with_capacity(alloc, MAX_SESSIONS)?;
+    for _ in 0..MAX_SESSIONS {
+        let reader = publisher.reader()?;
+        sessions.push(Session::new(reader, entered.again()))?;
+    }
+    Ok(sessions)
+}

@@ -1,0 +1,70 @@
+//! Receipts.
+ghost use Rattle.std.specs.Prelude.{◌≡◌};
+
+use crate::book::StepPrefix;
+use std::marker::Model;
+use zookie::Zookie;
+
+/// What a caller is told of an accepted change: the zookie of the newest posted revision, whether all
+/// that is posted is shown, and the shown steps, which exist in proofs alone.
+#[derive(Drop)]
+pub struct Receipt {
+    zookie: Zookie,
+    shown: bool,
+    published: StepPrefix,
+}
+
+impl Model for Receipt {
+    ghost use Rattle.published.specs.Receipts.{ReceiptFacts};
+    ghost use Rattle.published.specs.inside.Codes.{coded_receipt};
+
+    ghost Value = { ReceiptFacts };
+
+    ghost coded = { coded_receipt };
+
+    ghost view = { λ r. record {
+      number = r.zookie.store;
+      rev = r.zookie.rev;
+      shown = r.shown;
+      published = r.published;
+    } };
+}
+
+impl Receipt {
+    /// A receipt that says this.
+    pub fn new(zookie: Zookie, shown: bool, published: StepPrefix) -> Receipt
+        ensures { result ≡ record {
+          number = zookie.store;
+          rev = zookie.rev;
+          shown = shown;
+          published = published;
+        } }
+    {
+        Receipt {
+            zookie,
+            shown,
+            published,
+        }
+    }
+
+    /// The zookie of the newest posted revision.
+    pub fn zookie(&self) -> Zookie
+        ensures { result ≡ record { store = self.now.number; rev = self.now.rev } }
+    {
+        self.zookie
+    }
+
+    /// Whether all that is posted is shown.
+    pub fn is_shown(&self) -> bool
+        ensures { result ≡ self.now.shown }
+    {
+        self.shown
+    }
+
+    /// The shown steps.
+    pub fn published_steps(&self) -> &StepPrefix
+        ensures { result.now ≡ self.now.published }
+    {
+        &self.published
+    }
+}

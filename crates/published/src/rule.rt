@@ -1,0 +1,50 @@
+//! The rule over the published copy.
+use crate::book::StepPrefix;
+use crate::copy::ShownCopy;
+use crate::post::Post;
+use atomic_table::{Join, Split};
+use crossbeam_utils::rule::{Outcome, Protocol};
+use left_right::reader::Reader;
+use left_right::writer::Writer;
+
+/// A view is a prefix that its owner knows, or none yet.
+pub struct Published;
+
+impl Protocol<ShownCopy, Option<StepPrefix>> for Published {
+    ghost use Rattle.std.specs.Prelude.{None};
+    ghost use Rattle.published.specs.Copies.{Keeps};
+
+    ghost holds = { Keeps };
+
+    ghost first = { None };
+}
+
+/// What both steps tell: a publication, and an entry.
+pub struct Seeing;
+
+impl Outcome<ShownCopy, Option<StepPrefix>> for Seeing {
+    ghost use Rattle.published.specs.Copies.{Sees};
+
+    ghost then = { Sees };
+}
+
+/// The writer tells all that it knows.
+pub struct Told;
+
+impl Split<Option<StepPrefix>> for Told {
+    ghost left = { λ v. v };
+
+    ghost right = { λ v. v };
+}
+
+impl Join<Option<StepPrefix>> for Told {
+    ghost use Rattle.std.specs.Prelude.{None};
+
+    ghost both = { λ v w. w };
+
+    ghost spent = { None };
+}
+
+pub type CopyReader = Reader<ShownCopy, Option<StepPrefix>, Published>;
+
+pub type CopyWriter = Writer<ShownCopy, Post, Option<StepPrefix>, Published>;
