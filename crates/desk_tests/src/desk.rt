@@ -56,9 +56,7 @@ impl Tables for Broken {
 fn configure<T: Tables + Drop, H: Wait + Drop>(
     alloc: Global,
     desk: &mut Desk<T, H>,
-) -> Result<Receipt, Refusal>
-    ensures { desk.new.book ≡ desk.old.book }
-{
+) -> Result<Receipt, Refusal> {
     let config = Config::from_json(alloc, GROUPS.as_bytes())?;
     desk.configure(config)
 }
@@ -71,49 +69,28 @@ fn number_of<A: Drop>(answer: &Result<A, Refusal>) -> u8 {
     }
 }
 
-// Before the fault a catch-up of too many commits is malformed, and after it every change is refused with 23.
-fn is_closed_by_fault<H: Wait + Drop>(alloc: Global, desk: &mut Desk<Broken, H>) -> bool {
-    let many = number_of(&desk.catch_up(Part::Hot, 65_537));
-    let worked = !desk.has_failed();
-    let fault = number_of(&configure(alloc, desk));
-    let next = number_of(&configure(alloc, desk));
-    let closed = number_of(&desk.catch_up(Part::Hot, 65_537));
-    worked && desk.has_failed() && many == 1 && fault == 22 && next == 23 && closed == 23
-}
-
-fn is_at_zero(session: &mut Session) -> bool {
-    match session.state() {
-        Ok(state) => state.newest == 0,
-        Err(_) => false,
-    }
-}
-
 // Sessions go on: of the one that was given before the fault, and of one that is given after it, the newest
 // revision is 0.
-fn faults_close<H: Wait + Drop>(
-    alloc: Global,
-    desk: &mut Desk<Broken, H>,
-) -> Result<bool, Refusal> {
-    let mut session = desk.session()?;
-    let closed = is_closed_by_fault(alloc, desk);
-    let mut other = desk.session()?;
-    Ok(closed && is_at_zero(&mut session) && is_at_zero(&mut other))
-}
-
-fn closes_once<H: Wait + Drop>(alloc: Global, rt: H) -> bool {
+fn faults_close<H: Wait + Drop>(alloc: Global, rt: H) -> Result<bool, Refusal> {
     let inner = Listed::new(alloc, 7);
-    match Desk::open(alloc, rt, Opened::new(), Broken { inner, faults: 0 }) {
-        Ok(mut desk) => {
-            let closed = faults_close(alloc, &mut desk).unwrap_or(false);
-            closed && desk.close().faults() == 1
-        }
-        Err(_) => false,
-    }
+    let Ok(mut desk) = Desk::open(alloc, rt, Opened::new(), Broken { inner, faults: 0 }) else {
+        return Err(Refusal::Memory);
+    };
+    let mut session = desk.session()?;
+    let many = number_of(&desk.catch_up(Part::Hot, 65_537));
+    let worked = !desk.has_failed();
+    let fault = number_of(&configure(alloc, &mut desk));
+    let next = number_of(&configure(alloc, &mut desk));
+    let closed = number_of(&desk.catch_up(Part::Hot, 65_537));
+    let mut other = desk.session()?;
+    let goes_on = session.state()?.newest == 0 && other.state()?.newest == 0;
+    let failed = desk.has_failed() && desk.close().faults() == 1;
+    Ok(worked && failed && goes_on && many == 1 && fault == 22 && next == 23 && closed == 23)
 }
 
 #[test]
 fn after_a_fault_changes_are_refused(rt: HostRuntime) {
-    assert!(rt; closes_once(rt.alloc(), &rt));
+    assert!(rt; faults_close(rt.alloc(), &rt).unwrap_or(false));
 }
 
 fn insert_of(alloc: Global, text: &str) -> Result<Write<Zookie>, Refusal> {
@@ -144,57 +121,41 @@ fn finds_ann(session: &mut Session, zookie: Zookie) -> Result<bool, Refusal> {
 }
 
 // The opening, a configuration and a write are three steps.
-fn publishes<H: Wait + Drop>(alloc: Global, desk: &mut Desk<Listed, H>) -> Result<bool, Refusal> {
-    let first = configure(alloc, desk)?;
+fn publishes<H: Wait + Drop>(alloc: Global, rt: H) -> Result<bool, Refusal> {
+    let Ok(mut desk) = Desk::open(alloc, rt, Opened::new(), Listed::new(alloc, 7)) else {
+        return Err(Refusal::Memory);
+    };
+    let first = configure(alloc, &mut desk)?;
     let second = desk.write(insert_of(alloc, "group:a#member@user:ann")?)?;
     let told = has_steps(first.published_steps(), 2) && has_steps(second.published_steps(), 3);
     Ok(told && second.zookie() == Zookie { store: 7, rev: 2 } && desk.publish())
 }
 
-fn begins_empty<H: Wait + Drop>(alloc: Global, rt: H) -> bool {
-    match Desk::open(alloc, rt, Opened::new(), Listed::new(alloc, 7)) {
-        Ok(mut desk) => publishes(alloc, &mut desk).unwrap_or(false),
-        Err(_) => false,
-    }
-}
-
 #[test]
 fn receipts_have_the_list_of_shown_steps(rt: HostRuntime) {
-    assert!(rt; begins_empty(rt.alloc(), &rt));
+    assert!(rt; publishes(rt.alloc(), &rt).unwrap_or(false));
 }
 
-// A session that learns the receipt of a write finds what was written.
-fn learns<H: Wait + Drop>(alloc: Global, desk: &mut Desk<Listed, H>) -> Result<bool, Refusal> {
-    let mut session = desk.session()?;
-    configure(alloc, desk)?;
+// A session learns a receipt, and another is refreshed. The index has taken one commit.
+fn sessions_learn<H: Wait + Drop>(alloc: Global, rt: H) -> Result<bool, Refusal> {
+    let Ok(mut desk) = Desk::open(alloc, rt, Opened::new(), Listed::new(alloc, 7)) else {
+        return Err(Refusal::Memory);
+    };
+    let mut one = desk.session()?;
+    let mut other = desk.session()?;
+    configure(alloc, &mut desk)?;
     let receipt = desk.write(insert_of(alloc, "group:a#member@user:ann")?)?;
-    session.learn(&receipt);
-    finds_ann(&mut session, receipt.zookie())
-}
-
-// A session that was there before is refreshed once the index has taken one commit.
-fn refreshes<H: Wait + Drop>(desk: &mut Desk<Listed, H>) -> Result<bool, Refusal> {
-    let mut session = desk.session()?;
+    one.learn(&receipt);
+    let learnt = finds_ann(&mut one, receipt.zookie())? && desk.has_shown(&one);
     let taken = desk.catch_up(Part::Index, 1)?;
-    let refreshed = desk.refresh(&mut session);
+    let refreshed = desk.refresh(&mut other);
+    let state = other.state()?;
     let told = refreshed.is_shown() && refreshed.zookie() == Zookie { store: 7, rev: 2 };
-    let moved = taken.value == 1 && taken.receipt.zookie().rev == 2;
-    let state = session.state()?;
-    Ok(told && moved && state.index == 1 && state.newest == 2)
-}
-
-fn sessions_learn<H: Wait + Drop>(alloc: Global, rt: H) -> bool {
-    match Desk::open(alloc, rt, Opened::new(), Listed::new(alloc, 7)) {
-        Ok(mut desk) => {
-            let learnt = learns(alloc, &mut desk).unwrap_or(false);
-            let refreshed = refreshes(&mut desk).unwrap_or(false);
-            learnt && refreshed && desk.newest() == 2 && desk.number() == 7
-        }
-        Err(_) => false,
-    }
+    let numbers = state.index == 1 && state.newest == 2 && desk.newest() == 2 && desk.number() == 7;
+    Ok(learnt && told && numbers && taken.value == 1 && taken.receipt.zookie().rev == 2)
 }
 
 #[test]
 fn sessions_know_what_they_are_told(rt: HostRuntime) {
-    assert!(rt; sessions_learn(rt.alloc(), &rt));
+    assert!(rt; sessions_learn(rt.alloc(), &rt).unwrap_or(false));
 }

@@ -1,5 +1,5 @@
 -- What the desk may answer to a call, and what it holds after that.
-use Rattle.std.specs.Prelude.{ℕ, ◌≡◌, List, Bool, Option, None, option_map}
+use Rattle.std.specs.Prelude.{ℕ, ◌≡◌, ◌⊎◌, List, Bool, Option, None, option_map}
 use Rattle.names.specs.declared.call.Call.{Call}
 use Rattle.names.specs.declared.call.Call.TheVariants.{Write, Config, Check, CatchUp, State}
 use Rattle.names.specs.declared.commit.Commit.TheVariants.{Config as ConfigCommit}
@@ -8,7 +8,7 @@ use Rattle.names.specs.declared.object.Object.{Object}
 use Rattle.names.specs.declared.write.Op.{Op}
 use Rattle.names.specs.declared.cause.Cause.{Cause}
 use Rattle.names.specs.declared.refusal.Refusal.{Refusal}
-use Rattle.names.specs.declared.refusal.Refusal.TheVariants.{Malformed, BadZookie, ConfigRefused}
+use Rattle.names.specs.declared.refusal.Refusal.TheVariants.{Malformed, BadZookie, ConfigRefused, Reopen}
 use Rattle.meaning.specs.Config.{Configured}
 use Rattle.config.specs.Causes.{Accepts, IsCause}
 use Rattle.zookie.specs.Text.{zookie_text}
@@ -65,7 +65,7 @@ pub record OnlyShows {T : Type 0} (old new : Posts T) : Type 0 where
   pub seats : new.seats ≡ old.seats
 
 -- `check`: the body asks no question; its zookie is none; it is answered, or refused, from the steps that are then
--- shown; or there was no memory to read it
+-- shown; no session can ask any more; or there was no memory to read it
 pub data CheckStep {T : Type 0}
     (old : Posts T) (body : List ℕ) (told : Option (ℕ × List ℕ)) (new : Posts T) : Type 0 where
   check_malformed :
@@ -84,6 +84,7 @@ pub data CheckStep {T : Type 0}
       → CheckRefused (standing new.shown) consistency node why at
       → SaysRefusalAt told why (option_map (zookie_at old) at) → OnlyShows old new
       → CheckStep old body told new
+  check_shut : SaysRefusal told Reopen → OnlyShows old new → CheckStep old body told new
   check_unread : told ≡ None → new ≡ old → CheckStep old body told new
 
 -- `catchup`: the body asks for no such move; the part takes the commits, and its cursor is told; or that is
@@ -101,10 +102,11 @@ pub data CatchUpStep {T : Type 0} (g : Ghosts T)
       → SaysRefusal told why → CatchUpStep g old body told new
   catch_up_unread : told ≡ None → new ≡ old → CatchUpStep g old body told new
 
--- `state`: the numbers of the standing of the shown steps
+-- `state`: the numbers of the standing of the shown steps; or no session can ask any more
 abbrev pub StateStep : {T : Type 0} → Posts T → Option (ℕ × List ℕ) → Posts T → Type 0
 StateStep old told new =
-    Says told 200 (state_data (standing old.posted).kept.number (state_of (standing old.shown)))
+    (Says told 200 (state_data (standing old.posted).kept.number (state_of (standing old.shown)))
+    ⊎ SaysRefusal told Reopen)
     × (new ≡ old)
 
 -- from old, the desk may tell this to the call with this body, and go on to new

@@ -111,6 +111,9 @@ fn answer_check<T: Tables + Drop, R: Wait + Drop>(
         Err(why) => return refusal(alloc, &why),
     };
     let asked = ask(desk, session, &consistency, &node, &user);
+    if !desk.has_shown(session) {
+        return refusal(alloc, &Refusal::Reopen);
+    }
     let store = desk.number();
     match asked {
         Ok(found) => {
@@ -146,16 +149,29 @@ fn answer_catch_up<T: Tables + Drop, R: Wait + Drop>(
     }
 }
 
-fn answer_state<T: Tables + Drop, R: Wait + Drop>(alloc: Global, desk: &Desk<T, R>) -> Reply
-    ensures { StateStep desk.now (told result) desk.now }
+fn answer_state<T: Tables + Drop, R: Wait + Drop>(
+    alloc: Global,
+    desk: &Desk<T, R>,
+    session: &mut Session,
+) -> Reply
+    requires { Begins (shown_by desk.now) session.old }
+    ensures step { StateStep desk.now (told result) desk.now }
+    ensures known { Begins (shown_by desk.now) session.new }
 {
+    let numbers = match session.state() {
+        Ok(numbers) => numbers,
+        Err(why) => return refusal(alloc, &why),
+    };
+    if !desk.has_shown(session) {
+        return refusal(alloc, &Refusal::Reopen);
+    }
     let store = desk.number();
-    let numbers = desk.state();
     state(alloc, store, &numbers)
 }
 
 /// Answers a call, whose body is these bytes, on a desk that the caller holds. The session then knows all that is
-/// shown. A question of the future is asked once more after what waits was shown.
+/// shown. A question of the future is asked once more after what waits was shown. Where the session knew more than
+/// is shown, which it never does while it is the only one, a question is answered as where none can ask any more.
 pub fn answer_on<T: Tables + Drop, R: Wait + Drop>(
     alloc: Global,
     desk: &mut Desk<T, R>,
@@ -172,7 +188,7 @@ pub fn answer_on<T: Tables + Drop, R: Wait + Drop>(
         Call::Config => answer_config(alloc, desk, session, body),
         Call::Check => answer_check(alloc, desk, session, body),
         Call::CatchUp => answer_catch_up(alloc, desk, session, body),
-        Call::State => answer_state(alloc, desk),
+        Call::State => answer_state(alloc, desk, session),
         _ => no_route(alloc),
     }
 }

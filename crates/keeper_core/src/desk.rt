@@ -8,8 +8,7 @@ ghost use Rattle.rows.specs.Retained.{newest};
 ghost use Rattle.rows.specs.Follows.{IsAccepted, IsNext};
 ghost use Rattle.rows.specs.Judging.{ConfigRefused};
 ghost use Rattle.shown.specs.declared.step.Step.TheVariants.{Commit as CommitStep, Take};
-ghost use Rattle.shown.specs.Standing.{standing, state_of, cursor_of};
-ghost use Rattle.shown.specs.Answers.{IsAnswer, IsRefusal};
+ghost use Rattle.shown.specs.Standing.{standing, cursor_of};
 ghost use Rattle.tables.specs.Device.{IsOpen};
 ghost use Rattle.tables.specs.Opening.{CannotOpen};
 ghost use Rattle.tables.specs.Storing.{PutsAbsent};
@@ -24,16 +23,16 @@ use crate::opening::publish_first;
 use crate::storing::store;
 use config::Config;
 use names::limits::MAX_CATCH_UP;
-use names::{Commit, Condition, Items, Node, Object, Op, Part, Refusal, State, Write};
+use names::{Commit, Condition, Items, Op, Part, Refusal, Write};
 use published::{Opened, Publication, Receipt, Session};
 use rows::{events_of, refuses_what_no_write_gives};
-use shown::{Answer, Refused, Shown, Step};
+use shown::{Shown, Step};
 use std::alloc::Global;
 use std::marker::Model;
 use std::sync::Wait;
 use tables::{Puts, Tables, puts_of};
 use tuple_keys::KeptCommit;
-use zookie::{Consistency, Zookie};
+use zookie::Zookie;
 
 /// What a caller is told of a part that takes commits: the revision up to which the part has read them, once
 /// all that is posted is shown, and the receipt, which names the newest shown revision.
@@ -209,26 +208,14 @@ impl<T: Tables + Drop, R: Wait + Drop> Desk<T, R> {
         self.publication.publish()
     }
 
-    /// Whether the user is a member of the node, at a shown revision that is as fresh as is asked.
-    pub fn check(
-        &self,
-        consistency: &Consistency,
-        node: &Node,
-        user: &Object,
-    ) -> Result<Answer<bool>, Refused>
-        ensures ok { IfOk result
-            (IsAnswer (standing self.now.shown) consistency.now node.now user.now) }
-        ensures err { IfErr result (IsRefusal (standing self.now.shown) consistency.now node.now) }
+    /// Whether the session knows no more than is shown. While nobody else changes the desk it never does, but
+    /// no proof says so.
+    pub fn has_shown(&self, session: &Session) -> bool
+        requires { session.now.book ≡ self.now.book }
+        ensures known { IsTrue result → IsPrefix session.now.steps self.now.shown }
         ensures beginning { IsPrefix self.now.shown self.now.posted }
     {
-        self.publication.shown().check(consistency, node, user)
-    }
-
-    /// The shown revisions, and how large the history is at the newest of them.
-    pub fn state(&self) -> State
-        ensures { result ≡ state_of (standing self.now.shown) }
-    {
-        self.publication.shown().state()
+        self.publication.has_shown(session)
     }
 
     /// The store's number.

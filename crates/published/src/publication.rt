@@ -1,5 +1,6 @@
 //! The publication of one store.
 ghost use Rattle.std.specs.Prelude.{◌≡◌, ◌↔◌, ◌+◌, ◌≤◌, [], ◌∷◌, ◌++◌, All, IsTrue, IfOk, IfErr, OnOk, Err, Some, vec_len};
+ghost use mathlib.Core.List.{IsPrefix};
 ghost use Rattle.names.specs.declared.refusal.Refusal.TheVariants.{NoSeat};
 ghost use Rattle.rows.specs.Retained.{newest};
 ghost use Rattle.shown.specs.Standing.{nothing, standing, HasRoom};
@@ -14,7 +15,7 @@ use crate::post::Post;
 use crate::publisher::Publisher;
 use crate::session::Session;
 use names::Refusal;
-use shown::{Shown, Step};
+use shown::Step;
 use std::alloc::{AllocError, Global};
 use std::collections::VecDeque;
 use std::marker::Model;
@@ -136,18 +137,11 @@ impl<R: Wait + Drop> Publication<R> {
         self.publisher.published().prefix.again()
     }
 
-    /// The state that is shown, for whoever holds the publication. Sessions ask it with no lock.
-    pub fn shown(&self) -> &Shown
-        ensures { result.now ≡ standing self.now.shown }
-    {
-        &self.publisher.published().shown
-    }
-
     /// The newest shown revision.
     pub fn newest(&self) -> u64
         ensures { result ≡ newest (standing self.now.shown).kept }
     {
-        self.shown().newest()
+        self.publisher.published().shown.newest()
     }
 
     /// A session that knows what is shown now. It is refused exactly where all were given out.
@@ -166,6 +160,15 @@ impl<R: Wait + Drop> Publication<R> {
         };
         session.learn_steps(&prefix);
         Ok(session)
+    }
+
+    /// Whether the session knows no more than is shown. It cannot know more, but no proof says so: two lengths
+    /// are compared.
+    pub fn has_shown(&self, session: &Session) -> bool
+        requires { session.now.book ≡ self.now.book }
+        ensures { IsTrue result → IsPrefix session.now.steps self.now.shown }
+    {
+        session.known().begins(&self.publisher.published().prefix)
     }
 }
 

@@ -50,6 +50,13 @@ impl Session {
         Session { reader, known }
     }
 
+    /// The steps that it knows.
+    pub(crate) fn known(&self) -> &StepPrefix
+        ensures { result.now ≡ self.now }
+    {
+        &self.known
+    }
+
     /// Whether the user is a member of the node, at the revision that the consistency chooses.
     pub fn check(
         &mut self,

@@ -1,4 +1,5 @@
-//! Tests of `published` by its public calls: sessions that run out, receipts, and steps that wait.
+//! Tests of `published` by its public calls: sessions that run out, sessions beside a writer, receipts, and steps that
+//! wait.
 #![tactic(auto)]
 
 #[cfg(test)]

@@ -7,6 +7,7 @@ use published::{MAX_SESSIONS, Receipt, Session};
 use std::alloc::Global;
 use std::sync::Wait;
 use std::test::*;
+use std::thread::{Threads, join};
 use zookie::{Consistency, Zookie};
 
 const GROUPS: &str = r#"{"namespaces":{"group":{"member":{"types":["user"]}},"user":{}}}"#;
@@ -58,42 +59,23 @@ fn there_are_32_sessions(rt: HostRuntime) {
     assert!(rt; runs_out(&rt, rt.alloc()).unwrap_or(false));
 }
 
-// A desk and a session of it, and whether the relation was there to the session no earlier than it was shown.
-fn configured<R: Wait + Drop>(
-    handle: R,
-    alloc: Global,
-) -> Result<(Desk<R>, Session, bool), Refusal> {
+// The relation is not there before the configuration is shown, and nobody is a member before the tuple is.
+fn waits<R: Wait + Drop>(handle: R, alloc: Global) -> Result<bool, Refusal> {
     let mut desk = open(handle, alloc)?;
     let mut session = desk.publication.session()?;
-    let before = asked(&mut session);
-    let mut desk = configure(alloc, desk, GROUPS)?;
-    let waiting = asked(&mut session);
-    let shown = desk.publication.publish();
-    let after = asked(&mut session);
-    Ok((
-        desk,
-        session,
-        shown && before == 102 && waiting == 102 && after == 0,
-    ))
-}
-
-// Whether Ann was a member to the session no earlier than her tuple was shown.
-fn inserted<R: Wait + Drop>(
-    alloc: Global,
-    desk: Desk<R>,
-    session: &mut Session,
-) -> Result<bool, Refusal> {
-    let desk = insert(alloc, desk, "group:a#member@user:ann")?;
-    let mut desk = insert(alloc, desk, "group:a#member@user:bob")?;
-    let waiting = asked(session);
+    let mut answers = Vec::new(alloc);
+    answers.push(asked(&mut session))?;
+    desk = configure(alloc, desk, GROUPS)?;
+    answers.push(asked(&mut session))?;
+    let first = desk.publication.publish();
+    answers.push(asked(&mut session))?;
+    desk = insert(alloc, desk, "group:a#member@user:ann")?;
+    desk = insert(alloc, desk, "group:a#member@user:bob")?;
+    answers.push(asked(&mut session))?;
     let both = desk.publication.publish();
-    let newest = desk.publication.newest() == 3 && newest_of(session) == 3;
-    Ok(both && newest && waiting == 0 && asked(session) == 1)
-}
-
-fn waits<R: Wait + Drop>(handle: R, alloc: Global) -> Result<bool, Refusal> {
-    let (desk, mut session, first) = configured(handle, alloc)?;
-    Ok(first && inserted(alloc, desk, &mut session)?)
+    answers.push(asked(&mut session))?;
+    let newest = desk.publication.newest() == 3 && newest_of(&mut session) == 3;
+    Ok(first && both && newest && answers.as_slice() == [102, 102, 0, 0, 1].as_slice())
 }
 
 #[test]
@@ -101,42 +83,70 @@ fn posted_steps_wait_until_they_are_published(rt: HostRuntime) {
     assert!(rt; waits(&rt, rt.alloc()).unwrap_or(false));
 }
 
-fn is_told(receipt: &Receipt) -> bool {
-    let zookie = Zookie { store: 7, rev: 2 };
-    receipt.is_shown() && receipt.zookie() == zookie && receipt.published_steps().len() == 3
-}
-
-// Both learn one receipt, and answer by it.
-fn both_learn<R: Wait + Drop>(
-    alloc: Global,
-    desk: Desk<R>,
-    one: &mut Session,
-    two: &mut Session,
-) -> Result<bool, Refusal>
-    requires one { one.old.book ≡ desk.publication.book }
-    requires two { two.old.book ≡ desk.publication.book }
-{
-    let desk = configure(alloc, desk, GROUPS)?;
-    let mut desk = insert(alloc, desk, "group:a#member@user:ann")?;
+// Two sessions learn one receipt. Both answer by it, and after the publication is gone neither does.
+fn learn<R: Wait + Drop>(handle: R, alloc: Global) -> Result<bool, Refusal> {
+    let mut desk = open(handle, alloc)?;
+    let mut one = desk.publication.session()?;
+    let mut two = desk.publication.session()?;
+    desk = configure(alloc, desk, GROUPS)?;
+    desk = insert(alloc, desk, "group:a#member@user:ann")?;
     let shown = desk.publication.publish();
     let zookie = Zookie { store: 7, rev: 2 };
     let receipt = Receipt::new(zookie, shown, desk.publication.shown_steps());
     one.learn(&receipt);
     two.learn(&receipt);
-    Ok(is_told(&receipt) && asked(one) == 1 && asked(two) == 1)
-}
-
-// Two sessions learn one receipt. After the publication is gone neither answers.
-fn learn<R: Wait + Drop>(handle: R, alloc: Global) -> Result<bool, Refusal> {
-    let mut desk = open(handle, alloc)?;
-    let mut one = desk.publication.session()?;
-    let mut two = desk.publication.session()?;
-    let learnt = both_learn(alloc, desk, &mut one, &mut two)?;
+    let told = receipt.is_shown() && receipt.zookie() == zookie;
+    let steps = receipt.published_steps().len() == 3;
+    let known = desk.publication.has_shown(&one) && desk.publication.has_shown(&two);
+    let answers = asked(&mut one) == 1 && asked(&mut two) == 1;
+    drop(desk);
     let gone = asked(&mut one) == 123 && newest_of(&mut two) == 1_023;
-    Ok(learnt && gone)
+    Ok(told && steps && known && answers && gone)
 }
 
 #[test]
 fn a_receipt_is_learnt_by_two(rt: HostRuntime) {
     assert!(rt; learn(&rt, rt.alloc()).unwrap_or(false));
+}
+
+fn write_all<R: Wait + Drop>(alloc: Global, desk: Desk<R>) -> Result<Desk<R>, Refusal> {
+    let mut desk = configure(alloc, desk, GROUPS)?;
+    for _ in 0..100 {
+        desk.publication.publish();
+        desk = configure(alloc, desk, GROUPS)?;
+    }
+    desk.publication.publish();
+    Ok(desk)
+}
+
+// Whether what the session knows never goes back.
+fn rises(session: &mut Session) -> bool {
+    let mut last = 0;
+    for _ in 0..2000 {
+        let newest = newest_of(session);
+        if newest < last {
+            return false;
+        }
+        last = newest;
+    }
+    last <= 101
+}
+
+// One thread publishes, the other asks with no lock.
+fn beside<R: Wait + Drop + Send, W: Threads + Sync>(
+    rt: &W,
+    handle: R,
+    alloc: Global,
+) -> Result<bool, Refusal> {
+    let mut desk = open(handle, alloc)?;
+    let mut session = desk.publication.session()?;
+    let (written, rose) = join(rt, || write_all(alloc, desk), || rises(&mut session));
+    let desk = written?;
+    let last = desk.publication.newest() == 101 && newest_of(&mut session) == 101;
+    Ok(rose && last)
+}
+
+#[test]
+fn a_session_beside_a_writer(rt: HostRuntime) {
+    assert!(rt; beside(&rt, &rt, rt.alloc()).unwrap_or(false));
 }

@@ -23,7 +23,7 @@ use Rattle.shown.specs.Standing.{Standing, standing, nothing, after_step, after_
 use Rattle.std.proofs.lemmas.List.Sums.{fold-append}
 use Rattle.keeper_core.specs.Posts.{Posts}
 use Rattle.keeper_core.specs.Changes.{IsStored, IsRefused, Touches, leaves_alone, adds_one}
-use Rattle.keeper.specs.Rules.{DeskStep, WriteStep, write_malformed, write_accepted, write_refused, write_unread, ConfigStep, config_invalid, config_accepted, config_refused, config_unread, OnlyShows, CheckStep, check_malformed, check_bad_zookie, check_answered, check_refused, check_unread, CatchUpStep, catch_up_malformed, catch_up_accepted, catch_up_refused, catch_up_unread}
+use Rattle.keeper.specs.Rules.{DeskStep, WriteStep, write_malformed, write_accepted, write_refused, write_unread, ConfigStep, config_invalid, config_accepted, config_refused, config_unread, OnlyShows, CheckStep, check_malformed, check_bad_zookie, check_answered, check_refused, check_shut, check_unread, CatchUpStep, catch_up_malformed, catch_up_accepted, catch_up_refused, catch_up_unread}
 use Rattle.http_api.specs.Text.{word_of, body_of}
 use Rattle.http_api.specs.Machine.{IsAnswer, Run}
 use Rattle.runs.specs.Runs.{kept_by, AsksCommit, LineAsks, IsAskedIn}
@@ -108,6 +108,7 @@ module _ {T : Type 0} (g : Ghosts T) (weaker : Weaker g) (P : Commit Configured 
   after_check old body told new (check_bad_zookie asks says same) h = same_desk old new same h
   after_check old body told new (check_answered consistency node user rev allowed asks is says only) h = shows_only old new only h
   after_check old body told new (check_refused consistency node user why at asks is says only) h = shows_only old new only h
+  after_check old body told new (check_shut says only) h = shows_only old new only h
   after_check old body told new (check_unread none same) h = same_desk old new same h
 
   after_catch_up : (old : Posts T) (body : List ℕ) (told : Option (ℕ × List ℕ)) (new : Posts T) → CatchUpStep g old body told new → HasLeft g P start old → HasLeft g P start new

@@ -15,4 +15,4 @@ pub returns-in-CatchUp-clause-step : goal.returns-in-CatchUp-clause-step
 returns-in-CatchUp-clause-step g c = step_of g.T.Tables c.args.desk.now _ CatchUp _ _ _ c.in-CatchUp.is c.answer_catch_up.ensures.step
 
 pub returns-in-State-clause-step : goal.returns-in-State-clause-step
-returns-in-State-clause-step g c = step_of g.T.Tables c.args.desk.now _ State _ _ _ c.in-State.is c.answer_state.ensures
+returns-in-State-clause-step g c = step_of g.T.Tables c.args.desk.now _ State _ _ _ c.in-State.is c.answer_state.ensures.step
