@@ -68,7 +68,7 @@ impl Session {
             node,
             user,
         };
-        let Some((answer, prefix)) = replace_with(&mut self.reader, question, look) else {
+        let Some((answer, _, prefix)) = replace_with(&mut self.reader, question, look) else {
             return Err(no_publication());
         };
         if !self.known.begins(&prefix) {
@@ -78,13 +78,43 @@ impl Session {
         answer
     }
 
+    /// The same, beside the number of the store, for the zookie of the answer. There is none where the publication
+    /// is gone.
+    pub fn check_in_store(
+        &mut self,
+        consistency: &Consistency,
+        node: &Node,
+        user: &Object,
+    ) -> Option<(u64, Result<Answer<bool>, Refused>)>
+        ensures number { IfSome result (λ asked.
+            asked.0 ≡ (standing self.new.steps).kept.number) }
+        ensures ok { IfSome result (λ asked. IfOk asked.1
+            (IsAnswer (standing self.new.steps) consistency.now node.now user.now)) }
+        ensures err { IfSome result (λ asked. IfErr asked.1
+            (IsRefusal (standing self.new.steps) consistency.now node.now)) }
+        ensures none { IfNone result (self.new ≡ self.old) }
+        ensures later { Begins self.old self.new }
+    {
+        let question = Question {
+            consistency,
+            node,
+            user,
+        };
+        let (checked, number, prefix) = replace_with(&mut self.reader, question, look)?;
+        if !self.known.begins(&prefix) {
+            return None;
+        }
+        self.known = prefix;
+        Some((number, checked))
+    }
+
     /// Revisions, and how large the history is.
     pub fn state(&mut self) -> Result<State, Refusal>
         ensures ok { IfOk result (λ state. state ≡ state_of (standing self.new.steps)) }
         ensures err { IfErr result (λ why. (why ≡ Reopen) × (self.new ≡ self.old)) }
         ensures later { Begins self.old self.new }
     {
-        let Some((state, prefix)) = replace_with(&mut self.reader, (), look_at_state) else {
+        let Some((state, _, prefix)) = replace_with(&mut self.reader, (), look_at_state) else {
             return Err(Refusal::Reopen);
         };
         if !self.known.begins(&prefix) {
@@ -92,6 +122,22 @@ impl Session {
         }
         self.known = prefix;
         Ok(state)
+    }
+
+    /// The same, beside the number of the store. There is none where the publication is gone.
+    pub fn state_in_store(&mut self) -> Option<(u64, State)>
+        ensures number { IfSome result (λ told.
+            told.0 ≡ (standing self.new.steps).kept.number) }
+        ensures state { IfSome result (λ told. told.1 ≡ state_of (standing self.new.steps)) }
+        ensures none { IfNone result (self.new ≡ self.old) }
+        ensures later { Begins self.old self.new }
+    {
+        let (numbers, number, prefix) = replace_with(&mut self.reader, (), look_at_state)?;
+        if !self.known.begins(&prefix) {
+            return None;
+        }
+        self.known = prefix;
+        Some((number, numbers))
     }
 
     /// From now on the session knows no less than what the receipt tells. It takes no memory.
@@ -138,14 +184,15 @@ fn look(
     question: Question<'_>,
 ) -> (
     CopyReader,
-    Option<(Result<Answer<bool>, Refused>, StepPrefix)>,
+    Option<(Result<Answer<bool>, Refused>, u64, StepPrefix)>,
 )
     ensures seen { IfSome result.1 (λ seen.
-        KnowsNoMore (view reader.place) seen.1 × (view result.0.place ≡ Some seen.1)) }
+        KnowsNoMore (view reader.place) seen.2 × (view result.0.place ≡ Some seen.2)) }
+    ensures number { IfSome result.1 (λ seen. seen.1 ≡ (standing seen.2.steps).kept.number) }
     ensures ok { IfSome result.1 (λ seen. IfOk seen.0
-        (IsAnswer (standing seen.1.steps) question.entry.consistency.now question.entry.node.now question.entry.user.now)) }
+        (IsAnswer (standing seen.2.steps) question.entry.consistency.now question.entry.node.now question.entry.user.now)) }
     ensures err { IfSome result.1 (λ seen. IfErr seen.0
-        (IsRefusal (standing seen.1.steps) question.entry.consistency.now question.entry.node.now)) }
+        (IsRefusal (standing seen.2.steps) question.entry.consistency.now question.entry.node.now)) }
     ensures refused { IfNone result.1 (view result.0.place ≡ view reader.place) }
 {
     match reader.enter_as::<Seeing>() {
@@ -154,25 +201,31 @@ fn look(
             let answer = copy
                 .shown
                 .check(question.consistency, question.node, question.user);
+            let number = copy.shown.number();
             let prefix = copy.prefix.again();
-            (reading.leave(), Some((answer, prefix)))
+            (reading.leave(), Some((answer, number, prefix)))
         }
         Err(reader) => (reader, None),
     }
 }
 
-fn look_at_state(reader: CopyReader, _question: ()) -> (CopyReader, Option<(State, StepPrefix)>)
+fn look_at_state(
+    reader: CopyReader,
+    _question: (),
+) -> (CopyReader, Option<(State, u64, StepPrefix)>)
     ensures seen { IfSome result.1 (λ seen.
-        KnowsNoMore (view reader.place) seen.1 × (view result.0.place ≡ Some seen.1)) }
-    ensures state { IfSome result.1 (λ seen. seen.0 ≡ state_of (standing seen.1.steps)) }
+        KnowsNoMore (view reader.place) seen.2 × (view result.0.place ≡ Some seen.2)) }
+    ensures number { IfSome result.1 (λ seen. seen.1 ≡ (standing seen.2.steps).kept.number) }
+    ensures state { IfSome result.1 (λ seen. seen.0 ≡ state_of (standing seen.2.steps)) }
     ensures refused { IfNone result.1 (view result.0.place ≡ view reader.place) }
 {
     match reader.enter_as::<Seeing>() {
         Ok(reading) => {
             let copy = reading.get();
             let state = copy.shown.state();
+            let number = copy.shown.number();
             let prefix = copy.prefix.again();
-            (reading.leave(), Some((state, prefix)))
+            (reading.leave(), Some((state, number, prefix)))
         }
         Err(reader) => (reader, None),
     }

@@ -23,7 +23,12 @@ use Rattle.shown.specs.Standing.{Standing, standing, nothing, after_step, after_
 use Rattle.std.proofs.lemmas.List.Sums.{fold-append}
 use Rattle.keeper_core.specs.Posts.{Posts}
 use Rattle.keeper_core.specs.Changes.{IsStored, IsRefused, Touches, leaves_alone, adds_one}
-use Rattle.keeper.specs.Rules.{DeskStep, WriteStep, write_malformed, write_accepted, write_refused, write_unread, ConfigStep, config_invalid, config_accepted, config_refused, config_unread, OnlyShows, CheckStep, check_malformed, check_bad_zookie, check_answered, check_refused, check_unread, CatchUpStep, catch_up_malformed, catch_up_accepted, catch_up_refused, catch_up_unread}
+use Rattle.keeper.specs.Rules.{DeskStep}
+use Rattle.keeper.specs.Showing.{OnlyShows}
+use Rattle.keeper.specs.calls.Write.{WriteStep, write_malformed, write_accepted, write_refused, write_unread}
+use Rattle.keeper.specs.calls.Config.{ConfigStep, config_invalid, config_accepted, config_refused, config_unread}
+use Rattle.keeper.specs.calls.Check.{CheckStep, check_malformed, check_bad_zookie, check_answered, check_refused, check_unread}
+use Rattle.keeper.specs.calls.CatchUp.{CatchUpStep, catch_up_malformed, catch_up_accepted, catch_up_refused, catch_up_unread}
 use Rattle.http_api.specs.Text.{word_of, body_of}
 use Rattle.http_api.specs.Machine.{IsAnswer, Run}
 use Rattle.runs.specs.Runs.{kept_by, AsksCommit, LineAsks, IsAskedIn}

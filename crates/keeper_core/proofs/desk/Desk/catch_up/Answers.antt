@@ -1,5 +1,4 @@
 use Rattle.keeper_core.proofs.Changed.{not_ready, too_many, caught_up, not_caught_up}
-use Rattle.keeper_core.specs.declared.desk.Posted.{Posted}
 use Rattle.keeper_core.proofs.desk.Desk.catch_up.Goals as goal
 
 pub returns-in_err-make_ready-clause-err : goal.returns-in_err-make_ready-clause-err
@@ -11,10 +10,3 @@ pub returns-clause-err : goal.returns-clause-err
 returns-clause-err g c =
     let ready = c.in_ok-make_ready.ensures in
     not_caught_up g.T.Tables c.args.self.now c.make_ready.new.self ready.more ready.same ready.ok c.take.new.self c.args.commits c.take.result c.take.ensures.err
-
-pub returns-clause-ok : goal.returns-clause-ok
-returns-clause-ok g c =
-    let ready = c.in_ok-make_ready.ensures in
-    let done = c.take.ensures in
-    caught_up g.T.Tables c.args.self.now c.make_ready.new.self ready.more ready.same ready.ok c.take.new.self (λ (p : Posted). p.value) (λ (p : Posted). p.receipt)
-    c.args.part c.args.commits c.take.result c.if-commits-gt-MAX_CATCH_UP.false done.posted done.same.0 done.same.1 done.moved done.tells

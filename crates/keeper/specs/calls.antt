@@ -1,0 +1,6 @@
+-- What the desk may answer to each call, and what it holds after that.
+pub mod Write
+pub mod Config
+pub mod Check
+pub mod CatchUp
+pub mod State
