@@ -3,5 +3,6 @@
 
 mod answer;
 mod asking;
+mod calls;
 
 pub use answer::answer_on;

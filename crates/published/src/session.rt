@@ -1,9 +1,11 @@
 //! A session asks the published state, with no lock and no wait.
-ghost use Rattle.std.specs.Prelude.{◌≡◌, ◌⊎◌, IfOk, IfErr, IfSome, IfNone, Some, None};
+ghost use Rattle.std.specs.Prelude.{◌≡◌, ◌≤◌, ◌⊎◌, IfOk, IfErr, IfSome, IfNone, Some, None};
 ghost use Rattle.names.specs.declared.refusal.Refusal.TheVariants.{Reopen};
 ghost use Rattle.left_right.specs.Sides.{view};
 ghost use Rattle.shown.specs.Standing.{standing, state_of};
+ghost use Rattle.expand.specs.declared.limits.TheConstants.{MAX_DEPTH};
 ghost use Rattle.shown.specs.Answers.{IsAnswer, IsRefusal};
+ghost use Rattle.shown.specs.Expanding.{IsTree, IsTreeRefusal};
 ghost use Rattle.published.specs.Known.{Known, Begins};
 ghost use Rattle.published.specs.Copies.{KnowsNoMore};
 ghost use Rattle.published.specs.Answering.{IsRefusedIn};
@@ -12,6 +14,7 @@ use crate::book::StepPrefix;
 use crate::receipt::Receipt;
 use crate::rule::{CopyReader, Seeing};
 use core::mem::replace_with;
+use expand::Tree;
 use names::{Node, Object, Refusal, State};
 use shown::{Answer, Refused};
 use std::marker::Model;
@@ -78,6 +81,36 @@ impl Session {
         answer
     }
 
+    /// The userset tree of the node, at the revision that the consistency chooses. At most `depth` nodes are open on a
+    /// path of it, 1 to 8.
+    pub fn expand(
+        &mut self,
+        consistency: &Consistency,
+        node: &Node,
+        depth: u8,
+    ) -> Result<Answer<Tree>, Refused>
+        requires opens { 1 ≤ depth }
+        requires bounded { depth ≤ MAX_DEPTH }
+        ensures ok { IfOk result (IsTree (standing self.new.steps) consistency.now node.now depth) }
+        ensures err { IfErr result (IsRefusedIn self.old self.new
+            (IsTreeRefusal (standing self.new.steps) consistency.now node.now depth)) }
+        ensures later { Begins self.old self.new }
+    {
+        let question = TreeQuestion {
+            consistency,
+            node,
+            depth,
+        };
+        let Some((answer, prefix)) = replace_with(&mut self.reader, question, look_at_tree) else {
+            return Err(no_publication());
+        };
+        if !self.known.begins(&prefix) {
+            return Err(no_publication());
+        }
+        self.known = prefix;
+        answer
+    }
+
     /// Revisions, and how large the history is.
     pub fn state(&mut self) -> Result<State, Refusal>
         ensures ok { IfOk result (λ state. state ≡ state_of (standing self.new.steps)) }
@@ -123,6 +156,14 @@ struct Question<'a> {
     user: &'a Object,
 }
 
+// Which tree a session asks for.
+#[derive(Drop)]
+struct TreeQuestion<'a> {
+    consistency: &'a Consistency,
+    node: &'a Node,
+    depth: u8,
+}
+
 // The publication is gone.
 fn no_publication() -> Refused
     ensures { result ≡ record { why = Reopen; at = None } }
@@ -154,6 +195,36 @@ fn look(
             let answer = copy
                 .shown
                 .check(question.consistency, question.node, question.user);
+            let prefix = copy.prefix.again();
+            (reading.leave(), Some((answer, prefix)))
+        }
+        Err(reader) => (reader, None),
+    }
+}
+
+fn look_at_tree(
+    reader: CopyReader,
+    question: TreeQuestion<'_>,
+) -> (
+    CopyReader,
+    Option<(Result<Answer<Tree>, Refused>, StepPrefix)>,
+)
+    requires opens { 1 ≤ question.depth }
+    requires bounded { question.depth ≤ MAX_DEPTH }
+    ensures seen { IfSome result.1 (λ seen.
+        KnowsNoMore (view reader.place) seen.1 × (view result.0.place ≡ Some seen.1)) }
+    ensures ok { IfSome result.1 (λ seen. IfOk seen.0
+        (IsTree (standing seen.1.steps) question.entry.consistency.now question.entry.node.now question.entry.depth)) }
+    ensures err { IfSome result.1 (λ seen. IfErr seen.0
+        (IsTreeRefusal (standing seen.1.steps) question.entry.consistency.now question.entry.node.now question.entry.depth)) }
+    ensures refused { IfNone result.1 (view result.0.place ≡ view reader.place) }
+{
+    match reader.enter_as::<Seeing>() {
+        Ok(reading) => {
+            let copy = reading.get();
+            let answer = copy
+                .shown
+                .expand(question.consistency, question.node, question.depth);
             let prefix = copy.prefix.again();
             (reading.leave(), Some((answer, prefix)))
         }

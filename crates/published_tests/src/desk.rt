@@ -1,7 +1,5 @@
 //! A small desk: it judges changes on a history of its own, posts them, and publishes them when it is told to.
-ghost use Rattle.std.specs.Prelude.{◌≡◌, IfOk, OnOk};
-ghost use Rattle.rows.specs.Retained.{newest_of};
-ghost use Rattle.rows.specs.Follows.{IsAccepted};
+ghost use Rattle.std.specs.Prelude.{◌≡◌, IfOk};
 ghost use Rattle.shown.specs.Standing.{standing, HasRoom};
 ghost use Rattle.published.specs.Posts.{IsLater};
 
@@ -59,18 +57,11 @@ pub fn insert<R: Wait + Drop>(alloc: Global, desk: Desk<R>, text: &str) -> Resul
         kind: OpKind::Insert,
         tuple,
     })?;
-    let ops = Items::of(ops);
-    judge(&desk.own, &ops)?;
-    let events = events_of(ops)?;
+    desk.own.judge(&ops)?;
+    let events = events_of(Items::of(ops))?;
     refuses_what_no_write_gives();
     let commit = KeptCommit::of_events(alloc, events.as_slice())?;
     post(desk, Step::Commit(commit))
-}
-
-fn judge(own: &Shown, ops: &Items<Op>) -> Result<(), Refusal>
-    ensures { OnOk result (IsAccepted (newest_of own.now.kept) ops.now) }
-{
-    own.judge(ops.as_slice())
 }
 
 fn post<R: Wait + Drop>(desk: Desk<R>, step: Step) -> Result<Desk<R>, Refusal>
