@@ -15,7 +15,7 @@ use Rattle.tasks.specs.declared.fault.Fault.{Fault}
 use Rattle.tasks.specs.declared.fault.Fault.TheVariants.{Refused, CannotRead, CannotWrite}
 use Rattle.runs.specs.Files.{FindsHistories}
 use Rattle.runs.specs.Runs.{is_read_fault, is_write_fault}
-use Rattle.runs.specs.Over.{Begins, BeginsIn, EndedOver}
+use Rattle.runs.specs.Over.{Begins, BeginsIn, EndedOver, OpenedOver}
 
 begins_in : {D : Type 0} {g : disk.Ghosts D} (image : Image) (conn : Held (FileStore D g)) → FindsHistories image conn → (store : Option ℕ) (r : Retained) → Begins over_files conn store r → BeginsIn image store r
 begins_in image conn found None r begins = λ held holds. begins held (found held holds)
@@ -36,6 +36,10 @@ ended_in image conn found store input Did left e = record {
   asked = e.asked;
   leaves = e.leaves;
 }
+
+pub opened_in : {D : Type 0} {g : disk.Ghosts D} (image : Image) (conn : Held (FileStore D g)) → FindsHistories image conn → (store : Option ℕ) (desk : Posts (Store (FileStore D g) over_files))
+    → OpenedOver over_files (Begins over_files conn store) desk → OpenedOver over_files (BeginsIn image store) desk
+opened_in image conn found store desk o = record { loaded = o.loaded; opened = o.opened; begins = λ clean. begins_in image conn found store _ (o.begins clean); ready = o.ready }
 
 -- a refusal is no fault of the reader, and none of the writer
 pub is_unread : (A : Type 0) (fault : Fault) (why : Refusal) → fault ≡ Refused why → is_read_fault {A = A} (Err fault) ≡ false

@@ -18,8 +18,9 @@ use Rattle.store.specs.History.{KeepsHistory, LeavesHistory}
 use Rattle.store.specs.StoreParts.{connection}
 use Rattle.store.specs.declared.store.Store.{Store}
 use Rattle.runs.specs.Files.{ImageHolds, HoldsOneOf}
-use Rattle.runs.specs.Runs.{Ended, kept_by}
-use Rattle.runs.specs.Over.{over, Begins, BeginsIn, EndedOver, GoesOn}
+use Rattle.runs.specs.Runs.{Began, Ended, kept_by}
+use Rattle.runs.specs.Connections.{HasServed}
+use Rattle.runs.specs.Over.{over, Begins, BeginsIn, EndedOver, OpenedOver, GoesOn}
 
 pub ended_over : {S : Type 0} (g : Ghosts S) (tables back : Store S g) (From : Retained → Type 0) (left : Held S) (input : List ℕ) (Did : Posts (Store S g) → Posts (Store S g) → Type 0)
     → left ≡ connection back → ((loaded : Loaded) → ((r : Retained) → KeepsHistory g (connection tables) r → HasCleanDisk (state g left) → retained_of loaded ≡ r) → HasCleanDisk (state g left) → From (retained_of loaded))
@@ -36,6 +37,17 @@ ended_over {S} g tables back From left input Did same begins e = record {
   follow = e.agrees.follow;
   asked = e.asked;
   leaves = subst (λ (c : Held S). LeavesHistory g c (kept_by e.last ∷ map (with_commit (kept_by e.last)) e.agrees.more)) (sym same) e.agrees.leaves;
+}
+
+-- a desk over tables was opened over their connection
+pub opened_over : {S : Type 0} (g : Ghosts S) (tables : Store S g) (desk : Posts (Store S g)) (From : Retained → Type 0)
+    → ((loaded : Loaded) → ((r : Retained) → KeepsHistory g (connection tables) r → HasCleanDisk (state g (connection desk.tables)) → retained_of loaded ≡ r) → HasCleanDisk (state g (connection desk.tables)) → From (retained_of loaded))
+    → Began (over g) tables desk → HasServed (over g) desk [] desk → OpenedOver g From desk
+opened_over g tables desk From begins began ready = record {
+  loaded = began.posted.0;
+  opened = record { posted = began.posted.1; shown = began.shown; works = began.works };
+  begins = begins began.posted.0 (λ r held clean. began.posted.3 r held clean);
+  ready = ready;
 }
 
 pub goes_on : (image : Image) (rs : List Retained) (loaded : Loaded) (posted : List Step) → HoldsOneOf image rs → BeginsIn image None (retained_of loaded) → posted ≡ Open loaded ∷ [] → GoesOn rs posted

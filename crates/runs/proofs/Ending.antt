@@ -15,8 +15,8 @@ use Rattle.keeper.specs.Rules.{DeskStep}
 use Rattle.http_api.specs.Text.{lines_of}
 use Rattle.http_api.specs.Machine.{Run}
 use Rattle.tracked_io.specs.Tracking.{TrackedWriting}
-use Rattle.runs.specs.Runs.{Ended, ServedBy, PausedBy, CutBy, IsAskedIn, kept_by}
-use Rattle.runs.specs.inside.Leaving.{Began, HasLeft, Answered}
+use Rattle.runs.specs.Runs.{Began, Ended, ServedBy, PausedBy, CutBy, IsAskedIn, kept_by}
+use Rattle.runs.specs.inside.Leaving.{HasLeft, Answered}
 use Rattle.runs.proofs.Leaving.{Weaker, after_run}
 use Rattle.runs.proofs.Asked.{asked_first, asked_fed}
 

@@ -44,7 +44,7 @@ kept_by_take s Index n = refl
 kept_by_take s Hot n = refl
 
 module _ {T : Type 0} (g : Ghosts T) (weaker : Weaker g) (P : Commit Configured → Type 0) (start : Device) where
-  same_desk : (old new : Posts T) → new ≡ old → HasLeft g P start old → HasLeft g P start new
+  pub same_desk : (old new : Posts T) → new ≡ old → HasLeft g P start old → HasLeft g P start new
   same_desk old new same h = subst (λ (d : Posts T). HasLeft g P start d) (sym same) h
 
   same_tables : (old new : Posts T) → new.tables ≡ old.tables → kept_by new ≡ kept_by old → HasLeft g P start old → HasLeft g P start new
@@ -117,7 +117,7 @@ module _ {T : Type 0} (g : Ghosts T) (weaker : Weaker g) (P : Commit Configured 
   after_catch_up old body told new (catch_up_refused part commits why asks is says) h = refused old new _ _ why (λ c none. absurd none) is h
   after_catch_up old body told new (catch_up_unread none same) h = same_desk old new same h
 
-  after_step_of : (old : Posts T) (k : Call) (body : List ℕ) (told : Option (ℕ × List ℕ)) (new : Posts T) → ((c : Commit Configured) → AsksCommit k body c → P c)
+  pub after_step_of : (old : Posts T) (k : Call) (body : List ℕ) (told : Option (ℕ × List ℕ)) (new : Posts T) → ((c : Commit Configured) → AsksCommit k body c → P c)
       → DeskStep g old k body told new → HasLeft g P start old → HasLeft g P start new
   after_step_of old call.Write body told new asked s h = after_write old body told new asked s h
   after_step_of old call.Config body told new asked s h = after_config old body told new asked s h

@@ -9,3 +9,4 @@ pub mod Starting
 pub mod Connected
 pub mod Carried
 pub mod Beginning
+pub mod Requests

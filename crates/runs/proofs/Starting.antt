@@ -12,6 +12,7 @@ use Rattle.tables.specs.Leaving.{IsOneOf}
 use Rattle.tables.specs.declared.tables.TablesError.{TablesError}
 use Rattle.tables.specs.declared.tables.TablesError.TheVariants as causes
 use Rattle.tables.proofs.Lasting.{lasts_self, lasts_trans, clean_before, failed_after}
+use Rattle.names.specs.declared.refusal.Refusal.{Refusal}
 use Rattle.names.specs.declared.refusal.Refusal.TheVariants.{Memory, StoreFault}
 use Rattle.tasks.specs.declared.fault.Fault.{Fault}
 use Rattle.tasks.specs.declared.fault.Fault.TheVariants.{Refused}
@@ -95,6 +96,11 @@ module _ {S : Type 0} (g : Ghosts S) (conn : Held S) where
       moved (inl failed) = inl (subst (λ (c : Held S). HasFailed (device_below g c) (device_below g (connection back))) from failed)
       moved (inr none) = inr (λ r clean keeps. none r (subst (λ (c : Held S). IsClean (device_below g c)) (sym from) clean) (subst (λ (c : Held S). KeepsHistory g c r) (sym from) keeps))
   load_deserved (Some number) tables back from lasts fails is_open = λ blank. made_failed number tables back from lasts (fails from.stands)
+
+  -- a desk that could not be opened on the tables: why it was refused tells of a fault only where one is deserved
+  pub unopened_deserved : (store : Option ℕ) (tables back : Store S g) (why : Refusal) → StartsFrom g conn store (connection tables) → ComesBack (over g) tables back
+      → (why ≡ StoreFault → IsOpen (device_below g (connection tables)) → FailsToLoad (over g) tables back) → Refused why ≡ Refused StoreFault → IsOpen (device_below g conn) → IsDeserved g conn store (connection back)
+  unopened_deserved store tables back why from comes fails is = load_deserved store tables back from comes.lasts (λ whole. fails (let e : why ≡ StoreFault = cc in e) whole)
 
   -- ---- what a call that makes or opens says of it
 

@@ -1,4 +1,5 @@
 pub mod Files
 pub mod Runs
+pub mod Connections
 pub mod Over
 pub mod inside

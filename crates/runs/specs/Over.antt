@@ -26,6 +26,7 @@ use Rattle.store.specs.StoreParts.{connection, faults}
 use Rattle.store.specs.declared.store.Store.{Store}
 use Rattle.runs.specs.Files.{ImageHolds, HoldsOneOf}
 use Rattle.runs.specs.Runs.{IsOpened, IsAskedIn, kept_by}
+use Rattle.runs.specs.Connections.{HasServed}
 
 -- a store over a connection, as tables
 abbrev pub over : {S : Type 0} (g : Ghosts S) → tables.Ghosts (Store S g)
@@ -64,6 +65,13 @@ pub record EndedOver {S : Type 0} (g : Ghosts S) (From : Retained → Type 0) (i
   pub follow : All (IsNext (kept_by last)) more
   pub asked : All (IsAskedIn (lines_of input)) more
   pub leaves : LeavesHistory g left (kept_by last ∷ map (with_commit (kept_by last)) more)
+
+-- A desk was opened on a history from which a run begins, and has served no connection yet.
+pub record OpenedOver {S : Type 0} (g : Ghosts S) (From : Retained → Type 0) (desk : Posts (Store S g)) : Type 0 where
+  pub loaded : Loaded
+  pub opened : IsOpened loaded desk
+  pub begins : HasCleanDisk (state g (connection desk.tables)) → From (retained_of loaded)
+  pub ready : HasServed (over g) desk [] desk
 
 -- What a refusal leaves. Tables that were there hold and leave what they did. Of new ones a crash leaves nothing, or a new store.
 abbrev pub LeavesRefused : {S : Type 0} → Ghosts S → Held S → Option ℕ → Held S → Type 0

@@ -17,7 +17,7 @@ use Rattle.tables.specs.Device.{IsClean}
 use Rattle.tables.specs.declared.tables.Tables.{Ghosts}
 use Rattle.shown.specs.declared.step.Step.TheVariants.{Open}
 use Rattle.shown.specs.Standing.{standing}
-use Rattle.keeper_core.specs.Posts.{Posts, Agrees}
+use Rattle.keeper_core.specs.Posts.{Posts, Agrees, OpensWith, ComesBack}
 use Rattle.keeper_core.specs.Changes.{IsCommitOf}
 use Rattle.keeper.specs.Rules.{DeskStep}
 use Rattle.http_api.specs.Text.{lines_of, word_of, body_of}
@@ -35,6 +35,14 @@ pub record IsOpened {T : Type 0} (loaded : Loaded) (desk : Posts T) : Type 0 whe
 -- the history of the posted steps
 abbrev pub kept_by : {T : Type 0} → Posts T → Retained
 kept_by desk = (standing desk.posted).kept
+
+-- what is known of a desk that was opened on tables
+pub record Began {T : Type 0} (g : Ghosts T) (tables : T) (first : Posts T) : Type 0 where
+  pub posted : OpensWith g tables first
+  pub shown : first.shown ≡ first.posted
+  pub works : first.failed ≡ false
+  pub settled : g.leaves first.tables (kept_by first ∷ [])
+  pub back : ComesBack g tables first.tables
 
 -- ---- what was asked for
 

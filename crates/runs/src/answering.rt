@@ -1,23 +1,27 @@
-//! A desk that answers the calls of lines.
-ghost use Rattle.std.specs.Prelude.{◌≡◌};
+//! A desk that answers calls, whatever brings them.
+ghost use Rattle.std.specs.Prelude.{◌≡◌, [], IfOk, IfErr};
 ghost use Rattle.published.specs.declared.publication.TheConstants.{MAX_SESSIONS};
-ghost use Rattle.keeper_core.specs.Posts.{Agrees, SameTables, ShowsMore};
-ghost use Rattle.runs.specs.Runs.{kept_by};
+ghost use Rattle.names.specs.declared.refusal.Refusal.TheVariants.{StoreFault};
+ghost use Rattle.tables.specs.Device.{IsOpen};
+ghost use Rattle.tables.specs.Opening.{CannotOpen};
+ghost use Rattle.keeper_core.specs.Posts.{Agrees, ComesBack, FailsToLoad, SameTables, ShowsMore};
+ghost use Rattle.runs.specs.Runs.{Began, kept_by};
+ghost use Rattle.runs.specs.Connections.{HasServed};
 
 use http_api::Answers;
 use keeper::answer_on;
 use keeper_core::Desk;
-use names::{Call, Reply};
-use published::Session;
+use names::{Call, Refusal, Reply};
+use published::{Opened, Session};
 use std::alloc::Global;
 use std::marker::Model;
 use std::sync::Wait;
 use tables::Tables;
 
-/// A desk and a session of it, which knows all that is shown, with what they allocate by. Contracts see it as
-/// the desk.
+/// A desk and a session of it, which knows all that is shown, with what they allocate by. It answers the calls of
+/// lines, and those of connections one after another. Contracts see it as the desk.
 #[derive(Drop)]
-pub(crate) struct Answering<T: Tables + Drop, H: Wait + Drop> {
+pub struct Answering<T: Tables + Drop, H: Wait + Drop> {
     alloc: Global,
     desk: Desk<T, H>,
     session: Session,
@@ -38,8 +42,24 @@ impl<T: Tables + Drop, H: Wait + Drop> Model for Answering<T, H> {
 }
 
 impl<T: Tables + Drop, H: Wait + Drop> Answering<T, H> {
-    /// A desk of which no session was given out, with the first.
-    pub(crate) fn of_desk(alloc: Global, desk: Desk<T, H>) -> Answering<T, H>
+    /// A desk on the store that these tables keep, with its first session. Where it cannot be opened it gives the
+    /// tables back: for want of memory, or where they failed or hold no history.
+    pub fn open(alloc: Global, rt: H, tables: T) -> Result<Answering<T, H>, (Refusal, T)>
+        ensures ok { IfOk result (λ answering. Began T.Tables tables answering) }
+        ensures ready { IfOk result (λ answering. HasServed T.Tables answering [] answering) }
+        ensures err { IfErr result (λ refused. CannotOpen refused.0) }
+        ensures kept { IfErr result (λ refused. ComesBack T.Tables tables refused.1) }
+        ensures caused { IfErr result (λ refused. refused.0 ≡ StoreFault
+            → IsOpen (T.device tables) → FailsToLoad T.Tables tables refused.1) }
+    {
+        match Desk::open(alloc, rt, Opened::new(), tables) {
+            Ok(desk) => Ok(Answering::of_desk(alloc, desk)),
+            Err(refused) => Err(refused),
+        }
+    }
+
+    // A desk of which no session was given out, with the first.
+    fn of_desk(alloc: Global, desk: Desk<T, H>) -> Answering<T, H>
         requires { desk.seats ≡ MAX_SESSIONS }
         ensures more { ShowsMore desk result }
         ensures same { SameTables desk result }
@@ -56,7 +76,7 @@ impl<T: Tables + Drop, H: Wait + Drop> Answering<T, H> {
     }
 
     /// Gives the tables back.
-    pub(crate) fn close(self) -> T
+    pub fn close(self) -> T
         ensures same { result ≡ self.tables }
         ensures agrees { Agrees T.Tables self.failed result (kept_by self) }
     {

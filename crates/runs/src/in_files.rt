@@ -7,14 +7,16 @@ ghost use Rattle.tasks.specs.Faults.{IsRunFault};
 ghost use Rattle.tracked_io.specs.Tracking.{Reads, ReadsAll};
 ghost use Rattle.runs.specs.Files.{FindsHistories};
 ghost use Rattle.runs.specs.Runs.{ServedBy, PausedBy, CutBy, is_read_fault, is_write_fault};
-ghost use Rattle.runs.specs.Over.{over, BeginsIn, EndedOver};
+ghost use Rattle.runs.specs.Over.{over, BeginsIn, EndedOver, OpenedOver};
 
+use crate::answering::Answering;
 use crate::files::find;
-use crate::over::run_over;
+use crate::over::{open_over, run_over};
 use names::Refusal;
 use sqlite::{Connection, Error, ErrorCode, FileFrom, FileStore, Start};
 use std::io::{Read, Write};
 use std::sync::Wait;
+use store::Store;
 use tasks::Fault;
 use tracked_io::{TrackedReader, TrackedWriter};
 
@@ -66,6 +68,27 @@ pub fn run_in<P: Start, H: Wait + Drop, R: Read, W: Write>(
             (ended.0, Some(ended.1))
         }
         Err(fault) => (Err(fault), None),
+    }
+}
+
+/// Opens a desk on the store in the files at a path, of which `start` says what they hold. With a number the tables
+/// of a new store are made.
+pub fn open_in<P: Start, H: Wait + Drop>(
+    rt: &HostRuntime,
+    wait: H,
+    path: &str,
+    store: Option<u64>,
+    start: P,
+) -> Result<Answering<Store<FileStore<FileFrom<P>>>, H>, Fault>
+    requires number { IfSome store (λ number. (1 ≤ number) × (number < 2 ^ 63)) }
+    ensures ok { IfOk result (λ answering. OpenedOver over_files (BeginsIn (image_at P.Start) store) answering) }
+    ensures refused { IfErr result (λ fault. (why : Refusal) × (fault ≡ Refused why)) }
+    ensures cause { IfErr result IsRunFault }
+{
+    let conn = connect(rt, path, start)?;
+    match open_over(rt.alloc(), wait, conn, store) {
+        Ok(answering) => Ok(answering),
+        Err((fault, _)) => Err(fault),
     }
 }
 

@@ -1,5 +1,5 @@
-//! Runs over lines: what is answered from the tables of a store, over any tables, over a connection and so over
-//! a file; and what one run leaves to the next.
+//! Runs over lines, and desks that serve connections: what is answered from the tables of a store, over any tables, over a
+//! database connection and so over a file; and what one run leaves to the next.
 #![tactic(auto)]
 
 mod answering;
@@ -8,9 +8,12 @@ mod in_files;
 mod law;
 mod over;
 mod running;
+mod talking;
 
+pub use answering::Answering;
 pub use files::{close, find, leave};
-pub use in_files::run_in;
+pub use in_files::{open_in, run_in};
 pub use law::next_run_goes_on;
-pub use over::run_over;
+pub use over::{open_over, run_over};
 pub use running::run;
+pub use talking::talk;

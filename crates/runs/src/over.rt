@@ -9,8 +9,9 @@ ghost use Rattle.store.specs.History.{device_below};
 ghost use Rattle.store.specs.StoreParts.{connection};
 ghost use Rattle.runs.specs.Runs.{ServedBy, PausedBy, CutBy, is_read_fault, is_write_fault};
 ghost use Rattle.runs.specs.inside.Starting.{StartsFrom, FailsToStart};
-ghost use Rattle.runs.specs.Over.{over, Begins, EndedOver, LeavesRefused, CannotBegin, IsDeserved};
+ghost use Rattle.runs.specs.Over.{over, Begins, EndedOver, OpenedOver, LeavesRefused, CannotBegin, IsDeserved};
 
+use crate::answering::Answering;
 use crate::running::run;
 use names::Refusal;
 use sqlite::{Alter, Connection};
@@ -75,6 +76,36 @@ pub fn run_over<S: Alter + Drop, H: Wait + Drop, R: Read, W: Write>(
             (ended.0, ended.1.into_connection())
         }
         Err((why, conn)) => (Err(fault_of(why)), conn),
+    }
+}
+
+/// Opens a desk on the store over a connection, to answer as [`run_over`] does. Where it cannot be opened it gives the
+/// connection back.
+pub fn open_over<S: Alter + Drop, H: Wait + Drop>(
+    alloc: Global,
+    rt: H,
+    conn: Connection<S>,
+    store: Option<u64>,
+) -> Result<Answering<Store<S>, H>, (Fault, Connection<S>)>
+    requires idle { conn.in_transaction ≡ false }
+    requires unlimited { conn.step_limit ≡ None }
+    requires number { IfSome store (λ number. (1 ≤ number) × (number < 2 ^ 63)) }
+    ensures ok { IfOk result (λ answering. OpenedOver S.Store (Begins S.Store conn store) answering) }
+    ensures refused { IfErr result (λ e. (why : Refusal) × (e.0 ≡ Refused why)) }
+    ensures left { IfErr result (λ e. LeavesRefused S.Store conn store e.1) }
+
+    // A database in which there is another thing than is asked for is left alone.
+    ensures taken { CannotBegin S.Store conn store → IsErrAnd result (λ e. (e.0 ≡ Refused StoreFault) × (e.1 ≡ conn)) }
+    ensures caused { IfErr result (λ e. e.0 ≡ Refused StoreFault → IsOpen (device_below S.Store conn)
+        → IsDeserved S.Store conn store e.1) }
+    ensures cause { IfErr result (λ e. IsRunFault e.0) }
+{
+    match start(alloc, conn, store) {
+        Ok(tables) => match Answering::open(alloc, rt, tables) {
+            Ok(answering) => Ok(answering),
+            Err((why, tables)) => Err((Fault::Refused(why), tables.into_connection())),
+        },
+        Err((why, conn)) => Err((fault_of(why), conn)),
     }
 }
 

@@ -1,20 +1,17 @@
 //! A run over lines.
-ghost use Rattle.std.specs.Prelude.{ℕ, ◌≡◌, List, true, false, IfOk, IfErr, OnOk};
+ghost use Rattle.std.specs.Prelude.{ℕ, ◌≡◌, List, true, false, IfErr, OnOk};
 ghost use Rattle.names.specs.declared.refusal.Refusal.TheVariants.{StoreFault};
 ghost use Rattle.tables.specs.Device.{IsOpen, Lasts};
-ghost use Rattle.tables.specs.Opening.{CannotOpen};
 ghost use Rattle.keeper_core.specs.Posts.{ComesBack, FailsToLoad};
 ghost use Rattle.tasks.specs.declared.fault.Fault.TheVariants.{Refused};
 ghost use Rattle.tasks.specs.Faults.{IsRunFault};
 ghost use Rattle.tracked_io.specs.Tracking.{Reads, ReadsAll};
-ghost use Rattle.runs.specs.inside.Leaving.{Answered, Began};
+ghost use Rattle.runs.specs.inside.Leaving.{Answered};
 ghost use Rattle.runs.specs.Runs.{ServedBy, PausedBy, CutBy, Ended, is_read_fault, is_write_fault};
 
 use crate::answering::Answering;
 use http_api::End;
-use keeper_core::Desk;
 use names::Refusal;
-use published::Opened;
 use std::alloc::Global;
 use std::io::{Read, Write};
 use std::sync::Wait;
@@ -62,30 +59,12 @@ pub fn run<T: Tables + Drop, H: Wait + Drop, R: Read, W: Write>(
     ensures cause { IfErr result.0 IsRunFault }
     ensures lasts { Lasts (T.device tables) (T.device result.1) }
 {
-    match begin(alloc, rt, tables) {
+    match Answering::open(alloc, rt, tables) {
         Ok(mut answering) => {
             let ended = serve(alloc, &mut answering, reader, writer);
             (ended, answering.close())
         }
         Err((why, tables)) => (Err(Fault::Refused(why)), tables),
-    }
-}
-
-// A desk over tables, with a session.
-fn begin<T: Tables + Drop, H: Wait + Drop>(
-    alloc: Global,
-    rt: H,
-    tables: T,
-) -> Result<Answering<T, H>, (Refusal, T)>
-    ensures ok { IfOk result (λ answering. Began T.Tables tables answering) }
-    ensures err { IfErr result (λ refused. CannotOpen refused.0) }
-    ensures kept { IfErr result (λ refused. ComesBack T.Tables tables refused.1) }
-    ensures caused { IfErr result (λ refused. refused.0 ≡ StoreFault
-        → IsOpen (T.device tables) → FailsToLoad T.Tables tables refused.1) }
-{
-    match Desk::open(alloc, rt, Opened::new(), tables) {
-        Ok(desk) => Ok(Answering::of_desk(alloc, desk)),
-        Err(refused) => Err(refused),
     }
 }
 

@@ -4,7 +4,7 @@ use Rattle.names.specs.Refusals.{number_of, name_of}
 use Rattle.names.specs.declared.refusal.Refusal.TheVariants.{Memory}
 use Rattle.tables.specs.Opening.{CannotOpen}
 use Rattle.tasks.specs.declared.fault.Fault.{Fault}
-use Rattle.tasks.specs.declared.fault.Fault.TheVariants.{CommandLine, Refused, CannotRead, CannotWrite}
+use Rattle.tasks.specs.declared.fault.Fault.TheVariants.{CommandLine, Refused, CannotRead, CannotWrite, CannotListen}
 
 -- the line on standard error, without its end
 abbrev pub fault_text : Fault → List ℕ
@@ -12,6 +12,7 @@ fault_text CommandLine = codes "zanz: bad command line"
 fault_text (Refused refusal) = codes "zanz: refused " ++ decimal (number_of refusal) ++ 32 ∷ name_of refusal
 fault_text CannotRead = codes "zanz: cannot read"
 fault_text CannotWrite = codes "zanz: cannot write"
+fault_text CannotListen = codes "zanz: cannot listen"
 
 -- the exit status
 abbrev pub fault_status : Fault → ℕ
@@ -30,3 +31,4 @@ IsRunFault CommandLine = ⊥
 IsRunFault (Refused why) = CannotOpen why
 IsRunFault CannotRead = Unit {0}
 IsRunFault CannotWrite = Unit {0}
+IsRunFault CannotListen = ⊥

@@ -18,6 +18,8 @@ pub enum Fault {
     CannotRead,
     /// The writer failed.
     CannotWrite,
+    /// There is no listening on the port that was given.
+    CannotListen,
 }
 
 impl Fault {
@@ -30,6 +32,7 @@ impl Fault {
             Fault::Refused(_) => 1,
             Fault::CannotRead => 1,
             Fault::CannotWrite => 1,
+            Fault::CannotListen => 1,
         }
     }
 }
@@ -50,6 +53,7 @@ impl Display for Fault {
             }
             Fault::CannotRead => f.write_str("zanz: cannot read"),
             Fault::CannotWrite => f.write_str("zanz: cannot write"),
+            Fault::CannotListen => f.write_str("zanz: cannot listen"),
         }
     }
 }

@@ -1,18 +1,21 @@
 //! The command line.
-ghost use Rattle.std.specs.Prelude.{IfErr};
+ghost use Rattle.std.specs.Prelude.{◌≡◌, IsTrue, IfOk, IfErr, map, string_bytes};
 ghost use Rattle.tasks.specs.Faults.{IsLineFault};
+ghost use Rattle.tasks.specs.Words.{asks_to_serve, OnServe};
 
 use crate::fault::Fault;
 use clap::error::ErrorKind;
 use clap::{Arg, ArgAction, ArgMatches, Command};
 use names::Refusal;
-use std::alloc::Global;
+use std::alloc::{AllocError, Global};
 
 /// What a command line asks for.
 #[derive(Debug, Drop)]
 pub enum Task {
     /// Lines are answered from the store there.
     Run { place: Place },
+    /// Connections are served from the store there, on this port; with 0 on one that is free.
+    Serve { place: Place, port: u16 },
     /// The configuration of a file is reported.
     Config { file: String },
 }
@@ -30,10 +33,11 @@ pub enum Place {
 
 /// What the words of a command line ask for, of which the first is the program's.
 pub fn task_of(alloc: Global, words: &[String]) -> Result<Task, Fault>
-    ensures { IfErr result IsLineFault }
+    ensures serves { IfOk result (λ task. OnServe task (IsTrue (asks_to_serve (map string_bytes words.now)))) }
+    ensures err { IfErr result IsLineFault }
 {
     match parse(alloc, words) {
-        Ok(matches) => task_in(alloc, &matches),
+        Ok(matches) => task_in(alloc, words, &matches),
         Err(e) => Err(if e.kind() == ErrorKind::OutOfMemory {
             Fault::Refused(Refusal::Memory)
         } else {
@@ -42,16 +46,24 @@ pub fn task_of(alloc: Global, words: &[String]) -> Result<Task, Fault>
     }
 }
 
-fn parse(alloc: Global, words: &[String]) -> Result<ArgMatches, clap::Error> {
+// Where a store's tables are, by two options of a command.
+fn with_place<'a>(alloc: Global, command: Command<'a>) -> Result<Command<'a>, AllocError> {
     let store = Arg::new(alloc, "store")
         .long("store")
         .action(ArgAction::Set)
         .value_parser(clap::value_parser!(u64).range(1..=i64::MAX));
     let db = Arg::new(alloc, "db").long("db").action(ArgAction::Set);
-    let run = Command::new(alloc, "run")
-        .disable_help_flag(true)
-        .arg(store)?
-        .arg(db)?;
+    command.disable_help_flag(true).arg(store)?.arg(db)
+}
+
+fn parse(alloc: Global, words: &[String]) -> Result<ArgMatches, clap::Error> {
+    let run = with_place(alloc, Command::new(alloc, "run"))?;
+    let port = Arg::new(alloc, "port")
+        .long("port")
+        .required(true)
+        .action(ArgAction::Set)
+        .value_parser(clap::value_parser!(u16));
+    let serve = with_place(alloc, Command::new(alloc, "serve"))?.arg(port)?;
     let file = Arg::new(alloc, "file")
         .required(true)
         .action(ArgAction::Set);
@@ -63,21 +75,46 @@ fn parse(alloc: Global, words: &[String]) -> Result<ArgMatches, clap::Error> {
         .disable_help_subcommand(true)
         .subcommand_required(true)
         .subcommand(run)?
+        .subcommand(serve)?
         .subcommand(config)?;
     command.try_get_matches_from(words)
 }
 
-fn task_in(alloc: Global, matches: &ArgMatches) -> Result<Task, Fault>
-    ensures { IfErr result IsLineFault }
+// Whether the word after the program's own is `serve`.
+fn asks_to_serve(words: &[String]) -> bool
+    ensures { result ≡ asks_to_serve (map string_bytes words.now) }
+{
+    match words {
+        [_, word, ..] => word.as_str() == "serve",
+        _ => false,
+    }
+}
+
+fn task_in(alloc: Global, words: &[String], matches: &ArgMatches) -> Result<Task, Fault>
+    ensures serves { IfOk result (λ task. OnServe task (IsTrue (asks_to_serve (map string_bytes words.now)))) }
+    ensures err { IfErr result IsLineFault }
 {
     match matches.subcommand() {
         Some(("run", inner)) => Ok(Task::Run {
             place: place_of(alloc, inner)?,
         }),
+        Some(("serve", inner)) if asks_to_serve(words) => Ok(Task::Serve {
+            place: place_of(alloc, inner)?,
+            port: port_of(inner)?,
+        }),
         Some(("config", inner)) => Ok(Task::Config {
             file: file_of(alloc, inner, "file")?,
         }),
         _ => Err(Fault::CommandLine),
+    }
+}
+
+fn port_of(matches: &ArgMatches) -> Result<u16, Fault>
+    ensures { IfErr result IsLineFault }
+{
+    match matches.get_one::<u16>("port") {
+        Some(port) => Ok(port),
+        None => Err(Fault::CommandLine),
     }
 }
 

@@ -1,17 +1,21 @@
 //! The program, but for its process.
-ghost use Rattle.std.specs.Prelude.{◌≡◌, ◌≢◌, ◌≤◌, ◌⊎◌, true, false, None, IfOk, IfErr, OnOk};
+ghost use Rattle.std.specs.Prelude.{◌≡◌, ◌≢◌, ◌≤◌, ◌⊎◌, true, false, None, IsTrue, IfOk, IfErr, OnOk, map, string_bytes};
 ghost use Rattle.sqlite_wal.specs.Files.{image_at};
 ghost use Rattle.tasks.specs.declared.fault.Fault.TheVariants.{Refused};
 ghost use Rattle.tasks.specs.Faults.{fault_status, IsRunFault};
+ghost use Rattle.tasks.specs.Words.{asks_to_serve};
 ghost use Rattle.runs.specs.Runs.{is_read_fault, is_write_fault};
+ghost use Rattle.zanz.specs.Listening.{Announced, BeganAnnounced};
 ghost use Rattle.zanz.specs.Ran.{AreWhole, Ran, RanAt, Reported, BeganReport, Stopped, all_lines, whole_lines, first_lines};
 
+use crate::listening::serve;
 use crate::place::{is_number, is_there};
 use names::Refusal;
-use runs::{run, run_in};
+use runs::{Answering, open_in, run, run_in};
 use sqlite::{Connection, FileFrom, FileStore, Start};
 use std::alloc::Global;
 use std::io::{Read, Write};
+use std::net::{Net, TcpListener, TcpStream};
 use std::rt::Files;
 use std::sync::Wait;
 use tables::Listed;
@@ -91,10 +95,57 @@ fn run_at<P: Start, H: Wait + Drop, R: Read, W: Write>(
     }
 }
 
-// Does what the words say, and answers the status that the process ends with.
-fn obey<P: Start, H: Wait + Drop, R: Read, W: Write>(
+// Serves connections from the store at a place. `start` says what its file holds.
+fn serve_at<P: Start, H: Wait + Drop, N: Net<Listener = TcpListener, Stream = TcpStream>, W: Write>(
     rt: &HostRuntime,
     wait: H,
+    net: &N,
+    place: &Place,
+    port: u16,
+    start: P,
+    writer: &mut TrackedWriter<W>,
+) -> Result<(), Fault>
+    requires unbroken_writer { writer.old.failed ≡ false }
+    ensures ok { OnOk result (Announced W.contents writer.old writer.new) }
+    ensures whole { OnOk result ((writer.new.failed ≡ false) × (writer.new.flushed ≡ true)) }
+    ensures line { IfErr result (λ fault. fault ≢ Fault.CommandLine) }
+    ensures failed { IfErr result (λ _. (writer.new.failed ≡ true) × BeganAnnounced W.contents writer.old writer.new
+        ⊎ (writer.new ≡ writer.old)) }
+{
+    match place {
+        Place::Memory { store } => {
+            let alloc = rt.alloc();
+            match Answering::open(alloc, wait, Listed::new(alloc, *store)) {
+                Ok(mut answering) => serve(rt, net, port, &mut answering, writer),
+                Err((why, _)) => Err(Fault::Refused(why)),
+            }
+        }
+        Place::New { file, store } => {
+            if !is_number(*store) {
+                return Err(Fault::Refused(Refusal::StoreFault));
+            }
+            let mut answering = open_in(rt, wait, file.as_str(), Some(*store), start)?;
+            serve(rt, net, port, &mut answering, writer)
+        }
+        Place::There { file } => {
+            is_there(rt, file.as_str())?;
+            let mut answering = open_in(rt, wait, file.as_str(), None, start)?;
+            serve(rt, net, port, &mut answering, writer)
+        }
+    }
+}
+
+// Does what the words say, and answers the status that the process ends with.
+fn obey<
+    P: Start,
+    H: Wait + Drop,
+    N: Net<Listener = TcpListener, Stream = TcpStream>,
+    R: Read,
+    W: Write,
+>(
+    rt: &HostRuntime,
+    wait: H,
+    net: &N,
     words: &[String],
     start: P,
     reader: &mut TrackedReader<R>,
@@ -104,13 +155,14 @@ fn obey<P: Start, H: Wait + Drop, R: Read, W: Write>(
     requires unbroken_writer { writer.old.failed ≡ false }
     ensures done { IfOk result.0 (λ status. status ≡ 0
         → Ran (image_at P.Start) all_lines R.remaining W.contents (reader.old, writer.old) (reader.new, writer.new) result.1
-        ⊎ ((reader.new ≡ reader.old) × Reported W.contents true writer.old writer.new)) }
+        ⊎ ((reader.new ≡ reader.old) × Reported W.contents true writer.old writer.new)
+        ⊎ (IsTrue (asks_to_serve (map string_bytes words.now)) × (reader.new ≡ reader.old) × Announced W.contents writer.old writer.new)) }
     ensures told { IfOk result.0 (λ status. status ≡ 1
         → (reader.new ≡ reader.old) × Reported W.contents false writer.old writer.new) }
     ensures whole { IfOk result.0 (λ _. AreWhole reader.new writer.new) }
     ensures status { IfOk result.0 (λ status. status ≤ 1) }
     ensures stopped { IfErr result.0 (λ fault. fault ≢ Fault.CommandLine
-        → Stopped (image_at P.Start) R.remaining W.contents (reader.old, writer.old) (reader.new, writer.new) result.1) }
+        → Stopped (image_at P.Start) (asks_to_serve (map string_bytes words.now)) R.remaining W.contents (reader.old, writer.old) (reader.new, writer.new) result.1) }
     ensures refused { IfErr result.0 (λ fault. fault ≡ Fault.CommandLine
         → (reader.new ≡ reader.old) × (writer.new ≡ writer.old)) }
 {
@@ -123,6 +175,12 @@ fn obey<P: Start, H: Wait + Drop, R: Read, W: Write>(
                 Err(fault) => (Err(fault), left),
             }
         }
+        Ok(Task::Serve { place, port }) => {
+            match serve_at(rt, wait, net, &place, port, start, writer) {
+                Ok(()) => (Ok(0), None),
+                Err(fault) => (Err(fault), None),
+            }
+        }
         Ok(Task::Config { file }) => (report(alloc, rt, file.as_str(), writer), None),
         Err(fault) => (Err(fault), None),
     }
@@ -130,9 +188,17 @@ fn obey<P: Start, H: Wait + Drop, R: Read, W: Write>(
 
 /// Does what the words say, tells of a fault on `errors`, and answers the status that the process ends with, and
 /// what is left of the file that it ran over, of which `start` says what it held.
-pub fn command<P: Start, H: Wait + Drop, R: Read, W: Write, E: Write>(
+pub fn command<
+    P: Start,
+    H: Wait + Drop,
+    N: Net<Listener = TcpListener, Stream = TcpStream>,
+    R: Read,
+    W: Write,
+    E: Write,
+>(
     rt: &HostRuntime,
     wait: H,
+    net: &N,
     words: &[String],
     start: P,
     reader: &mut TrackedReader<R>,
@@ -143,22 +209,23 @@ pub fn command<P: Start, H: Wait + Drop, R: Read, W: Write, E: Write>(
     requires unbroken_writer { writer.old.failed ≡ false }
 
     // All that was there was read, each line answered, and the answers handed on; or the levels of a valid
-    // configuration were printed, and nothing was read.
+    // configuration were printed, and nothing was read; or the words asked for it, and the program listened.
     ensures done { result.0 ≡ 0
         → Ran (image_at P.Start) all_lines R.remaining W.contents (reader.old, writer.old) (reader.new, writer.new) result.1
-        ⊎ ((reader.new ≡ reader.old) × Reported W.contents true writer.old writer.new) }
+        ⊎ ((reader.new ≡ reader.old) × Reported W.contents true writer.old writer.new)
+        ⊎ (IsTrue (asks_to_serve (map string_bytes words.now)) × (reader.new ≡ reader.old) × Announced W.contents writer.old writer.new) }
     ensures whole { result.0 ≡ 0 → AreWhole reader.new writer.new }
     ensures quiet { result.0 ≡ 0 → errors.new ≡ errors.old }
 
-    // What was written is a beginning of the text, or of a report.
+    // What was written is a beginning of the text, of a report, or of the line that says where the program listens.
     ensures stopped { result.0 ≡ 1
-        → Stopped (image_at P.Start) R.remaining W.contents (reader.old, writer.old) (reader.new, writer.new) result.1 }
+        → Stopped (image_at P.Start) (asks_to_serve (map string_bytes words.now)) R.remaining W.contents (reader.old, writer.old) (reader.new, writer.new) result.1 }
 
     // Nothing was read or written.
     ensures refused { result.0 ≡ 2 → (reader.new ≡ reader.old) × (writer.new ≡ writer.old) }
     ensures status { result.0 ≤ 2 }
 {
-    let (obeyed, left) = obey(rt, wait, words, start, reader, writer);
+    let (obeyed, left) = obey(rt, wait, net, words, start, reader, writer);
     match obeyed {
         Ok(status) => (status, left),
         Err(fault) => (tell(errors, &fault), left),

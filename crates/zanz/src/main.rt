@@ -1,9 +1,10 @@
 //! The program: `zanz run [--db FILE] [--store N]` answers the lines of its input, each by a line, from a store in
-//! memory or in a file; `zanz config FILE` prints the level of each relation of a configuration, or why it is
-//! refused.
+//! memory or in a file; `zanz serve [--db FILE] [--store N] --port P` serves it over HTTP on 127.0.0.1 until it is
+//! stopped; `zanz config FILE` prints the level of each relation of a configuration, or why it is refused.
 #![tactic(auto)]
 
 mod command;
+mod listening;
 mod place;
 
 use command::{command, tell};
@@ -12,21 +13,26 @@ use runs::close;
 use sqlite::Unknown;
 use std::io;
 use std::io::{BufWriter, ErrorKind};
+use std::net::{Net, TcpListener, TcpStream};
 use std::process::ExitCode;
 use std::sync::Wait;
 use tasks::Fault;
 use tracked_io::{TrackedReader, TrackedWriter};
 
 fn main(rt: HostRuntime) -> ExitCode {
-    let status = match start(&rt, &rt) {
+    let status = match start(&rt, &rt, &rt) {
         Ok(status) => status,
         Err(fault) => tell(&mut rt.stderr(), &fault),
     };
     ExitCode::from(status)
 }
 
-// Hands on the process's words and streams, and the leave to wait.
-fn start<H: Wait + Drop>(rt: &HostRuntime, wait: H) -> Result<u8, Fault> {
+// Hands on the process's words and streams, the leave to wait, and the network.
+fn start<H: Wait + Drop, N: Net<Listener = TcpListener, Stream = TcpStream>>(
+    rt: &HostRuntime,
+    wait: H,
+    net: &N,
+) -> Result<u8, Fault> {
     let alloc = rt.alloc();
     let words = words_of(rt)?;
     let Ok(out) = BufWriter::new(alloc, io::writer(rt)) else {
@@ -38,6 +44,7 @@ fn start<H: Wait + Drop>(rt: &HostRuntime, wait: H) -> Result<u8, Fault> {
     let (status, left) = command(
         rt,
         wait,
+        net,
         words.as_slice(),
         Unknown,
         &mut reader,

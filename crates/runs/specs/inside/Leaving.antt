@@ -1,5 +1,5 @@
 -- What the tables of a desk leave while it answers.
-use Rattle.std.specs.Prelude.{◌≡◌, ℕ, false, List, [], ◌∷◌, map}
+use Rattle.std.specs.Prelude.{ℕ, List, ◌∷◌, map}
 use Rattle.std.specs.List.{All}
 use Rattle.names.specs.declared.commit.Commit.{Commit}
 use Rattle.meaning.specs.Config.{Configured}
@@ -7,18 +7,10 @@ use Rattle.rows.specs.Retained.{with_commit}
 use Rattle.rows.specs.Follows.{IsNext}
 use Rattle.tables.specs.Device.{Device, Lasts}
 use Rattle.tables.specs.declared.tables.Tables.{Ghosts}
-use Rattle.keeper_core.specs.Posts.{Posts, OpensWith, ComesBack}
+use Rattle.keeper_core.specs.Posts.{Posts}
 use Rattle.keeper.specs.Rules.{DeskStep}
 use Rattle.http_api.specs.Machine.{Run}
 use Rattle.runs.specs.Runs.{kept_by}
-
--- what is known of a desk that was opened on tables
-pub record Began {T : Type 0} (g : Ghosts T) (tables : T) (first : Posts T) : Type 0 where
-  pub posted : OpensWith g tables first
-  pub shown : first.shown ≡ first.posted
-  pub works : first.failed ≡ false
-  pub settled : g.leaves first.tables (kept_by first ∷ [])
-  pub back : ComesBack g tables first.tables
 
 -- what is left holds the history of the posted steps, perhaps with one commit more of which P is true; and the device has gone on
 pub record HasLeft {T : Type 0} (g : Ghosts T) (P : Commit Configured → Type 0) (start : Device) (desk : Posts T) : Type 0 where

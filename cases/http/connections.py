@@ -1,0 +1,321 @@
+"""The cases of `zanz serve`: what it must write on a connection for what it is sent. cases/run runs them.
+
+Each case is a function of CASES, named for what it shows. It is given the program and an empty folder to run it in, and raises
+AssertionError where something is not as it should be. Every socket is on 127.0.0.1, each wait is bounded, and each server is
+started on a port that is free and killed at the end.
+"""
+import json
+import os
+import re
+import select
+import signal
+import socket
+import subprocess
+import time
+
+LIMIT = int(os.environ.get("CASE_SECONDS", "60"))
+TOP = os.path.dirname(os.path.dirname(os.path.dirname(os.path.realpath(__file__))))
+CONFIG = '{"namespaces":{"group":{"member":{"types":["user","group#member"]}},"user":{}}}'
+REASONS = {200: "OK", 400: "Bad Request", 404: "Not Found", 409: "Conflict", 411: "Length Required", 413: "Content Too Large"}
+MALFORMED = '{"error":{"code":1,"name":"Malformed"}}'
+LENGTH_REQUIRED = '{"error":{"code":0,"name":"LengthRequired"}}'
+TOO_LARGE = '{"error":{"code":0,"name":"BodyTooLarge"}}'
+NO_ROUTE = '{"error":{"code":0,"name":"NoRoute"}}'
+NO_RELATION = '{"error":{"code":2,"name":"UnknownRelation","zookie":"AQAAAAAAAAABAAAAAAAAAAA"}}'
+CHECK = '{"node":"doc:1#viewer","user":"user:ann"}'
+
+
+def same(what, wanted, got):
+    assert wanted == got, f"{what}, wanted\n  {wanted!r}\n{what}, got\n  {got!r}\n"
+
+
+class Server:
+    """The program, while it serves."""
+
+    def __init__(self, program, folder, *words, port=0):
+        how = {"cwd": folder, "stdin": subprocess.DEVNULL, "stdout": subprocess.PIPE, "stderr": subprocess.PIPE}
+        self.process = subprocess.Popen([program, "serve", *words, "--port", str(port)], **how)
+        said = self.said()
+        found = re.fullmatch(rb"listening 127\.0\.0\.1:([1-9][0-9]*)\n", said)
+        if not found:
+            self.stop()
+        assert found, f"it said {said!r}\n"
+        self.port = int(found[1])
+
+    def said(self):
+        """The line that it prints, as far as it comes in time."""
+        line, end = b"", time.monotonic() + LIMIT
+        while not line.endswith(b"\n") and select.select([self.process.stdout], [], [], max(0, end - time.monotonic()))[0]:
+            more = os.read(self.process.stdout.fileno(), 4096)
+            if not more:
+                break
+            line += more
+        return line
+
+    def connect(self):
+        return socket.create_connection(("127.0.0.1", self.port), timeout=LIMIT)
+
+    def stop(self, how=signal.SIGKILL):
+        self.process.send_signal(how)
+        self.process.wait(LIMIT)
+        self.process.stdout.close()
+        self.process.stderr.close()
+
+    def __enter__(self):
+        return self
+
+    def __exit__(self, *_):
+        if self.process.poll() is None:
+            self.stop()
+
+
+def request(call, body, *fields):
+    """The request of a call."""
+    verb = "GET" if call == "state" else "POST"
+    lines = [f"{verb} /v1/{call} HTTP/1.1", "Host: zanz", f"Content-Length: {len(body.encode())}", *fields, "", body]
+    return "\r\n".join(lines).encode()
+
+
+def reply(status, body, closed=False):
+    """The text of a reply."""
+    lines = [f"HTTP/1.1 {status} {REASONS[status]}", "Content-Type: application/json", f"Content-Length: {len(body.encode())}"]
+    return "\r\n".join(lines + ["Connection: close"] * closed + ["", body]).encode()
+
+
+def received(stream, size):
+    """So many bytes, or what comes before the end."""
+    got = b""
+    while len(got) < size:
+        more = stream.recv(size - len(got))
+        if not more:
+            break
+        got += more
+    return got
+
+
+def rest(stream):
+    return received(stream, 1 << 20)
+
+
+def one_reply(stream):
+    """The status and the body of the next reply."""
+    head = b""
+    while not head.endswith(b"\r\n\r\n"):
+        more = stream.recv(1)
+        assert more, f"the connection ended in {head!r}\n"
+        head += more
+    size = int(re.search(rb"\r\nContent-Length: ([0-9]+)\r\n", head)[1])
+    return int(head.split()[1]), received(stream, size).decode()
+
+
+def ask(stream, call, body=""):
+    stream.sendall(request(call, body))
+    return one_reply(stream)
+
+
+def lines_of(script):
+    """The calls of a script of lines."""
+    with open(script, encoding="utf-8") as it:
+        return [line.rstrip("\n").partition(" ")[::2] for line in it if line != "\n"]
+
+
+def answered(program, folder, lines, *words):
+    """What `zanz run` answers to these lines: each status with its body."""
+    given = "".join(f"{call} {body}\n" for call, body in lines).encode()
+    ran = subprocess.run([program, "run", *words], cwd=folder, input=given, stdout=subprocess.PIPE, timeout=LIMIT, check=True)
+    return [(int(it.partition(" ")[0]), it.partition(" ")[2]) for it in ran.stdout.decode().splitlines()]
+
+
+def scripts():
+    """Scripts whose answers are compared, each by its name: the stored one, and those of the examples."""
+    yield "crates/zanz/stdin", lines_of(f"{TOP}/crates/zanz/stdin")
+    for name in sorted(os.listdir(f"{TOP}/examples")):
+        if os.path.isfile(f"{TOP}/examples/{name}/lines"):
+            with open(f"{TOP}/examples/{name}/config.json", encoding="utf-8") as it:
+                config = it.read().replace("\n", " ")
+            yield f"examples/{name}", [("config", config), *lines_of(f"{TOP}/examples/{name}/lines")]
+
+
+def calls_are_answered_as_on_lines(program, folder):
+    for script, lines in scripts():
+        wanted = answered(program, folder, lines)
+        with Server(program, folder) as server, server.connect() as stream:
+            same(script, wanted, [ask(stream, call, body) for call, body in lines])
+        with Server(program, folder) as server:
+            apart = []
+            for call, body in lines:
+                with server.connect() as stream:
+                    apart.append(ask(stream, call, body))
+            same(f"{script}, a connection each", wanted, apart)
+
+
+def requests_may_come_together_or_in_pieces(program, folder):
+    lines = lines_of(f"{TOP}/crates/zanz/stdin")
+    sent = b"".join(request(call, body) for call, body in lines)
+    wanted = b"".join(reply(status, body) for status, body in answered(program, folder, lines))
+    for size in (len(sent), 1000, 7):
+        with Server(program, folder) as server, server.connect() as stream:
+            stream.setsockopt(socket.IPPROTO_TCP, socket.TCP_NODELAY, 1)
+            for start in range(0, len(sent), size):
+                stream.sendall(sent[start : start + size])
+            stream.shutdown(socket.SHUT_WR)
+            same(f"replies, in pieces of {size}", wanted, rest(stream))
+
+
+# What is sent, and what is written for it; the peer has then sent all that it has to say.
+TALKS = {
+    "nothing": (b"", b""),
+    "a check": (request("check", CHECK), reply(400, NO_RELATION)),
+    "names of fields in capitals": (request("check", CHECK).replace(b"Content-Length", b"CONTENT-LENGTH"), reply(400, NO_RELATION)),
+    "two checks, the first of which closes": (
+        request("check", CHECK, "Connection: Close") + request("check", CHECK),
+        reply(400, NO_RELATION, True),
+    ),
+    "close in a list": (request("check", CHECK, "Connection: close, te"), reply(400, NO_RELATION)),
+    "version 1.0": (request("check", CHECK).replace(b"HTTP/1.1", b"HTTP/1.0"), reply(400, NO_RELATION, True)),
+    "a body of the limit": (request("check", CHECK + " " * (65536 - len(CHECK))), reply(400, NO_RELATION)),
+    "a byte more": (request("check", CHECK + " " * (65537 - len(CHECK))), reply(413, TOO_LARGE, True)),
+    "no length": (b"POST /v1/check HTTP/1.1\r\n\r\n" + CHECK.encode(), reply(411, LENGTH_REQUIRED, True)),
+    "two lengths": (request("check", CHECK, f"Content-Length: {len(CHECK)}"), reply(400, MALFORMED, True)),
+    "a sign before the length": (b"POST /v1/check HTTP/1.1\r\nContent-Length: +2\r\n\r\n{}", reply(400, MALFORMED, True)),
+    "a coding": (request("check", CHECK, "Transfer-Encoding: chunked"), reply(400, MALFORMED, True)),
+    "no request": (b"hello\r\n\r\n", reply(400, MALFORMED, True)),
+    "a head without an end": (b"GET /" + b"a" * 9000, reply(400, MALFORMED, True)),
+    "too many fields": (b"GET / HTTP/1.1\r\n" + b"a: b\r\n" * 65 + b"\r\n", reply(400, MALFORMED, True)),
+    "another target, then a check": (request("none", "") + request("check", CHECK), reply(404, NO_ROUTE) + reply(400, NO_RELATION)),
+    "a query": (request("check", CHECK).replace(b"/v1/check", b"/v1/check?a=b"), reply(404, NO_ROUTE)),
+    "another method": (request("check", CHECK).replace(b"POST", b"PUT"), reply(404, NO_ROUTE)),
+    "a head that breaks off": (b"POST /v1/check HTTP/1.1\r\nContent-", b""),
+    "a body that breaks off": (request("check", CHECK)[:-1], b""),
+    "a check, and a body that breaks off": (request("check", CHECK) + request("check", CHECK)[:-1], reply(400, NO_RELATION)),
+}
+
+
+def connections_have_these_texts(program, folder):
+    with Server(program, folder) as server:
+        for name, (sent, wanted) in TALKS.items():
+            with server.connect() as stream:
+                stream.sendall(sent)
+                stream.shutdown(socket.SHUT_WR)
+                same(name, wanted, rest(stream))
+
+
+def a_refused_body_is_not_waited_for(program, folder):
+    with Server(program, folder) as server:
+        for _ in range(20):
+            with server.connect() as stream:
+                stream.sendall(request("check", "").replace(b"Content-Length: 0", b"Content-Length: 1000000"))
+                same("reply", reply(413, TOO_LARGE, True), rest(stream))
+
+
+def a_refusal_is_seen_by_a_peer_that_still_sends(program, folder):
+    sent = request("check", " " * 900_000)
+    with Server(program, folder) as server:
+        for _ in range(20):
+            with server.connect() as stream:
+                stream.sendall(sent)
+                same("reply", reply(413, TOO_LARGE, True), rest(stream))
+
+
+def a_connection_that_breaks_off_leaves_the_next_one_answered(program, folder):
+    with Server(program, folder) as server:
+        for cut in (1, 30, 80, 100):
+            with server.connect() as stream:
+                stream.sendall(request("check", CHECK)[:cut])
+            with server.connect() as stream:
+                stream.setsockopt(socket.SOL_SOCKET, socket.SO_LINGER, b"\1\0\0\0\0\0\0\0")
+                stream.sendall(request("check", CHECK)[:cut])
+            with server.connect() as stream:
+                same(f"after {cut} bytes", (400, NO_RELATION), ask(stream, "check", CHECK))
+
+
+def one_connection_is_served_after_the_other(program, folder):
+    with Server(program, folder) as server, server.connect() as first, server.connect() as second:
+        second.sendall(request("check", CHECK))
+        for _ in range(3):
+            same("the first", (400, NO_RELATION), ask(first, "check", CHECK))
+        same("what the second has while the first is open", [], select.select([second], [], [], 0.2)[0])
+        first.close()
+        same("the second", (400, NO_RELATION), one_reply(second))
+
+
+def refused(program, folder, *words):
+    """The status and the line of a server that cannot begin."""
+    ran = subprocess.run([program, "serve", *words], cwd=folder, stdin=subprocess.DEVNULL, capture_output=True, timeout=LIMIT, check=False)
+    same("what it says", b"", ran.stdout)
+    return ran.returncode, ran.stderr
+
+
+def a_port_in_use_is_told(program, folder):
+    with Server(program, folder) as server:
+        port = str(server.port)
+        same("a port in use", (1, b"zanz: cannot listen\n"), refused(program, folder, "--port", port))
+        missing = refused(program, folder, "--db", "missing.db", "--port", port)
+        same("a file that is not there comes first", (1, b"zanz: refused 22 StoreFault\n"), missing)
+        same("a new file is made first", (1, b"zanz: cannot listen\n"), refused(program, folder, "--db", "new.db", "--store", "7", "--port", port))
+    assert answered(program, folder, [("state", "")], "--db", "new.db")[0][0] == 200
+
+
+def a_port_that_is_given_is_listened_on(program, folder):
+    with Server(program, folder) as server:
+        port = server.port
+    with Server(program, folder, port=port) as server:
+        same("port", port, server.port)
+
+
+def insert(name):
+    return json.dumps({"ops": [{"op": "insert", "tuple": f"group:a#member@user:{name}"}]}, separators=(",", ":"))
+
+
+def writes_until(server, end):
+    """The zookies of the writes that were accepted until the server is gone, which is killed at this time."""
+    zookies = []
+    killed = False
+    with server.connect() as stream:
+        try:
+            while True:
+                stream.sendall(request("write", insert(f"u{len(zookies)}")))
+                if not killed and time.monotonic() >= end[0]:
+                    killed = True
+                    server.process.send_signal(end[1])
+                status, body = one_reply(stream)
+                same("status", 200, status)
+                zookies.append(json.loads(body)["zookie"])
+        except (AssertionError, OSError):
+            assert killed, "the server ended by itself\n"
+    return zookies
+
+
+def what_was_accepted_is_there_after_a_kill(program, folder):
+    for turn, how in enumerate([signal.SIGKILL, signal.SIGTERM, signal.SIGINT, signal.SIGKILL]):
+        file = f"{turn}.db"
+        with Server(program, folder, "--db", file, "--store", "1") as server:
+            with server.connect() as stream:
+                same("config", 200, ask(stream, "config", CONFIG)[0])
+            zookies = writes_until(server, (time.monotonic() + 0.1 + 0.05 * turn, how))
+            same("exit status", -how, server.process.wait(LIMIT))
+        assert zookies, "no write was accepted\n"
+        checks = [json.dumps({"at": {"exactly": it}, "node": "group:a#member", "user": f"user:u{n}"}) for n, it in enumerate(zookies)]
+        lines = [("check", it) for it in checks] + [("state", ""), ("check", json.dumps({"node": "group:a#member", "user": f"user:u{len(zookies)}"}))]
+        *found, state, last = answered(program, folder, lines, "--db", file)
+        wanted = [(200, f'{{"allowed":true,"zookie":"{it}"}}') for it in zookies]
+        same("accepted writes", wanted, found)
+        # The one that was under way is there, or it is not; nothing else is.
+        more = json.loads(last[1])["allowed"]
+        same("tuples", len(zookies) + more, json.loads(state[1])["tuples"])
+        with Server(program, folder, "--db", file) as server, server.connect() as stream:
+            same("the same over HTTP", wanted, [ask(stream, "check", it) for it in checks])
+
+
+CASES = [
+    calls_are_answered_as_on_lines,
+    requests_may_come_together_or_in_pieces,
+    connections_have_these_texts,
+    a_refused_body_is_not_waited_for,
+    a_refusal_is_seen_by_a_peer_that_still_sends,
+    a_connection_that_breaks_off_leaves_the_next_one_answered,
+    one_connection_is_served_after_the_other,
+    a_port_in_use_is_told,
+    a_port_that_is_given_is_listened_on,
+    what_was_accepted_is_there_after_a_kill,
+]

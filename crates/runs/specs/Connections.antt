@@ -1,0 +1,85 @@
+-- What a desk does over connections, one after another, and what it leaves of its tables.
+use Rattle.std.specs.Prelude.{ℕ, ◌≡◌, ◌⊎◌, List, [], ◌∷◌, map, Option, Some, zero, suc}
+use Rattle.std.specs.List.{All}
+use Rattle.names.specs.declared.call.Call.{Call}
+use Rattle.names.specs.declared.commit.Commit.{Commit}
+use Rattle.meaning.specs.Config.{Configured}
+use Rattle.httparse.specs.Grammar.{RequestHead}
+use Rattle.rows.specs.Retained.{with_commit}
+use Rattle.rows.specs.Follows.{IsNext}
+use Rattle.tables.specs.Device.{Lasts}
+use Rattle.tables.specs.declared.tables.Tables.{Ghosts}
+use Rattle.keeper_core.specs.Posts.{Posts}
+use Rattle.keeper.specs.Rules.{DeskStep}
+use Rattle.http_api.specs.declared.end.End.{End}
+use Rattle.http_api.specs.Machine.{Step}
+use Rattle.http_api.specs.Routes.{route_of}
+use Rattle.http_api.specs.Connection.{HasRequest, Next, Text}
+use Rattle.http_api.specs.Talks.{Talked, TalkedSoFar, TalkCut}
+use Rattle.tracked_io.specs.Tracking.{TrackedWriting}
+use Rattle.runs.specs.Runs.{AsksCommit, kept_by}
+
+-- ---- what was asked for
+
+-- the request asks for the commit
+abbrev pub RequestAsks : RequestHead → List ℕ → Commit Configured → Type 0
+RequestAsks head body commit = (call : Call) × (route_of head.method head.target ≡ Some call) × AsksCommit call body commit
+
+-- one of so many requests, from the front of the input on, asks for the commit
+abbrev pub IsAmongRequests : ℕ → List ℕ → Commit Configured → Type 0
+IsAmongRequests zero input commit = ⊥
+IsAmongRequests (suc count) input commit = (head : RequestHead) × (body : List ℕ) × (rest : List ℕ) × HasRequest input head body rest
+    × (RequestAsks head body commit ⊎ IsAmongRequests count rest commit)
+
+-- a request in the input of a connection asks for the commit
+abbrev pub IsRequestedIn : List ℕ → Commit Configured → Type 0
+IsRequestedIn input commit = (count : ℕ) × IsAmongRequests count input commit
+
+-- a request in one of these inputs does
+abbrev pub IsRequestedInOne : List (List ℕ) → Commit Configured → Type 0
+IsRequestedInOne [] commit = ⊥
+IsRequestedInOne (input ∷ inputs) commit = IsRequestedIn input commit ⊎ IsRequestedInOne inputs commit
+
+-- ---- what was written
+
+-- the text of the connection over this input was written, of a run of the desk, and it ends so
+abbrev pub TalkedBy : {T W : Type 0} → Ghosts T → (W → Option (List ℕ)) → TrackedWriting W → List ℕ → TrackedWriting W → End → Posts T → Posts T → Type 0
+TalkedBy g contents old input new end first last = Talked (DeskStep g) first (contents old.inner) input last (contents new.inner) end
+
+-- the same, as if the input had ended here
+abbrev pub TalkedSoFarBy : {T W : Type 0} → Ghosts T → (W → Option (List ℕ)) → TrackedWriting W → List ℕ → TrackedWriting W → Posts T → Posts T → Type 0
+TalkedSoFarBy g contents old input new first last = TalkedSoFar (DeskStep g) first (contents old.inner) input last (contents new.inner)
+
+-- a beginning of the text of some first requests was written
+abbrev pub TalkCutBy : {T W : Type 0} → Ghosts T → (W → Option (List ℕ)) → TrackedWriting W → List ℕ → TrackedWriting W → Posts T → Posts T → Type 0
+TalkCutBy g contents old input new first last = TalkCut (DeskStep g) first (contents old.inner) input last (contents new.inner)
+
+-- ---- one connection after another
+
+-- connections with these inputs, the last one first: each has its text, from where the one before left the machine
+abbrev pub Connections : {S : Type 0} → Step S → S → List (List ℕ) → S → Type 0
+Connections step s [] t = t ≡ s
+Connections {S} step s (input ∷ inputs) t = (mid : S) × (text : List ℕ) × (next : Next) × Connections step s inputs mid × Text step mid input text t next
+
+-- Connections with these inputs, the last one first, took a desk from the first state to this one. What the end of the process
+-- or a crash leaves of its tables holds the history of the posted steps, perhaps with one commit more that a request asked for.
+pub record HasServed {T : Type 0} (g : Ghosts T) (first : Posts T) (inputs : List (List ℕ)) (desk : Posts T) : Type 0 where
+  pub ran : Connections (DeskStep g) first inputs desk
+  pub more : List (Commit Configured)
+  pub follow : All (IsNext (kept_by desk)) more
+  pub asked : All (IsRequestedInOne inputs) more
+  pub leaves : g.leaves desk.tables (kept_by desk ∷ map (with_commit (kept_by desk)) more)
+  pub lasts : Lasts (g.device first.tables) (g.device desk.tables)
+
+-- a connection with this input did this, and a desk that had served others has served this one more
+pub record Serves {T : Type 0} (g : Ghosts T) (input : List ℕ) (Did : Posts T → Posts T → Type 0) (old new : Posts T) : Type 0 where
+  pub did : Did old new
+  pub served : (first : Posts T) (inputs : List (List ℕ)) → HasServed g first inputs old → HasServed g first (input ∷ inputs) new
+
+-- some connections took a desk from the first state to this one
+abbrev pub IsServing : {T : Type 0} → Ghosts T → Posts T → Posts T → Type 0
+IsServing g first desk = (inputs : List (List ℕ)) × HasServed g first inputs desk
+
+-- what is known of a desk that has served some connections is still known
+abbrev pub StaysServing : {T : Type 0} → Ghosts T → Posts T → Posts T → Type 0
+StaysServing {T} g old new = (first : Posts T) → IsServing g first old → IsServing g first new

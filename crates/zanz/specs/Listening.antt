@@ -1,0 +1,17 @@
+-- What the program says where it listens.
+use Rattle.std.specs.Prelude.{ℕ, ◌++◌, ◌∷◌, [], List, Option, codes, decimal}
+use Rattle.std.specs.Io.KnownBytes.{Appends}
+use Rattle.tracked_io.specs.Tracking.{TrackedWriting}
+use Rattle.tracked_io.specs.Wrote.{WroteSome}
+
+-- the line that says on which port it listens
+abbrev pub listening_line : ℕ → List ℕ
+listening_line port = codes "listening 127.0.0.1:" ++ (decimal port ++ 10 ∷ [])
+
+-- it was written for some port
+abbrev pub Announced : {W : Type 0} → (W → Option (List ℕ)) → TrackedWriting W → TrackedWriting W → Type 0
+Announced contents old new = (port : ℕ) × Appends (contents old.inner) (contents new.inner) (listening_line port)
+
+-- a beginning of it was
+abbrev pub BeganAnnounced : {W : Type 0} → (W → Option (List ℕ)) → TrackedWriting W → TrackedWriting W → Type 0
+BeganAnnounced contents old new = (port : ℕ) × WroteSome (contents old.inner) (contents new.inner) (listening_line port)

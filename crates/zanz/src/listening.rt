@@ -1,0 +1,161 @@
+//! Listening for connections, and serving them.
+ghost use Rattle.std.specs.Prelude.{◌≡◌, ◌≢◌, ◌⊎◌, true, false, IfOk, IfErr, OnOk, string_bytes};
+ghost use Rattle.std.specs.Io.KnownBytes.{Appends};
+ghost use Rattle.http_api.specs.Routes.{table};
+ghost use Rattle.tracked_io.specs.Wrote.{WroteSome};
+ghost use Rattle.runs.specs.Connections.{StaysServing};
+ghost use Rattle.zanz.specs.Listening.{Announced, BeganAnnounced, listening_line};
+
+use http_api::{End, routes};
+use matchit::Router;
+use names::{Call, Refusal};
+use runs::{Answering, talk};
+use std::alloc::{AllocError, Global};
+use std::io::{BufWriter, Read, Write};
+use std::net::{Ipv4Addr, Net, Shutdown, TcpListener, TcpStream};
+use std::sync::Wait;
+use std::thread;
+use std::time::Duration;
+use tables::Tables;
+use tasks::Fault;
+use tracked_io::{TrackedReader, TrackedWriter, say};
+
+// For how many milliseconds a read waits for a peer that was refused to end its side.
+const LINGER: u64 = 100;
+
+// How many pieces are read of what such a peer still sends, each of 4,096 bytes at most.
+const PIECES: u32 = 256;
+
+// For how many milliseconds nothing is done after a failed accept: where no descriptors are left the next fails at once.
+const PAUSE: u64 = 1;
+
+fn line_of(alloc: Global, port: u16) -> Result<String, AllocError>
+    ensures { IfOk result (λ line. string_bytes line ≡ listening_line port) }
+{
+    format!(in alloc; "listening 127.0.0.1:{port}\n")
+}
+
+// Says where the program listens.
+fn announce<W: Write>(alloc: Global, port: u16, writer: &mut TrackedWriter<W>) -> Result<(), Fault>
+    requires unbroken_writer { writer.old.failed ≡ false }
+    ensures ok { OnOk result (Announced W.contents writer.old writer.new) }
+    ensures whole { OnOk result ((writer.new.failed ≡ false) × (writer.new.flushed ≡ true)) }
+    ensures line { IfErr result (λ fault. fault ≢ Fault.CommandLine) }
+
+    // A beginning of it was written where the writer failed, and else nothing.
+    ensures failed { IfErr result (λ _. (writer.new.failed ≡ true) × BeganAnnounced W.contents writer.old writer.new
+        ⊎ (writer.new ≡ writer.old)) }
+{
+    let line = line_of(alloc, port)?;
+    let Ok(()) = say(writer, line.as_bytes()) else {
+        return Err(Fault::CannotWrite);
+    };
+    Ok(())
+}
+
+// Listens on this machine's own address, and says on which port.
+fn listen<N: Net<Listener = TcpListener, Stream = TcpStream>>(
+    net: &N,
+    port: u16,
+) -> Result<(TcpListener, u16), Fault>
+    ensures { IfErr result (λ fault. fault ≡ Fault.CannotListen) }
+{
+    let Ok(listener) = TcpListener::bind(net, (Ipv4Addr::LOCALHOST, port)) else {
+        return Err(Fault::CannotListen);
+    };
+    match listener.local_addr() {
+        Ok(address) => Ok((listener, address.port())),
+        Err(_) => Err(Fault::CannotListen),
+    }
+}
+
+// Ends the sending side of a connection that was refused, and reads what its peer had sent before it knew: a socket
+// that is closed with bytes unread resets the connection, and the peer may lose the reply that it was just sent.
+fn take_leave(stream: &TcpStream) {
+    let told = stream.shutdown(Shutdown::Write);
+    let bounded = stream.set_read_timeout(Some(Duration::from_millis(LINGER)));
+    if told.is_err() || bounded.is_err() {
+        return;
+    }
+    let mut from = stream;
+    let mut piece = [0u8; 4096];
+    for _ in 0..PIECES {
+        match from.read(&mut piece) {
+            Ok(0) => return,
+            Ok(_) => {}
+            Err(_) => return,
+        }
+    }
+}
+
+// Serves one connection, and closes it.
+fn serve_stream<T: Tables + Drop, H: Wait + Drop>(
+    alloc: Global,
+    routes: &Router<Call>,
+    answering: &mut Answering<T, H>,
+    stream: &TcpStream,
+) -> End
+    requires { routes.now ≡ table }
+    ensures { StaysServing T.Tables answering.old answering.new }
+{
+    let _ = stream.set_nodelay(true);
+    let Ok(out) = BufWriter::new(alloc, stream) else {
+        return End::Memory;
+    };
+    let mut reader = TrackedReader::new(stream);
+    let mut writer = TrackedWriter::new(out);
+    talk(alloc, routes, answering, &mut reader, &mut writer)
+}
+
+// Serves one connection after another. However one of them ends, the next is served.
+fn serve_each<T: Tables + Drop, H: Wait + Drop>(
+    rt: &HostRuntime,
+    listener: &TcpListener,
+    routes: &Router<Call>,
+    answering: &mut Answering<T, H>,
+)
+    requires { routes.now ≡ table }
+    ensures { StaysServing T.Tables answering.old answering.new }
+{
+    for stream in listener.incoming() {
+        match stream {
+            Ok(stream) => {
+                let end = serve_stream(rt.alloc(), routes, answering, &stream);
+                if end == End::Asked || end == End::Memory {
+                    take_leave(&stream);
+                }
+            }
+            Err(_) => thread::sleep(rt, Duration::from_millis(PAUSE)),
+        }
+    }
+}
+
+/// Listens on a port, 0 for one that is free, says so, and serves one connection after another from a desk.
+pub fn serve<
+    N: Net<Listener = TcpListener, Stream = TcpStream>,
+    T: Tables + Drop,
+    H: Wait + Drop,
+    W: Write,
+>(
+    rt: &HostRuntime,
+    net: &N,
+    port: u16,
+    answering: &mut Answering<T, H>,
+    writer: &mut TrackedWriter<W>,
+) -> Result<(), Fault>
+    requires unbroken_writer { writer.old.failed ≡ false }
+    ensures ok { OnOk result (Announced W.contents writer.old writer.new) }
+    ensures whole { OnOk result ((writer.new.failed ≡ false) × (writer.new.flushed ≡ true)) }
+    ensures line { IfErr result (λ fault. fault ≢ Fault.CommandLine) }
+    ensures failed { IfErr result (λ _. (writer.new.failed ≡ true) × BeganAnnounced W.contents writer.old writer.new
+        ⊎ (writer.new ≡ writer.old)) }
+    ensures goes_on { StaysServing T.Tables answering.old answering.new }
+{
+    let Ok(routes) = routes(rt.alloc()) else {
+        return Err(Fault::Refused(Refusal::Memory));
+    };
+    let (listener, port) = listen(net, port)?;
+    announce(rt.alloc(), port, writer)?;
+    serve_each(rt, &listener, &routes, answering);
+    Ok(())
+}
