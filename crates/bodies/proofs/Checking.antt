@@ -1,4 +1,4 @@
--- Why the body of a check is refused.
+-- Why the body of a question is refused.
 use Rattle.std.proofs.Common.{◌≡◌, ℕ, List, Option, Result, IfErr, subst}
 use Rattle.std.specs.Result.{IsErrAnd}
 use Rattle.std.proofs.lemmas.Result.{err_from_is_err_and}
@@ -11,6 +11,7 @@ use Rattle.zookie.specs.declared.Zookie.{Zookie}
 use Rattle.serde_json.specs.Data.{Data}
 use Rattle.config_core.specs.Reading.{Reads}
 use Rattle.bodies.specs.Requests.{HasZookieText, IsZookieOf, AtCause, CheckOf, CheckCause}
+use Rattle.bodies.specs.Expanding.{ExpandOf, ExpandBodyCause}
 use Rattle.bodies.proofs.Bytes.{same_read}
 
 -- at the exit of a `?`
@@ -23,3 +24,7 @@ at_bad at text e has bad = rw bad.0 (text, has, bad.1)
 pub check_unasked : (body : List ℕ) (d : Data) (e : Refusal) → Reads body d → IsMalformed ((node : Node) (user : Object) → CheckOf d node user → ⊥) e → CheckCause body e
 check_unasked body d Malformed reads not = λ f. not f.node f.user (subst (λ (x : Data). CheckOf x f.node f.user) (same_read body f.data_read d f.reads reads) f.check)
 check_unasked body d _ reads not = absurd not
+
+pub expand_unasked : (body : List ℕ) (d : Data) (e : Refusal) → Reads body d → IsMalformed ((node : Node) (depth : ℕ) → ExpandOf d node depth → ⊥) e → ExpandBodyCause body e
+expand_unasked body d Malformed reads not = λ f. not f.node f.depth (subst (λ (x : Data). ExpandOf x f.node f.depth) (same_read body f.data_read d f.reads reads) f.expand)
+expand_unasked body d _ reads not = absurd not

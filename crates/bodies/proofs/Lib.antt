@@ -3,3 +3,4 @@ pub mod Asking
 pub mod Checking
 pub mod Literals
 pub mod Refusing
+pub mod Branches

@@ -5,3 +5,4 @@ mod ops;
 pub mod refusals;
 pub mod replies;
 pub mod requests;
+pub mod trees;

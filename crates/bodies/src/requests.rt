@@ -7,9 +7,11 @@ ghost use Rattle.names.specs.Refusals.{IsMalformed, ReadCause};
 ghost use Rattle.names.specs.declared.refusal.Refusal.TheVariants.{BadZookie};
 ghost use Rattle.config_core.specs.Reading.{Reads};
 ghost use Rattle.bodies.specs.Requests.{items_at, number_at, only_text, WriteOf, AsksWrite, AsksNoWrite, IsZookieOf, AsksAt, AtCause, CheckOf, IsOfNoCheck, AsksCheck, CheckCause, IsPart, CatchUpOf, IsOfNoCatchUp, AsksCatchUp, AsksNoCatchUp};
+ghost use Rattle.bodies.specs.Expanding.{ExpandOf, IsOfNoExpand, AsksExpand, ExpandBodyCause};
 
 use crate::ops::read_ops;
 use config_core::{has_only_members, text_at};
+use expand::MAX_DEPTH;
 use names::limits::{MAX_CATCH_UP, MAX_OPS};
 use names::{Items, Node, Object, Op, Part, Refusal};
 use serde_json::Value;
@@ -155,6 +157,37 @@ pub fn check_body(alloc: Global, body: &[u8]) -> Result<(Consistency, Node, Obje
     let (node, user) = check_of(&value)?;
     let consistency = consistency_of(&value)?;
     Ok((consistency, node, user))
+}
+
+/// The node and the depth of a tree that a value asks for.
+fn expand_of(value: &Value) -> Result<(Node, u8), Refusal>
+    ensures ok { IfOk result (λ asked. ExpandOf (view value.now) asked.0 asked.1) }
+    ensures err { IfErr result (IsMalformed (IsOfNoExpand (view value.now))) }
+{
+    if !has_only_members(value, ["at", "depth", "node"].as_slice()) {
+        return Err(Refusal::Malformed);
+    }
+    let Some(node) = text_at(value, "node") else {
+        return Err(Refusal::Malformed);
+    };
+    let depth = match number_of(value, "depth") {
+        Some(depth) if depth >= 1 && depth <= u64::from(MAX_DEPTH) => depth as u8,
+        _ => return Err(Refusal::Malformed),
+    };
+    let node = Node::parse(node)?;
+    Ok((node, depth))
+}
+
+/// What a body of `expand` asks: how fresh a snapshot, and the tree of a node there, on whose paths at most so many nodes
+/// are open, 1 to 8. `BadZookie` comes only where all else is of the form.
+pub fn expand_body(alloc: Global, body: &[u8]) -> Result<(Consistency, Node, u8), Refusal>
+    ensures ok { IfOk result (λ asked. AsksExpand body.now asked.0 asked.1 asked.2) }
+    ensures err { IfErr result (ExpandBodyCause body.now) }
+{
+    let value = read_value(alloc, body)?;
+    let (node, depth) = expand_of(&value)?;
+    let consistency = consistency_of(&value)?;
+    Ok((consistency, node, depth))
 }
 
 /// The part that a word names.

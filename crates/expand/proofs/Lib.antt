@@ -3,3 +3,4 @@ pub mod Making
 pub mod Measures
 pub mod Paths
 pub mod Relations
+pub mod Once

@@ -1,7 +1,9 @@
 -- Trees that are made one after the other.
-use Rattle.std.proofs.Common.{◌≡◌, ℕ, zero, suc, take, ◌+◌, ◌<◌, ◌≤◌, List, [], ◌∷◌, ◌++◌, length, get_or, drop, map, Vec, Result, Ok, Err, true, arith, sym, ap, subst, ◌∙◌, refl}
+use Rattle.std.proofs.Common.{◌≡◌, ℕ, zero, suc, take, ◌+◌, ◌<◌, ◌≤◌, List, [], ◌∷◌, ◌++◌, length, get_or, drop, map, Vec, Result, Ok, Err, Option, Some, None, true, arith, ⊎_elim, sym, ap, subst, ◌∙◌, refl}
 use Rattle.std.specs.Prelude.{min, IsErrAnd, IfErr, filter}
-use Rattle.std.proofs.lemmas.List.{append-nil, take_all, length-take}
+use Rattle.std.specs.List.{filter_map, cons_option}
+use Rattle.std.proofs.lemmas.Bool.{cases_lt}
+use Rattle.std.proofs.lemmas.List.{append-nil, take_all, length-take, take-append-drop}
 use Rattle.names.specs.declared.refusal.Refusal.{Refusal}
 use Rattle.names.specs.declared.refusal.Refusal.TheVariants as refusals
 use Rattle.names.specs.declared.node.Node.{Node}
@@ -21,7 +23,7 @@ use Rattle.expand.specs.declared.walk.Walk.{Walk}
 use Rattle.expand.specs.UsersetTree.{UsersetTree, UsersetTrees, Union, tree_nodes, trees_nodes, trees}
 use Rattle.expand.specs.declared.limits.TheConstants.{MAX_TREE_NODES}
 use Rattle.expand.specs.Causes.{ExpandCause}
-use Rattle.expand.specs.Tree.{filled, all_filled, leaf, subjects_of, userset, tree}
+use Rattle.expand.specs.Tree.{filled, all_filled, leaf, subjects_of, parents_of, userset, tree}
 use Rattle.expand.specs.Viewed.{tree_of, trees_of}
 use Rattle.expand.specs.inside.Walking.{IsMade, AreMade, IsRefused, AreRefused, NoRoom}
 
@@ -101,11 +103,6 @@ nodes_long : {A : Type 0} (f : A → UsersetTree) (xs : List A) → length xs �
 nodes_long f [] = omega arith
 nodes_long f (x ∷ xs) = let one = tree_some (f x) in let rest = nodes_long f xs in omega (arith, one, rest)
 
-nodes_take : {A : Type 0} (f : A → UsersetTree) (k : ℕ) (xs : List A) → nodes_in (map f (take k xs)) ≤ nodes_in (map f xs)
-nodes_take f zero xs = omega arith
-nodes_take f (suc k) [] = omega arith
-nodes_take f (suc k) (x ∷ xs) = let rest = nodes_take f k xs in omega (arith, rest)
-
 -- where fewer than the first k are there, they are all
 take_short : {A : Type 0} (k : ℕ) (xs : List A) → length (take k xs) < k → take k xs ≡ xs
 take_short k xs short = let long : length (take k xs) ≡ min k (length xs) = length-take k xs in take_all k xs (omega (arith, long, short))
@@ -142,6 +139,53 @@ parts_made S left n parts i before after made so_far h =
     subst (λ ts. AreMade before after ts made) (sym (all_filled_is S (userset S left before.path.items) n parts))
     (making_ends (map f parts) (map f (drop i parts)) before after made so_far (left_none f parts i h))
 
+-- ---- some first items
+
+-- where fewer of the items are there than are looked at, they are all
+short_all : {A : Type 0} (k : ℕ) (items all : List A) → length items < k → take k items ≡ take k all → items ≡ all
+short_all k items all short same =
+    let first : items ≡ take k all = sym (take_all k items (omega (arith, short))) ∙ same in
+    first ∙ take_short k all (subst (λ xs. length xs < k) first short)
+
+-- and else there are so many
+long_all : {A : Type 0} (k : ℕ) (items all : List A) → k ≤ length items → take k items ≡ take k all → k ≤ length all
+long_all k items all long same =
+    let one : length (take k items) ≡ min k (length items) = length-take k items in
+    let two : length (take k all) ≡ min k (length all) = length-take k all in
+    let both : length (take k items) ≡ length (take k all) = ap length same in
+    omega (arith, long, one, two, both)
+
+first_again : {A : Type 0} (k : ℕ) (xs : List A) → take k (take k xs) ≡ take k xs
+first_again k xs = let long : length (take k xs) ≡ min k (length xs) = length-take k xs in take_all k (take k xs) (omega (arith, long))
+
+-- the first items are those of the whole list, as far as there is room for a node of each
+module _ {A : Type 0} (f : A → UsersetTree) (items all : List A) (before taken : Walk)
+    (took : before.room ≡ taken.room + 1) (same : take before.room items ≡ take before.room all) where
+  no_fewer : taken.room < nodes_in (map f items) → taken.room < nodes_in (map f all)
+  no_fewer over = ⊎_elim
+      (λ short. subst (λ xs. taken.room < nodes_in (map f xs)) (short_all before.room items all short same) over)
+      (λ long. let many = long_all before.room items all long same in let nodes = nodes_long f all in omega (arith, took, many, nodes))
+      (cases_lt (length items) before.room)
+
+  pub first_refused : (i : ℕ) (x : A) (mid : Walk) (made : List Tree) (why : Refusal)
+      → Making (map f items) (map f (drop i items)) taken mid made → i < length items → x ≡ get_or items i x
+      → IsRefused mid (f x) why → IsRefused before (Union (trees (map f all))) why
+  first_refused i x mid made why so_far lt is refused =
+      union_refused before taken (trees (map f all)) why took
+      (no_room_more taken taken (nodes_in (map f items)) (nodes_in (map f all)) no_fewer why
+      (making_refused (map f items) (map f (drop i items)) (map f (drop (i + 1) items)) (f x) taken mid made why so_far (left_at f items i x lt is) refused))
+
+  pub first_made : (i : ℕ) (after : Walk) (made : List Tree) (whole : Tree) → taken.path.items ≡ before.path.items
+      → Making (map f items) (map f (drop i items)) taken after made → length items ≤ i → tree_of whole ≡ Union (trees_of made)
+      → IsMade before after (Union (trees (map f all))) whole
+  first_made i after made whole path so_far h as_data =
+      let ends : AreMade taken after (trees (map f items)) made = making_ends (map f items) (map f (drop i items)) taken after made so_far (left_none f items i h) in
+      let spent : taken.room ≡ after.room + nodes_in (map f items) = ends.spends.room in
+      let long = nodes_long f items in
+      let whole_list : items ≡ all = short_all before.room items all (omega (arith, spent, long, took)) same in
+      subst (λ xs. IsMade before after (Union (trees (map f xs))) whole) whole_list
+      (union_made before taken after (trees (map f items)) made whole took path ends as_data)
+
 pub this_refused : (S : Snap) (left : ℕ) (n : Node) (items : List Tuple) (i : ℕ) (x : Tuple) (before taken mid : Walk) (made : List Tree) (why : Refusal)
     → let f = λ (t : Tuple). leaf (userset S left before.path.items) t.subject in
     before.room ≡ taken.room + 1 → taken.path ≡ before.path → items ≡ take before.room (filter (is_of n) (set.items S.tuples))
@@ -151,14 +195,10 @@ pub this_refused : (S : Snap) (left : ℕ) (n : Node) (items : List Tuple) (i : 
 this_refused S left n items i x before taken mid made why took path are so_far lt is refused =
     let f = λ (t : Tuple). leaf (userset S left before.path.items) t.subject in
     let all = filter (is_of n) (set.items S.tuples) in
-    let fewer : nodes_in (map f items) ≤ nodes_in (map f all) = subst (λ (ts : List Tuple). nodes_in (map f ts) ≤ nodes_in (map f all)) (sym are) (nodes_take f before.room all) in
     let back : mid.path.items ≡ before.path.items = so_far.path ∙ ap (λ (v : Vec Node Global). v.items) path in
-    let listed : AreRefused taken (trees (map f items)) why =
-    making_refused (map f items) (map f (drop i items)) (map f (drop (i + 1) items)) (f x) taken mid made why so_far (left_at f items i x lt is)
-    (subst (λ (p : List Node). IsRefused mid (leaf (userset S left p) x.subject) why) back refused) in
     subst (λ ts. IsRefused before (Union ts) why) (subjects_are S (userset S left before.path.items) n all refl)
-    (union_refused before taken (trees (map f all)) why took
-    (no_room_more taken taken (nodes_in (map f items)) (nodes_in (map f all)) (λ h. omega (arith, h, fewer)) why listed))
+    (first_refused f items all before taken took (ap (take before.room) are ∙ first_again before.room all) i x mid made why so_far lt is
+    (subst (λ (p : List Node). IsRefused mid (leaf (userset S left p) x.subject) why) back refused))
 
 pub this_made : (S : Snap) (left : ℕ) (n : Node) (items : List Tuple) (i : ℕ) (before taken after : Walk) (made : List Tree) (whole : Tree)
     → let f = λ (t : Tuple). leaf (userset S left before.path.items) t.subject in
@@ -168,13 +208,64 @@ pub this_made : (S : Snap) (left : ℕ) (n : Node) (items : List Tuple) (i : ℕ
 this_made S left n items i before taken after made whole took path are so_far h as_data =
     let f = λ (t : Tuple). leaf (userset S left before.path.items) t.subject in
     let all = filter (is_of n) (set.items S.tuples) in
-    let ends : AreMade taken after (trees (map f items)) made = making_ends (map f items) (map f (drop i items)) taken after made so_far (left_none f items i h) in
-    let spent : taken.room ≡ after.room + nodes_in (map f items) = ends.spends.room in
-    let long : length items ≤ nodes_in (map f items) = nodes_long f items in
-    let short : length items < before.room = omega (arith, spent, long, took) in
-    let whole_list : items ≡ all = are ∙ take_short before.room all (subst (λ (ts : List Tuple). length ts < before.room) are short) in
-    subst (λ ts. IsMade before after (Union ts) whole) (subjects_are S (userset S left before.path.items) n items whole_list)
-    (union_made before taken after (trees (map f items)) made whole took (ap (λ (v : Vec Node Global). v.items) path) ends as_data)
+    subst (λ ts. IsMade before after (Union ts) whole) (subjects_are S (userset S left before.path.items) n all refl)
+    (first_made f items all before taken took (ap (take before.room) are ∙ first_again before.room all) i after made whole (ap (λ (v : Vec Node Global). v.items) path) so_far h as_data)
+
+-- ---- the trees of parents
+
+pub through_refused : (S : Snap) (left : ℕ) (n : Node) (t c : List ℕ) (items : List Node) (i : ℕ) (x : Node) (before taken mid : Walk) (made : List Tree) (why : Refusal)
+    → let f = userset S left before.path.items in
+    before.room ≡ taken.room + 1 → taken.path ≡ before.path → take before.room items ≡ take before.room (parents_of S n t c)
+    → Making (map f items) (map f (drop i items)) taken mid made → i < length items → x ≡ get_or items i x
+    → IsRefused mid (userset S left mid.path.items x) why → IsRefused before (Union (trees (map f (parents_of S n t c)))) why
+through_refused S left n t c items i x before taken mid made why took path are so_far lt is refused =
+    let back : mid.path.items ≡ before.path.items = so_far.path ∙ ap (λ (v : Vec Node Global). v.items) path in
+    first_refused (userset S left before.path.items) items (parents_of S n t c) before taken took are i x mid made why so_far lt is
+    (subst (λ (p : List Node). IsRefused mid (userset S left p x) why) back refused)
+
+pub through_made : (S : Snap) (left : ℕ) (n : Node) (t c : List ℕ) (items : List Node) (i : ℕ) (before taken after : Walk) (made : List Tree) (whole : Tree)
+    → let f = userset S left before.path.items in
+    before.room ≡ taken.room + 1 → taken.path ≡ before.path → take before.room items ≡ take before.room (parents_of S n t c)
+    → Making (map f items) (map f (drop i items)) taken after made → length items ≤ i → tree_of whole ≡ Union (trees_of made)
+    → IsMade before after (Union (trees (map f (parents_of S n t c)))) whole
+through_made S left n t c items i before taken after made whole took path are so_far h as_data =
+    first_made (userset S left before.path.items) items (parents_of S n t c) before taken took are i after made whole (ap (λ (v : Vec Node Global). v.items) path) so_far h as_data
+
+-- ---- the parents among the first tuples
+
+-- what the first of a list give is the beginning of what it gives
+given_first : {A B : Type 0} (h : A → Option B) (xs ys : List A) → filter_map h (xs ++ ys) ≡ filter_map h xs ++ filter_map h ys
+given_first h [] ys = refl
+given_first h (x ∷ xs) ys = ap (cons_option (h x)) (given_first h xs ys) ∙ joined (h x) (filter_map h xs) (filter_map h ys)
+  where
+    joined : {B : Type 0} (o : Option B) (xs ys : List B) → cons_option o (xs ++ ys) ≡ cons_option o xs ++ ys
+    joined None xs ys = refl
+    joined (Some b) xs ys = refl
+
+take_joined : {A : Type 0} (k : ℕ) (xs ys : List A) → k ≤ length xs → take k xs ≡ take k (xs ++ ys)
+take_joined zero xs ys long = refl
+take_joined (suc k) [] ys long = absurd (omega (arith, long))
+take_joined (suc k) (x ∷ xs) ys long = ap (λ zs. x ∷ zs) (take_joined k xs ys (omega (arith, long)))
+
+module _ {B : Type 0} (h : Subject → Option B) (all tuples : List Tuple) (read most : ℕ) (found : List B)
+    (are : tuples ≡ take read all) (gives : found ≡ filter_map h (map (λ t. t.subject) tuples)) where
+  pub all_found : length tuples < read → take most found ≡ take most (filter_map h (map (λ t. t.subject) all))
+  all_found short =
+      let whole : tuples ≡ all = are ∙ take_short read all (subst (λ (ts : List Tuple). length ts < read) are short) in
+      ap (take most) (gives ∙ ap (λ (ts : List Tuple). filter_map h (map (λ t. t.subject) ts)) whole)
+
+  pub enough_found : most ≤ length found → take most found ≡ take most (filter_map h (map (λ t. t.subject) all))
+  enough_found enough =
+      let subject = λ (t : Tuple). t.subject in
+      let split : all ≡ tuples ++ drop read all = sym (take-append-drop read all) ∙ ap (λ (ts : List Tuple). ts ++ drop read all) (sym are) in
+      let given : filter_map h (map subject all) ≡ found ++ filter_map h (map subject (drop read all)) =
+      ap (λ (ts : List Tuple). filter_map h (map subject ts)) split ∙ ap (filter_map h) (map_joined subject tuples (drop read all))
+      ∙ given_first h (map subject tuples) (map subject (drop read all)) ∙ ap (λ xs. xs ++ filter_map h (map subject (drop read all))) (sym gives) in
+      take_joined most found (filter_map h (map subject (drop read all))) enough ∙ ap (take most) (sym given)
+    where
+      map_joined : {A C : Type 0} (f : A → C) (xs ys : List A) → map f (xs ++ ys) ≡ map f xs ++ map f ys
+      map_joined f [] ys = refl
+      map_joined f (x ∷ xs) ys = ap (λ zs. f x ∷ zs) (map_joined f xs ys)
 
 -- ---- why the root's tree is refused
 

@@ -1,5 +1,8 @@
 //! Trees.
-ghost use Rattle.std.specs.Prelude.{◌≡◌, ◌<◌, ◌≤◌, ◌-◌, [], ◌∷◌, ◌++◌, IfOk, IfErr, IfSome, IfNone, OnOk, true};
+ghost use Rattle.std.specs.Prelude.{◌≡◌, ◌<◌, ◌≤◌, ◌-◌, ◌↔◌, [], ◌∷◌, ◌++◌, take, map, IfOk, IfErr, IfSome, IfNone, OnOk, true};
+ghost use Rattle.std.specs.List.{filter_map};
+ghost use Rattle.names.specs.declared.object.Object.{Object as User};
+ghost use Rattle.meaning.specs.Membership.{IsMember};
 ghost use Rattle.meaning.specs.Form.{This, TupleTo};
 ghost use Rattle.meaning.specs.Config.{rel_of};
 ghost use Rattle.meaning.specs.Admits.{has_relation};
@@ -9,31 +12,42 @@ ghost use Rattle.expand.specs.declared.limits.TheConstants.{MAX_DEPTH, MAX_TREE_
 ghost use Rattle.expand.specs.UsersetTree.{Opened, Closed, tree_nodes};
 ghost use Rattle.expand.specs.Tree.{tree, userset, leaf, filled, all_filled, node_with, parents_of, parent};
 ghost use Rattle.expand.specs.Viewed.{tree_of};
+ghost use Rattle.expand.specs.Meaning.{Means};
 ghost use Rattle.expand.specs.Causes.{ExpandCause};
 ghost use Rattle.expand.specs.inside.Walking.{IsSource, IsMade, AreMade, IsRefused, AreRefused, all_nodes};
 
 use crate::limits::MAX_DEPTH;
 use crate::tree::Tree;
+use crate::valid::is_valid;
 use crate::walk::{Source, Walk};
 use config_core::Rewrite;
-use names::{Name, Node, Object, Refusal, Subject};
+use names::{Name, Node, Object, Refusal, Subject, Tuple};
 use rows::View;
 use std::alloc::{AllocError, Global};
 
-/// The userset tree of the node, where at most `depth` nodes are open on a path. It is refused where the relation is not there, where the
-/// tree has too many nodes, and where there is no memory. As soon as the tree has too many nodes nothing more is read.
+// So many doublings of one tuple are more than a store may have.
+const DOUBLINGS: usize = 20;
+
+/// The userset tree of the node, where at most `depth` nodes are open on a path: 1 to 8. It means the node's members, however deep it is. It
+/// is refused where the relation is not there, where the tree has over 4,096 nodes, and where there is no memory. As soon as the tree has
+/// too many nodes nothing more is read: of a node's tuples, and of a tupleset's, one more than there is room for.
 pub fn expand_at(alloc: Global, view: &View, node: &Node, depth: u8) -> Result<Tree, Refusal>
     requires opens { 1 ≤ depth }
     requires bounded { depth ≤ MAX_DEPTH }
     ensures ok { IfOk result (λ t. tree_of t ≡ tree view.now node.now depth) }
     ensures small { OnOk result (tree_nodes (tree view.now node.now depth) ≤ MAX_TREE_NODES) }
     ensures known { OnOk result (has_relation view.now.config (rel_of node.now) ≡ true) }
+    ensures means { IfOk result (λ t. (u : User) → Means view.now u (tree_of t) ↔ IsMember view.now u node.now) }
     ensures err { IfErr result (ExpandCause view.now node.now depth) }
 {
     let config = view.config();
     let Some(_place) = config.place_of(node) else {
         return Err(Refusal::UnknownRelation);
     };
+    // Never taken.
+    if !is_valid(view) {
+        return Err(Refusal::Memory);
+    }
     let source = Source {
         alloc,
         view,
@@ -192,7 +206,7 @@ fn leaf(source: &Source, walk: &mut Walk, subject: &Subject, left: u8) -> Result
     }
 }
 
-/// A relation of the objects that the tupleset's tuples name.
+/// A relation of the objects that the tupleset's tuples name. No more of them are gathered than show that there is no room.
 #[cycle(expanding)]
 fn through(
     source: &Source,
@@ -208,8 +222,9 @@ fn through(
     ensures err { IfErr result (IsRefused walk.old
         (filled source.now.view.now (userset source.now.view.now left walk.old.path.items) node.now (TupleTo tupleset.now relation.now))) }
 {
+    let most = walk.room;
     walk.take()?;
-    let parents = parents_of(source, node, tupleset, relation)?;
+    let parents = first_parents(source, node, tupleset, relation, most)?;
     let mut trees = Vec::new(source.alloc);
     for parent in &parents {
         trees.push(userset(source, walk, parent, left)?)?;
@@ -217,20 +232,46 @@ fn through(
     Ok(Tree::Union(trees))
 }
 
-/// The nodes of the relation of the objects that the tupleset's tuples name, as far as their namespaces have it.
-fn parents_of(
+/// The nodes of the relation of the objects that the tupleset's tuples name, as far as their namespaces have it: all of
+/// them, or so many of the first at least. The tuples are read from the first on, each time twice as many, until there
+/// are enough of such nodes among them.
+fn first_parents(
     source: &Source,
     node: &Node,
     tupleset: &Name,
     relation: &Name,
+    most: usize,
 ) -> Result<Vec<Node>, AllocError>
     requires { IsSource source.now }
-    ensures { IfOk result (λ v. v.items ≡ parents_of source.now.view.now node.now tupleset.now relation.now) }
+    ensures { IfOk result (λ v. take most v.items
+        ≡ take most (parents_of source.now.view.now node.now tupleset.now relation.now)) }
 {
     let from = node_of(&node.object, tupleset)?;
+    let mut read = most;
+    for _ in 0..DOUBLINGS {
+        let tuples = source.view.first_of(source.alloc, &from, read)?;
+        let parents = parents_among(source, &tuples, relation)?;
+        if tuples.len() < read || parents.len() >= most {
+            return Ok(parents);
+        }
+        read = read.saturating_add(read);
+    }
     let tuples = source.view.tuples_of(source.alloc, &from)?;
+    parents_among(source, &tuples, relation)
+}
+
+/// The nodes of the relation of the objects that are subjects of the tuples, as far as their namespaces have it.
+fn parents_among(
+    source: &Source,
+    tuples: &[Tuple],
+    relation: &Name,
+) -> Result<Vec<Node>, AllocError>
+    requires { IsSource source.now }
+    ensures { IfOk result (λ v. v.items
+        ≡ filter_map (parent source.now.view.now.config relation.now) (map (λ t. t.subject) tuples.now)) }
+{
     let mut parents = Vec::new(source.alloc);
-    for tuple in &tuples {
+    for tuple in tuples {
         match parent(source, &tuple.subject, relation)? {
             Some(parent) => parents.push(parent)?,
             None => {}

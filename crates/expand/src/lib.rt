@@ -6,6 +6,7 @@ mod expanding;
 mod law;
 mod limits;
 mod tree;
+mod valid;
 mod walk;
 
 pub use expanding::expand_at;

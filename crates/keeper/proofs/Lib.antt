@@ -1,2 +1,9 @@
 pub mod Refreshing
+pub mod Changing
+pub mod Writing
+pub mod Configuring
+pub mod Checking
+pub mod Expanding
+pub mod CatchingUp
+pub mod Stating
 pub mod Answering

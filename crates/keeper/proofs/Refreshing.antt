@@ -12,7 +12,7 @@ use Rattle.tables.specs.declared.tables.Tables.{Ghosts}
 use Rattle.published.proofs.Prefixes.{prefix_self, prefix_trans}
 use Rattle.keeper_core.specs.Posts.{Posts, ShowsMore, SameTables}
 use Rattle.keeper_core.specs.Changes.{Touches, leaves_alone, adds_one, Refuses, IsRefused}
-use Rattle.keeper.specs.Rules.{OnlyShows}
+use Rattle.keeper.specs.Showing.{OnlyShows}
 
 -- a desk that stayed as it was shows no less
 pub shows_itself : {T : Type 0} (d : Posts T) → IsPrefix d.shown d.posted → OnlyShows d d

@@ -1,1 +1,3 @@
+pub mod Showing
+pub mod calls
 pub mod Rules

@@ -1,5 +1,5 @@
 //! The desk: what lies under a store's lock.
-ghost use Rattle.std.specs.Prelude.{◌≡◌, ◌↔◌, ◌⊎◌, ◌+◌, ◌∷◌, [], None, true, false, Err, IsTrue, IfOk, IfErr, OnOk};
+ghost use Rattle.std.specs.Prelude.{◌≡◌, ◌≤◌, ◌↔◌, ◌⊎◌, ◌+◌, ◌∷◌, [], None, true, false, Err, IsTrue, IfOk, IfErr, OnOk};
 ghost use mathlib.Core.List.{IsPrefix};
 ghost use Rattle.names.specs.declared.commit.Commit.TheVariants.{Config as ConfigCommit};
 ghost use Rattle.names.specs.declared.refusal.Refusal.TheVariants.{Memory, NoSeat, Reopen};
@@ -9,7 +9,9 @@ ghost use Rattle.rows.specs.Follows.{IsAccepted, IsNext};
 ghost use Rattle.rows.specs.Judging.{ConfigRefused};
 ghost use Rattle.shown.specs.declared.step.Step.TheVariants.{Commit as CommitStep, Take};
 ghost use Rattle.shown.specs.Standing.{standing, state_of, cursor_of};
+ghost use Rattle.expand.specs.declared.limits.TheConstants.{MAX_DEPTH};
 ghost use Rattle.shown.specs.Answers.{IsAnswer, IsRefusal};
+ghost use Rattle.shown.specs.Expanding.{IsTree, IsTreeRefusal};
 ghost use Rattle.tables.specs.Device.{IsOpen};
 ghost use Rattle.tables.specs.Opening.{CannotOpen};
 ghost use Rattle.tables.specs.Storing.{PutsAbsent};
@@ -23,6 +25,7 @@ use crate::latched_tables::{LatchedTables, load};
 use crate::opening::publish_first;
 use crate::storing::store;
 use config::Config;
+use expand::Tree;
 use names::limits::MAX_CATCH_UP;
 use names::{Commit, Condition, Items, Node, Object, Op, Part, Refusal, State, Write};
 use published::{Opened, Publication, Receipt, Session};
@@ -222,6 +225,24 @@ impl<T: Tables + Drop, R: Wait + Drop> Desk<T, R> {
         ensures beginning { IsPrefix self.now.shown self.now.posted }
     {
         self.publication.shown().check(consistency, node, user)
+    }
+
+    /// The userset tree of the node, at a shown revision that is as fresh as is asked. At most `depth` nodes are open on a
+    /// path of it, 1 to 8.
+    pub fn expand(
+        &self,
+        consistency: &Consistency,
+        node: &Node,
+        depth: u8,
+    ) -> Result<Answer<Tree>, Refused>
+        requires opens { 1 ≤ depth }
+        requires bounded { depth ≤ MAX_DEPTH }
+        ensures ok { IfOk result (IsTree (standing self.now.shown) consistency.now node.now depth) }
+        ensures err { IfErr result
+            (IsTreeRefusal (standing self.now.shown) consistency.now node.now depth) }
+        ensures beginning { IsPrefix self.now.shown self.now.posted }
+    {
+        self.publication.shown().expand(consistency, node, depth)
     }
 
     /// The shown revisions, and how large the history is at the newest of them.

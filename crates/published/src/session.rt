@@ -1,9 +1,11 @@
 //! A session asks the published state, with no lock and no wait.
-ghost use Rattle.std.specs.Prelude.{◌≡◌, ◌⊎◌, IfOk, IfErr, IfSome, IfNone, Some, None};
+ghost use Rattle.std.specs.Prelude.{◌≡◌, ◌≤◌, ◌⊎◌, IfOk, IfErr, IfSome, IfNone, Some, None};
 ghost use Rattle.names.specs.declared.refusal.Refusal.TheVariants.{Reopen};
 ghost use Rattle.left_right.specs.Sides.{view};
 ghost use Rattle.shown.specs.Standing.{standing, state_of};
+ghost use Rattle.expand.specs.declared.limits.TheConstants.{MAX_DEPTH};
 ghost use Rattle.shown.specs.Answers.{IsAnswer, IsRefusal};
+ghost use Rattle.shown.specs.Expanding.{IsTree, IsTreeRefusal};
 ghost use Rattle.published.specs.Known.{Known, Begins};
 ghost use Rattle.published.specs.Copies.{KnowsNoMore};
 ghost use Rattle.published.specs.Answering.{IsRefusedIn};
@@ -12,6 +14,7 @@ use crate::book::StepPrefix;
 use crate::receipt::Receipt;
 use crate::rule::{CopyReader, Seeing};
 use core::mem::replace_with;
+use expand::Tree;
 use names::{Node, Object, Refusal, State};
 use shown::{Answer, Refused};
 use std::marker::Model;
@@ -68,7 +71,7 @@ impl Session {
             node,
             user,
         };
-        let Some((answer, prefix)) = replace_with(&mut self.reader, question, look) else {
+        let Some((answer, _, prefix)) = replace_with(&mut self.reader, question, look) else {
             return Err(no_publication());
         };
         if !self.known.begins(&prefix) {
@@ -78,13 +81,106 @@ impl Session {
         answer
     }
 
+    /// The same, beside the number of the store, for the zookie of the answer. There is none where the publication
+    /// is gone.
+    pub fn check_in_store(
+        &mut self,
+        consistency: &Consistency,
+        node: &Node,
+        user: &Object,
+    ) -> Option<(u64, Result<Answer<bool>, Refused>)>
+        ensures number { IfSome result (λ asked.
+            asked.0 ≡ (standing self.new.steps).kept.number) }
+        ensures ok { IfSome result (λ asked. IfOk asked.1
+            (IsAnswer (standing self.new.steps) consistency.now node.now user.now)) }
+        ensures err { IfSome result (λ asked. IfErr asked.1
+            (IsRefusal (standing self.new.steps) consistency.now node.now)) }
+        ensures none { IfNone result (self.new ≡ self.old) }
+        ensures later { Begins self.old self.new }
+    {
+        let question = Question {
+            consistency,
+            node,
+            user,
+        };
+        let (checked, number, prefix) = replace_with(&mut self.reader, question, look)?;
+        if !self.known.begins(&prefix) {
+            return None;
+        }
+        self.known = prefix;
+        Some((number, checked))
+    }
+
+    /// The userset tree of the node, at the revision that the consistency chooses. At most `depth` nodes are open on a
+    /// path of it, 1 to 8.
+    pub fn expand(
+        &mut self,
+        consistency: &Consistency,
+        node: &Node,
+        depth: u8,
+    ) -> Result<Answer<Tree>, Refused>
+        requires opens { 1 ≤ depth }
+        requires bounded { depth ≤ MAX_DEPTH }
+        ensures ok { IfOk result (IsTree (standing self.new.steps) consistency.now node.now depth) }
+        ensures err { IfErr result (IsRefusedIn self.old self.new
+            (IsTreeRefusal (standing self.new.steps) consistency.now node.now depth)) }
+        ensures later { Begins self.old self.new }
+    {
+        let question = TreeQuestion {
+            consistency,
+            node,
+            depth,
+        };
+        let Some((answer, _, prefix)) = replace_with(&mut self.reader, question, look_at_tree)
+        else {
+            return Err(no_publication());
+        };
+        if !self.known.begins(&prefix) {
+            return Err(no_publication());
+        }
+        self.known = prefix;
+        answer
+    }
+
+    /// The same tree, beside the number of the store, for the zookie of the answer. There is none where the publication
+    /// is gone.
+    pub fn expand_in_store(
+        &mut self,
+        consistency: &Consistency,
+        node: &Node,
+        depth: u8,
+    ) -> Option<(u64, Result<Answer<Tree>, Refused>)>
+        requires opens { 1 ≤ depth }
+        requires bounded { depth ≤ MAX_DEPTH }
+        ensures number { IfSome result (λ asked.
+            asked.0 ≡ (standing self.new.steps).kept.number) }
+        ensures ok { IfSome result (λ asked. IfOk asked.1
+            (IsTree (standing self.new.steps) consistency.now node.now depth)) }
+        ensures err { IfSome result (λ asked. IfErr asked.1
+            (IsTreeRefusal (standing self.new.steps) consistency.now node.now depth)) }
+        ensures none { IfNone result (self.new ≡ self.old) }
+        ensures later { Begins self.old self.new }
+    {
+        let question = TreeQuestion {
+            consistency,
+            node,
+            depth,
+        };
+        let (found, number, prefix) = replace_with(&mut self.reader, question, look_at_tree)?;
+        if !self.known.begins(&prefix) {
+            return None;
+        }
+        self.known = prefix;
+        Some((number, found))
+    }
+
     /// Revisions, and how large the history is.
     pub fn state(&mut self) -> Result<State, Refusal>
         ensures ok { IfOk result (λ state. state ≡ state_of (standing self.new.steps)) }
         ensures err { IfErr result (λ why. (why ≡ Reopen) × (self.new ≡ self.old)) }
         ensures later { Begins self.old self.new }
     {
-        let Some((state, prefix)) = replace_with(&mut self.reader, (), look_at_state) else {
+        let Some((state, _, prefix)) = replace_with(&mut self.reader, (), look_at_state) else {
             return Err(Refusal::Reopen);
         };
         if !self.known.begins(&prefix) {
@@ -92,6 +188,22 @@ impl Session {
         }
         self.known = prefix;
         Ok(state)
+    }
+
+    /// The same, beside the number of the store. There is none where the publication is gone.
+    pub fn state_in_store(&mut self) -> Option<(u64, State)>
+        ensures number { IfSome result (λ told.
+            told.0 ≡ (standing self.new.steps).kept.number) }
+        ensures state { IfSome result (λ told. told.1 ≡ state_of (standing self.new.steps)) }
+        ensures none { IfNone result (self.new ≡ self.old) }
+        ensures later { Begins self.old self.new }
+    {
+        let (numbers, number, prefix) = replace_with(&mut self.reader, (), look_at_state)?;
+        if !self.known.begins(&prefix) {
+            return None;
+        }
+        self.known = prefix;
+        Some((number, numbers))
     }
 
     /// From now on the session knows no less than what the receipt tells. It takes no memory.
@@ -123,6 +235,14 @@ struct Question<'a> {
     user: &'a Object,
 }
 
+// Which tree a session asks for.
+#[derive(Drop)]
+struct TreeQuestion<'a> {
+    consistency: &'a Consistency,
+    node: &'a Node,
+    depth: u8,
+}
+
 // The publication is gone.
 fn no_publication() -> Refused
     ensures { result ≡ record { why = Reopen; at = None } }
@@ -138,14 +258,15 @@ fn look(
     question: Question<'_>,
 ) -> (
     CopyReader,
-    Option<(Result<Answer<bool>, Refused>, StepPrefix)>,
+    Option<(Result<Answer<bool>, Refused>, u64, StepPrefix)>,
 )
     ensures seen { IfSome result.1 (λ seen.
-        KnowsNoMore (view reader.place) seen.1 × (view result.0.place ≡ Some seen.1)) }
+        KnowsNoMore (view reader.place) seen.2 × (view result.0.place ≡ Some seen.2)) }
+    ensures number { IfSome result.1 (λ seen. seen.1 ≡ (standing seen.2.steps).kept.number) }
     ensures ok { IfSome result.1 (λ seen. IfOk seen.0
-        (IsAnswer (standing seen.1.steps) question.entry.consistency.now question.entry.node.now question.entry.user.now)) }
+        (IsAnswer (standing seen.2.steps) question.entry.consistency.now question.entry.node.now question.entry.user.now)) }
     ensures err { IfSome result.1 (λ seen. IfErr seen.0
-        (IsRefusal (standing seen.1.steps) question.entry.consistency.now question.entry.node.now)) }
+        (IsRefusal (standing seen.2.steps) question.entry.consistency.now question.entry.node.now)) }
     ensures refused { IfNone result.1 (view result.0.place ≡ view reader.place) }
 {
     match reader.enter_as::<Seeing>() {
@@ -154,25 +275,63 @@ fn look(
             let answer = copy
                 .shown
                 .check(question.consistency, question.node, question.user);
+            let number = copy.shown.number();
             let prefix = copy.prefix.again();
-            (reading.leave(), Some((answer, prefix)))
+            (reading.leave(), Some((answer, number, prefix)))
         }
         Err(reader) => (reader, None),
     }
 }
 
-fn look_at_state(reader: CopyReader, _question: ()) -> (CopyReader, Option<(State, StepPrefix)>)
+fn look_at_tree(
+    reader: CopyReader,
+    question: TreeQuestion<'_>,
+) -> (
+    CopyReader,
+    Option<(Result<Answer<Tree>, Refused>, u64, StepPrefix)>,
+)
+    requires opens { 1 ≤ question.depth }
+    requires bounded { question.depth ≤ MAX_DEPTH }
     ensures seen { IfSome result.1 (λ seen.
-        KnowsNoMore (view reader.place) seen.1 × (view result.0.place ≡ Some seen.1)) }
-    ensures state { IfSome result.1 (λ seen. seen.0 ≡ state_of (standing seen.1.steps)) }
+        KnowsNoMore (view reader.place) seen.2 × (view result.0.place ≡ Some seen.2)) }
+    ensures number { IfSome result.1 (λ seen. seen.1 ≡ (standing seen.2.steps).kept.number) }
+    ensures ok { IfSome result.1 (λ seen. IfOk seen.0
+        (IsTree (standing seen.2.steps) question.entry.consistency.now question.entry.node.now question.entry.depth)) }
+    ensures err { IfSome result.1 (λ seen. IfErr seen.0
+        (IsTreeRefusal (standing seen.2.steps) question.entry.consistency.now question.entry.node.now question.entry.depth)) }
+    ensures refused { IfNone result.1 (view result.0.place ≡ view reader.place) }
+{
+    match reader.enter_as::<Seeing>() {
+        Ok(reading) => {
+            let copy = reading.get();
+            let answer = copy
+                .shown
+                .expand(question.consistency, question.node, question.depth);
+            let number = copy.shown.number();
+            let prefix = copy.prefix.again();
+            (reading.leave(), Some((answer, number, prefix)))
+        }
+        Err(reader) => (reader, None),
+    }
+}
+
+fn look_at_state(
+    reader: CopyReader,
+    _question: (),
+) -> (CopyReader, Option<(State, u64, StepPrefix)>)
+    ensures seen { IfSome result.1 (λ seen.
+        KnowsNoMore (view reader.place) seen.2 × (view result.0.place ≡ Some seen.2)) }
+    ensures number { IfSome result.1 (λ seen. seen.1 ≡ (standing seen.2.steps).kept.number) }
+    ensures state { IfSome result.1 (λ seen. seen.0 ≡ state_of (standing seen.2.steps)) }
     ensures refused { IfNone result.1 (view result.0.place ≡ view reader.place) }
 {
     match reader.enter_as::<Seeing>() {
         Ok(reading) => {
             let copy = reading.get();
             let state = copy.shown.state();
+            let number = copy.shown.number();
             let prefix = copy.prefix.again();
-            (reading.leave(), Some((state, prefix)))
+            (reading.leave(), Some((state, number, prefix)))
         }
         Err(reader) => (reader, None),
     }

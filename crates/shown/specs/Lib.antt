@@ -1,5 +1,6 @@
 pub mod Standing
 pub mod Answers
+pub mod Expanding
 pub mod World
 pub mod WorldParts
 pub mod Runs

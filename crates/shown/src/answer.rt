@@ -3,7 +3,7 @@
 use names::Refusal;
 
 /// The answer to a question, and the revision that it was asked at.
-#[derive(Clone, Copy, Debug)]
+#[derive(Debug, Drop)]
 pub struct Answer<T> {
     pub rev: u64,
     pub value: T,

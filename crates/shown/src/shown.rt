@@ -11,12 +11,17 @@ ghost use Rattle.rows.specs.Follows.{IsAccepted};
 ghost use Rattle.rows.specs.Judging.{WriteRefused, ConfigRefused};
 ghost use Rattle.rows.specs.Retained.{IsRetained, newest, newest_of, snap_at};
 ghost use Rattle.shown.specs.Standing.{nothing, after_step, after_take, before_commit, cursor_after, state_of, CanGoBack, HasRoom, IsSteady};
+ghost use Rattle.expand.specs.declared.limits.TheConstants.{MAX_DEPTH};
+ghost use Rattle.expand.specs.Causes.{ExpandCause};
+ghost use Rattle.expand.specs.Viewed.{tree_of};
 ghost use Rattle.shown.specs.Answers.{IsAskedAt, IsAnswer, IsRefusal};
+ghost use Rattle.shown.specs.Expanding.{IsTreeOf, IsTree, IsTreeRefusal};
 
 use crate::answer::{Answer, Refused};
 use crate::step::Step;
 use config::Config;
 use decide::Nothing;
+use expand::Tree;
 use names::{Node, Object, Op, Part, Refusal, State};
 use rows::{Loaded, Rows, what_follows_has_room};
 use std::alloc::{AllocError, Global};
@@ -156,6 +161,48 @@ impl Shown {
     {
         let view = self.rows.at(rev);
         decide::check_at(self.alloc, &view, &mut Nothing, node, user)
+    }
+
+    /// The userset tree of the node, at the revision that the consistency chooses. At most `depth` nodes are open on a
+    /// path of it, 1 to 8.
+    pub fn expand(
+        &self,
+        consistency: &Consistency,
+        node: &Node,
+        depth: u8,
+    ) -> Result<Answer<Tree>, Refused>
+        requires opens { 1 ≤ depth }
+        requires bounded { depth ≤ MAX_DEPTH }
+        ensures ok { IfOk result (IsTree self.now consistency.now node.now depth) }
+        ensures err { IfErr result (IsTreeRefusal self.now consistency.now node.now depth) }
+    {
+        let newest = self.rows.newest();
+        if let Err(why) = consistency.judge(self.rows.number(), self.rows.floor(), newest) {
+            return Err(Refused { why, at: None });
+        }
+        let rev = consistency.choose(newest, self.index);
+        match self.expand_at(rev, node, depth) {
+            Ok(value) => Ok(Answer { rev, value }),
+            Err(why) => {
+                let at = match &why {
+                    Refusal::Memory => None,
+                    _ => Some(rev),
+                };
+                Err(Refused { why, at })
+            }
+        }
+    }
+
+    /// The userset tree of the node at a retained revision.
+    fn expand_at(&self, rev: u64, node: &Node, depth: u8) -> Result<Tree, Refusal>
+        requires retained { IsRetained self.now.kept rev }
+        requires opens { 1 ≤ depth }
+        requires bounded { depth ≤ MAX_DEPTH }
+        ensures ok { IfOk result (λ t. IsTreeOf (snap_at self.now.kept rev) node.now depth (tree_of t)) }
+        ensures err { IfErr result (ExpandCause (snap_at self.now.kept rev) node.now depth) }
+    {
+        let view = self.rows.at(rev);
+        expand::expand_at(self.alloc, &view, node, depth)
     }
 
     /// Why the operations are refused, if they are.

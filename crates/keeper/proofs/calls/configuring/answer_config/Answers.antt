@@ -1,0 +1,12 @@
+use Rattle.std.proofs.Common.{sym}
+use Rattle.keeper.proofs.Configuring.{config_unaccepted}
+use Rattle.keeper.proofs.calls.configuring.answer_config.Goals as goal
+
+pub returns-in-Err-clause-step : goal.returns-in-Err-clause-step
+returns-in-Err-clause-step g c = config_unaccepted g.T.Tables c.args.desk.now _ c.in-Err.why _ c.in-Err.ensures.err c.refusal.ensures
+
+pub configure_on-requires : goal.configure_on-requires
+configure_on-requires g c = sym c.requires.0
+
+pub returns-in-Ok-clause-step : goal.returns-in-Ok-clause-step
+returns-in-Ok-clause-step g c = c.configure_on.ensures.step _ c.in-Ok.ensures.ok

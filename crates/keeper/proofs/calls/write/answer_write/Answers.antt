@@ -1,0 +1,12 @@
+use Rattle.std.proofs.Common.{sym}
+use Rattle.keeper.proofs.Writing.{write_unasked}
+use Rattle.keeper.proofs.calls.write.answer_write.Goals as goal
+
+pub returns-in-Err-clause-step : goal.returns-in-Err-clause-step
+returns-in-Err-clause-step g c = write_unasked g.T.Tables c.args.desk.now _ c.in-Err.why _ c.in-Err.ensures.err c.refusal.ensures
+
+pub write_on-requires : goal.write_on-requires
+write_on-requires g c = sym c.requires.0
+
+pub returns-in-Ok-clause-step : goal.returns-in-Ok-clause-step
+returns-in-Ok-clause-step g c = c.write_on.ensures.step _ c.in-Ok.ensures.ok

@@ -1,0 +1,7 @@
+-- What the desk may answer to each call, and what it holds after that.
+pub mod Write
+pub mod Config
+pub mod Check
+pub mod Expand
+pub mod CatchUp
+pub mod State

@@ -1,0 +1,9 @@
+//! What a desk and a session of it do for each call: one module a call.
+
+pub(crate) mod catch_up;
+pub(crate) mod check;
+pub(crate) mod configuring;
+pub(crate) mod expanding;
+pub(crate) mod refusing;
+pub(crate) mod state;
+pub(crate) mod write;
