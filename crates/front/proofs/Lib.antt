@@ -1,0 +1,4 @@
+pub mod Kept
+pub mod Told
+pub mod Grown
+pub mod Changed

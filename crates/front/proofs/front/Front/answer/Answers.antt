@@ -1,0 +1,18 @@
+use Rattle.names.specs.declared.call.Call.TheVariants.{Write, Config, Check, Expand, CatchUp}
+use Rattle.front.proofs.Changed.{step_of}
+use Rattle.front.proofs.front.Front.answer.Goals as goal
+
+pub returns-in-Write : goal.returns-in-Write
+returns-in-Write g c = step_of g.T.Tables c.args.self.now c.args.call Write c.args.body.now _ c.write.new.self c.in-Write.is c.write.ensures
+
+pub returns-in-Config : goal.returns-in-Config
+returns-in-Config g c = step_of g.T.Tables c.args.self.now c.args.call Config c.args.body.now _ c.configure.new.self c.in-Config.is c.configure.ensures
+
+pub returns-in-Check : goal.returns-in-Check
+returns-in-Check g c = step_of g.T.Tables c.args.self.now c.args.call Check c.args.body.now _ c.check.new.self c.in-Check.is c.check.ensures
+
+pub returns-in-Expand : goal.returns-in-Expand
+returns-in-Expand g c = step_of g.T.Tables c.args.self.now c.args.call Expand c.args.body.now _ c.expand.new.self c.in-Expand.is c.expand.ensures
+
+pub returns-in-CatchUp : goal.returns-in-CatchUp
+returns-in-CatchUp g c = step_of g.T.Tables c.args.self.now c.args.call CatchUp c.args.body.now _ c.catch_up.new.self c.in-CatchUp.is c.catch_up.ensures

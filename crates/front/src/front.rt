@@ -1,0 +1,178 @@
+//! Calls by bytes, of one worker.
+ghost use Rattle.std.specs.Prelude.{◌≡◌, IfOk, IfErr};
+ghost use Rattle.names.specs.Calls.{told};
+ghost use Rattle.names.specs.declared.call.Call.TheVariants.{Write, Config, CatchUp};
+ghost use Rattle.names.specs.declared.refusal.Refusal.TheVariants.{NoSeat};
+ghost use Rattle.published.specs.Known.{Begins};
+ghost use Rattle.front.specs.Kept.{IsKnownIn};
+ghost use Rattle.front.specs.Questions.{IsAsked, CheckFrom, StateFrom};
+ghost use Rattle.front.specs.Trees.{IsTreeAsked, ExpandFrom};
+ghost use Rattle.front.specs.Fronts.{ChangeFrom, FrontStep};
+
+use crate::lock::Keeper;
+use crate::questions::{Asked, check_again, check_from, state_from};
+use crate::trees::{AskedTree, expand_again, expand_from};
+use bodies::refusals::refusal;
+use bodies::replies::no_route;
+use bodies::requests::{catch_up_body, write_body};
+use config::Config as Configuration;
+use names::{Call, Refusal, Reply};
+use published::{Naming, Receipt, Session};
+use std::alloc::Global;
+use std::marker::Model;
+use std::sync::Wait;
+use tables::Tables;
+
+/// A keeper, and a session of it. A question is answered by the session, with no lock and no wait; the desk is held for
+/// a change whose body was read, and for a refresh. Contracts see it as what the session knows.
+#[derive(Drop)]
+pub struct Front<'k, T: Tables + Drop, J: Naming, R: Wait + Drop> {
+    alloc: Global,
+    keeper: &'k Keeper<T, J, R>,
+    session: Session,
+}
+
+impl<'k, T: Tables + Drop, J: Naming, R: Wait + Drop> Model for Front<'k, T, J, R> {
+    ghost use Rattle.published.specs.Known.{Known};
+    ghost use Rattle.published.specs.inside.Codes.{coded_known};
+    ghost use Rattle.front.specs.Kept.{IsKnownIn as IsSound};
+
+    ghost Value = { Known };
+
+    ghost coded = { coded_known };
+
+    ghost view = { λ f. f.session };
+
+    ghost invariant = { λ f. IsSound J.book f.session };
+}
+
+impl<'k, T: Tables + Drop, J: Naming, R: Wait + Drop> Front<'k, T, J, R> {
+    /// A front with a session of its own, which knows what is shown now. It is refused where all have been given out.
+    pub fn new<W: Wait>(
+        alloc: Global,
+        rt: &W,
+        keeper: &'k Keeper<T, J, R>,
+    ) -> Result<Front<'k, T, J, R>, Refusal>
+        ensures ok { IfOk result (λ front. IsKnownIn J.book front) }
+        ensures err { IfErr result (λ why. why ≡ NoSeat) }
+    {
+        let session = keeper.hold(rt).session()?;
+        Ok(Front {
+            alloc,
+            keeper,
+            session,
+        })
+    }
+
+    /// Reads a `check` and asks it, with no lock. Where its zookie is of a revision that the session does not know yet,
+    /// it comes back.
+    pub fn ask(&mut self, body: &[u8]) -> Asked
+        ensures { IsAsked self.old body.now result self.new }
+    {
+        check_from(self.alloc, &mut self.session, body)
+    }
+
+    /// Reads an `expand` and asks it, with no lock. Where its zookie is of a revision that the session does not know yet,
+    /// it comes back.
+    pub fn ask_for_tree(&mut self, body: &[u8]) -> AskedTree
+        ensures { IsTreeAsked self.old body.now result self.new }
+    {
+        expand_from(self.alloc, &mut self.session, body)
+    }
+
+    /// Answers `state`, with no lock.
+    pub fn state(&mut self) -> Reply
+        ensures { StateFrom self.old (told result) self.new }
+    {
+        state_from(self.alloc, &mut self.session)
+    }
+
+    /// Lets the session know what is shown now, and shows what waits, as far as there is memory.
+    pub fn refresh<W: Wait>(&mut self, rt: &W) -> Receipt
+        ensures kept { Begins self.old self.new }
+        ensures told { Begins result.published self.new }
+    {
+        self.keeper.hold(rt).refresh(&mut self.session)
+    }
+
+    /// Answers `check`. A question of the future is asked once more after a refresh.
+    pub fn check<W: Wait>(&mut self, rt: &W, body: &[u8]) -> Reply
+        ensures { CheckFrom self.old body.now (told result) self.new }
+    {
+        match self.ask(body) {
+            Asked::Told(reply) => reply,
+            Asked::NotYet(question) => {
+                self.refresh(rt);
+                check_again(self.alloc, &mut self.session, &question)
+            }
+        }
+    }
+
+    /// Answers `expand`. A question of the future is asked once more after a refresh.
+    pub fn expand<W: Wait>(&mut self, rt: &W, body: &[u8]) -> Reply
+        ensures { ExpandFrom self.old body.now (told result) self.new }
+    {
+        match self.ask_for_tree(body) {
+            AskedTree::Told(reply) => reply,
+            AskedTree::NotYet(question) => {
+                self.refresh(rt);
+                expand_again(self.alloc, &mut self.session, &question)
+            }
+        }
+    }
+
+    /// Answers `write`. The desk is held once the body is read.
+    pub fn write<W: Wait>(&mut self, rt: &W, body: &[u8]) -> Reply
+        ensures { ChangeFrom T.Tables self.old Write body.now (told result) self.new }
+    {
+        match write_body(self.alloc, body) {
+            Ok(ops) => self
+                .keeper
+                .hold(rt)
+                .write(self.alloc, &mut self.session, ops),
+            Err(why) => refusal(self.alloc, &why),
+        }
+    }
+
+    /// Answers `config`. The desk is held once the body is read.
+    pub fn configure<W: Wait>(&mut self, rt: &W, body: &[u8]) -> Reply
+        ensures { ChangeFrom T.Tables self.old Config body.now (told result) self.new }
+    {
+        match Configuration::from_json(self.alloc, body) {
+            Ok(config) => self
+                .keeper
+                .hold(rt)
+                .configure(self.alloc, &mut self.session, config),
+            Err(why) => refusal(self.alloc, &why),
+        }
+    }
+
+    /// Answers `catchup`. The desk is held once the body is read.
+    pub fn catch_up<W: Wait>(&mut self, rt: &W, body: &[u8]) -> Reply
+        ensures { ChangeFrom T.Tables self.old CatchUp body.now (told result) self.new }
+    {
+        match catch_up_body(self.alloc, body) {
+            Ok((part, commits)) => {
+                self.keeper
+                    .hold(rt)
+                    .move_cursor(self.alloc, &mut self.session, part, commits)
+            }
+            Err(why) => refusal(self.alloc, &why),
+        }
+    }
+
+    /// Answers a call, whose body is these bytes.
+    pub fn answer<W: Wait>(&mut self, rt: &W, call: Call, body: &[u8]) -> Reply
+        ensures { FrontStep T.Tables self.old call body.now (told result) self.new }
+    {
+        match call {
+            Call::Write => self.write(rt, body),
+            Call::Config => self.configure(rt, body),
+            Call::Check => self.check(rt, body),
+            Call::Expand => self.expand(rt, body),
+            Call::CatchUp => self.catch_up(rt, body),
+            Call::State => self.state(),
+            _ => no_route(self.alloc),
+        }
+    }
+}

@@ -1,0 +1,14 @@
+//! One worker of many: it asks a session with no lock, and holds the desk for its changes alone.
+#![tactic(auto)]
+
+mod front;
+mod lock;
+mod locked;
+mod questions;
+mod trees;
+
+pub use front::Front;
+pub use lock::{Keeper, KeptDesk};
+pub use locked::Locked;
+pub use questions::{Asked, Question, check_again, check_from, state_from};
+pub use trees::{AskedTree, TreeQuestion, expand_again, expand_from};

@@ -1,0 +1,47 @@
+//! A front that answers calls, whatever brings them.
+ghost use Rattle.std.specs.Prelude.{◌≡◌};
+
+use crate::front::Front;
+use http_api::Answers;
+use names::{Call, Reply};
+use published::Naming;
+use std::marker::Model;
+use std::sync::Wait;
+use tables::Tables;
+
+/// A front, with the handle that it waits by. Contracts see it as what its session knows.
+#[derive(Drop)]
+pub struct Locked<'k, T: Tables + Drop, J: Naming, R: Wait + Drop, W: Wait> {
+    rt: &'k W,
+    front: Front<'k, T, J, R>,
+}
+
+impl<'k, T: Tables + Drop, J: Naming, R: Wait + Drop, W: Wait> Model for Locked<'k, T, J, R, W> {
+    ghost use Rattle.published.specs.Known.{Known};
+    ghost use Rattle.published.specs.inside.Codes.{coded_known};
+
+    ghost Value = { Known };
+
+    ghost coded = { coded_known };
+
+    ghost view = { λ l. l.front };
+}
+
+impl<'k, T: Tables + Drop, J: Naming, R: Wait + Drop, W: Wait> Locked<'k, T, J, R, W> {
+    /// A front that waits by this handle.
+    pub fn new(rt: &'k W, front: Front<'k, T, J, R>) -> Locked<'k, T, J, R, W>
+        ensures { result ≡ front.entry }
+    {
+        Locked { rt, front }
+    }
+}
+
+impl<'k, T: Tables + Drop, J: Naming, R: Wait + Drop, W: Wait> Answers for Locked<'k, T, J, R, W> {
+    ghost use Rattle.front.specs.Fronts.{FrontStep};
+
+    ghost step = { λ s call body told t. FrontStep T.Tables s call body told t };
+
+    fn answer(&mut self, call: Call, body: &[u8]) -> Reply {
+        self.front.answer(self.rt, call, body)
+    }
+}

@@ -1,0 +1,129 @@
+-- What may be sent to another thread, or shared with one. Rattle finds this by itself for types that do not reach a rewrite,
+-- which holds rewrites; so it is said here for those that do.
+use denote.Param.Send.{IsSend, IsSync, sendable, view_send, view_sync, recorded_send, recorded_sync, struct_send, struct_sync, enum_send, enum_sync}
+use denote.Struct.Struct.{Struct}
+use denote.Enum.Enum.{Enum}
+use denote.Struct.Declared as S
+use denote.Enum.Declared as E
+use Rattle.std.proofs.Crossing.{crosses, Vec-send, Vec-sync}
+use Rattle.config_core.proofs.rewrite.Rewrite.TheLaws.TheKnot.{crosses as rewrites_cross}
+use Rattle.names.proofs.name.Name.TheSendSync as Name
+use Rattle.names.proofs.relation.RelationName.TheSendSync as RelationName
+use Rattle.names.proofs.relation.SubjectType.TheSendSync as SubjectType
+use Rattle.rows_core.proofs.version_map.VersionMap.TheSendSync as VersionMap
+use Rattle.config_core.specs.contracts.rewrite.Rewrite as Rewrite
+use Rattle.config_core.specs.contracts.relation.Relation as Relation
+use Rattle.names.proofs.tuple.Tuple.TheSendSync as Tuple
+use Rattle.config.specs.contracts.config.Config as Config
+use Rattle.tuple_keys.specs.contracts.kept_commit.KeptCommit as KeptCommit
+use Rattle.rows.specs.contracts.loaded.Loaded as Loaded
+use Rattle.shown.specs.contracts.shown.Shown as Shown
+use Rattle.shown.specs.contracts.step.Step as Step
+use Rattle.published.proofs.book.StepPrefix.TheSendSync as StepPrefix
+use Rattle.published.proofs.book.Book.TheSendSync as Book
+use denote.RattleType.{RattleType}
+use Rattle.left_right.proofs.reader.Reader.TheSendSync as Reader
+use Rattle.published.specs.contracts.copy.ShownCopy as ShownCopy
+use Rattle.published.specs.contracts.session.Session as Session
+use Rattle.published.specs.contracts.post.Post as Post
+use Rattle.published.specs.contracts.publisher.Publisher as Publisher
+use Rattle.published.specs.contracts.publication.Publication as Publication
+use Rattle.left_right.proofs.writer.Writer.TheSendSync as Writer
+use Rattle.names.proofs.write.Op.TheSendSync as Op
+use Rattle.names.proofs.items.Items.TheSendSync as Items
+
+Rewrite-field-send : IsSend (Enum (E.shape Rewrite.the_type))
+Rewrite-field-send = search (rewrites_cross, Name.the_send, crosses, sendable) depth 40
+
+Rewrite-field-sync : IsSync (Enum (E.shape Rewrite.the_type))
+Rewrite-field-sync = search (rewrites_cross, Name.the_sync, crosses, sendable) depth 40
+
+pub Relation-send : IsSend Relation.the_row
+Relation-send =
+    let T = Relation.the_type in
+    recorded_send _ _ T.to T.to_one (struct_send (S.shape T) (RelationName.the_field_send, (Vec-send _ SubjectType.the_send, (Rewrite-field-send, (search sendable, tt)))))
+
+pub Relation-sync : IsSync Relation.the_row
+Relation-sync =
+    let T = Relation.the_type in
+    recorded_sync _ _ T.to T.to_one (struct_sync (S.shape T) (RelationName.the_field_sync, (Vec-sync _ SubjectType.the_sync, (Rewrite-field-sync, (search sendable, tt)))))
+
+pub Config-send : IsSend Config.the_row
+Config-send = search (Relation-send, Name.the_send, crosses, sendable) depth 40
+
+pub Config-sync : IsSync Config.the_row
+Config-sync = search (Relation-sync, Name.the_sync, crosses, sendable) depth 40
+
+pub KeptCommit-send : IsSend KeptCommit.the_row
+KeptCommit-send = search (Config-send, Config-sync, crosses, sendable) depth 40
+
+pub KeptCommit-sync : IsSync KeptCommit.the_row
+KeptCommit-sync = search (Config-send, Config-sync, crosses, sendable) depth 40
+
+pub Shown-send : IsSend Shown.the_row
+Shown-send = search (Config-send, KeptCommit-send, VersionMap.the_send, crosses, sendable) depth 40
+
+pub Shown-sync : IsSync Shown.the_row
+Shown-sync = search (Config-sync, KeptCommit-sync, VersionMap.the_sync, crosses, sendable) depth 40
+
+pub Loaded-send : IsSend Loaded.the_row
+Loaded-send = search (Config-send, KeptCommit-send, Tuple.the_send, crosses, sendable) depth 40
+
+pub Loaded-sync : IsSync Loaded.the_row
+Loaded-sync = search (Config-sync, KeptCommit-sync, Tuple.the_sync, crosses, sendable) depth 40
+
+Loaded-field-send : IsSend (Struct (S.shape Loaded.the_type))
+Loaded-field-send = search (Config-send, KeptCommit-send, Tuple.the_send, crosses, sendable) depth 40
+
+Loaded-field-sync : IsSync (Struct (S.shape Loaded.the_type))
+Loaded-field-sync = search (Config-sync, KeptCommit-sync, Tuple.the_sync, crosses, sendable) depth 40
+
+Step-field-send : IsSend (Enum (E.shape Step.the_type))
+Step-field-send = enum_send (E.shape Step.the_type) ((Loaded-field-send, tt), ((KeptCommit-send, tt), ((search sendable, (search sendable, tt)), tt)))
+
+Step-field-sync : IsSync (Enum (E.shape Step.the_type))
+Step-field-sync = enum_sync (E.shape Step.the_type) ((Loaded-field-sync, tt), ((KeptCommit-sync, tt), ((search sendable, (search sendable, tt)), tt)))
+
+pub Step-send : IsSend Step.the_row
+Step-send = let T = Step.the_type in recorded_send _ _ T.to T.to_one Step-field-send
+
+pub Step-sync : IsSync Step.the_row
+Step-sync = let T = Step.the_type in recorded_sync _ _ T.to T.to_one Step-field-sync
+
+ShownCopy-field-send : IsSend (Struct (S.shape ShownCopy.the_type))
+ShownCopy-field-send = search (Shown-send, StepPrefix.the_send, sendable) depth 40
+
+ShownCopy-field-sync : IsSync (Struct (S.shape ShownCopy.the_type))
+ShownCopy-field-sync = search (Shown-sync, StepPrefix.the_sync, sendable) depth 40
+
+pub ShownCopy-send : IsSend ShownCopy.the_row
+ShownCopy-send = search (Shown-send, StepPrefix.the_send, sendable) depth 40
+
+pub ShownCopy-sync : IsSync ShownCopy.the_row
+ShownCopy-sync = search (Shown-sync, StepPrefix.the_sync, sendable) depth 40
+
+Session-inside-send : IsSend Session.TheInside.the_row
+Session-inside-send = search (Reader.the_field_send, ShownCopy-sync, StepPrefix.the_send, crosses, sendable) depth 40
+
+pub Session-send : IsSend Session.the_row
+Session-send = search (Session-inside-send, sendable) depth 10
+
+pub Post-send : IsSend Post.the_row
+Post-send = search (Step-field-send, Op.the_send, Items.the_send, StepPrefix.the_send, crosses, sendable) depth 40
+
+Publisher-inside-send : (R : RattleType) → IsSend R → IsSend (Publisher.TheInside.the_row R)
+Publisher-inside-send R s =
+    let T = Publisher.TheInside.the_type R in
+    recorded_send _ _ T.to T.to_one (struct_send (S.shape T) (search (Writer.the_field_send, ShownCopy-send, ShownCopy-sync, Post-send, crosses, sendable) depth 40, (s, tt)))
+
+pub Publisher-send : (R : RattleType) → IsSend R → IsSend (Publisher.the_row R)
+Publisher-send R s = search (Publisher-inside-send, sendable) depth 10
+
+Publication-inside-send : (R : RattleType) → IsSend R → IsSend (Publication.TheInside.the_row R)
+Publication-inside-send R s = search (Publisher-send, Book.the_send, StepPrefix.the_send, Step-send, Post-send, Session-send, crosses, sendable) depth 40
+
+pub Publication-send : (R : RattleType) → IsSend R → IsSend (Publication.the_row R)
+Publication-send R s = search (Publication-inside-send, sendable) depth 10
+
+-- for `search`, beside std's own set
+pub ruleset crosses_published = (Config-send, Config-sync, KeptCommit-send, KeptCommit-sync, Loaded-send, Loaded-sync, Shown-send, Shown-sync, Step-send, Step-sync, Session-send, Publication-send)

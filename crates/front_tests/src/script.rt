@@ -1,0 +1,126 @@
+//! The stored script of the program, and what else its lines can ask.
+ghost use Rattle.std.specs.Prelude.{◌≡◌};
+
+use crate::lent;
+use front::{Front, Keeper, Locked};
+use http_api::Answers;
+use names::{Call, Refusal, Reply};
+use published::{Naming, Opened};
+use std::alloc::{AllocError, Global};
+use std::marker::Brand;
+use std::sync::Wait;
+use std::test::*;
+use tables::Listed;
+
+// The calls of the stored script, and calls that are refused.
+const CALLS: [(Call, &str); 17] = [
+    (
+        Call::Config,
+        r#"{"namespaces":{"group":{"member":{"types":["user","group#member"]}},"user":{}}}"#,
+    ),
+    (
+        Call::Write,
+        r#"{"ops":[{"op":"insert","tuple":"group:a#member@group:b#member"},{"op":"insert","tuple":"group:b#member@group:a#member"},{"op":"insert","tuple":"group:b#member@user:ann"}]}"#,
+    ),
+    (
+        Call::Check,
+        r#"{"node":"group:a#member","user":"user:ann"}"#,
+    ),
+    (
+        Call::Write,
+        r#"{"ops":[{"op":"delete","tuple":"group:b#member@user:ann"}]}"#,
+    ),
+    (
+        Call::Check,
+        r#"{"node":"group:a#member","user":"user:ann"}"#,
+    ),
+    (Call::State, ""),
+    (
+        Call::Write,
+        r#"{"ops":[{"op":"delete","tuple":"group:b#member@user:ann"}]}"#,
+    ),
+    (Call::Write, r#"{"ops":[]}"#),
+    (Call::Config, "{}"),
+    (Call::CatchUp, r#"{"part":"index","commits":2}"#),
+    (Call::CatchUp, r#"{"part":"index","commits":65537}"#),
+    (
+        Call::Check,
+        r#"{"at":{"exactly":"AQAAAAAAAAABAAAAAAAAAAI"},"node":"group:a#member","user":"user:ann"}"#,
+    ),
+    (
+        Call::Check,
+        r#"{"at":{"at_least":"AQAAAAAAAAABAAAAAAAAAAk"},"node":"group:a#member","user":"user:ann"}"#,
+    ),
+    (Call::Expand, r#"{"depth":3,"node":"group:a#member"}"#),
+    (Call::Expand, r#"{"depth":9,"node":"group:a#member"}"#),
+    (
+        Call::Expand,
+        r#"{"at":{"at_least":"AQAAAAAAAAABAAAAAAAAAAk"},"depth":1,"node":"group:a#member"}"#,
+    ),
+    (Call::Watch, "{}"),
+];
+
+// What the program answers to the stored script.
+const STORED: &str = r#"200 {"shown":true,"zookie":"AQAAAAAAAAABAAAAAAAAAAE"}
+200 {"shown":true,"zookie":"AQAAAAAAAAABAAAAAAAAAAI"}
+200 {"allowed":true,"zookie":"AQAAAAAAAAABAAAAAAAAAAI"}
+200 {"shown":true,"zookie":"AQAAAAAAAAABAAAAAAAAAAM"}
+200 {"allowed":false,"zookie":"AQAAAAAAAAABAAAAAAAAAAM"}
+"#;
+
+fn put(text: &mut Vec<u8>, reply: Reply) -> Result<(), AllocError> {
+    let (class, body) = match reply {
+        Reply::Said { status, body } => (status, body),
+        Reply::NoMemory => return Err(AllocError),
+    };
+    let digits = match class {
+        200 => b"200 ",
+        400 => b"400 ",
+        404 => b"404 ",
+        409 => b"409 ",
+        _ => b"??? ",
+    };
+    text.extend_from_slice(digits.as_slice())?;
+    text.extend_from_slice(body.as_slice())?;
+    text.extend_from_slice(b"\n".as_slice())
+}
+
+/// The replies to the calls, a line each.
+fn replies_of<A: Answers>(alloc: Global, machine: &mut A) -> Result<Vec<u8>, AllocError> {
+    let mut text = Vec::new(alloc);
+    for (call, body) in CALLS {
+        put(&mut text, machine.answer(call, body.as_bytes()))?;
+    }
+    Ok(text)
+}
+
+fn by_lent<H: Wait + Drop>(handle: H, alloc: Global) -> Result<Vec<u8>, Refusal> {
+    let mut machine = lent::open(handle, alloc)?;
+    Ok(replies_of(alloc, &mut machine)?)
+}
+
+fn by_locked<J: Naming, H: Wait + Drop, W: Wait>(
+    rt: &W,
+    handle: H,
+    alloc: Global,
+    opened: Opened,
+) -> Result<Vec<u8>, Refusal>
+    requires { opened.book ≡ J.book }
+{
+    let tables = Listed::new(alloc, 1);
+    let Ok(keeper) = Keeper::<Listed, J, H>::open(alloc, handle, opened, tables) else {
+        return Err(Refusal::Memory);
+    };
+    let mut machine = Locked::new(rt, Front::new(alloc, rt, &keeper)?);
+    Ok(replies_of(alloc, &mut machine)?)
+}
+
+#[test]
+fn a_worker_is_answered_as_one_who_holds_the_desk(rt: HostRuntime) {
+    let lent = by_lent(&rt, rt.alloc()).unwrap_or(Vec::new(rt.alloc()));
+    let locked = by_locked::<Brand, _, _>(&rt, &rt, rt.alloc(), Opened::new()).unwrap_or(Vec::new(
+        rt.alloc(),
+    ));
+    assert!(rt; locked.as_slice().starts_with(STORED.as_bytes()));
+    assert!(rt; locked.as_slice() == lent.as_slice());
+}

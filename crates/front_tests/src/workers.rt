@@ -1,0 +1,102 @@
+//! Two workers of one keeper, and a session whose keeper is gone.
+ghost use Rattle.std.specs.Prelude.{◌≡◌};
+
+use front::{Asked, Front, Keeper, state_from};
+use names::{Call, Refusal, Reply};
+use published::{Naming, Opened};
+use std::alloc::Global;
+use std::marker::Brand;
+use std::sync::Wait;
+use std::test::*;
+use tables::Listed;
+
+const GROUPS: &[u8] = br#"{"namespaces":{"group":{"member":{"types":["user"]}},"user":{}}}"#;
+
+const INSERT: &[u8] = br#"{"ops":[{"op":"insert","tuple":"group:a#member@user:ann"}]}"#;
+
+const NEXT: &[u8] =
+    br#"{"at":{"at_least":"AQAAAAAAAAABAAAAAAAAAAI"},"node":"group:a#member","user":"user:ann"}"#;
+
+// The status of a reply, or 0.
+fn status_of(reply: &Reply) -> u16 {
+    match reply {
+        Reply::Said { status, .. } => *status,
+        Reply::NoMemory => 0,
+    }
+}
+
+fn keeper_of<J: Naming, H: Wait + Drop>(
+    handle: H,
+    alloc: Global,
+    opened: Opened,
+) -> Result<Keeper<Listed, J, H>, Refusal>
+    requires { opened.book ≡ J.book }
+{
+    match Keeper::open(alloc, handle, opened, Listed::new(alloc, 1)) {
+        Ok(keeper) => Ok(keeper),
+        Err((why, _)) => Err(why),
+    }
+}
+
+fn comes_back(asked: &Asked) -> bool {
+    matches!(asked, Asked::NotYet(_))
+}
+
+// A question of a revision that is not there yet comes back from the session, and is refused after a refresh; once the
+// other worker has written, it is answered.
+fn sees_the_other<J: Naming, H: Wait + Drop, W: Wait>(
+    rt: &W,
+    alloc: Global,
+    keeper: &Keeper<Listed, J, H>,
+) -> Result<bool, Refusal> {
+    let mut one = Front::new(alloc, rt, keeper)?;
+    let mut two = Front::new(alloc, rt, keeper)?;
+    let taken = status_of(&one.configure(rt, GROUPS));
+    let early = comes_back(&two.ask(NEXT));
+    let refused = status_of(&two.check(rt, NEXT));
+    let written = status_of(&one.write(rt, INSERT));
+    let late = comes_back(&two.ask(NEXT));
+    let answered = status_of(&two.answer(rt, Call::Check, NEXT));
+    Ok(taken == 200 && early && refused == 409 && written == 200 && !late && answered == 200)
+}
+
+fn beside<J: Naming, H: Wait + Drop, W: Wait>(
+    rt: &W,
+    handle: H,
+    alloc: Global,
+    opened: Opened,
+) -> Result<bool, Refusal>
+    requires { opened.book ≡ J.book }
+{
+    let keeper = keeper_of::<J, H>(handle, alloc, opened)?;
+    sees_the_other(rt, alloc, &keeper)
+}
+
+#[test]
+fn what_one_worker_writes_the_other_sees(rt: HostRuntime) {
+    let seen = beside::<Brand, _, _>(&rt, &rt, rt.alloc(), Opened::new());
+    assert!(rt; seen.unwrap_or(false));
+}
+
+// Where the keeper is gone, a session is answered 23, and the tables hold what was written.
+fn outlives<J: Naming, H: Wait + Drop, W: Wait>(
+    rt: &W,
+    handle: H,
+    alloc: Global,
+    opened: Opened,
+) -> Result<bool, Refusal>
+    requires { opened.book ≡ J.book }
+{
+    let keeper = keeper_of::<J, H>(handle, alloc, opened)?;
+    let mut session = keeper.hold(rt).session()?;
+    let before = status_of(&state_from(alloc, &mut session));
+    drop(keeper.close());
+    let after = status_of(&state_from(alloc, &mut session));
+    Ok(before == 200 && after == 503)
+}
+
+#[test]
+fn a_session_outlives_its_keeper(rt: HostRuntime) {
+    let closed = outlives::<Brand, _, _>(&rt, &rt, rt.alloc(), Opened::new());
+    assert!(rt; closed.unwrap_or(false));
+}
