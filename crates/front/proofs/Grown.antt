@@ -1,6 +1,6 @@
 -- What a session's answers to questions for trees tell.
 use Rattle.std.proofs.Common.{◌≡◌, ℕ, List, refl, sym, subst}
-use Rattle.std.specs.Prelude.{Option, None, option_map, Result, Ok, Err, IfOk, IfErr}
+use Rattle.std.specs.Prelude.{Option, option_map, Result, Ok, Err, IfOk, IfErr}
 use Rattle.names.specs.declared.node.Node.{Node}
 use Rattle.names.specs.declared.refusal.Refusal.{Refusal}
 use Rattle.names.specs.declared.refusal.Refusal.TheVariants.{Malformed, BadZookie, Memory}

@@ -1,5 +1,5 @@
 -- What stays true of a keeper's desks, and of those who were told of them.
-use Rattle.std.proofs.Common.{◌≡◌, ℕ, List, [], ◌∷◌, refl, ap, sym, ◌∙◌, subst}
+use Rattle.std.proofs.Common.{◌≡◌, ℕ, List, [], ◌∷◌, sym, ◌∙◌, subst}
 use Rattle.std.specs.Prelude.{Result, Ok, Err, IfOk, IfErr}
 use mathlib.Core.List.{IsPrefix}
 use Rattle.logbook.specs.Pages.{Book}

@@ -1,10 +1,10 @@
 -- What a session's answers tell.
-use Rattle.std.proofs.Common.{◌≡◌, ℕ, Bool, List, refl, ap, sym, ◌∙◌, subst, ◌⊎◌, inl, inr}
-use Rattle.std.specs.Prelude.{Option, None, option_map, Result, Ok, Err, IfOk, IfErr}
+use Rattle.std.proofs.Common.{◌≡◌, ℕ, Bool, List, refl, sym, subst, inl, inr}
+use Rattle.std.specs.Prelude.{Option, option_map, Result, Ok, Err, IfOk, IfErr}
 use Rattle.names.specs.declared.node.Node.{Node}
 use Rattle.names.specs.declared.object.Object.{Object}
 use Rattle.names.specs.declared.refusal.Refusal.{Refusal}
-use Rattle.names.specs.declared.refusal.Refusal.TheVariants.{Malformed, BadZookie, Memory, Reopen}
+use Rattle.names.specs.declared.refusal.Refusal.TheVariants.{Malformed, BadZookie, Memory}
 use Rattle.names.specs.declared.state.State.{State}
 use Rattle.zookie.specs.Text.{zookie_text}
 use Rattle.zookie.specs.declared.consistency.Consistency.{Consistency}
@@ -19,7 +19,7 @@ use Rattle.bodies.specs.Requests.{AsksCheck, CheckCause}
 use Rattle.bodies.specs.Replies.{Says, SaysRefusal, SaysRefusalAt, answer_data, state_data}
 use Rattle.front.specs.declared.questions.Asked.{Asked}
 use Rattle.front.specs.declared.questions.Asked.TheVariants.{Told, NotYet}
-use Rattle.front.specs.Questions.{CheckTold, told_answer, told_refusal, told_shut, CheckFrom, from_malformed, from_bad_zookie, from_asked, from_unread, IsAsked, StateFrom}
+use Rattle.front.specs.Questions.{CheckTold, told_answer, told_refusal, CheckFrom, from_malformed, from_bad_zookie, from_asked, from_unread, IsAsked, StateFrom}
 
 -- the body asks no question
 pub unasked : (old : Known) (body : List ℕ) (why : Refusal) (told : Option (ℕ × List ℕ)) → CheckCause body why → SaysRefusal told why → CheckFrom old body told old
