@@ -66,19 +66,10 @@ impl Session {
             (IsRefusal (standing self.new.steps) consistency.now node.now)) }
         ensures later { Begins self.old self.new }
     {
-        let question = Question {
-            consistency,
-            node,
-            user,
-        };
-        let Some((answer, _, prefix)) = replace_with(&mut self.reader, question, look) else {
-            return Err(no_publication());
-        };
-        if !self.known.begins(&prefix) {
-            return Err(no_publication());
+        match self.check_in_store(consistency, node, user) {
+            Some((_, checked)) => checked,
+            None => Err(no_publication()),
         }
-        self.known = prefix;
-        answer
     }
 
     /// The same, beside the number of the store, for the zookie of the answer. There is none where the publication
@@ -126,20 +117,10 @@ impl Session {
             (IsTreeRefusal (standing self.new.steps) consistency.now node.now depth)) }
         ensures later { Begins self.old self.new }
     {
-        let question = TreeQuestion {
-            consistency,
-            node,
-            depth,
-        };
-        let Some((answer, _, prefix)) = replace_with(&mut self.reader, question, look_at_tree)
-        else {
-            return Err(no_publication());
-        };
-        if !self.known.begins(&prefix) {
-            return Err(no_publication());
+        match self.expand_in_store(consistency, node, depth) {
+            Some((_, found)) => found,
+            None => Err(no_publication()),
         }
-        self.known = prefix;
-        answer
     }
 
     /// The same tree, beside the number of the store, for the zookie of the answer. There is none where the publication
@@ -180,14 +161,10 @@ impl Session {
         ensures err { IfErr result (λ why. (why ≡ Reopen) × (self.new ≡ self.old)) }
         ensures later { Begins self.old self.new }
     {
-        let Some((state, _, prefix)) = replace_with(&mut self.reader, (), look_at_state) else {
-            return Err(Refusal::Reopen);
-        };
-        if !self.known.begins(&prefix) {
-            return Err(Refusal::Reopen);
+        match self.state_in_store() {
+            Some((_, numbers)) => Ok(numbers),
+            None => Err(Refusal::Reopen),
         }
-        self.known = prefix;
-        Ok(state)
     }
 
     /// The same, beside the number of the store. There is none where the publication is gone.

@@ -24,7 +24,7 @@ pub struct Desk<R: Wait + Drop> {
 }
 
 /// A desk over a store that holds nothing.
-pub fn open<R: Wait + Drop>(handle: R, alloc: Global) -> Result<Desk<R>, Refusal> {
+pub(crate) fn open<R: Wait + Drop>(handle: R, alloc: Global) -> Result<Desk<R>, Refusal> {
     let Ok(loaded) = Listed::new(alloc, 7).load(alloc) else {
         return Err(Refusal::Memory);
     };
@@ -36,7 +36,7 @@ pub fn open<R: Wait + Drop>(handle: R, alloc: Global) -> Result<Desk<R>, Refusal
 }
 
 /// Posts a configuration.
-pub fn configure<R: Wait + Drop>(
+pub(crate) fn configure<R: Wait + Drop>(
     alloc: Global,
     desk: Desk<R>,
     text: &str,
@@ -50,7 +50,11 @@ pub fn configure<R: Wait + Drop>(
 }
 
 /// Posts that a tuple is inserted.
-pub fn insert<R: Wait + Drop>(alloc: Global, desk: Desk<R>, text: &str) -> Result<Desk<R>, Refusal>
+pub(crate) fn insert<R: Wait + Drop>(
+    alloc: Global,
+    desk: Desk<R>,
+    text: &str,
+) -> Result<Desk<R>, Refusal>
     ensures { IfOk result (λ d. d.publication.book ≡ desk.publication.book) }
 {
     let tuple = Tuple::parse(text)?;
