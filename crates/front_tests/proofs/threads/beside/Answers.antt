@@ -1,6 +1,6 @@
 use denote.Param.Send.{sendable}
 use Rattle.std.proofs.Crossing.{crosses}
-use Rattle.front_tests.proofs.Crossing.{crosses_published}
+use Rattle.front.proofs.Crossing.{crosses_published}
 use Rattle.front_tests.proofs.threads.beside.Goals as goal
 
 pub join-rose-requires-send-F : goal.join-rose-requires-send-F
