@@ -77,8 +77,8 @@ IN_A_CYCLE = re.compile(r"in `[^`]*`, of this cycle of calls")
 ERROR = re.compile(r"(?m)^(?:\./)?(src/\S+\.rt):(\d+):\d+: error")
 # The files of proofs/ that belong to one function. The others may be cited by the crates above.
 OF_A_FUNCTION = re.compile(r"proofs/.+/(Answers|Invariants|Proof)\.antt")
-# What rt ci says of a crate, but for its tests.
-OF_A_CRATE = re.compile(rb"rt: (\w+) (proved|NOT PROVED.*)\n?")
+# What rt ci says of a crate, but for its tests. A kept one was proved by an earlier rt ci on this machine, by the same checksums.
+OF_A_CRATE = re.compile(rb"rt: (\w+) (proved|is kept: .*|NOT PROVED.*)\n?")
 # The memory that is left to others, and how many seconds a check may take to fill most of its own.
 RESERVE, FILLING = 4_000_000_000, 60
 # More jobs seldom make a check faster.
@@ -759,11 +759,12 @@ def is_untouched(crate, since):
 
 
 def is_made_since(crate, since):
-    """Returns whether rt ci, begun at that time, proved the crate as it stands here and left what it made."""
+    """Returns whether rt ci, begun at that time, proved or kept the crate as it stands here and left what was made of it."""
     made = f"{crate.folder}/out/" + (crate.name if crate.is_program else f"rlib/{crate.name}.rlib/format")
     # rt ci writes no stamp: with one, the library is from a developer's own check
     is_own = os.path.isfile(made) and not os.path.exists(f"{crate.folder}/out/rlib/stamp")
-    return is_own and os.stat(made).st_mtime >= since and is_untouched(crate, since)
+    # (a link to what an earlier run made has the time of its last change from this run, not that of its last write)
+    return is_own and os.stat(made).st_ctime >= since and is_untouched(crate, since)
 
 
 def take(crate, since):
@@ -787,7 +788,8 @@ def listen(every, since, proved):
         said = OF_A_CRATE.fullmatch(line)
         if said and said[1] in crates:
             crate = crates[said[1]]
-            proved.tell(crate.name, said[2] == b"proved" and (crate.name in proved.known or take(crate, since)))
+            is_proved = not said[2].startswith(b"NOT PROVED")
+            proved.tell(crate.name, is_proved and (crate.name in proved.known or take(crate, since)))
     for it in every:
         proved.tell(it.name, it.name in proved.known)
 
