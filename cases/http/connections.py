@@ -4,6 +4,7 @@ Each case is a function of CASES, named for what it shows. It is given the progr
 AssertionError where something is not as it should be. Every socket is on 127.0.0.1, each wait is bounded, and each server is
 started on a port that is free and killed at the end.
 """
+import itertools
 import json
 import os
 import re
@@ -11,6 +12,7 @@ import select
 import signal
 import socket
 import subprocess
+import threading
 import time
 
 LIMIT = int(os.environ.get("CASE_SECONDS", "60"))
@@ -137,16 +139,23 @@ def scripts():
 
 
 def calls_are_answered_as_on_lines(program, folder):
-    for script, lines in scripts():
+    for (script, lines), workers in itertools.product(scripts(), ("1", "2", "5")):
         wanted = answered(program, folder, lines)
-        with Server(program, folder) as server, server.connect() as stream:
+        with Server(program, folder, "--workers", workers) as server, server.connect() as stream:
             same(script, wanted, [ask(stream, call, body) for call, body in lines])
-        with Server(program, folder) as server:
+        with Server(program, folder, "--workers", workers) as server:
             apart = []
             for call, body in lines:
                 with server.connect() as stream:
                     apart.append(ask(stream, call, body))
-            same(f"{script}, a connection each", wanted, apart)
+            same(f"{script}, a connection each, {workers} workers", wanted, apart)
+
+
+def calls_are_answered_as_on_lines_by_workers_in_turn(program, folder):
+    for script, lines in scripts():
+        with Server(program, folder, "--workers", "3") as server, server.connect() as one, server.connect() as two, server.connect() as three:
+            streams = itertools.cycle((one, two, three))
+            same(script, answered(program, folder, lines), [ask(next(streams), call, body) for call, body in lines])
 
 
 def requests_may_come_together_or_in_pieces(program, folder):
@@ -229,14 +238,80 @@ def a_connection_that_breaks_off_leaves_the_next_one_answered(program, folder):
                 same(f"after {cut} bytes", (400, NO_RELATION), ask(stream, "check", CHECK))
 
 
-def one_connection_is_served_after_the_other(program, folder):
-    with Server(program, folder) as server, server.connect() as first, server.connect() as second:
+def one_worker_serves_one_connection_after_the_other(program, folder):
+    with Server(program, folder, "--workers", "1") as server, server.connect() as first, server.connect() as second:
         second.sendall(request("check", CHECK))
         for _ in range(3):
             same("the first", (400, NO_RELATION), ask(first, "check", CHECK))
         same("what the second has while the first is open", [], select.select([second], [], [], 0.2)[0])
         first.close()
         same("the second", (400, NO_RELATION), one_reply(second))
+
+
+
+def exactly(zookie, name="ann"):
+    return json.dumps({"at": {"exactly": zookie}, "node": "group:a#member", "user": f"user:{name}"})
+
+
+def what_one_connection_writes_another_reads(program, folder):
+    for words in ([], ["--db", "shared.db", "--store", "1"]):
+        with Server(program, folder, "--workers", "2", *words) as server, server.connect() as one, server.connect() as two:
+            # Both are taken by a worker, and stay.
+            same("config", 200, ask(one, "config", CONFIG)[0])
+            same("state", 200, ask(two, "state")[0])
+            for turn in range(50):
+                status, body = ask(one, "write", insert(f"u{turn}"))
+                same("write", 200, status)
+                zookie = json.loads(body)["zookie"]
+                wanted = (200, f'{{"allowed":true,"zookie":"{zookie}"}}')
+                same("a check exactly at it", wanted, ask(two, "check", exactly(zookie, f"u{turn}")))
+                one, two = two, one
+
+
+def many_connections_are_served_by_few_workers(program, folder):
+    with Server(program, folder, "--workers", "30") as server:
+        streams = [server.connect() for _ in range(100)]
+        for stream in streams:
+            stream.sendall(request("check", CHECK, "Connection: close"))
+        for stream in streams:
+            same("reply", reply(400, NO_RELATION, True), rest(stream))
+            stream.close()
+
+
+def a_silent_connection_holds_up_no_other(program, folder):
+    for sent in (b"", b"POST /v1/ch", request("check", CHECK)[:-1]):
+        with Server(program, folder, "--workers", "2") as server, server.connect() as silent:
+            silent.sendall(sent)
+            for _ in range(5):
+                with server.connect() as stream:
+                    same("another", (400, NO_RELATION), ask(stream, "check", CHECK))
+            same("what the silent one has", [], select.select([silent], [], [], 0)[0])
+            silent.sendall(request("check", CHECK)[len(sent) :])
+            same("what it has once it goes on", (400, NO_RELATION), one_reply(silent))
+
+
+def a_connection_that_breaks_off_leaves_those_beside_it(program, folder):
+    with Server(program, folder, "--workers", "3") as server, server.connect() as beside:
+        same("before", (400, NO_RELATION), ask(beside, "check", CHECK))
+        for cut in (1, 30, 80, 100) * 5:
+            with server.connect() as stream:
+                stream.setsockopt(socket.SOL_SOCKET, socket.SO_LINGER, b"\1\0\0\0\0\0\0\0")
+                stream.sendall(request("check", CHECK)[:cut])
+            same(f"beside one of {cut} bytes", (400, NO_RELATION), ask(beside, "check", CHECK))
+            with server.connect() as stream:
+                same(f"after {cut} bytes", (400, NO_RELATION), ask(stream, "check", CHECK))
+
+
+def many_silent_connections_wait_beside_one_that_is_served(program, folder):
+    with Server(program, folder, "--workers", "4") as server, server.connect() as served:
+        same("before", (400, NO_RELATION), ask(served, "check", CHECK))
+        silent = [server.connect() for _ in range(200)]
+        for _ in range(20):
+            same("beside 200", (400, NO_RELATION), ask(served, "check", CHECK))
+        for stream in silent:
+            stream.close()
+        with server.connect() as stream:
+            same("after them", (400, NO_RELATION), ask(stream, "check", CHECK))
 
 
 def refused(program, folder, *words):
@@ -254,6 +329,15 @@ def a_port_in_use_is_told(program, folder):
         same("a file that is not there comes first", (1, b"zanz: refused 22 StoreFault\n"), missing)
         same("a new file is made first", (1, b"zanz: cannot listen\n"), refused(program, folder, "--db", "new.db", "--store", "7", "--port", port))
     assert answered(program, folder, [("state", "")], "--db", "new.db")[0][0] == 200
+
+
+def the_most_workers_are_thirty(program, folder):
+    for workers in ("1", "30"):
+        with Server(program, folder, "--workers", workers) as server, server.connect() as stream:
+            same(f"{workers} workers", 200, ask(stream, "state")[0])
+    for workers in ("0", "31", "-1", "two", ""):
+        wanted = (2, b"zanz: bad command line\n")
+        same(f"{workers} workers", wanted, refused(program, folder, "--workers", workers, "--port", "0"))
 
 
 def a_port_that_is_given_is_listened_on(program, folder):
@@ -307,15 +391,59 @@ def what_was_accepted_is_there_after_a_kill(program, folder):
             same("the same over HTTP", wanted, [ask(stream, "check", it) for it in checks])
 
 
+def writes_of(server, number, zookies):
+    """Writes until the server is gone, and keeps the zookies of those that were accepted."""
+    try:
+        with server.connect() as stream:
+            while True:
+                status, body = ask(stream, "write", insert(f"u{number}.{len(zookies)}"))
+                same("status", 200, status)
+                zookies.append(json.loads(body)["zookie"])
+    except (AssertionError, OSError):
+        return
+
+
+def what_many_were_told_is_there_after_a_kill(program, folder):
+    for turn in range(3):
+        file, writers = f"many{turn}.db", 5
+        kept = [[] for _ in range(writers)]
+        with Server(program, folder, "--workers", "6", "--db", file, "--store", "1") as server:
+            with server.connect() as stream:
+                same("config", 200, ask(stream, "config", CONFIG)[0])
+            threads = [threading.Thread(target=writes_of, args=(server, number, zookies)) for number, zookies in enumerate(kept)]
+            for it in threads:
+                it.start()
+            time.sleep(0.2 + 0.1 * turn)
+            server.stop()
+            for it in threads:
+                it.join(LIMIT)
+        assert all(kept), "a connection wrote nothing\n"
+        checks = [("check", exactly(zookie, f"u{number}.{n}")) for number, zookies in enumerate(kept) for n, zookie in enumerate(zookies)]
+        *found, state = answered(program, folder, [*checks, ("state", "")], "--db", file)
+        wanted = [(200, f'{{"allowed":true,"zookie":"{zookie}"}}') for zookies in kept for zookie in zookies]
+        same("accepted writes", wanted, found)
+        # Of each connection one more may have been under way.
+        more = json.loads(state[1])["tuples"] - len(wanted)
+        assert 0 <= more <= writers, f"{more} tuples that nobody was told of\n"
+
+
 CASES = [
     calls_are_answered_as_on_lines,
+    calls_are_answered_as_on_lines_by_workers_in_turn,
     requests_may_come_together_or_in_pieces,
     connections_have_these_texts,
     a_refused_body_is_not_waited_for,
     a_refusal_is_seen_by_a_peer_that_still_sends,
     a_connection_that_breaks_off_leaves_the_next_one_answered,
-    one_connection_is_served_after_the_other,
+    one_worker_serves_one_connection_after_the_other,
+    what_one_connection_writes_another_reads,
+    many_connections_are_served_by_few_workers,
+    a_silent_connection_holds_up_no_other,
+    a_connection_that_breaks_off_leaves_those_beside_it,
+    many_silent_connections_wait_beside_one_that_is_served,
+    the_most_workers_are_thirty,
     a_port_in_use_is_told,
     a_port_that_is_given_is_listened_on,
     what_was_accepted_is_there_after_a_kill,
+    what_many_were_told_is_there_after_a_kill,
 ]
