@@ -4,3 +4,6 @@ pub mod Checking
 pub mod Literals
 pub mod Refusing
 pub mod Branches
+pub mod Naming
+pub mod Cursors
+pub mod Events

@@ -2,3 +2,5 @@ pub mod Replies
 pub mod Requests
 pub mod Expanding
 pub mod Trees
+pub mod Watching
+pub mod Pages

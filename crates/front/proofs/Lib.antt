@@ -2,4 +2,5 @@ pub mod Crossing
 pub mod Kept
 pub mod Told
 pub mod Grown
+pub mod Paged
 pub mod Changed

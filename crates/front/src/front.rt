@@ -7,9 +7,11 @@ ghost use Rattle.published.specs.Known.{Begins};
 ghost use Rattle.front.specs.Kept.{IsKnownIn};
 ghost use Rattle.front.specs.Questions.{IsAsked, CheckFrom, StateFrom};
 ghost use Rattle.front.specs.Trees.{IsTreeAsked, ExpandFrom};
+ghost use Rattle.front.specs.Pages.{IsPageAsked, WatchFrom};
 ghost use Rattle.front.specs.Fronts.{ChangeFrom, FrontStep};
 
 use crate::lock::Keeper;
+use crate::pages::{AskedPage, watch_again, watch_from};
 use crate::questions::{Asked, check_again, check_from, state_from};
 use crate::trees::{AskedTree, expand_again, expand_from};
 use bodies::refusals::refusal;
@@ -80,6 +82,14 @@ impl<'k, T: Tables + Drop, J: Naming, R: Wait + Drop> Front<'k, T, J, R> {
         expand_from(self.alloc, &mut self.session, body)
     }
 
+    /// Reads a `watch` and asks it, with no lock. Where its cursor is of a revision that the session does not know yet,
+    /// it comes back.
+    pub fn ask_for_page(&mut self, body: &[u8]) -> AskedPage
+        ensures { IsPageAsked self.old body.now result self.new }
+    {
+        watch_from(self.alloc, &mut self.session, body)
+    }
+
     /// Answers `state`, with no lock.
     pub fn state(&mut self) -> Reply
         ensures { StateFrom self.old (told result) self.new }
@@ -117,6 +127,19 @@ impl<'k, T: Tables + Drop, J: Naming, R: Wait + Drop> Front<'k, T, J, R> {
             AskedTree::NotYet(question) => {
                 self.refresh(rt);
                 expand_again(self.alloc, &mut self.session, &question)
+            }
+        }
+    }
+
+    /// Answers `watch`. A question of the future is asked once more after a refresh.
+    pub fn watch<W: Wait>(&mut self, rt: &W, body: &[u8]) -> Reply
+        ensures { WatchFrom self.old body.now (told result) self.new }
+    {
+        match self.ask_for_page(body) {
+            AskedPage::Told(reply) => reply,
+            AskedPage::NotYet(question) => {
+                self.refresh(rt);
+                watch_again(self.alloc, &mut self.session, &question)
             }
         }
     }
@@ -170,6 +193,7 @@ impl<'k, T: Tables + Drop, J: Naming, R: Wait + Drop> Front<'k, T, J, R> {
             Call::Config => self.configure(rt, body),
             Call::Check => self.check(rt, body),
             Call::Expand => self.expand(rt, body),
+            Call::Watch => self.watch(rt, body),
             Call::CatchUp => self.catch_up(rt, body),
             Call::State => self.state(),
             _ => no_route(self.alloc),

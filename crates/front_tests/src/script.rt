@@ -13,7 +13,7 @@ use std::test::*;
 use tables::Listed;
 
 // The calls of the stored script, and calls that are refused.
-const CALLS: [(Call, &str); 17] = [
+const CALLS: [(Call, &str); 20] = [
     (
         Call::Config,
         r#"{"namespaces":{"group":{"member":{"types":["user","group#member"]}},"user":{}}}"#,
@@ -58,6 +58,15 @@ const CALLS: [(Call, &str); 17] = [
         r#"{"at":{"at_least":"AQAAAAAAAAABAAAAAAAAAAk"},"depth":1,"node":"group:a#member"}"#,
     ),
     (Call::Watch, "{}"),
+    (
+        Call::Watch,
+        r#"{"commits":256,"cursor":"AQAAAAAAAAABAAAAAAAAAAA"}"#,
+    ),
+    (
+        Call::Watch,
+        r#"{"commits":1,"cursor":"AQAAAAAAAAABAAAAAAAAAAk","namespaces":["group"]}"#,
+    ),
+    (Call::Trim, "{}"),
 ];
 
 // What the program answers to the stored script.

@@ -4,6 +4,7 @@ pub mod Writing
 pub mod Configuring
 pub mod Checking
 pub mod Expanding
+pub mod Watching
 pub mod CatchingUp
 pub mod Stating
 pub mod Answering

@@ -3,5 +3,6 @@ pub mod Write
 pub mod Config
 pub mod Check
 pub mod Expand
+pub mod Watch
 pub mod CatchUp
 pub mod State

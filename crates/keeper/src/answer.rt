@@ -9,6 +9,7 @@ use crate::calls::check::answer_check;
 use crate::calls::configuring::answer_config;
 use crate::calls::expanding::answer_expand;
 use crate::calls::state::answer_state;
+use crate::calls::watching::answer_watch;
 use crate::calls::write::answer_write;
 use bodies::replies::no_route;
 use keeper_core::Desk;
@@ -36,6 +37,7 @@ pub fn answer_on<T: Tables + Drop, R: Wait + Drop>(
         Call::Config => answer_config(alloc, desk, session, body),
         Call::Check => answer_check(alloc, desk, session, body),
         Call::Expand => answer_expand(alloc, desk, session, body),
+        Call::Watch => answer_watch(alloc, desk, session, body),
         Call::CatchUp => answer_catch_up(alloc, desk, session, body),
         Call::State => answer_state(alloc, desk),
         _ => no_route(alloc),

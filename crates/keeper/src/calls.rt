@@ -6,4 +6,5 @@ pub(crate) mod configuring;
 pub(crate) mod expanding;
 pub(crate) mod refusing;
 pub(crate) mod state;
+pub(crate) mod watching;
 pub(crate) mod write;

@@ -12,6 +12,7 @@ ghost use Rattle.shown.specs.Standing.{standing, state_of, cursor_of};
 ghost use Rattle.expand.specs.declared.limits.TheConstants.{MAX_DEPTH};
 ghost use Rattle.shown.specs.Answers.{IsAnswer, IsRefusal};
 ghost use Rattle.shown.specs.Expanding.{IsTree, IsTreeRefusal};
+ghost use Rattle.shown.specs.Watching.{IsWatched, WatchRefused};
 ghost use Rattle.tables.specs.Device.{IsOpen};
 ghost use Rattle.tables.specs.Opening.{CannotOpen};
 ghost use Rattle.tables.specs.Storing.{PutsAbsent};
@@ -36,6 +37,7 @@ use std::marker::Model;
 use std::sync::Wait;
 use tables::{Puts, Tables, puts_of};
 use tuple_keys::KeptCommit;
+use watch::{Namespaces, Page};
 use zookie::{Consistency, Zookie};
 
 /// What a caller is told of a part that takes commits: the revision up to which the part has read them, once
@@ -243,6 +245,22 @@ impl<T: Tables + Drop, R: Wait + Drop> Desk<T, R> {
         ensures beginning { IsPrefix self.now.shown self.now.posted }
     {
         self.publication.shown().expand(consistency, node, depth)
+    }
+
+    /// The events on tuples of the namespaces, of so many shown commits above the cursor's revision, or of as many as there
+    /// are.
+    pub fn watch(
+        &self,
+        cursor: &Zookie,
+        namespaces: &Namespaces,
+        commits: u32,
+    ) -> Result<Page, Refusal>
+        ensures ok { IfOk result
+            (IsWatched (standing self.now.shown) cursor.now namespaces.now commits) }
+        ensures err { IfErr result (WatchRefused (standing self.now.shown) cursor.now) }
+        ensures beginning { IsPrefix self.now.shown self.now.posted }
+    {
+        self.publication.shown().watch(cursor, namespaces, commits)
     }
 
     /// The shown revisions, and how large the history is at the newest of them.

@@ -16,6 +16,7 @@ ghost use Rattle.expand.specs.Causes.{ExpandCause};
 ghost use Rattle.expand.specs.Viewed.{tree_of};
 ghost use Rattle.shown.specs.Answers.{IsAskedAt, IsAnswer, IsRefusal};
 ghost use Rattle.shown.specs.Expanding.{IsTreeOf, IsTree, IsTreeRefusal};
+ghost use Rattle.shown.specs.Watching.{IsWatched, WatchRefused};
 
 use crate::answer::{Answer, Refused};
 use crate::step::Step;
@@ -27,7 +28,8 @@ use rows::{Loaded, Rows, what_follows_has_room};
 use std::alloc::{AllocError, Global};
 use std::marker::Model;
 use tuple_keys::KeptCommit;
-use zookie::Consistency;
+use watch::{Namespaces, Page};
+use zookie::{Consistency, Zookie};
 
 /// The state that questions are asked of, at any retained revision.
 #[derive(Drop)]
@@ -203,6 +205,23 @@ impl Shown {
     {
         let view = self.rows.at(rev);
         expand::expand_at(self.alloc, &view, node, depth)
+    }
+
+    /// The events on tuples of the namespaces, of so many commits above the cursor's revision, or of as many as there are. The
+    /// cursor may be at the floor.
+    pub fn watch(
+        &self,
+        cursor: &Zookie,
+        namespaces: &Namespaces,
+        commits: u32,
+    ) -> Result<Page, Refusal>
+        ensures ok { IfOk result (IsWatched self.now cursor.now namespaces.now commits) }
+        ensures err { IfErr result (WatchRefused self.now cursor.now) }
+    {
+        if cursor.store != self.rows.number() {
+            return Err(Refusal::ForeignZookie);
+        }
+        watch::page(self.alloc, &self.rows, cursor.rev, namespaces, commits)
     }
 
     /// Why the operations are refused, if they are.

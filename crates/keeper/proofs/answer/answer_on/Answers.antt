@@ -1,4 +1,4 @@
-use Rattle.names.specs.declared.call.Call.TheVariants.{Write, Config, Check, Expand, CatchUp, State}
+use Rattle.names.specs.declared.call.Call.TheVariants.{Write, Config, Check, Expand, Watch, CatchUp, State}
 use Rattle.keeper.proofs.Answering.{step_of}
 use Rattle.keeper.proofs.answer.answer_on.Goals as goal
 
@@ -13,6 +13,9 @@ returns-in-Check-clause-step g c = step_of g.T.Tables c.args.desk.now _ Check _ 
 
 pub returns-in-Expand-clause-step : goal.returns-in-Expand-clause-step
 returns-in-Expand-clause-step g c = step_of g.T.Tables c.args.desk.now _ Expand _ _ _ c.in-Expand.is c.answer_expand.ensures.step
+
+pub returns-in-Watch-clause-step : goal.returns-in-Watch-clause-step
+returns-in-Watch-clause-step g c = step_of g.T.Tables c.args.desk.now _ Watch _ _ _ c.in-Watch.is c.answer_watch.ensures.step
 
 pub returns-in-CatchUp-clause-step : goal.returns-in-CatchUp-clause-step
 returns-in-CatchUp-clause-step g c = step_of g.T.Tables c.args.desk.now _ CatchUp _ _ _ c.in-CatchUp.is c.answer_catch_up.ensures.step
