@@ -1,5 +1,5 @@
 -- Why the body of a `watch` is refused.
-use Rattle.std.proofs.Common.{◌≡◌, ℕ, List, sym, ◌∙◌, subst, inl, inr}
+use Rattle.std.proofs.Common.{◌≡◌, ℕ, List, refl, sym, subst}
 use Rattle.std.specs.Prelude.{Option, Some, None, codes}
 use Rattle.names.specs.Refusals.{ReadCause}
 use Rattle.names.specs.declared.refusal.Refusal.{Refusal}

@@ -1,5 +1,5 @@
 -- The values of events.
-use Rattle.std.proofs.Common.{◌≡◌, ℕ, ◌<◌, ◌+◌, ◌≤◌, false, List, [], ◌∷◌, ◌++◌, Result, Ok, Err, IfOk, length, take, map, get_or, refl, sym, ap, ◌∙◌, add-one, suc}
+use Rattle.std.proofs.Common.{◌≡◌, ℕ, false, List, [], ◌∷◌, Result, Ok, Err, IfOk, map, refl, ap, ◌∙◌}
 use Rattle.std.specs.declared.alloc.AllocError.{AllocError}
 use Rattle.serde_json.specs.View.{view, items_of}
 use Rattle.serde_json.specs.Written.{has_float, items_have_float}

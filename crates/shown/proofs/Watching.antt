@@ -1,8 +1,7 @@
 -- A page of a standing.
 use Rattle.std.proofs.Common.{◌≡◌, ℕ, ◌≤◌, ◌+◌, List, sym, ap, ◌∙◌, subst, arith}
-use Rattle.std.specs.Prelude.{min}
+use Rattle.std.specs.Prelude.{min, Result, Ok, Err, IfOk, OnOk}
 use Rattle.names.specs.declared.refusal.Refusal.{Refusal}
-use Rattle.names.specs.declared.refusal.Refusal.TheVariants.{Future, Expired, Memory}
 use Rattle.rows.specs.Retained.{Retained, IsRetained, newest, snap_at, commits_between}
 use Rattle.zookie.specs.declared.Zookie.{Zookie}
 use Rattle.meaning.specs.History.{replay}
@@ -10,11 +9,11 @@ use Rattle.watch.specs.declared.watched.Namespaces.{Namespaces}
 use Rattle.watch.specs.declared.watched.Namespaces.TheVariants.{All}
 use Rattle.watch.specs.declared.watched.WatchedEvent.{WatchedEvent}
 use Rattle.watch.specs.declared.watched.Page.{Page}
-use Rattle.watch.specs.Watched.{IsPage, PageRefused, watched as watched_between}
+use Rattle.watch.specs.Watched.{IsPage, watched as watched_between}
 use Rattle.watch.specs.Replays.{AreAlike, events_of}
 use Rattle.watch.proofs.Alike.{replays, replays_all}
 use Rattle.shown.specs.Standing.{Standing}
-use Rattle.shown.specs.Watching.{IsWatched, WatchRefused}
+use Rattle.shown.specs.Watching.{IsWatched}
 
 -- the heartbeat is between the cursor and the newest revision
 reaches : (from commits last heartbeat : ℕ) → from ≤ last → heartbeat ≡ min (from + commits) last → (from ≤ heartbeat) × (heartbeat ≤ last)
@@ -43,9 +42,8 @@ watched s cursor n commits page store retained is =
       replays_all = all_of r cursor.rev page.heartbeat n page.events retained.not_below bounds.0 bounds.1 is.events;
     }
 
--- a cursor of this store
-pub refused : (s : Standing) (cursor : Zookie) (why : Refusal) → cursor.store ≡ s.kept.number → PageRefused s.kept cursor.rev why → WatchRefused s cursor why
-refused s cursor Future store cause = (λ foreign. foreign store, cause)
-refused s cursor Expired store cause = (λ foreign. foreign store, λ future. omega (arith, cause, future), cause)
-refused s cursor Memory store cause = tt
-refused s cursor _ store cause = absurd cause
+-- what the page of a cursor of this store is
+pub told : (s : Standing) (cursor : Zookie) (n : Namespaces) (commits : ℕ) (r : Result Page Refusal) → cursor.store ≡ s.kept.number → OnOk r (IsRetained s.kept cursor.rev)
+    → IfOk r (IsPage s.kept cursor.rev n commits) → IfOk r (IsWatched s cursor n commits)
+told s cursor n commits (Ok page) store retained is = watched s cursor n commits page store retained is
+told s cursor n commits (Err why) store retained is = is

@@ -1,6 +1,6 @@
 use Rattle.bodies.specs.Watching.{WatchBodyCause}
 use Rattle.bodies.proofs.Checking.{exit}
-use Rattle.bodies.proofs.Cursors.{watch_unasked, cursor_unasked}
+use Rattle.bodies.proofs.Cursors.{watch_unasked}
 use Rattle.bodies.proofs.watching.watch_body.Goals as goal
 
 pub returns-in_err-namespaces-clause-err : goal.returns-in_err-namespaces-clause-err
