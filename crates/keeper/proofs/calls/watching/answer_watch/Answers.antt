@@ -10,6 +10,6 @@ returns-in-Ok-asked-clause-step g c =
     watch_done c.args.desk.now c.ask_for_page-asked.new.desk _ c.in-Ok.asked.0 c.in-Ok.asked.1 c.in-Ok.asked.2 c.number-store.result c.in-Ok-asked.page _
     c.number-store.ensures.posted c.ask_for_page-asked.ensures.shows c.in-Ok.ensures.ok c.in-Ok-asked.ensures.ok c.watched.ensures
 
-pub returns-in-Err-asked-clause-step : goal.returns-in-Err-asked-clause-step
-returns-in-Err-asked-clause-step g c =
+pub returns-clause-step : goal.returns-clause-step
+returns-clause-step g c =
     watch_refused c.in-Ok.asked.0 c.in-Ok.asked.1 c.in-Ok.asked.2 c.in-Err-asked.why c.in-Ok.ensures.ok c.in-Err-asked.ensures.err c.refusal.ensures c.ask_for_page-asked.ensures.shows
