@@ -18,14 +18,14 @@ const NEXT: &[u8] =
     br#"{"at":{"at_least":"AQAAAAAAAAABAAAAAAAAAAI"},"node":"group:a#member","user":"user:ann"}"#;
 
 // The status of a reply, or 0.
-fn status_of(reply: &Reply) -> u16 {
+pub(crate) fn status_of(reply: &Reply) -> u16 {
     match reply {
         Reply::Said { status, .. } => *status,
         Reply::NoMemory => 0,
     }
 }
 
-fn keeper_of<J: Naming, H: Wait + Drop>(
+pub(crate) fn keeper_of<J: Naming, H: Wait + Drop>(
     handle: H,
     alloc: Global,
     opened: Opened,
