@@ -53,7 +53,7 @@ fn start<H: Wait + Drop, N: Net<Listener = TcpListener, Stream = TcpStream>>(
     );
     // A file whose store was refused is left as it is. A refusal to close loses nothing.
     if status == 0
-        && let Some(conn) = left
+        && let Ok(conn) = left
     {
         let _ = close(conn);
     }
