@@ -2,3 +2,4 @@ pub mod Replies
 pub mod Requests
 pub mod Expanding
 pub mod Trees
+pub mod Paging

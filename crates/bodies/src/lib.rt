@@ -2,6 +2,7 @@
 #![tactic(auto)]
 
 mod ops;
+pub mod paging;
 pub mod refusals;
 pub mod replies;
 pub mod requests;

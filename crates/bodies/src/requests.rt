@@ -20,7 +20,7 @@ use std::str;
 use zookie::{Consistency, Zookie};
 
 /// What a body reads as.
-fn read_value(alloc: Global, body: &[u8]) -> Result<Value, Refusal>
+pub(crate) fn read_value(alloc: Global, body: &[u8]) -> Result<Value, Refusal>
     ensures ok { IfOk result (λ v. Reads body.now (view v)) }
     ensures err { IfErr result (ReadCause ((d : Data) → ¬ (Reads body.now d))) }
 {
@@ -90,7 +90,7 @@ fn read_at(at: &Value) -> Result<Consistency, Refusal>
 }
 
 /// How fresh a snapshot a value asks for.
-fn consistency_of(value: &Value) -> Result<Consistency, Refusal>
+pub(crate) fn consistency_of(value: &Value) -> Result<Consistency, Refusal>
     ensures ok { IfOk result (λ c. AsksAt (get (codes "at") (view value.now)) c) }
     ensures err { IfErr result (AtCause (get (codes "at") (view value.now))) }
 {

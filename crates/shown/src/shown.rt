@@ -16,14 +16,15 @@ ghost use Rattle.expand.specs.Causes.{ExpandCause};
 ghost use Rattle.expand.specs.Viewed.{tree_of};
 ghost use Rattle.shown.specs.Answers.{IsAskedAt, IsAnswer, IsRefusal};
 ghost use Rattle.shown.specs.Expanding.{IsTreeOf, IsTree, IsTreeRefusal};
+ghost use Rattle.shown.specs.Paging.{IsPage, IsPageRefusal};
 
 use crate::answer::{Answer, Refused};
 use crate::step::Step;
 use config::Config;
 use decide::Nothing;
 use expand::Tree;
-use names::{Node, Object, Op, Part, Refusal, State};
-use rows::{Loaded, Rows, what_follows_has_room};
+use names::{Items, Node, Object, Op, Part, Refusal, State, Tuple};
+use rows::{Loaded, Rows, Tupleset, what_follows_has_room};
 use std::alloc::{AllocError, Global};
 use std::marker::Model;
 use tuple_keys::KeptCommit;
@@ -203,6 +204,34 @@ impl Shown {
     {
         let view = self.rows.at(rev);
         expand::expand_at(self.alloc, &view, node, depth)
+    }
+
+    /// The page of a tupleset, at the revision that the consistency chooses. A relation that the configuration there lacks has
+    /// no tuples.
+    pub fn read(
+        &self,
+        consistency: &Consistency,
+        asked: &Tupleset,
+    ) -> Result<Answer<Items<Tuple>>, Refused>
+        ensures ok { IfOk result (IsPage self.now consistency.now asked.now) }
+        ensures err { IfErr result (IsPageRefusal self.now consistency.now) }
+    {
+        let newest = self.rows.newest();
+        if let Err(why) = consistency.judge(self.rows.number(), self.rows.floor(), newest) {
+            return Err(Refused { why, at: None });
+        }
+        let rev = consistency.choose(newest, self.index);
+        let page = self.rows.at(rev).read(self.alloc, asked);
+        match page {
+            Ok(tuples) => Ok(Answer {
+                rev,
+                value: Items::of(tuples),
+            }),
+            Err(_) => Err(Refused {
+                why: Refusal::Memory,
+                at: None,
+            }),
+        }
     }
 
     /// Why the operations are refused, if they are.
