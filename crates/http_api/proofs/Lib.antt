@@ -1,4 +1,5 @@
 pub mod Asking
+pub mod Endings
 pub mod Lengths
 pub mod Finding
 pub mod Fields

@@ -10,6 +10,7 @@
 mod answers;
 mod connection;
 mod end;
+mod ending;
 mod framing;
 mod head;
 mod inbox;
