@@ -191,13 +191,100 @@ TALKS = {
 }
 
 
+def with_length(value):
+    """A check, with this value of its length."""
+    return request("check", CHECK).replace(f"Content-Length: {len(CHECK)}".encode(), f"Content-Length: {value}".encode())
+
+
+def with_head_of(size):
+    """A check whose head has so many bytes."""
+    return request("check", CHECK, "a: " + "b" * (size - len(request("check", CHECK, "a: ")) + len(CHECK)))
+
+
+def with_fields(count):
+    """A check whose head has so many fields."""
+    return request("check", CHECK, *["a: b"] * (count - 2))
+
+
+# The same, of hostile peers.
+HOSTILE = {
+    "zeros before the length": (with_length("0041"), reply(400, NO_RELATION)),
+    "an empty length": (with_length(""), reply(400, MALFORMED, True)),
+    "a list of lengths": (with_length("41,41"), reply(400, MALFORMED, True)),
+    "a length of 20 digits": (with_length("0" * 18 + "41"), reply(400, MALFORMED, True)),
+    "a length of 19 digits": (with_length("9" * 19), reply(413, TOO_LARGE, True)),
+    "a length with a space in it": (with_length("4 1"), reply(400, MALFORMED, True)),
+    "a coding before the length": (
+        b"POST /v1/check HTTP/1.1\r\nTransfer-Encoding: chunked\r\nContent-Length: 41\r\n\r\n" + CHECK.encode(),
+        reply(400, MALFORMED, True),
+    ),
+    "a coding and no length": (b"POST /v1/check HTTP/1.1\r\nTransfer-Encoding: chunked\r\n\r\n0\r\n\r\n", reply(400, MALFORMED, True)),
+    "a large body for no route": (with_length("65537").replace(b"/v1/check", b"/v1/none"), reply(413, TOO_LARGE, True)),
+    "no length for no route": (b"POST /v1/none HTTP/1.1\r\n\r\n", reply(411, LENGTH_REQUIRED, True)),
+    "a head of 8192 bytes": (with_head_of(8192), reply(400, NO_RELATION)),
+    "a head of 8193 bytes": (with_head_of(8193), reply(400, MALFORMED, True)),
+    "64 fields": (with_fields(64), reply(400, NO_RELATION)),
+    "65 fields": (with_fields(65), reply(400, MALFORMED, True)),
+    "a slash at the end, then a check": (
+        request("check/", CHECK) + request("check", CHECK),
+        reply(404, NO_ROUTE) + reply(400, NO_RELATION),
+    ),
+    "a host in the target": (request("check", CHECK).replace(b"/v1/check", b"http://zanz/v1/check"), reply(404, NO_ROUTE)),
+    "empty lines with and without CR": (b"\r\n\n" + request("check", CHECK), reply(400, NO_RELATION)),
+    "lines without CR": (request("check", CHECK).replace(b"\r\n", b"\n"), reply(400, NO_RELATION)),
+    "a space before the colon": (request("check", CHECK).replace(b"Length:", b"Length :"), reply(400, MALFORMED, True)),
+    "a folded line": (request("check", CHECK).replace(b"Host: zanz", b"Host: zanz\r\n more"), reply(400, MALFORMED, True)),
+    "a NUL in a field": (request("check", CHECK).replace(b"Host: zanz", b"Host: za\0nz"), reply(400, MALFORMED, True)),
+    "version 2.0": (request("check", CHECK).replace(b"HTTP/1.1", b"HTTP/2.0"), reply(400, MALFORMED, True)),
+    # What ends inside a head, where it can still be ended within 8192 bytes and where it cannot.
+    "8190 bytes that end in a value": (b"GET / HTTP/1.1\r\na:".ljust(8190, b"b"), b""),
+    "8191 bytes that end in a value": (b"GET / HTTP/1.1\r\na:".ljust(8191, b"b"), reply(400, MALFORMED, True)),
+    "8189 bytes that end in a name": (b"GET / HTTP/1.1\r\n".ljust(8189, b"a"), b""),
+    "8190 bytes that end in a name": (b"GET / HTTP/1.1\r\n".ljust(8190, b"a"), reply(400, MALFORMED, True)),
+    "8191 bytes that end behind a line": (b"GET / HTTP/1.1\r\na:".ljust(8190, b"b") + b"\n", b""),
+    "8179 bytes of a method": (b"G" * 8179, b""),
+    "8180 bytes of a method": (b"G" * 8180, reply(400, MALFORMED, True)),
+    "8178 empty lines": (b"\n" * 8178, b""),
+    "8179 empty lines": (b"\n" * 8179, reply(400, MALFORMED, True)),
+    "8191 bytes that end in a target": (b"GET /".ljust(8191, b"a"), b""),
+    "8192 bytes that end in a target": (b"GET /".ljust(8192, b"a"), reply(400, MALFORMED, True)),
+    "a target that is no text": (b"GET /\xff HTTP/1.1\r\n", reply(400, MALFORMED, True)),
+    "a target that is no text, cut short": (b"GET /\xff", b""),
+}
+
+
+def have_these_texts(server, talks):
+    for name, (sent, wanted) in talks.items():
+        with server.connect() as stream:
+            stream.sendall(sent)
+            stream.shutdown(socket.SHUT_WR)
+            same(name, wanted, rest(stream))
+
+
 def connections_have_these_texts(program, folder):
     with Server(program, folder) as server:
-        for name, (sent, wanted) in TALKS.items():
-            with server.connect() as stream:
-                stream.sendall(sent)
-                stream.shutdown(socket.SHUT_WR)
-                same(name, wanted, rest(stream))
+        have_these_texts(server, TALKS)
+
+
+def hostile_connections_have_these_texts(program, folder):
+    with Server(program, folder) as server:
+        have_these_texts(server, HOSTILE)
+
+
+def requests_may_be_cut_at_any_byte(program, folder):
+    one, answer = request("check", CHECK), reply(400, NO_RELATION)
+    with Server(program, folder) as server:
+        cuts = {f"{size} bytes of two checks": ((one + one)[:size], answer * (size // len(one))) for size in range(2 * len(one) + 1)}
+        have_these_texts(server, cuts)
+
+
+def nested_arrays_are_no_configuration(program, folder):
+    shape = '{"error":{"cause":"shape","code":9,"name":"ConfigRefused"}}'
+    json_text = '{"error":{"cause":"json","code":9,"name":"ConfigRefused"}}'
+    with Server(program, folder) as server, server.connect() as stream:
+        for depth, wanted in ((1, shape), (127, shape), (128, json_text), (32768, json_text)):
+            same(f"{depth} arrays", (400, wanted), ask(stream, "config", "[" * depth + "]" * depth))
+        same("afterwards", (400, NO_RELATION), ask(stream, "check", CHECK))
 
 
 def a_refused_body_is_not_waited_for(program, folder):
@@ -311,6 +398,9 @@ CASES = [
     calls_are_answered_as_on_lines,
     requests_may_come_together_or_in_pieces,
     connections_have_these_texts,
+    hostile_connections_have_these_texts,
+    requests_may_be_cut_at_any_byte,
+    nested_arrays_are_no_configuration,
     a_refused_body_is_not_waited_for,
     a_refusal_is_seen_by_a_peer_that_still_sends,
     a_connection_that_breaks_off_leaves_the_next_one_answered,
