@@ -5,6 +5,8 @@
 #include <stddef.h>
 #include <stdio.h>
 #include <stdlib.h>
+#include <sys/syscall.h>
+#include <unistd.h>
 
 static long made;
 
@@ -25,5 +27,13 @@ __attribute__((destructor)) static void tell(void) {
     if (file) {
         fprintf(file, "%ld\n", made);
         fclose(file);
+    }
+}
+
+// As the C library's, which runs no destructor: a program with threads ends by it.
+__attribute__((noreturn)) void _exit(int status) {
+    tell();
+    for (;;) {
+        syscall(SYS_exit_group, status);
     }
 }

@@ -4,13 +4,16 @@ Each case is a function of CASES, named for what it shows. It is given the progr
 AssertionError where something is not as it should be. Every socket is on 127.0.0.1, each wait is bounded, and each server is
 started on a port that is free and killed at the end.
 """
+import itertools
 import json
 import os
 import re
+import resource
 import select
 import signal
 import socket
 import subprocess
+import threading
 import time
 
 LIMIT = int(os.environ.get("CASE_SECONDS", "60"))
@@ -137,16 +140,23 @@ def scripts():
 
 
 def calls_are_answered_as_on_lines(program, folder):
-    for script, lines in scripts():
+    for (script, lines), workers in itertools.product(scripts(), ("1", "2", "5")):
         wanted = answered(program, folder, lines)
-        with Server(program, folder) as server, server.connect() as stream:
+        with Server(program, folder, "--workers", workers) as server, server.connect() as stream:
             same(script, wanted, [ask(stream, call, body) for call, body in lines])
-        with Server(program, folder) as server:
+        with Server(program, folder, "--workers", workers) as server:
             apart = []
             for call, body in lines:
                 with server.connect() as stream:
                     apart.append(ask(stream, call, body))
-            same(f"{script}, a connection each", wanted, apart)
+            same(f"{script}, a connection each, {workers} workers", wanted, apart)
+
+
+def calls_are_answered_as_on_lines_by_workers_in_turn(program, folder):
+    for script, lines in scripts():
+        with Server(program, folder, "--workers", "3") as server, server.connect() as one, server.connect() as two, server.connect() as three:
+            streams = itertools.cycle((one, two, three))
+            same(script, answered(program, folder, lines), [ask(next(streams), call, body) for call, body in lines])
 
 
 def requests_may_come_together_or_in_pieces(program, folder):
@@ -191,13 +201,100 @@ TALKS = {
 }
 
 
+def with_length(value):
+    """A check, with this value of its length."""
+    return request("check", CHECK).replace(f"Content-Length: {len(CHECK)}".encode(), f"Content-Length: {value}".encode())
+
+
+def with_head_of(size):
+    """A check whose head has so many bytes."""
+    return request("check", CHECK, "a: " + "b" * (size - len(request("check", CHECK, "a: ")) + len(CHECK)))
+
+
+def with_fields(count):
+    """A check whose head has so many fields."""
+    return request("check", CHECK, *["a: b"] * (count - 2))
+
+
+# The same, of hostile peers.
+HOSTILE = {
+    "zeros before the length": (with_length("0041"), reply(400, NO_RELATION)),
+    "an empty length": (with_length(""), reply(400, MALFORMED, True)),
+    "a list of lengths": (with_length("41,41"), reply(400, MALFORMED, True)),
+    "a length of 20 digits": (with_length("0" * 18 + "41"), reply(400, MALFORMED, True)),
+    "a length of 19 digits": (with_length("9" * 19), reply(413, TOO_LARGE, True)),
+    "a length with a space in it": (with_length("4 1"), reply(400, MALFORMED, True)),
+    "a coding before the length": (
+        b"POST /v1/check HTTP/1.1\r\nTransfer-Encoding: chunked\r\nContent-Length: 41\r\n\r\n" + CHECK.encode(),
+        reply(400, MALFORMED, True),
+    ),
+    "a coding and no length": (b"POST /v1/check HTTP/1.1\r\nTransfer-Encoding: chunked\r\n\r\n0\r\n\r\n", reply(400, MALFORMED, True)),
+    "a large body for no route": (with_length("65537").replace(b"/v1/check", b"/v1/none"), reply(413, TOO_LARGE, True)),
+    "no length for no route": (b"POST /v1/none HTTP/1.1\r\n\r\n", reply(411, LENGTH_REQUIRED, True)),
+    "a head of 8192 bytes": (with_head_of(8192), reply(400, NO_RELATION)),
+    "a head of 8193 bytes": (with_head_of(8193), reply(400, MALFORMED, True)),
+    "64 fields": (with_fields(64), reply(400, NO_RELATION)),
+    "65 fields": (with_fields(65), reply(400, MALFORMED, True)),
+    "a slash at the end, then a check": (
+        request("check/", CHECK) + request("check", CHECK),
+        reply(404, NO_ROUTE) + reply(400, NO_RELATION),
+    ),
+    "a host in the target": (request("check", CHECK).replace(b"/v1/check", b"http://zanz/v1/check"), reply(404, NO_ROUTE)),
+    "empty lines with and without CR": (b"\r\n\n" + request("check", CHECK), reply(400, NO_RELATION)),
+    "lines without CR": (request("check", CHECK).replace(b"\r\n", b"\n"), reply(400, NO_RELATION)),
+    "a space before the colon": (request("check", CHECK).replace(b"Length:", b"Length :"), reply(400, MALFORMED, True)),
+    "a folded line": (request("check", CHECK).replace(b"Host: zanz", b"Host: zanz\r\n more"), reply(400, MALFORMED, True)),
+    "a NUL in a field": (request("check", CHECK).replace(b"Host: zanz", b"Host: za\0nz"), reply(400, MALFORMED, True)),
+    "version 2.0": (request("check", CHECK).replace(b"HTTP/1.1", b"HTTP/2.0"), reply(400, MALFORMED, True)),
+    # What ends inside a head, where it can still be ended within 8192 bytes and where it cannot.
+    "8190 bytes that end in a value": (b"GET / HTTP/1.1\r\na:".ljust(8190, b"b"), b""),
+    "8191 bytes that end in a value": (b"GET / HTTP/1.1\r\na:".ljust(8191, b"b"), reply(400, MALFORMED, True)),
+    "8189 bytes that end in a name": (b"GET / HTTP/1.1\r\n".ljust(8189, b"a"), b""),
+    "8190 bytes that end in a name": (b"GET / HTTP/1.1\r\n".ljust(8190, b"a"), reply(400, MALFORMED, True)),
+    "8191 bytes that end behind a line": (b"GET / HTTP/1.1\r\na:".ljust(8190, b"b") + b"\n", b""),
+    "8179 bytes of a method": (b"G" * 8179, b""),
+    "8180 bytes of a method": (b"G" * 8180, reply(400, MALFORMED, True)),
+    "8178 empty lines": (b"\n" * 8178, b""),
+    "8179 empty lines": (b"\n" * 8179, reply(400, MALFORMED, True)),
+    "8191 bytes that end in a target": (b"GET /".ljust(8191, b"a"), b""),
+    "8192 bytes that end in a target": (b"GET /".ljust(8192, b"a"), reply(400, MALFORMED, True)),
+    "a target that is no text": (b"GET /\xff HTTP/1.1\r\n", reply(400, MALFORMED, True)),
+    "a target that is no text, cut short": (b"GET /\xff", b""),
+}
+
+
+def have_these_texts(server, talks):
+    for name, (sent, wanted) in talks.items():
+        with server.connect() as stream:
+            stream.sendall(sent)
+            stream.shutdown(socket.SHUT_WR)
+            same(name, wanted, rest(stream))
+
+
 def connections_have_these_texts(program, folder):
     with Server(program, folder) as server:
-        for name, (sent, wanted) in TALKS.items():
-            with server.connect() as stream:
-                stream.sendall(sent)
-                stream.shutdown(socket.SHUT_WR)
-                same(name, wanted, rest(stream))
+        have_these_texts(server, TALKS)
+
+
+def hostile_connections_have_these_texts(program, folder):
+    with Server(program, folder) as server:
+        have_these_texts(server, HOSTILE)
+
+
+def requests_may_be_cut_at_any_byte(program, folder):
+    one, answer = request("check", CHECK), reply(400, NO_RELATION)
+    with Server(program, folder) as server:
+        cuts = {f"{size} bytes of two checks": ((one + one)[:size], answer * (size // len(one))) for size in range(2 * len(one) + 1)}
+        have_these_texts(server, cuts)
+
+
+def nested_arrays_are_no_configuration(program, folder):
+    shape = '{"error":{"cause":"shape","code":9,"name":"ConfigRefused"}}'
+    json_text = '{"error":{"cause":"json","code":9,"name":"ConfigRefused"}}'
+    with Server(program, folder) as server, server.connect() as stream:
+        for depth, wanted in ((1, shape), (127, shape), (128, json_text), (32768, json_text)):
+            same(f"{depth} arrays", (400, wanted), ask(stream, "config", "[" * depth + "]" * depth))
+        same("afterwards", (400, NO_RELATION), ask(stream, "check", CHECK))
 
 
 def a_refused_body_is_not_waited_for(program, folder):
@@ -229,14 +326,81 @@ def a_connection_that_breaks_off_leaves_the_next_one_answered(program, folder):
                 same(f"after {cut} bytes", (400, NO_RELATION), ask(stream, "check", CHECK))
 
 
-def one_connection_is_served_after_the_other(program, folder):
-    with Server(program, folder) as server, server.connect() as first, server.connect() as second:
+def one_worker_serves_one_connection_after_the_other(program, folder):
+    with Server(program, folder, "--workers", "1") as server, server.connect() as first, server.connect() as second:
         second.sendall(request("check", CHECK))
         for _ in range(3):
             same("the first", (400, NO_RELATION), ask(first, "check", CHECK))
         same("what the second has while the first is open", [], select.select([second], [], [], 0.2)[0])
         first.close()
         same("the second", (400, NO_RELATION), one_reply(second))
+
+
+def exactly(zookie, name="ann"):
+    return json.dumps({"at": {"exactly": zookie}, "node": "group:a#member", "user": f"user:{name}"})
+
+
+def what_one_connection_writes_another_reads(program, folder):
+    for words in ([], ["--db", "shared.db", "--store", "1"]):
+        with Server(program, folder, "--workers", "2", *words) as server, server.connect() as one, server.connect() as two:
+            # Both are taken by a worker, and stay.
+            same("config", 200, ask(one, "config", CONFIG)[0])
+            same("state", 200, ask(two, "state")[0])
+            for turn in range(50):
+                status, body = ask(one, "write", insert(f"u{turn}"))
+                same("write", 200, status)
+                zookie = json.loads(body)["zookie"]
+                wanted = (200, f'{{"allowed":true,"zookie":"{zookie}"}}')
+                same("a check exactly at it", wanted, ask(two, "check", exactly(zookie, f"u{turn}")))
+                one, two = two, one
+
+
+def many_connections_are_served_by_few_workers(program, folder):
+    with Server(program, folder, "--workers", "30") as server:
+        streams = [server.connect() for _ in range(100)]
+        for stream in streams:
+            stream.sendall(request("check", CHECK, "Connection: close"))
+        for stream in streams:
+            same("reply", reply(400, NO_RELATION, True), rest(stream))
+            stream.close()
+
+
+def a_silent_connection_holds_up_no_other(program, folder):
+    for sent in (b"", b"POST /v1/ch", request("check", CHECK)[:-1]):
+        with Server(program, folder, "--workers", "2") as server, server.connect() as silent:
+            silent.sendall(sent)
+            for _ in range(5):
+                with server.connect() as stream:
+                    same("another", (400, NO_RELATION), ask(stream, "check", CHECK))
+            same("what the silent one has", [], select.select([silent], [], [], 0)[0])
+            silent.sendall(request("check", CHECK)[len(sent) :])
+            same("what it has once it goes on", (400, NO_RELATION), one_reply(silent))
+
+
+def a_connection_that_breaks_off_leaves_those_beside_it(program, folder):
+    with Server(program, folder, "--workers", "3") as server, server.connect() as beside:
+        same("before", (400, NO_RELATION), ask(beside, "check", CHECK))
+        for cut in (1, 30, 80, 100) * 5:
+            with server.connect() as stream:
+                stream.setsockopt(socket.SOL_SOCKET, socket.SO_LINGER, b"\1\0\0\0\0\0\0\0")
+                stream.sendall(request("check", CHECK)[:cut])
+            same(f"beside one of {cut} bytes", (400, NO_RELATION), ask(beside, "check", CHECK))
+            with server.connect() as stream:
+                same(f"after {cut} bytes", (400, NO_RELATION), ask(stream, "check", CHECK))
+
+
+def many_silent_connections_wait_beside_one_that_is_served(program, folder):
+    # Here and in the program, which is given the same limit.
+    resource.setrlimit(resource.RLIMIT_NOFILE, (4096, max(4096, resource.getrlimit(resource.RLIMIT_NOFILE)[1])))
+    with Server(program, folder, "--workers", "4") as server, server.connect() as served:
+        same("before", (400, NO_RELATION), ask(served, "check", CHECK))
+        silent = [server.connect() for _ in range(1000)]
+        for _ in range(20):
+            same("beside 1,000", (400, NO_RELATION), ask(served, "check", CHECK))
+        for stream in silent:
+            stream.close()
+        with server.connect() as stream:
+            same("after them", (400, NO_RELATION), ask(stream, "check", CHECK))
 
 
 def refused(program, folder, *words):
@@ -254,6 +418,15 @@ def a_port_in_use_is_told(program, folder):
         same("a file that is not there comes first", (1, b"zanz: refused 22 StoreFault\n"), missing)
         same("a new file is made first", (1, b"zanz: cannot listen\n"), refused(program, folder, "--db", "new.db", "--store", "7", "--port", port))
     assert answered(program, folder, [("state", "")], "--db", "new.db")[0][0] == 200
+
+
+def the_most_workers_are_thirty(program, folder):
+    for workers in ("1", "30"):
+        with Server(program, folder, "--workers", workers) as server, server.connect() as stream:
+            same(f"{workers} workers", 200, ask(stream, "state")[0])
+    for workers in ("0", "31", "-1", "two", ""):
+        wanted = (2, b"zanz: bad command line\n")
+        same(f"{workers} workers", wanted, refused(program, folder, "--workers", workers, "--port", "0"))
 
 
 def a_port_that_is_given_is_listened_on(program, folder):
@@ -307,15 +480,62 @@ def what_was_accepted_is_there_after_a_kill(program, folder):
             same("the same over HTTP", wanted, [ask(stream, "check", it) for it in checks])
 
 
+def writes_of(server, number, zookies):
+    """Writes until the server is gone, and keeps the zookies of those that were accepted."""
+    try:
+        with server.connect() as stream:
+            while True:
+                status, body = ask(stream, "write", insert(f"u{number}.{len(zookies)}"))
+                same("status", 200, status)
+                zookies.append(json.loads(body)["zookie"])
+    except (AssertionError, OSError):
+        return
+
+
+def what_many_were_told_is_there_after_a_kill(program, folder):
+    for turn in range(3):
+        file, writers = f"many{turn}.db", 5
+        kept = [[] for _ in range(writers)]
+        with Server(program, folder, "--workers", "6", "--db", file, "--store", "1") as server:
+            with server.connect() as stream:
+                same("config", 200, ask(stream, "config", CONFIG)[0])
+            threads = [threading.Thread(target=writes_of, args=(server, number, zookies)) for number, zookies in enumerate(kept)]
+            for it in threads:
+                it.start()
+            time.sleep(0.2 + 0.1 * turn)
+            server.stop()
+            for it in threads:
+                it.join(LIMIT)
+        assert all(kept), "a connection wrote nothing\n"
+        checks = [("check", exactly(zookie, f"u{number}.{n}")) for number, zookies in enumerate(kept) for n, zookie in enumerate(zookies)]
+        *found, state = answered(program, folder, [*checks, ("state", "")], "--db", file)
+        wanted = [(200, f'{{"allowed":true,"zookie":"{zookie}"}}') for zookies in kept for zookie in zookies]
+        same("accepted writes", wanted, found)
+        # Of each connection one more may have been under way.
+        more = json.loads(state[1])["tuples"] - len(wanted)
+        assert 0 <= more <= writers, f"{more} tuples that nobody was told of\n"
+
+
 CASES = [
     calls_are_answered_as_on_lines,
+    calls_are_answered_as_on_lines_by_workers_in_turn,
     requests_may_come_together_or_in_pieces,
     connections_have_these_texts,
+    hostile_connections_have_these_texts,
+    requests_may_be_cut_at_any_byte,
+    nested_arrays_are_no_configuration,
     a_refused_body_is_not_waited_for,
     a_refusal_is_seen_by_a_peer_that_still_sends,
     a_connection_that_breaks_off_leaves_the_next_one_answered,
-    one_connection_is_served_after_the_other,
+    one_worker_serves_one_connection_after_the_other,
+    what_one_connection_writes_another_reads,
+    many_connections_are_served_by_few_workers,
+    a_silent_connection_holds_up_no_other,
+    a_connection_that_breaks_off_leaves_those_beside_it,
+    many_silent_connections_wait_beside_one_that_is_served,
+    the_most_workers_are_thirty,
     a_port_in_use_is_told,
     a_port_that_is_given_is_listened_on,
     what_was_accepted_is_there_after_a_kill,
+    what_many_were_told_is_there_after_a_kill,
 ]

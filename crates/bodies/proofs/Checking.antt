@@ -2,7 +2,7 @@
 use Rattle.std.proofs.Common.{◌≡◌, ℕ, List, Option, Result, IfErr, subst}
 use Rattle.std.specs.Result.{IsErrAnd}
 use Rattle.std.proofs.lemmas.Result.{err_from_is_err_and}
-use Rattle.names.specs.Refusals.{IsMalformed}
+use Rattle.names.specs.Refusals.{IsMalformed, ReadCause}
 use Rattle.names.specs.declared.refusal.Refusal.{Refusal}
 use Rattle.names.specs.declared.refusal.Refusal.TheVariants.{Malformed, BadZookie, Memory}
 use Rattle.names.specs.declared.node.Node.{Node}
@@ -12,6 +12,8 @@ use Rattle.serde_json.specs.Data.{Data}
 use Rattle.config_core.specs.Reading.{Reads}
 use Rattle.bodies.specs.Requests.{HasZookieText, IsZookieOf, AtCause, CheckOf, CheckCause}
 use Rattle.bodies.specs.Expanding.{ExpandOf, ExpandBodyCause}
+use Rattle.bodies.specs.Paging.{ReadOf, ReadBodyCause}
+use Rattle.rows.specs.declared.tupleset.Tupleset.{Tupleset}
 use Rattle.bodies.proofs.Bytes.{same_read}
 
 -- at the exit of a `?`
@@ -28,3 +30,12 @@ check_unasked body d _ reads not = absurd not
 pub expand_unasked : (body : List ℕ) (d : Data) (e : Refusal) → Reads body d → IsMalformed ((node : Node) (depth : ℕ) → ExpandOf d node depth → ⊥) e → ExpandBodyCause body e
 expand_unasked body d Malformed reads not = λ f. not f.node f.depth (subst (λ (x : Data). ExpandOf x f.node f.depth) (same_read body f.data_read d f.reads reads) f.expand)
 expand_unasked body d _ reads not = absurd not
+
+pub read_unasked : (body : List ℕ) (d : Data) (e : Refusal) → Reads body d → IsMalformed ((asked : Tupleset) → ReadOf d asked → ⊥) e → ReadBodyCause body e
+read_unasked body d Malformed reads not = λ f. not f.asked (subst (λ (x : Data). ReadOf x f.asked) (same_read body f.data_read d f.reads reads) f.read)
+read_unasked body d _ reads not = absurd not
+
+pub read_unread : (body : List ℕ) (e : Refusal) → ReadCause ((d : Data) → Reads body d → ⊥) e → ReadBodyCause body e
+read_unread body Malformed not = λ f. not f.data_read f.reads
+read_unread body Memory not = tt
+read_unread body _ not = absurd not

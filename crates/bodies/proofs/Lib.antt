@@ -2,5 +2,9 @@ pub mod Bytes
 pub mod Asking
 pub mod Checking
 pub mod Literals
+pub mod Listing
 pub mod Refusing
 pub mod Branches
+pub mod Naming
+pub mod Cursors
+pub mod Events

@@ -1,6 +1,6 @@
 -- Userset trees as JSON.
 use Rattle.std.specs.Prelude.{ℕ, List, codes}
-use Rattle.serde_json.specs.Data.{Data, string, array, object, Items, no_items, item, Members, no_members, member}
+use Rattle.serde_json.specs.Data.{Data, array, object, Items, no_items, item, no_members, member}
 use Rattle.names.specs.Spelling.{node_text, object_text}
 use Rattle.expand.specs.UsersetTree.{UsersetTree, UsersetTrees, Opened, One, Closed, Union, Intersection, Exclusion, none, more}
 use Rattle.bodies.specs.Replies.{text_member}

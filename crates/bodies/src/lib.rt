@@ -2,7 +2,10 @@
 #![tactic(auto)]
 
 mod ops;
+pub mod pages;
+pub mod paging;
 pub mod refusals;
 pub mod replies;
 pub mod requests;
 pub mod trees;
+pub mod watching;

@@ -80,7 +80,7 @@ pub fn cursor(alloc: Global, cursor: &Zookie, shown: bool) -> Reply
 }
 
 /// The zookie of a revision of a store, as a value.
-fn rev_value(alloc: Global, store: u64, rev: u64) -> Result<Value, AllocError>
+pub(crate) fn rev_value(alloc: Global, store: u64, rev: u64) -> Result<Value, AllocError>
     ensures { IfOk result (λ v. view v ≡ string (zookie_text store rev)) }
 {
     let text = Zookie { store, rev }.to_text(alloc)?;

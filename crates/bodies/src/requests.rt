@@ -20,7 +20,7 @@ use std::str;
 use zookie::{Consistency, Zookie};
 
 /// What a body reads as.
-fn read_value(alloc: Global, body: &[u8]) -> Result<Value, Refusal>
+pub(crate) fn read_value(alloc: Global, body: &[u8]) -> Result<Value, Refusal>
     ensures ok { IfOk result (λ v. Reads body.now (view v)) }
     ensures err { IfErr result (ReadCause ((d : Data) → ¬ (Reads body.now d))) }
 {
@@ -58,7 +58,7 @@ fn only_text<'a>(value: &'a Value, name: &str) -> Option<&'a str>
 }
 
 /// The zookie that a text is.
-fn zookie_of(text: &str) -> Result<Zookie, Refusal>
+pub(crate) fn zookie_of(text: &str) -> Result<Zookie, Refusal>
     ensures ok { IfOk result (λ z. IsZookieOf text.now z) }
     ensures err { IfErr result (λ e. (e ≡ BadZookie) × ((z : Zookie) → ¬ (IsZookieOf text.now z))) }
 {
@@ -90,7 +90,7 @@ fn read_at(at: &Value) -> Result<Consistency, Refusal>
 }
 
 /// How fresh a snapshot a value asks for.
-fn consistency_of(value: &Value) -> Result<Consistency, Refusal>
+pub(crate) fn consistency_of(value: &Value) -> Result<Consistency, Refusal>
     ensures ok { IfOk result (λ c. AsksAt (get (codes "at") (view value.now)) c) }
     ensures err { IfErr result (AtCause (get (codes "at") (view value.now))) }
 {
@@ -204,7 +204,7 @@ fn part_of(word: &str) -> Option<Part>
 }
 
 /// The number that a member is.
-fn number_of(value: &Value, name: &str) -> Option<u64>
+pub(crate) fn number_of(value: &Value, name: &str) -> Option<u64>
     ensures { result ≡ number_at name.now (view value.now) }
 {
     value.get(name).and_then(Value::as_u64)

@@ -1,6 +1,6 @@
 -- What may be sent to another thread, or shared with one. Rattle finds this by itself for types that do not reach a rewrite,
 -- which holds rewrites; so it is said here for those that do.
-use denote.Param.Send.{IsSend, IsSync, sendable, view_send, view_sync, recorded_send, recorded_sync, struct_send, struct_sync, enum_send, enum_sync}
+use denote.Param.Send.{IsSend, IsSync, sendable, recorded_send, recorded_sync, struct_send, struct_sync, enum_send, enum_sync}
 use denote.Struct.Struct.{Struct}
 use denote.Enum.Enum.{Enum}
 use denote.Struct.Declared as S

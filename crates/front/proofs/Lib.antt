@@ -2,4 +2,6 @@ pub mod Crossing
 pub mod Kept
 pub mod Told
 pub mod Grown
+pub mod Listed
+pub mod Paged
 pub mod Changed

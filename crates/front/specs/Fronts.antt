@@ -1,13 +1,15 @@
 -- What a worker's front may answer to a call, and what its session knows after that.
 use Rattle.std.specs.Prelude.{ℕ, ◌≡◌, List, Option}
 use Rattle.names.specs.declared.call.Call.{Call}
-use Rattle.names.specs.declared.call.Call.TheVariants.{Check, Expand, State}
+use Rattle.names.specs.declared.call.Call.TheVariants.{Check, Read, Expand, Watch, State}
 use Rattle.tables.specs.declared.tables.Tables.{Ghosts}
 use Rattle.published.specs.Known.{Known, Begins}
 use Rattle.keeper_core.specs.Posts.{Posts, shown_by}
 use Rattle.keeper.specs.Rules.{DeskStep}
 use Rattle.front.specs.Questions.{CheckFrom, StateFrom}
+use Rattle.front.specs.Tuples.{ReadFrom}
 use Rattle.front.specs.Trees.{ExpandFrom}
+use Rattle.front.specs.Pages.{WatchFrom}
 
 -- A change, or a call that is not served: whatever a desk holds, it would tell this and stay as it is, and no desk was
 -- asked; or a desk was, which its rules let tell this, and the session then knows no less than it did, and all that the
@@ -23,6 +25,8 @@ pub data ChangeFrom {T : Type 0} (g : Ghosts T)
 abbrev pub FrontStep : {T : Type 0}
     → Ghosts T → Known → Call → List ℕ → Option (ℕ × List ℕ) → Known → Type 0
 FrontStep g old Check body told new = CheckFrom old body told new
+FrontStep g old Read body told new = ReadFrom old body told new
 FrontStep g old Expand body told new = ExpandFrom old body told new
+FrontStep g old Watch body told new = WatchFrom old body told new
 FrontStep g old State body told new = StateFrom old told new
 FrontStep g old call body told new = ChangeFrom g old call body told new

@@ -7,11 +7,15 @@ ghost use Rattle.published.specs.Known.{Begins};
 ghost use Rattle.front.specs.Kept.{IsKnownIn};
 ghost use Rattle.front.specs.Questions.{IsAsked, CheckFrom, StateFrom};
 ghost use Rattle.front.specs.Trees.{IsTreeAsked, ExpandFrom};
+ghost use Rattle.front.specs.Tuples.{AreTuplesAsked, ReadFrom};
+ghost use Rattle.front.specs.Pages.{IsPageAsked, WatchFrom};
 ghost use Rattle.front.specs.Fronts.{ChangeFrom, FrontStep};
 
 use crate::lock::Keeper;
+use crate::pages::{AskedPage, watch_again, watch_from};
 use crate::questions::{Asked, check_again, check_from, state_from};
 use crate::trees::{AskedTree, expand_again, expand_from};
+use crate::tuples::{AskedTuples, read_again, read_from};
 use bodies::refusals::refusal;
 use bodies::replies::no_route;
 use bodies::requests::{catch_up_body, write_body};
@@ -80,6 +84,22 @@ impl<'k, T: Tables + Drop, J: Naming, R: Wait + Drop> Front<'k, T, J, R> {
         expand_from(self.alloc, &mut self.session, body)
     }
 
+    /// Reads a `read` and asks it, with no lock. Where its zookie is of a revision that the session does not know yet,
+    /// it comes back.
+    pub fn ask_for_tuples(&mut self, body: &[u8]) -> AskedTuples
+        ensures { AreTuplesAsked self.old body.now result self.new }
+    {
+        read_from(self.alloc, &mut self.session, body)
+    }
+
+    /// Reads a `watch` and asks it, with no lock. Where its cursor is of a revision that the session does not know yet,
+    /// it comes back.
+    pub fn ask_for_page(&mut self, body: &[u8]) -> AskedPage
+        ensures { IsPageAsked self.old body.now result self.new }
+    {
+        watch_from(self.alloc, &mut self.session, body)
+    }
+
     /// Answers `state`, with no lock.
     pub fn state(&mut self) -> Reply
         ensures { StateFrom self.old (told result) self.new }
@@ -117,6 +137,32 @@ impl<'k, T: Tables + Drop, J: Naming, R: Wait + Drop> Front<'k, T, J, R> {
             AskedTree::NotYet(question) => {
                 self.refresh(rt);
                 expand_again(self.alloc, &mut self.session, &question)
+            }
+        }
+    }
+
+    /// Answers `read`. A question of the future is asked once more after a refresh.
+    pub fn read<W: Wait>(&mut self, rt: &W, body: &[u8]) -> Reply
+        ensures { ReadFrom self.old body.now (told result) self.new }
+    {
+        match self.ask_for_tuples(body) {
+            AskedTuples::Told(reply) => reply,
+            AskedTuples::NotYet(question) => {
+                self.refresh(rt);
+                read_again(self.alloc, &mut self.session, &question)
+            }
+        }
+    }
+
+    /// Answers `watch`. A question of the future is asked once more after a refresh.
+    pub fn watch<W: Wait>(&mut self, rt: &W, body: &[u8]) -> Reply
+        ensures { WatchFrom self.old body.now (told result) self.new }
+    {
+        match self.ask_for_page(body) {
+            AskedPage::Told(reply) => reply,
+            AskedPage::NotYet(question) => {
+                self.refresh(rt);
+                watch_again(self.alloc, &mut self.session, &question)
             }
         }
     }
@@ -170,6 +216,8 @@ impl<'k, T: Tables + Drop, J: Naming, R: Wait + Drop> Front<'k, T, J, R> {
             Call::Config => self.configure(rt, body),
             Call::Check => self.check(rt, body),
             Call::Expand => self.expand(rt, body),
+            Call::Read => self.read(rt, body),
+            Call::Watch => self.watch(rt, body),
             Call::CatchUp => self.catch_up(rt, body),
             Call::State => self.state(),
             _ => no_route(self.alloc),

@@ -4,11 +4,15 @@
 mod front;
 mod lock;
 mod locked;
+mod pages;
 mod questions;
 mod trees;
+mod tuples;
 
 pub use front::Front;
 pub use lock::{Keeper, KeptDesk};
 pub use locked::Locked;
+pub use pages::{AskedPage, PageQuestion, watch_again, watch_from};
 pub use questions::{Asked, Question, check_again, check_from, state_from};
 pub use trees::{AskedTree, TreeQuestion, expand_again, expand_from};
+pub use tuples::{AskedTuples, TuplesQuestion, read_again, read_from};

@@ -13,7 +13,7 @@ use std::test::*;
 use tables::Listed;
 
 // The calls of the stored script, and calls that are refused.
-const CALLS: [(Call, &str); 17] = [
+const CALLS: [(Call, &str); 23] = [
     (
         Call::Config,
         r#"{"namespaces":{"group":{"member":{"types":["user","group#member"]}},"user":{}}}"#,
@@ -57,7 +57,25 @@ const CALLS: [(Call, &str); 17] = [
         Call::Expand,
         r#"{"at":{"at_least":"AQAAAAAAAAABAAAAAAAAAAk"},"depth":1,"node":"group:a#member"}"#,
     ),
+    (Call::Read, "{}"),
+    (
+        Call::Read,
+        r#"{"limit":2,"namespace":"group","object":"b"}"#,
+    ),
+    (
+        Call::Read,
+        r#"{"at":{"exactly":"AQAAAAAAAAABAAAAAAAAAAk"},"namespace":"group"}"#,
+    ),
     (Call::Watch, "{}"),
+    (
+        Call::Watch,
+        r#"{"commits":256,"cursor":"AQAAAAAAAAABAAAAAAAAAAA"}"#,
+    ),
+    (
+        Call::Watch,
+        r#"{"commits":1,"cursor":"AQAAAAAAAAABAAAAAAAAAAk","namespaces":["group"]}"#,
+    ),
+    (Call::Trim, "{}"),
 ];
 
 // What the program answers to the stored script.

@@ -14,7 +14,7 @@ use Rattle.http_api.specs.declared.looking.Heading.{Heading}
 use Rattle.http_api.specs.declared.framing.Framing.TheVariants.{Sized}
 use Rattle.http_api.specs.Ends.{is_read_fault}
 use Rattle.http_api.specs.Machine.{Step}
-use Rattle.http_api.specs.Connection.{Next, stop, NoRequest, HasRequest, Turn, Goes, Text, no_request}
+use Rattle.http_api.specs.Connection.{Next, stop, NoRequest, HasRequest, IsFew, Turn, Goes, Text, no_request}
 use Rattle.http_api.specs.Talks.{Talked, TalkCut}
 use Rattle.http_api.specs.inside.Looking.{HasHeading}
 use Rattle.http_api.specs.inside.Receiving.{IsPause, EndsSo, ReadOn, Ended}
@@ -93,21 +93,25 @@ module _ {S R W : Type 0} (step : Step S) (remaining : R → Option (List ℕ)) 
   }
 
   talked : (first : State S R W) (count : ℕ) (waits : List ℕ) (now : State S R W) (g : Going step remaining contents first count waits now) (more text : List ℕ) (t : S) (w : TrackedWriting W) (end : End)
-      → Turn step now.0 (suc count) (waits ++ more) text t (stop end) → Appends (contents now.2.inner) (contents w.inner) text
+      → IsFew (waits ++ more) → Turn step now.0 (suc count) (waits ++ more) text t (stop end) → Appends (contents now.2.inner) (contents w.inner) text
       → Talked step first.0 (contents first.2.inner) (g.input ++ more) t (contents w.inner) end
-  talked first count waits now g more text t w end turn wrote = record {
+  unfolding text_ends
+  talked first count waits now g more text t w end few turn wrote = record {
     text = g.text ++ text;
     is_text = text_ends first count waits now g more text t (stop end) turn;
+    few = few;
     wrote = appends_both _ _ _ _ _ g.wrote wrote;
   }
 
   cut : (first : State S R W) (count : ℕ) (waits : List ℕ) (now : State S R W) (g : Going step remaining contents first count waits now) (more text : List ℕ) (t : S) (w : TrackedWriting W) (next : Next)
-      → Turn step now.0 (suc count) (waits ++ more) text t next → WroteSome (contents now.2.inner) (contents w.inner) text
+      → IsFew (waits ++ more) → Turn step now.0 (suc count) (waits ++ more) text t next → WroteSome (contents now.2.inner) (contents w.inner) text
       → TalkCut step first.0 (contents first.2.inner) (g.input ++ more) t (contents w.inner)
-  cut first count waits now g more text t w next turn some = record {
+  unfolding text_ends
+  cut first count waits now g more text t w next few turn some = record {
     text = g.text ++ text;
     next = next;
     is_text = text_ends first count waits now g more text t next turn;
+    few = few;
     wrote = some_after _ _ _ _ _ g.wrote some;
   }
 
@@ -120,25 +124,28 @@ module _ {S R W : Type 0} (step : Step S) (remaining : R → Option (List ℕ)) 
       reads = Consumes-trans _ _ _ _ _ g.reads e.reads
 
       by_end : (x : End) → (IsPause x → IsAtEnd (remaining r1.inner)) → EndsSo (waits ++ e.more) (contents w0.inner) (contents w1.inner) x → Finished step remaining contents first (s, r1, w1) x
-      by_end Closed all h = (g.input ++ e.more, (reads, all (inl refl)), talked first count waits (s, r0, w0) g e.more [] s w1 Closed (no_request Closed h.0 refl refl) h.1)
-      by_end Broken all h = (g.input ++ e.more, (reads, all (inr refl)), talked first count waits (s, r0, w0) g e.more [] s w1 Broken (no_request Broken h.0 refl refl) h.1)
-      by_end Asked all h = (g.input ++ e.more, reads, talked first count waits (s, r0, w0) g e.more h.0 s w1 Asked (no_request Asked h.1 refl refl) h.2)
-      by_end ReadFault all (x, inl p, n, wrote) = (g.input ++ e.more, reads, inl (talked first count waits (s, r0, w0) g e.more [] s w1 Closed (no_request Closed (subst (NoRequest (waits ++ e.more) []) p n) refl refl) wrote))
-      by_end ReadFault all (x, inr p, n, wrote) = (g.input ++ e.more, reads, inr (talked first count waits (s, r0, w0) g e.more [] s w1 Broken (no_request Broken (subst (NoRequest (waits ++ e.more) []) p n) refl refl) wrote))
-      by_end WriteFault all (x, text, n, some) = (g.input ++ e.more, reads, cut first count waits (s, r0, w0) g e.more text s w1 (stop x) (no_request x n refl refl) some)
+      by_end Closed all h = (g.input ++ e.more, (reads, all (inl refl)), talked first count waits (s, r0, w0) g e.more [] s w1 Closed e.few (no_request Closed h.0 refl refl) h.1)
+      by_end Broken all h = (g.input ++ e.more, (reads, all (inr refl)), talked first count waits (s, r0, w0) g e.more [] s w1 Broken e.few (no_request Broken h.0 refl refl) h.1)
+      by_end Asked all h = (g.input ++ e.more, reads, talked first count waits (s, r0, w0) g e.more h.0 s w1 Asked e.few (no_request Asked h.1 refl refl) h.2)
+      by_end ReadFault all (x, inl p, n, wrote) = (g.input ++ e.more, reads, inl (talked first count waits (s, r0, w0) g e.more [] s w1 Closed e.few (no_request Closed (subst (NoRequest (waits ++ e.more) []) p n) refl refl) wrote))
+      by_end ReadFault all (x, inr p, n, wrote) = (g.input ++ e.more, reads, inr (talked first count waits (s, r0, w0) g e.more [] s w1 Broken e.few (no_request Broken (subst (NoRequest (waits ++ e.more) []) p n) refl refl) wrote))
+      by_end WriteFault all (x, text, n, some) = (g.input ++ e.more, reads, cut first count waits (s, r0, w0) g e.more text s w1 (stop x) e.few (no_request x n refl refl) some)
       by_end Memory all h = absurd h
 
   -- it ends with a request
   pub settled_finished : (first : State S R W) (count : ℕ) (waits rest : List ℕ) (s t : S) (r : TrackedReading R) (w0 w1 : TrackedWriting W) (end : End)
-      → Going step remaining contents first count waits (s, r, w0) → IsSettled step s (count + 1) waits rest (contents w0.inner) t (contents w1.inner) (Err end)
+      → Going step remaining contents first count waits (s, r, w0) → IsFew waits → IsSettled step s (count + 1) waits rest (contents w0.inner) t (contents w1.inner) (Err end)
       → Finished step remaining contents first (t, r, w1) end × (false ≡ is_read_fault end)
-  settled_finished first count waits rest s t r w0 w1 end g h = by_end end h
+  settled_finished first count waits rest s t r w0 w1 end g few h = by_end end h
     where
       next : count + 1 ≡ suc count
       next = omega arith
 
       input : g.input ++ [] ≡ g.input
       input = append-nil g.input
+
+      still : IsFew (waits ++ [])
+      still = subst IsFew (sym (append-nil waits)) few
 
       here : (n : Next) (text : List ℕ) → Turn step s (count + 1) waits text t n → Turn step s (suc count) (waits ++ []) text t n
       here n text turn =
@@ -147,9 +154,9 @@ module _ {S R W : Type 0} (step : Step S) (remaining : R → Option (List ℕ)) 
           subst P (sym (append-nil waits)) (subst Q next turn)
 
       by_end : (x : End) → IsSettled step s (count + 1) waits rest (contents w0.inner) t (contents w1.inner) (Err x) → Finished step remaining contents first (t, r, w1) x × (false ≡ is_read_fault x)
-      by_end Asked (text, turn, wrote) = ((g.input ++ [], subst (Reads remaining first.1 r) (sym input) g.reads, talked first count waits (s, r, w0) g [] text t w1 Asked (here (stop Asked) text turn) wrote), refl)
-      by_end Memory (text, turn, wrote) = ((g.input ++ [], subst (Reads remaining first.1 r) (sym input) g.reads, talked first count waits (s, r, w0) g [] text t w1 Memory (here (stop Memory) text turn) wrote), refl)
-      by_end WriteFault (text, n, turn, some) = ((g.input ++ [], subst (Reads remaining first.1 r) (sym input) g.reads, cut first count waits (s, r, w0) g [] text t w1 n (here n text turn) some), refl)
+      by_end Asked (text, turn, wrote) = ((g.input ++ [], subst (Reads remaining first.1 r) (sym input) g.reads, talked first count waits (s, r, w0) g [] text t w1 Asked still (here (stop Asked) text turn) wrote), refl)
+      by_end Memory (text, turn, wrote) = ((g.input ++ [], subst (Reads remaining first.1 r) (sym input) g.reads, talked first count waits (s, r, w0) g [] text t w1 Memory still (here (stop Memory) text turn) wrote), refl)
+      by_end WriteFault (text, n, turn, some) = ((g.input ++ [], subst (Reads remaining first.1 r) (sym input) g.reads, cut first count waits (s, r, w0) g [] text t w1 n still (here n text turn) some), refl)
       by_end Closed h = absurd h
       by_end Broken h = absurd h
       by_end ReadFault h = absurd h

@@ -1,4 +1,5 @@
 pub mod Asking
+pub mod Endings
 pub mod Lengths
 pub mod Finding
 pub mod Fields
@@ -6,5 +7,6 @@ pub mod Going
 pub mod Holding
 pub mod Lasting
 pub mod Literal
+pub mod OneText
 pub mod Pausing
 pub mod Settling

@@ -1,5 +1,5 @@
 -- A connection that reads on, or ends before a request has come whole.
-use Rattle.std.proofs.Common.{◌≡◌, ℕ, ◌++◌, Bool, true, false, List, [], ◌∷◌, length, ◌+◌, ◌<◌, drop, refl, sym, ap, ◌∙◌, subst, arith, append_assoc, true≢false, inl, inr}
+use Rattle.std.proofs.Common.{◌≡◌, ℕ, ◌++◌, Bool, true, false, List, [], ◌∷◌, length, ◌+◌, ◌<◌, ◌≤◌, drop, refl, sym, ap, ◌∙◌, subst, arith, append_assoc, true≢false, inl, inr}
 use Rattle.std.specs.Prelude.{Option, Some, None, Result, Ok, Err, MatchResult, is_err}
 use Rattle.std.specs.Io.KnownBytes.{Appends, Consumes, Keeps, IsAtEnd}
 use Rattle.std.proofs.lemmas.List.{append-nil, length-append, length-drop, drop-append-le}
@@ -12,11 +12,11 @@ use Rattle.http_api.specs.declared.end.End.TheVariants.{Closed, Asked, Broken, R
 use Rattle.http_api.specs.Ends.{is_read_fault, is_write_fault}
 use Rattle.httparse.specs.Grammar.{RequestHead}
 use Rattle.http_api.specs.declared.looking.Heading.{Heading}
-use Rattle.http_api.specs.Heads.{Begins}
-use Rattle.http_api.specs.Connection.{NoRequest, at_end, cut_in_head, cut_in_body}
+use Rattle.http_api.specs.Heads.{Begins, max_head}
+use Rattle.http_api.specs.Connection.{NoRequest, at_end, cut_in_head, cut_in_body, IsFew}
 use Rattle.http_api.specs.inside.Looking.{HasHeading, Waits}
 use Rattle.http_api.proofs.Lasting.{begins_more}
-use Rattle.http_api.specs.inside.Receiving.{IsPause, EndsSo, EndsAfter, HandedOn, Place, ReadOn, Ended}
+use Rattle.http_api.specs.inside.Receiving.{IsPause, EndsSo, EndsAfter, HandedOn, Place, ReadOn, Ended, IsFewFor}
 
 pub at_ok : {T E : Type 0} (P : T → Type 0) (Q : E → Type 0) (r : Result T E) → is_err r ≡ false → MatchResult r P Q → (t : T) × P t
 at_ok P Q (Ok t) fine m = (t, m)
@@ -53,12 +53,13 @@ no_fault end (inr e) = (sym (ap is_read_fault e), sym (ap is_write_fault e))
 -- nothing more was read before the end
 pub ended_now : {R W : Type 0} (remaining : R → Option (List ℕ)) (contents : W → Option (List ℕ)) (old : Place R W) (reader : TrackedReading R) (writer : TrackedWriting W) (end : End)
     (more : List ℕ) → Reads remaining old.1 reader more → more ≡ [] → (IsPause end → IsAtEnd (remaining reader.inner))
-    → EndsSo old.0 (contents old.2.inner) (contents writer.inner) end → reader.failed ≡ is_read_fault end → HandedOn writer end → Ended remaining contents old reader writer end
-ended_now remaining contents old reader writer end more reads none all ends failed handed = record {
+    → EndsSo old.0 (contents old.2.inner) (contents writer.inner) end → IsFew old.0 → reader.failed ≡ is_read_fault end → HandedOn writer end → Ended remaining contents old reader writer end
+ended_now remaining contents old reader writer end more reads none all ends few failed handed = record {
   more = more;
   reads = reads;
   all = all;
   ends = subst (λ (i : List ℕ). EndsSo i (contents old.2.inner) (contents writer.inner) end) (sym (ap (λ m. old.0 ++ m) none ∙ append-nil old.0)) ends;
+  few = subst IsFew (sym (ap (λ m. old.0 ++ m) none ∙ append-nil old.0)) few;
   reader_failed = failed;
   handed_on = handed;
 }
@@ -93,17 +94,17 @@ broken_is_not_asked e = true≢false (sym (ap is_asked e))
 
 -- after a refusal
 pub ended_refused : {R W : Type 0} (remaining : R → Option (List ℕ)) (contents : W → Option (List ℕ)) (old : Place R W) (reader : TrackedReading R) (writer : TrackedWriting W) (end : End)
-    (text : List ℕ) → Reads remaining old.1 reader [] → reader.failed ≡ false → NoRequest old.0 text Asked → EndsAfter contents text old.2 writer end → Ended remaining contents old reader writer end
-ended_refused remaining contents old reader writer end text reads works n (handed, inl (e, h)) =
+    (text : List ℕ) → Reads remaining old.1 reader [] → reader.failed ≡ false → NoRequest old.0 text Asked → IsFew old.0 → EndsAfter contents text old.2 writer end → Ended remaining contents old reader writer end
+ended_refused remaining contents old reader writer end text reads works n few (handed, inl (e, h)) =
     let ends : EndsSo old.0 (contents old.2.inner) (contents writer.inner) end = subst (EndsSo old.0 (contents old.2.inner) (contents writer.inner)) (sym e) (text, n, h) in
-    ended_now remaining contents old reader writer end [] reads refl (λ p. absurd (not_asked p)) ends (works ∙ sym (ap is_read_fault e)) handed
+    ended_now remaining contents old reader writer end [] reads refl (λ p. absurd (not_asked p)) ends few (works ∙ sym (ap is_read_fault e)) handed
   where
     not_asked : IsPause end → ⊥
     not_asked (inl p) = closed_is_not_asked (sym p ∙ e)
     not_asked (inr p) = broken_is_not_asked (sym p ∙ e)
-ended_refused remaining contents old reader writer end text reads works n (handed, inr (e, h)) =
+ended_refused remaining contents old reader writer end text reads works n few (handed, inr (e, h)) =
     let ends : EndsSo old.0 (contents old.2.inner) (contents writer.inner) end = subst (EndsSo old.0 (contents old.2.inner) (contents writer.inner)) (sym e) (Asked, text, n, h) in
-    ended_now remaining contents old reader writer end [] reads refl (λ p. absurd (true≢false (sym (ap is_write_fault e) ∙ sym (no_fault end p).1))) ends (works ∙ sym (ap is_read_fault e)) handed
+    ended_now remaining contents old reader writer end [] reads refl (λ p. absurd (true≢false (sym (ap is_write_fault e) ∙ sym (no_fault end p).1))) ends few (works ∙ sym (ap is_read_fault e)) handed
 
 -- what waits, where no more comes
 pub waits_none : (input : List ℕ) → input ≡ [] → NoRequest input [] Closed
@@ -124,6 +125,24 @@ heading_more input more h heading x = record {
 -- the body has not come whole
 pub body_cut : (input : List ℕ) (h : RequestHead) (heading : Heading) → HasHeading input h heading → length input < heading.head + heading.body → NoRequest input [] Broken
 body_cut input h heading x short = cut_in_body h (drop heading.head input) heading.body x.begins x.heads.frames x.heads.fits (omega (arith, short, x.within, length-drop heading.head input)) refl refl
+
+-- what waits for its body's end is few
+pub few_for_body : (input : List ℕ) (h : RequestHead) (heading : Heading) → HasHeading input h heading → IsFewFor heading input → IsFew input
+few_for_body input h heading x (inl short) = inl short
+few_for_body input h heading x (inr short) = inr (record {
+  head = h;
+  tail = drop heading.head input;
+  size = heading.body;
+  begins = x.begins;
+  frames = x.heads.frames;
+  fits = x.heads.fits;
+  within = omega (arith, short, length-drop heading.head input);
+})
+
+-- what is left behind the request fits a head's room
+pub few_behind : (input : List ℕ) (heading : Heading) → IsFewFor heading input → length (drop (heading.head + heading.body) input) ≤ max_head
+few_behind input heading (inl short) = omega (arith, short, length-drop (heading.head + heading.body) input)
+few_behind input heading (inr short) = omega (arith, short, length-drop (heading.head + heading.body) input)
 
 module _ {R W : Type 0} (remaining : R → Option (List ℕ)) (contents : W → Option (List ℕ)) where
   -- nothing was read yet
@@ -156,6 +175,7 @@ module _ {R W : Type 0} (remaining : R → Option (List ℕ)) (contents : W → 
     reads = Consumes-trans _ _ _ _ _ p.reads e.reads;
     all = e.all;
     ends = ends_kept _ _ _ (contents writer.inner) end (ap (λ m. m ++ e.more) p.holds ∙ append_assoc a.0 p.more e.more) p.keeps e.ends;
+    few = subst IsFew (ap (λ m. m ++ e.more) p.holds ∙ append_assoc a.0 p.more e.more) e.few;
     reader_failed = e.reader_failed;
     handed_on = e.handed_on;
   }

@@ -1,5 +1,5 @@
 -- The text of a connection over HTTP: what is written for the bytes read, case by case, and how it ends.
-use Rattle.std.specs.Prelude.{ℕ, ◌≡◌, ◌≤◌, ◌<◌, ◌++◌, List, [], length, Bool, true, if◌then◌else◌, Some, None, zero, suc}
+use Rattle.std.specs.Prelude.{ℕ, ◌≡◌, ◌⊎◌, ◌≤◌, ◌<◌, ◌++◌, List, [], length, Bool, true, if◌then◌else◌, Some, None, zero, suc}
 use Rattle.names.specs.declared.call.Call.{Call}
 use Rattle.names.specs.declared.limits.TheConstants.{MAX_BODY_LEN}
 use Rattle.httparse.specs.Grammar.{RequestHead}
@@ -7,7 +7,7 @@ use Rattle.http_api.specs.declared.framing.Framing.TheVariants.{Unclear, Missing
 use Rattle.http_api.specs.declared.end.End.{End}
 use Rattle.http_api.specs.declared.end.End.TheVariants.{Closed, Asked, Broken, Memory}
 use Rattle.http_api.specs.Machine.{Step}
-use Rattle.http_api.specs.Heads.{Begins, IsHopeless, EndsInHead, framing_of, closes}
+use Rattle.http_api.specs.Heads.{Begins, IsHopeless, EndsInHead, framing_of, closes, max_head}
 use Rattle.http_api.specs.Routes.{route_of}
 use Rattle.http_api.specs.Replies.{reply_text, memory_text, malformed, length_required, body_too_large, no_route}
 
@@ -41,6 +41,20 @@ pub record HasRequest (input : List ℕ) (head : RequestHead) (body rest : List 
   pub frames : framing_of head ≡ Sized (length body)
   pub fits : length body ≤ MAX_BODY_LEN
   pub parts : tail ≡ body ++ rest
+
+-- the input begins with this head, and ends within the body that it asks for
+pub record EndsInBody (input : List ℕ) : Type 0 where
+  pub head : RequestHead
+  pub tail : List ℕ
+  pub size : ℕ
+  pub begins : Begins input head tail
+  pub frames : framing_of head ≡ Sized size
+  pub fits : size ≤ MAX_BODY_LEN
+  pub within : length tail ≤ size
+
+-- as much as is read for one request: what a head may have, or a body that is taken, to its end
+abbrev pub IsFew : List ℕ → Type 0
+IsFew input = (length input ≤ max_head) ⊎ EndsInBody input
 
 -- what becomes of a connection after a request: it ends, or goes on with the rest of its input
 pub data Next : Type 0 where

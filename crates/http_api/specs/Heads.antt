@@ -1,9 +1,9 @@
 -- The heads that a connection takes, and what their fields say of the body and of the connection.
-use Rattle.std.specs.Prelude.{ℕ, ◌≤◌, ◌<◌, ◌==◌, ◌&&◌, ◌||◌, ◌++◌, List, [], ◌∷◌, length, map, Bool, if◌then◌else◌, nat_le, bytes_eq, codes}
+use Rattle.std.specs.Prelude.{ℕ, ◌⊎◌, ◌≤◌, ◌<◌, ◌==◌, ◌&&◌, ◌||◌, ◌++◌, List, [], ◌∷◌, length, map, Bool, if◌then◌else◌, nat_le, bytes_eq, codes}
 use Rattle.std.specs.List.{list_all, list_any, filter}
 use Rattle.std.specs.Char.{to_ascii_lowercase, is_ascii_digit}
 use Rattle.std.specs.Str.Parse.{digits_value}
-use Rattle.httparse.specs.Grammar.{RequestHead, print_request, ReadsRequest, HasNoRequest, MayBecomeRequest}
+use Rattle.httparse.specs.Grammar.{RequestHead, print_request, ReadsRequest, HasNoRequest, EndsInTarget}
 use Rattle.httparse.specs.Spans.{name_and_value}
 use Rattle.http_api.specs.declared.framing.Framing.{Framing}
 use Rattle.http_api.specs.declared.framing.Framing.TheVariants.{Unclear, Missing, Sized}
@@ -25,12 +25,16 @@ pub record Begins (input : List ℕ) (head : RequestHead) (rest : List ℕ) : Ty
 abbrev pub IsHopeless : List ℕ → Type 0
 IsHopeless input = (more : List ℕ) (head : RequestHead) (rest : List ℕ) → ¬ (Begins (input ++ more) head rest)
 
--- the input ends inside a head, which more bytes could end, or inside a target
+-- with some more bytes the input is a head that is not too long
+abbrev pub CanBeHead : List ℕ → Type 0
+CanBeHead input = (more : List ℕ) × (head : RequestHead) × ReadsRequest (input ++ more) head [] × (length (input ++ more) ≤ max_head)
+
+-- the input ends inside a head that can still be ended in time, or inside a target
 pub record EndsInHead (input : List ℕ) : Type 0 where
   pub begun : 0 < length input
   pub room : length input < max_head
   pub none : HasNoRequest input
-  pub may : MayBecomeRequest input
+  pub may : CanBeHead input ⊎ EndsInTarget input
 
 -- a field's name, and its value without spaces and tabs at both ends
 abbrev pub Pair : Type 0

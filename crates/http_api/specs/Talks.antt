@@ -5,12 +5,13 @@ use Rattle.http_api.specs.declared.end.End.{End}
 use Rattle.http_api.specs.declared.end.End.TheVariants.{Closed, Broken}
 use Rattle.http_api.specs.Machine.{Step}
 use Rattle.tracked_io.specs.Wrote.{WroteSome}
-use Rattle.http_api.specs.Connection.{Next, stop, Text}
+use Rattle.http_api.specs.Connection.{Next, stop, Text, IsFew}
 
--- the text of the connection over this input was written, and it ends so
+-- the text of the connection over this input was written, and it ends so; no more was read for its last turn than that may want
 pub record Talked {S : Type 0} (step : Step S) (s : S) (held : Option (List ℕ)) (input : List ℕ) (t : S) (holds : Option (List ℕ)) (end : End) : Type 0 where
   pub text : List ℕ
   pub is_text : Text step s input text t (stop end)
+  pub few : IsFew is_text.rest
   pub wrote : Appends held holds text
 
 -- the text of the connection over this input was written, as if the input had ended here
@@ -22,4 +23,5 @@ pub record TalkCut {S : Type 0} (step : Step S) (s : S) (held : Option (List ℕ
   pub text : List ℕ
   pub next : Next
   pub is_text : Text step s input text t next
+  pub few : IsFew is_text.rest
   pub wrote : WroteSome held holds text

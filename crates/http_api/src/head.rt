@@ -1,10 +1,11 @@
 //! The head of a request at the front of some bytes.
 ghost use Rattle.std.specs.Prelude.{◌≡◌, ◌<◌, length, drop, take};
-ghost use Rattle.httparse.specs.Grammar.{RequestHead, HasNoRequest, MayBecomeRequest};
+ghost use Rattle.httparse.specs.Grammar.{RequestHead, HasNoRequest};
 ghost use Rattle.httparse.specs.Spans.{IsRequestAt, IsRequestWithin};
 ghost use Rattle.http_api.specs.Heads.{Begins, IsHopeless, max_head};
-ghost use Rattle.http_api.specs.inside.Finding.{IfHead, OnHopeless, OnUnfinished};
+ghost use Rattle.http_api.specs.inside.Finding.{IfHead, OnHopeless, OnUnfinished, MayGoOn};
 
+use crate::ending::may_go_on;
 use httparse::Status;
 use httparse::spans::{HeaderSpan, RequestSpans, parse_request};
 
@@ -24,7 +25,7 @@ pub enum Front {
 pub fn find_head(bytes: &[u8], fields: &mut [HeaderSpan; 64]) -> Front
     ensures head { IfHead result (λ spans. (h : RequestHead) × Begins bytes.now h (drop spans.len bytes.now) × IsRequestAt (take max_head bytes.now) fields.new spans h
         × IsRequestWithin (take max_head bytes.now) fields.new spans) }
-    ensures unfinished { OnUnfinished result ((length bytes.now < max_head) × HasNoRequest bytes.now × MayBecomeRequest bytes.now) }
+    ensures unfinished { OnUnfinished result ((length bytes.now < max_head) × HasNoRequest bytes.now × MayGoOn bytes.now) }
     ensures hopeless { OnHopeless result (IsHopeless bytes.now) }
 {
     let short = bytes.len() < MAX_HEAD;
@@ -32,7 +33,11 @@ pub fn find_head(bytes: &[u8], fields: &mut [HeaderSpan; 64]) -> Front
         Ok(Status::Complete(head)) => Front::Head(head),
         Ok(Status::Partial) => {
             if short {
-                Front::Unfinished
+                if may_go_on(bytes, fields) {
+                    Front::Unfinished
+                } else {
+                    Front::Hopeless
+                }
             } else {
                 Front::Hopeless
             }

@@ -10,9 +10,11 @@
 mod answers;
 mod connection;
 mod end;
+mod ending;
 mod framing;
 mod head;
 mod inbox;
+mod law;
 mod length;
 mod looking;
 mod receive;
@@ -23,4 +25,5 @@ mod settle;
 pub use answers::Answers;
 pub use connection::{serve, serve_by};
 pub use end::End;
+pub use law::{no_refused_body_is_read, the_input_decides_the_text};
 pub use routing::routes;

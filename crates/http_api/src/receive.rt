@@ -1,11 +1,12 @@
 //! Receiving a request: its head, then its body.
 ghost use Rattle.std.specs.Prelude.{◌≡◌, ◌<◌, ◌≤◌, ◌^◌, ◌+◌, length, [], IfOk, IfErr, OnOk, true, false};
 ghost use Rattle.httparse.specs.Grammar.{RequestHead};
+ghost use Rattle.http_api.specs.Heads.{max_head};
 ghost use Rattle.http_api.specs.Routes.{table};
-ghost use Rattle.http_api.specs.Connection.{NoRequest};
+ghost use Rattle.http_api.specs.Connection.{NoRequest, IsFew};
 ghost use Rattle.http_api.specs.inside.Held.{held};
 ghost use Rattle.http_api.specs.inside.Looking.{HasHeading, refusal_text};
-ghost use Rattle.http_api.specs.inside.Receiving.{IsPause, ReadOn, Ended, EndsAfter};
+ghost use Rattle.http_api.specs.inside.Receiving.{IsPause, ReadOn, Ended, EndsAfter, IsFewFor};
 ghost use Rattle.tracked_io.specs.Tracking.{FailsWith, Writes};
 
 use crate::End;
@@ -72,6 +73,7 @@ fn read_more<R: Read, W: Write>(
     requires writes { writer.old.failed ≡ false }
     requires pause { IsPause end }
     requires waits { NoRequest (held inbox.old) [] end }
+    requires few { IsFew (held inbox.old) }
     requires more { length (held inbox.old) < most }
     requires room { most ≤ 73728 }
     ensures ok { OnOk result (ReadOn R.remaining W.contents (held inbox.old, reader.old, writer.old) (held inbox.new, reader.new, writer.new)) }
@@ -98,10 +100,12 @@ fn receive_head<R: Read, W: Write>(
     inbox: &mut Inbox,
 ) -> Result<Heading, End>
     requires routes { routes.now ≡ table }
+    requires few { length (held inbox.old) ≤ max_head }
     requires reads { reader.old.failed ≡ false }
     requires writes { writer.old.failed ≡ false }
     ensures ok { OnOk result (ReadOn R.remaining W.contents (held inbox.old, reader.old, writer.old) (held inbox.new, reader.new, writer.new)) }
     ensures head { IfOk result (λ heading. (h : RequestHead) × HasHeading (held inbox.new) h heading) }
+    ensures few { length (held inbox.new) ≤ max_head }
     ensures err { IfErr result (λ e. Ended R.remaining W.contents (held inbox.old, reader.old, writer.old) reader.new writer.new e) }
 {
     loop {
@@ -127,10 +131,12 @@ fn receive_body<R: Read, W: Write>(
     heading: Heading,
 ) -> Result<(), End>
     requires head { (h : RequestHead) × HasHeading (held inbox.old) h heading }
+    requires few { length (held inbox.old) ≤ max_head }
     requires reads { reader.old.failed ≡ false }
     requires writes { writer.old.failed ≡ false }
     ensures ok { OnOk result (ReadOn R.remaining W.contents (held inbox.old, reader.old, writer.old) (held inbox.new, reader.new, writer.new)) }
     ensures whole { OnOk result (heading.head + heading.body ≤ length (held inbox.new)) }
+    ensures few { OnOk result (IsFewFor heading (held inbox.new)) }
     ensures err { IfErr result (λ e. Ended R.remaining W.contents (held inbox.old, reader.old, writer.old) reader.new writer.new e) }
 {
     let most = heading.head + heading.body;
@@ -149,11 +155,13 @@ pub fn receive<R: Read, W: Write>(
     inbox: &mut Inbox,
 ) -> Result<Heading, End>
     requires routes { routes.now ≡ table }
+    requires few { length (held inbox.old) ≤ max_head }
     requires reads { reader.old.failed ≡ false }
     requires writes { writer.old.failed ≡ false }
     ensures ok { OnOk result (ReadOn R.remaining W.contents (held inbox.old, reader.old, writer.old) (held inbox.new, reader.new, writer.new)) }
     ensures head { IfOk result (λ heading. (h : RequestHead) × HasHeading (held inbox.new) h heading) }
     ensures whole { IfOk result (λ heading. heading.head + heading.body ≤ length (held inbox.new)) }
+    ensures few { IfOk result (λ heading. IsFewFor heading (held inbox.new)) }
     ensures err { IfErr result (λ e. Ended R.remaining W.contents (held inbox.old, reader.old, writer.old) reader.new writer.new e) }
 {
     let heading = receive_head(routes, reader, writer, inbox)?;

@@ -3,7 +3,9 @@ pub mod Changing
 pub mod Writing
 pub mod Configuring
 pub mod Checking
+pub mod Reading
 pub mod Expanding
+pub mod Watching
 pub mod CatchingUp
 pub mod Stating
 pub mod Answering

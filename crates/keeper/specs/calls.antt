@@ -2,6 +2,8 @@
 pub mod Write
 pub mod Config
 pub mod Check
+pub mod Read
 pub mod Expand
+pub mod Watch
 pub mod CatchUp
 pub mod State

@@ -8,7 +8,9 @@ use crate::calls::catch_up::answer_catch_up;
 use crate::calls::check::answer_check;
 use crate::calls::configuring::answer_config;
 use crate::calls::expanding::answer_expand;
+use crate::calls::reading::answer_read;
 use crate::calls::state::answer_state;
+use crate::calls::watching::answer_watch;
 use crate::calls::write::answer_write;
 use bodies::replies::no_route;
 use keeper_core::Desk;
@@ -35,7 +37,9 @@ pub fn answer_on<T: Tables + Drop, R: Wait + Drop>(
         Call::Write => answer_write(alloc, desk, session, body),
         Call::Config => answer_config(alloc, desk, session, body),
         Call::Check => answer_check(alloc, desk, session, body),
+        Call::Read => answer_read(alloc, desk, session, body),
         Call::Expand => answer_expand(alloc, desk, session, body),
+        Call::Watch => answer_watch(alloc, desk, session, body),
         Call::CatchUp => answer_catch_up(alloc, desk, session, body),
         Call::State => answer_state(alloc, desk),
         _ => no_route(alloc),

@@ -6,7 +6,7 @@ mod asking;
 mod calls;
 
 pub use answer::answer_on;
-pub use asking::is_of_the_future;
+pub use asking::{is_of_the_future, page_is_of_the_future};
 pub use calls::catch_up::catch_up_on;
 pub use calls::configuring::configure_on;
 pub use calls::refusing::refused_question;

@@ -5,7 +5,6 @@ use Rattle.std.proofs.lemmas.List.Sums.{fold-append}
 use Rattle.names.specs.declared.commit.Commit.{Commit as Stored}
 use Rattle.meaning.specs.Config.{Configured}
 use Rattle.meaning.specs.History.{History}
-use Rattle.rows.specs.Retained.{Retained}
 use Rattle.shown.specs.declared.step.Step.{Step}
 use Rattle.shown.specs.declared.step.Step.TheVariants.{Commit}
 use Rattle.shown.specs.Standing.{Standing, nothing, after_step, before_commit, standing, CanGoBack, IsSteady}

@@ -1,6 +1,6 @@
 -- A change that was not posted: there was no room for its step, or it could not be stored.
-use Rattle.std.proofs.Common.{◌≡◌, Bool, false, List, ◌∷◌, refl, ap, sym, ◌∙◌, subst, ◌⊎◌, inl, inr}
-use Rattle.std.specs.Prelude.{Result, Ok, Err, IfErr, IsErrAnd}
+use Rattle.std.proofs.Common.{◌≡◌, false, List, ◌∷◌, refl, ap, sym, ◌∙◌, subst, ◌⊎◌, inl, inr}
+use Rattle.std.specs.Prelude.{Result, IfErr, IsErrAnd}
 use mathlib.Core.List.{IsPrefix}
 use Rattle.names.specs.declared.commit.Commit.{Commit as Stored}
 use Rattle.names.specs.declared.refusal.Refusal.{Refusal}
@@ -16,7 +16,7 @@ use Rattle.published.specs.Publishing.{Publishing}
 use Rattle.published.proofs.Prefixes.{prefix_self}
 use Rattle.keeper_core.specs.declared.latched_tables.LatchedTables.{LatchedTables}
 use Rattle.keeper_core.specs.Posts.{Posts, ShowsMore}
-use Rattle.keeper_core.specs.Changes.{MayLeave, Touches, leaves_alone, adds_one, Refuses, IsRefused}
+use Rattle.keeper_core.specs.Changes.{Touches, leaves_alone, adds_one, Refuses, IsRefused}
 use Rattle.keeper_core.specs.inside.Latching.{IsLatched, IsUnstored}
 use Rattle.keeper_core.specs.inside.Posting.{IsMemory}
 use Rattle.keeper_core.proofs.Changed.{refused_exit, lasts_same}

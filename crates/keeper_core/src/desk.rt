@@ -12,6 +12,8 @@ ghost use Rattle.shown.specs.Standing.{standing, state_of, cursor_of};
 ghost use Rattle.expand.specs.declared.limits.TheConstants.{MAX_DEPTH};
 ghost use Rattle.shown.specs.Answers.{IsAnswer, IsRefusal};
 ghost use Rattle.shown.specs.Expanding.{IsTree, IsTreeRefusal};
+ghost use Rattle.shown.specs.Paging.{IsPage, IsPageRefusal};
+ghost use Rattle.shown.specs.Watching.{IsWatched, WatchRefused};
 ghost use Rattle.tables.specs.Device.{IsOpen};
 ghost use Rattle.tables.specs.Opening.{CannotOpen};
 ghost use Rattle.tables.specs.Storing.{PutsAbsent};
@@ -27,15 +29,16 @@ use crate::storing::store;
 use config::Config;
 use expand::Tree;
 use names::limits::MAX_CATCH_UP;
-use names::{Commit, Condition, Items, Node, Object, Op, Part, Refusal, State, Write};
+use names::{Commit, Condition, Items, Node, Object, Op, Part, Refusal, State, Tuple, Write};
 use published::{Opened, Publication, Receipt, Session};
-use rows::{events_of, refuses_what_no_write_gives};
+use rows::{Tupleset, events_of, refuses_what_no_write_gives};
 use shown::{Answer, Refused, Shown, Step};
 use std::alloc::Global;
 use std::marker::Model;
 use std::sync::Wait;
 use tables::{Puts, Tables, puts_of};
 use tuple_keys::KeptCommit;
+use watch::{Namespaces, Page};
 use zookie::{Consistency, Zookie};
 
 /// What a caller is told of a part that takes commits: the revision up to which the part has read them, once
@@ -243,6 +246,35 @@ impl<T: Tables + Drop, R: Wait + Drop> Desk<T, R> {
         ensures beginning { IsPrefix self.now.shown self.now.posted }
     {
         self.publication.shown().expand(consistency, node, depth)
+    }
+
+    /// The page of a tupleset, at a shown revision that is as fresh as is asked.
+    pub fn read(
+        &self,
+        consistency: &Consistency,
+        asked: &Tupleset,
+    ) -> Result<Answer<Items<Tuple>>, Refused>
+        ensures ok { IfOk result (IsPage (standing self.now.shown) consistency.now asked.now) }
+        ensures err { IfErr result (IsPageRefusal (standing self.now.shown) consistency.now) }
+        ensures beginning { IsPrefix self.now.shown self.now.posted }
+    {
+        self.publication.shown().read(consistency, asked)
+    }
+
+    /// The events on tuples of the namespaces, of so many shown commits above the cursor's revision, or of as many as there
+    /// are.
+    pub fn watch(
+        &self,
+        cursor: &Zookie,
+        namespaces: &Namespaces,
+        commits: u32,
+    ) -> Result<Page, Refusal>
+        ensures ok { IfOk result
+            (IsWatched (standing self.now.shown) cursor.now namespaces.now commits) }
+        ensures err { IfErr result (WatchRefused (standing self.now.shown) cursor.now) }
+        ensures beginning { IsPrefix self.now.shown self.now.posted }
+    {
+        self.publication.shown().watch(cursor, namespaces, commits)
     }
 
     /// The shown revisions, and how large the history is at the newest of them.

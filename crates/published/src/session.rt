@@ -6,19 +6,23 @@ ghost use Rattle.shown.specs.Standing.{standing, state_of};
 ghost use Rattle.expand.specs.declared.limits.TheConstants.{MAX_DEPTH};
 ghost use Rattle.shown.specs.Answers.{IsAnswer, IsRefusal};
 ghost use Rattle.shown.specs.Expanding.{IsTree, IsTreeRefusal};
+ghost use Rattle.shown.specs.Paging.{IsPage, IsPageRefusal};
+ghost use Rattle.shown.specs.Watching.{IsWatched, WatchRefused};
 ghost use Rattle.published.specs.Known.{Known, Begins};
 ghost use Rattle.published.specs.Copies.{KnowsNoMore};
-ghost use Rattle.published.specs.Answering.{IsRefusedIn};
+ghost use Rattle.published.specs.Answering.{IsRefusedIn, IsWatchRefusedIn};
 
 use crate::book::StepPrefix;
 use crate::receipt::Receipt;
 use crate::rule::{CopyReader, Seeing};
 use core::mem::replace_with;
 use expand::Tree;
-use names::{Node, Object, Refusal, State};
+use names::{Items, Node, Object, Refusal, State, Tuple};
+use rows::Tupleset;
 use shown::{Answer, Refused};
 use std::marker::Model;
-use zookie::Consistency;
+use watch::{Namespaces, Page};
+use zookie::{Consistency, Zookie};
 
 /// A reader of the published state, and the steps that it knows. Contracts see it as those steps, with the
 /// name of their book. What it is asked is answered by the standing of steps that begin with all it knew, and
@@ -155,6 +159,96 @@ impl Session {
         Some((number, found))
     }
 
+    /// The page of a tupleset, at the revision that the consistency chooses.
+    pub fn read(
+        &mut self,
+        consistency: &Consistency,
+        asked: &Tupleset,
+    ) -> Result<Answer<Items<Tuple>>, Refused>
+        ensures ok { IfOk result (IsPage (standing self.new.steps) consistency.now asked.now) }
+        ensures err { IfErr result (IsRefusedIn self.old self.new
+            (IsPageRefusal (standing self.new.steps) consistency.now)) }
+        ensures later { Begins self.old self.new }
+    {
+        match self.read_in_store(consistency, asked) {
+            Some((_, tuples)) => tuples,
+            None => Err(no_publication()),
+        }
+    }
+
+    /// The same page, beside the number of the store, for the zookie of the answer. There is none where the publication
+    /// is gone.
+    pub fn read_in_store(
+        &mut self,
+        consistency: &Consistency,
+        asked: &Tupleset,
+    ) -> Option<(u64, Result<Answer<Items<Tuple>>, Refused>)>
+        ensures number { IfSome result (λ told.
+            told.0 ≡ (standing self.new.steps).kept.number) }
+        ensures ok { IfSome result (λ told. IfOk told.1
+            (IsPage (standing self.new.steps) consistency.now asked.now)) }
+        ensures err { IfSome result (λ told. IfErr told.1
+            (IsPageRefusal (standing self.new.steps) consistency.now)) }
+        ensures none { IfNone result (self.new ≡ self.old) }
+        ensures later { Begins self.old self.new }
+    {
+        let question = TuplesQuestion { consistency, asked };
+        let (tuples, number, prefix) = replace_with(&mut self.reader, question, look_at_tuples)?;
+        if !self.known.begins(&prefix) {
+            return None;
+        }
+        self.known = prefix;
+        Some((number, tuples))
+    }
+
+    /// The events on tuples of the namespaces, of so many commits above the cursor's revision, or of as many as there are.
+    pub fn watch(
+        &mut self,
+        cursor: &Zookie,
+        namespaces: &Namespaces,
+        commits: u32,
+    ) -> Result<Page, Refusal>
+        ensures ok { IfOk result
+            (IsWatched (standing self.new.steps) cursor.now namespaces.now commits) }
+        ensures err { IfErr result (IsWatchRefusedIn self.old self.new cursor.now) }
+        ensures later { Begins self.old self.new }
+    {
+        match self.watch_in_store(cursor, namespaces, commits) {
+            Some((_, page)) => page,
+            None => Err(Refusal::Reopen),
+        }
+    }
+
+    /// The same page, beside the number of the store, for the zookies of its events. There is none where the publication
+    /// is gone.
+    pub fn watch_in_store(
+        &mut self,
+        cursor: &Zookie,
+        namespaces: &Namespaces,
+        commits: u32,
+    ) -> Option<(u64, Result<Page, Refusal>)>
+        ensures number { IfSome result (λ asked.
+            asked.0 ≡ (standing self.new.steps).kept.number) }
+        ensures ok { IfSome result (λ asked. IfOk asked.1
+            (IsWatched (standing self.new.steps) cursor.now namespaces.now commits)) }
+        ensures err { IfSome result (λ asked. IfErr asked.1
+            (WatchRefused (standing self.new.steps) cursor.now)) }
+        ensures none { IfNone result (self.new ≡ self.old) }
+        ensures later { Begins self.old self.new }
+    {
+        let question = PageQuestion {
+            cursor,
+            namespaces,
+            commits,
+        };
+        let (page, number, prefix) = replace_with(&mut self.reader, question, look_at_page)?;
+        if !self.known.begins(&prefix) {
+            return None;
+        }
+        self.known = prefix;
+        Some((number, page))
+    }
+
     /// Revisions, and how large the history is.
     pub fn state(&mut self) -> Result<State, Refusal>
         ensures ok { IfOk result (λ state. state ≡ state_of (standing self.new.steps)) }
@@ -218,6 +312,21 @@ struct TreeQuestion<'a> {
     consistency: &'a Consistency,
     node: &'a Node,
     depth: u8,
+}
+
+// Which tuples a session asks for.
+#[derive(Drop)]
+struct TuplesQuestion<'a> {
+    consistency: &'a Consistency,
+    asked: &'a Tupleset,
+}
+
+// Which page of events a session asks for.
+#[derive(Drop)]
+struct PageQuestion<'a> {
+    cursor: &'a Zookie,
+    namespaces: &'a Namespaces,
+    commits: u32,
 }
 
 // The publication is gone.
@@ -287,6 +396,61 @@ fn look_at_tree(
             let number = copy.shown.number();
             let prefix = copy.prefix.again();
             (reading.leave(), Some((answer, number, prefix)))
+        }
+        Err(reader) => (reader, None),
+    }
+}
+
+fn look_at_tuples(
+    reader: CopyReader,
+    question: TuplesQuestion<'_>,
+) -> (
+    CopyReader,
+    Option<(Result<Answer<Items<Tuple>>, Refused>, u64, StepPrefix)>,
+)
+    ensures seen { IfSome result.1 (λ seen.
+        KnowsNoMore (view reader.place) seen.2 × (view result.0.place ≡ Some seen.2)) }
+    ensures number { IfSome result.1 (λ seen. seen.1 ≡ (standing seen.2.steps).kept.number) }
+    ensures ok { IfSome result.1 (λ seen. IfOk seen.0
+        (IsPage (standing seen.2.steps) question.entry.consistency.now question.entry.asked.now)) }
+    ensures err { IfSome result.1 (λ seen. IfErr seen.0
+        (IsPageRefusal (standing seen.2.steps) question.entry.consistency.now)) }
+    ensures refused { IfNone result.1 (view result.0.place ≡ view reader.place) }
+{
+    match reader.enter_as::<Seeing>() {
+        Ok(reading) => {
+            let copy = reading.get();
+            let tuples = copy.shown.read(question.consistency, question.asked);
+            let number = copy.shown.number();
+            let prefix = copy.prefix.again();
+            (reading.leave(), Some((tuples, number, prefix)))
+        }
+        Err(reader) => (reader, None),
+    }
+}
+
+fn look_at_page(
+    reader: CopyReader,
+    question: PageQuestion<'_>,
+) -> (CopyReader, Option<(Result<Page, Refusal>, u64, StepPrefix)>)
+    ensures seen { IfSome result.1 (λ seen.
+        KnowsNoMore (view reader.place) seen.2 × (view result.0.place ≡ Some seen.2)) }
+    ensures number { IfSome result.1 (λ seen. seen.1 ≡ (standing seen.2.steps).kept.number) }
+    ensures ok { IfSome result.1 (λ seen. IfOk seen.0
+        (IsWatched (standing seen.2.steps) question.entry.cursor.now question.entry.namespaces.now question.entry.commits)) }
+    ensures err { IfSome result.1 (λ seen. IfErr seen.0
+        (WatchRefused (standing seen.2.steps) question.entry.cursor.now)) }
+    ensures refused { IfNone result.1 (view result.0.place ≡ view reader.place) }
+{
+    match reader.enter_as::<Seeing>() {
+        Ok(reading) => {
+            let copy = reading.get();
+            let page = copy
+                .shown
+                .watch(question.cursor, question.namespaces, question.commits);
+            let number = copy.shown.number();
+            let prefix = copy.prefix.again();
+            (reading.leave(), Some((page, number, prefix)))
         }
         Err(reader) => (reader, None),
     }

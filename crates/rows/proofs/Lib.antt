@@ -10,4 +10,5 @@ pub mod Admission
 pub mod Written
 pub mod Trimming
 pub mod Naming
+pub mod Paging
 pub mod Repeats

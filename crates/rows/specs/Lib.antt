@@ -4,4 +4,5 @@ pub mod Loads
 pub mod Representation
 pub mod Judging
 pub mod Lookups
+pub mod Tuplesets
 pub mod inside

@@ -7,8 +7,10 @@ mod config_at;
 mod events;
 mod law;
 mod loaded;
+mod page;
 mod refusing;
 mod rows;
+mod tupleset;
 mod twice;
 mod verdict;
 mod view;
@@ -19,4 +21,5 @@ pub use law::{
 };
 pub use loaded::{Counts, Loaded};
 pub use rows::Rows;
+pub use tupleset::{MAX_PAGE, Tupleset};
 pub use view::View;

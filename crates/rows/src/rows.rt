@@ -9,11 +9,14 @@ ghost use Rattle.rows_core.specs.Named.{objects_in, nodes_in};
 ghost use Rattle.tuple_keys.specs.Named.{user_tuple, is_within};
 ghost use Rattle.rows_core.specs.Versions.{refuses};
 ghost use Rattle.tuple_keys.specs.Named.{is_at, is_of};
+ghost use Rattle.rows.specs.Tuplesets.{page};
 ghost use Rattle.rows.specs.Loads.{retained_of, loaded_to, IsWithin};
 
 use crate::committed::{copies, drop_commits, drop_newest, last_config, push_commit, puts_in};
 use crate::config_at::{ConfigAt, config_up_to, drop_config, push_config, settle_configs};
 use crate::loaded::{Counts, Loaded};
+use crate::page::{page_of, start_of};
+use crate::tupleset::Tupleset;
 use crate::view::View;
 use config::Config;
 use names::{Commit, Event, Name, Node, Object, Tuple};
@@ -219,6 +222,21 @@ impl Rows {
             (λ o. IfSome o (λ v. v.items ≡ filter (is_at object.now) (set.items (snap_at self.now rev).tuples))) }
     {
         self.tuples.tuples_at_object(alloc, rev, object, most)
+    }
+
+    /// The page of the tupleset's tuples at a revision.
+    pub(crate) fn read(
+        &self,
+        alloc: Global,
+        rev: u64,
+        asked: &Tupleset,
+    ) -> Result<Vec<Tuple>, AllocError>
+        requires { IsRetained self.now rev }
+        ensures { IfOk result (λ v. v.items ≡ page asked.now (snap_at self.now rev).tuples) }
+    {
+        let start = start_of(asked)?;
+        let tuples = self.tuples.range(start, rev);
+        page_of(alloc, tuples, asked)
     }
 
     /// The objects that the node's tuples name at a revision.

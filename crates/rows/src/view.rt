@@ -6,8 +6,10 @@ ghost use Rattle.meaning.specs.TupleSet as set;
 ghost use Rattle.tuple_keys.specs.Named.{is_at, is_of};
 ghost use Rattle.rows.specs.Lookups.{DeclaresNodes, IsRepeated};
 ghost use Rattle.rows.specs.Retained.{IsRetained, snap_at, AreAdmitted};
+ghost use Rattle.rows.specs.Tuplesets.{page};
 
 use crate::rows::Rows;
+use crate::tupleset::Tupleset;
 use config::Config;
 use names::{Name, Node, Object, SubjectType, Tuple};
 use std::alloc::{AllocError, Global};
@@ -80,6 +82,15 @@ impl<'a> View<'a> {
         ensures { IfOk result (λ v. v.items ≡ take most (filter (is_of node.now) (set.items self.now.tuples))) }
     {
         self.rows.first_of(alloc, self.rev, node, most)
+    }
+
+    /// The tuples of the tupleset, in order: those that come later than the one that it names, and at most as
+    /// many as it asks for. Tuples are gone over from there on, of the namespace's objects, of the one object, or
+    /// of its node, and no further than the last that is given.
+    pub fn read(&self, alloc: Global, asked: &Tupleset) -> Result<Vec<Tuple>, AllocError>
+        ensures { IfOk result (λ v. v.items ≡ page asked.now self.now.tuples) }
+    {
+        self.rows.read(alloc, self.rev, asked)
     }
 
     /// The object's tuples, in order, where it has few: no more than `most` are gone over, those that were

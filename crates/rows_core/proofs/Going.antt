@@ -19,9 +19,10 @@ use Rattle.tuple_keys.specs.Spelled.{tuple_of}
 use Rattle.rows_core.specs.Versions.{Entries, keys, stands, tuples_at, IsRising, AreRising}
 use Rattle.rows_core.specs.Texts.{Texts, entry_of, entries_of, AreSpelled}
 use Rattle.shelf.specs.Texts.{text_cmp}
-use Rattle.rows_core.proofs.Rising.{AllRising, all_rising, from_rising}
+use Rattle.rows_core.specs.Ranges.{AllRising, AreFrom}
+use Rattle.rows_core.proofs.Rising.{all_rising, from_rising}
 use Rattle.rows_core.proofs.Picking.{pick, picked_is, picked_both, one_left}
-use Rattle.rows_core.proofs.Together.{AreFrom, from, from_spelled, from_sorted, from_above, from_all, none_left, both_pass, first_fails}
+use Rattle.rows_core.proofs.Together.{from, from_spelled, from_sorted, from_above, from_all, none_left, both_pass, first_fails}
 
 -- the tuple stands at the revision
 abbrev pub stands_then : ℕ → Tuple × List Version → Bool

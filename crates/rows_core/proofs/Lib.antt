@@ -7,6 +7,7 @@ pub mod Decoding
 pub mod Listing
 pub mod VersionRuns
 pub mod Picking
+pub mod Ranging
 pub mod Placing
 pub mod Settling
 pub mod Steps

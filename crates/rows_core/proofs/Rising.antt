@@ -9,13 +9,10 @@ use Rattle.tuple_keys.specs.Spelled.{tuple_of}
 use Rattle.rows_core.specs.Versions.{Entries, items_or, IsRising, AreRising}
 use Rattle.rows_core.specs.Texts.{Texts, entries_of, AreSpelled}
 use Rattle.shelf.specs.Texts.{text_cmp}
+use Rattle.rows_core.specs.Ranges.{AllRising}
 use Rattle.rows_core.proofs.Decoding.{sorted_tuples}
 use Rattle.rows_core.proofs.Picking.{AreIn, all_in}
 use Rattle.rows_core.proofs.Together.{from}
-
-abbrev pub AllRising : Texts → Type 0
-AllRising [] = Unit {0}
-AllRising (e ∷ es) = IsRising e.1 × AllRising es
 
 rising_in : (m : Entries) → AreRising m → (es : Texts) → AreIn m (entries_of es) → AllRising es
 rising_in m r [] are = tt

@@ -20,16 +20,12 @@ use Rattle.tuple_keys.specs.Spelled.{tuple_of, IsSpelling}
 use Rattle.rows_core.specs.Texts.{Texts, entry_of, entries_of, AreSpelled}
 use Rattle.tuple_keys.proofs.Spellings.{starts_not_below, none_starts_after}
 use Rattle.shelf.specs.Texts.{text_cmp}
+use Rattle.rows_core.specs.Ranges.{AreFrom}
 use Rattle.rows_core.proofs.Picking.{pick}
 
 never : (b : Bool) → (b ≡ true → ⊥) → b ≡ false
 never true h = absurd (h refl)
 never false h = refl
-
--- no text is below this
-abbrev pub AreFrom : List ℕ → Texts → Type 0
-AreFrom p [] = Unit {0}
-AreFrom p (e ∷ es) = (slice_cmp nat_cmp e.0 p ≡ Less → ⊥) × AreFrom p es
 
 -- the texts from a text on
 module _ (least : List ℕ) where

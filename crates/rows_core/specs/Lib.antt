@@ -1,4 +1,5 @@
 pub mod Versions
 pub mod Texts
 pub mod Named
+pub mod Ranges
 pub mod Inline

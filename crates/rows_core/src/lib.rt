@@ -6,10 +6,12 @@ mod few;
 mod lists;
 mod named;
 mod places;
+mod tuples;
 mod version;
 mod version_map;
 mod versioning;
 
 pub use change::Change;
+pub use tuples::Tuples;
 pub use version::Version;
 pub use version_map::VersionMap;

@@ -17,7 +17,7 @@ use Rattle.runs.specs.Files.{FindsHistories}
 use Rattle.runs.specs.Runs.{is_read_fault, is_write_fault}
 use Rattle.runs.specs.Over.{Begins, BeginsIn, EndedOver, OpenedOver}
 
-begins_in : {D : Type 0} {g : disk.Ghosts D} (image : Image) (conn : Held (FileStore D g)) → FindsHistories image conn → (store : Option ℕ) (r : Retained) → Begins over_files conn store r → BeginsIn image store r
+pub begins_in : {D : Type 0} {g : disk.Ghosts D} (image : Image) (conn : Held (FileStore D g)) → FindsHistories image conn → (store : Option ℕ) (r : Retained) → Begins over_files conn store r → BeginsIn image store r
 begins_in image conn found None r begins = λ held holds. begins held (found held holds)
 begins_in image conn found (Some number) r begins = begins
 

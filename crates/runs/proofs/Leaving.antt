@@ -28,7 +28,9 @@ use Rattle.keeper.specs.Showing.{OnlyShows}
 use Rattle.keeper.specs.calls.Write.{WriteStep, write_malformed, write_accepted, write_refused, write_unread}
 use Rattle.keeper.specs.calls.Config.{ConfigStep, config_invalid, config_accepted, config_refused, config_unread}
 use Rattle.keeper.specs.calls.Check.{CheckStep, check_malformed, check_bad_zookie, check_answered, check_refused, check_unread}
+use Rattle.keeper.specs.calls.Read.{ReadStep, read_malformed, read_bad_zookie, read_answered, read_refused, read_unread}
 use Rattle.keeper.specs.calls.Expand.{ExpandStep, expand_malformed, expand_bad_zookie, expand_answered, expand_refused, expand_unread}
+use Rattle.keeper.specs.calls.Watch.{WatchStep, watch_malformed, watch_bad_zookie, watch_answered, watch_refused, watch_unread}
 use Rattle.keeper.specs.calls.CatchUp.{CatchUpStep, catch_up_malformed, catch_up_accepted, catch_up_refused, catch_up_unread}
 use Rattle.http_api.specs.Text.{word_of, body_of}
 use Rattle.http_api.specs.Machine.{IsAnswer, Run}
@@ -116,12 +118,26 @@ module _ {T : Type 0} (g : Ghosts T) (weaker : Weaker g) (P : Commit Configured 
   after_check old body told new (check_refused consistency node user why at asks is says only) h = shows_only old new only h
   after_check old body told new (check_unread none same) h = same_desk old new same h
 
+  after_read : (old : Posts T) (body : List ℕ) (told : Option (ℕ × List ℕ)) (new : Posts T) → ReadStep old body told new → HasLeft g P start old → HasLeft g P start new
+  after_read old body told new (read_malformed asks says same) h = same_desk old new same h
+  after_read old body told new (read_bad_zookie asks says same) h = same_desk old new same h
+  after_read old body told new (read_answered consistency tupleset rev found asks is says only) h = shows_only old new only h
+  after_read old body told new (read_refused consistency tupleset why at asks is says only) h = shows_only old new only h
+  after_read old body told new (read_unread none same) h = same_desk old new same h
+
   after_expand : (old : Posts T) (body : List ℕ) (told : Option (ℕ × List ℕ)) (new : Posts T) → ExpandStep old body told new → HasLeft g P start old → HasLeft g P start new
   after_expand old body told new (expand_malformed asks says same) h = same_desk old new same h
   after_expand old body told new (expand_bad_zookie asks says same) h = same_desk old new same h
   after_expand old body told new (expand_answered consistency node depth rev found asks is says only) h = shows_only old new only h
   after_expand old body told new (expand_refused consistency node depth why at asks is says only) h = shows_only old new only h
   after_expand old body told new (expand_unread none same) h = same_desk old new same h
+
+  after_watch : (old : Posts T) (body : List ℕ) (told : Option (ℕ × List ℕ)) (new : Posts T) → WatchStep old body told new → HasLeft g P start old → HasLeft g P start new
+  after_watch old body told new (watch_malformed asks says same) h = same_desk old new same h
+  after_watch old body told new (watch_bad_zookie asks says same) h = same_desk old new same h
+  after_watch old body told new (watch_answered cursor namespaces commits page asks is says only) h = shows_only old new only h
+  after_watch old body told new (watch_refused cursor namespaces commits why asks is says only) h = shows_only old new only h
+  after_watch old body told new (watch_unread none same) h = same_desk old new same h
 
   after_catch_up : (old : Posts T) (body : List ℕ) (told : Option (ℕ × List ℕ)) (new : Posts T) → CatchUpStep g old body told new → HasLeft g P start old → HasLeft g P start new
   after_catch_up old body told new (catch_up_malformed asks says same) h = same_desk old new same h
@@ -137,9 +153,9 @@ module _ {T : Type 0} (g : Ghosts T) (weaker : Weaker g) (P : Commit Configured 
   after_step_of old call.Check body told new asked s h = after_check old body told new s h
   after_step_of old call.CatchUp body told new asked s h = after_catch_up old body told new s h
   after_step_of old call.State body told new asked s h = same_desk old new s.1 h
-  after_step_of old call.Read body told new asked s h = same_desk old new s.1 h
+  after_step_of old call.Read body told new asked s h = after_read old body told new s h
   after_step_of old call.Expand body told new asked s h = after_expand old body told new s h
-  after_step_of old call.Watch body told new asked s h = same_desk old new s.1 h
+  after_step_of old call.Watch body told new asked s h = after_watch old body told new s h
   after_step_of old call.Leopard body told new asked s h = same_desk old new s.1 h
   after_step_of old call.Hot body told new asked s h = same_desk old new s.1 h
   after_step_of old call.Trim body told new asked s h = same_desk old new s.1 h

@@ -73,6 +73,10 @@ pub record OpenedOver {S : Type 0} (g : Ghosts S) (From : Retained → Type 0) (
   pub begins : HasCleanDisk (state g (connection desk.tables)) → From (retained_of loaded)
   pub ready : HasServed (over g) desk [] desk
 
+-- Tables over a connection. Where they hold one history and no other, it is one from which a run begins.
+abbrev pub TablesOver : {S : Type 0} (g : Ghosts S) → (Retained → Type 0) → Store S g → Type 0
+TablesOver g From tables = (r : Retained) → ((held : Retained) → KeepsHistory g (connection tables) held → r ≡ held) → From r
+
 -- What a refusal leaves. Tables that were there hold and leave what they did. Of new ones a crash leaves nothing, or a new store.
 abbrev pub LeavesRefused : {S : Type 0} → Ghosts S → Held S → Option ℕ → Held S → Type 0
 LeavesRefused g conn None left = ((r : Retained) → KeepsHistory g conn r → KeepsHistory g left r) × ((rs : List Retained) → LeavesHistory g conn rs → LeavesHistory g left rs)

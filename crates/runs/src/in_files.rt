@@ -7,11 +7,11 @@ ghost use Rattle.tasks.specs.Faults.{IsRunFault};
 ghost use Rattle.tracked_io.specs.Tracking.{Reads, ReadsAll};
 ghost use Rattle.runs.specs.Files.{FindsHistories};
 ghost use Rattle.runs.specs.Runs.{ServedBy, PausedBy, CutBy, is_read_fault, is_write_fault};
-ghost use Rattle.runs.specs.Over.{over, BeginsIn, EndedOver, OpenedOver};
+ghost use Rattle.runs.specs.Over.{over, BeginsIn, EndedOver, OpenedOver, TablesOver};
 
 use crate::answering::Answering;
 use crate::files::find;
-use crate::over::{open_over, run_over};
+use crate::over::{fault_of, open_over, run_over, start as tables_over};
 use names::Refusal;
 use sqlite::{Connection, Error, ErrorCode, FileFrom, FileStore, Start};
 use std::io::{Read, Write};
@@ -89,6 +89,26 @@ pub fn open_in<P: Start, H: Wait + Drop>(
     match open_over(rt.alloc(), wait, conn, store) {
         Ok(answering) => Ok(answering),
         Err((fault, _)) => Err(fault),
+    }
+}
+
+/// The tables of the store in the files at a path, of which `start` says what they hold, for many to share. With a number
+/// those of a new store are made.
+pub fn tables_in<P: Start>(
+    rt: &HostRuntime,
+    path: &str,
+    store: Option<u64>,
+    start: P,
+) -> Result<Store<FileStore<FileFrom<P>>>, Fault>
+    requires number { IfSome store (λ number. (1 ≤ number) × (number < 2 ^ 63)) }
+    ensures ok { IfOk result (λ tables. TablesOver over_files (BeginsIn (image_at P.Start) store) tables) }
+    ensures refused { IfErr result (λ fault. (why : Refusal) × (fault ≡ Refused why)) }
+    ensures cause { IfErr result IsRunFault }
+{
+    let conn = connect(rt, path, start)?;
+    match tables_over(rt.alloc(), conn, store) {
+        Ok(tables) => Ok(tables),
+        Err((why, _)) => Err(fault_of(why)),
     }
 }
 

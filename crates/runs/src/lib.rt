@@ -12,7 +12,7 @@ mod talking;
 
 pub use answering::Answering;
 pub use files::{close, find, leave};
-pub use in_files::{open_in, run_in};
+pub use in_files::{open_in, run_in, tables_in};
 pub use law::next_run_goes_on;
 pub use over::{open_over, run_over};
 pub use running::run;

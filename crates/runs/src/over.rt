@@ -109,8 +109,8 @@ pub fn open_over<S: Alter + Drop, H: Wait + Drop>(
     }
 }
 
-// The tables of a new store, or those that are there.
-fn start<S: Alter + Drop>(
+/// The tables of a new store, or those that are there.
+pub(crate) fn start<S: Alter + Drop>(
     alloc: Global,
     conn: Connection<S>,
     store: Option<u64>,
@@ -129,8 +129,8 @@ fn start<S: Alter + Drop>(
     }
 }
 
-// What is told of a refusal.
-fn fault_of(why: TablesError) -> Fault
+/// What is told of a refusal.
+pub(crate) fn fault_of(why: TablesError) -> Fault
     ensures memory { why ≡ TablesError.Memory → result ≡ Refused Refusal.Memory }
     ensures fault { why ≡ TablesError.Fault → result ≡ Refused StoreFault }
     ensures refused { (cause : Refusal) × (result ≡ Refused cause) }

@@ -6,3 +6,4 @@ pub mod InOrder
 pub mod Finding
 pub mod Limits
 pub mod Opening
+pub mod Watching

@@ -1,6 +1,8 @@
 pub mod Standing
 pub mod Answers
 pub mod Expanding
+pub mod Watching
+pub mod Paging
 pub mod World
 pub mod WorldParts
 pub mod Runs

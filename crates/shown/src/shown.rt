@@ -16,18 +16,21 @@ ghost use Rattle.expand.specs.Causes.{ExpandCause};
 ghost use Rattle.expand.specs.Viewed.{tree_of};
 ghost use Rattle.shown.specs.Answers.{IsAskedAt, IsAnswer, IsRefusal};
 ghost use Rattle.shown.specs.Expanding.{IsTreeOf, IsTree, IsTreeRefusal};
+ghost use Rattle.shown.specs.Watching.{IsWatched, WatchRefused};
+ghost use Rattle.shown.specs.Paging.{IsPage, IsPageRefusal};
 
 use crate::answer::{Answer, Refused};
 use crate::step::Step;
 use config::Config;
 use decide::Nothing;
 use expand::Tree;
-use names::{Node, Object, Op, Part, Refusal, State};
-use rows::{Loaded, Rows, what_follows_has_room};
+use names::{Items, Node, Object, Op, Part, Refusal, State, Tuple};
+use rows::{Loaded, Rows, Tupleset, what_follows_has_room};
 use std::alloc::{AllocError, Global};
 use std::marker::Model;
 use tuple_keys::KeptCommit;
-use zookie::Consistency;
+use watch::{Namespaces, Page};
+use zookie::{Consistency, Zookie};
 
 /// The state that questions are asked of, at any retained revision.
 #[derive(Drop)]
@@ -203,6 +206,51 @@ impl Shown {
     {
         let view = self.rows.at(rev);
         expand::expand_at(self.alloc, &view, node, depth)
+    }
+
+    /// The events on tuples of the namespaces, of so many commits above the cursor's revision, or of as many as there are. The
+    /// cursor may be at the floor.
+    pub fn watch(
+        &self,
+        cursor: &Zookie,
+        namespaces: &Namespaces,
+        commits: u32,
+    ) -> Result<Page, Refusal>
+        ensures ok { IfOk result (IsWatched self.now cursor.now namespaces.now commits) }
+        ensures err { IfErr result (WatchRefused self.now cursor.now) }
+    {
+        if cursor.store != self.rows.number() {
+            return Err(Refusal::ForeignZookie);
+        }
+        watch::page(self.alloc, &self.rows, cursor.rev, namespaces, commits)
+    }
+
+    /// The page of a tupleset, at the revision that the consistency chooses. A relation that the configuration there lacks has
+    /// no tuples.
+    pub fn read(
+        &self,
+        consistency: &Consistency,
+        asked: &Tupleset,
+    ) -> Result<Answer<Items<Tuple>>, Refused>
+        ensures ok { IfOk result (IsPage self.now consistency.now asked.now) }
+        ensures err { IfErr result (IsPageRefusal self.now consistency.now) }
+    {
+        let newest = self.rows.newest();
+        if let Err(why) = consistency.judge(self.rows.number(), self.rows.floor(), newest) {
+            return Err(Refused { why, at: None });
+        }
+        let rev = consistency.choose(newest, self.index);
+        let page = self.rows.at(rev).read(self.alloc, asked);
+        match page {
+            Ok(tuples) => Ok(Answer {
+                rev,
+                value: Items::of(tuples),
+            }),
+            Err(_) => Err(Refused {
+                why: Refusal::Memory,
+                at: None,
+            }),
+        }
     }
 
     /// Why the operations are refused, if they are.

@@ -1,7 +1,7 @@
 //! The command line.
-ghost use Rattle.std.specs.Prelude.{◌≡◌, IsTrue, IfOk, IfErr, map, string_bytes};
+ghost use Rattle.std.specs.Prelude.{◌≡◌, IsTrue, IfOk, IfErr, IfSome, map, string_bytes};
 ghost use Rattle.tasks.specs.Faults.{IsLineFault};
-ghost use Rattle.tasks.specs.Words.{asks_to_serve, OnServe};
+ghost use Rattle.tasks.specs.Words.{asks_to_serve, AreWorkers, NamesWorkers, OnServe};
 
 use crate::fault::Fault;
 use clap::error::ErrorKind;
@@ -9,15 +9,27 @@ use clap::{Arg, ArgAction, ArgMatches, Command};
 use names::Refusal;
 use std::alloc::{AllocError, Global};
 
+/// The most workers that connections are served by. Beside their sessions a desk has two left.
+pub const MAX_WORKERS: u64 = 30;
+
 /// What a command line asks for.
 #[derive(Debug, Drop)]
 pub enum Task {
     /// Lines are answered from the store there.
-    Run { place: Place },
-    /// Connections are served from the store there, on this port; with 0 on one that is free.
-    Serve { place: Place, port: u16 },
+    Run {
+        place: Place,
+    },
+    /// Connections are served from the store there, on this port; with 0 on one that is free. Where no number of workers
+    /// is named, it is by as many as the machine has processors.
+    Serve {
+        place: Place,
+        port: u16,
+        workers: Option<u64>,
+    },
     /// The configuration of a file is reported.
-    Config { file: String },
+    Config {
+        file: String,
+    },
 }
 
 /// Where a store's tables are.
@@ -34,6 +46,7 @@ pub enum Place {
 /// What the words of a command line ask for, of which the first is the program's.
 pub fn task_of(alloc: Global, words: &[String]) -> Result<Task, Fault>
     ensures serves { IfOk result (λ task. OnServe task (IsTrue (asks_to_serve (map string_bytes words.now)))) }
+    ensures workers { IfOk result NamesWorkers }
     ensures err { IfErr result IsLineFault }
 {
     match parse(alloc, words) {
@@ -63,7 +76,13 @@ fn parse(alloc: Global, words: &[String]) -> Result<ArgMatches, clap::Error> {
         .required(true)
         .action(ArgAction::Set)
         .value_parser(clap::value_parser!(u16));
-    let serve = with_place(alloc, Command::new(alloc, "serve"))?.arg(port)?;
+    let workers = Arg::new(alloc, "workers")
+        .long("workers")
+        .action(ArgAction::Set)
+        .value_parser(clap::value_parser!(u64).range(1..=MAX_WORKERS as i64));
+    let serve = with_place(alloc, Command::new(alloc, "serve"))?
+        .arg(port)?
+        .arg(workers)?;
     let file = Arg::new(alloc, "file")
         .required(true)
         .action(ArgAction::Set);
@@ -92,6 +111,7 @@ fn asks_to_serve(words: &[String]) -> bool
 
 fn task_in(alloc: Global, words: &[String], matches: &ArgMatches) -> Result<Task, Fault>
     ensures serves { IfOk result (λ task. OnServe task (IsTrue (asks_to_serve (map string_bytes words.now)))) }
+    ensures workers { IfOk result NamesWorkers }
     ensures err { IfErr result IsLineFault }
 {
     match matches.subcommand() {
@@ -101,6 +121,7 @@ fn task_in(alloc: Global, words: &[String], matches: &ArgMatches) -> Result<Task
         Some(("serve", inner)) if asks_to_serve(words) => Ok(Task::Serve {
             place: place_of(alloc, inner)?,
             port: port_of(inner)?,
+            workers: workers_of(inner)?,
         }),
         Some(("config", inner)) => Ok(Task::Config {
             file: file_of(alloc, inner, "file")?,
@@ -115,6 +136,20 @@ fn port_of(matches: &ArgMatches) -> Result<u16, Fault>
     match matches.get_one::<u16>("port") {
         Some(port) => Ok(port),
         None => Err(Fault::CommandLine),
+    }
+}
+
+// How many workers are named.
+fn workers_of(matches: &ArgMatches) -> Result<Option<u64>, Fault>
+    ensures named { IfOk result (λ workers. IfSome workers AreWorkers) }
+    ensures err { IfErr result IsLineFault }
+{
+    if !matches.contains_id("workers") {
+        return Ok(None);
+    }
+    match matches.get_one::<u64>("workers") {
+        Some(workers) if 1 <= workers && workers <= MAX_WORKERS => Ok(Some(workers)),
+        _ => Err(Fault::CommandLine),
     }
 }
 

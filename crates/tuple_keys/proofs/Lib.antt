@@ -3,4 +3,5 @@ pub mod Joining
 pub mod Packing
 pub mod Parts
 pub mod Prefixes
+pub mod Sameness
 pub mod Spellings

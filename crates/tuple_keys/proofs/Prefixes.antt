@@ -4,23 +4,51 @@ use Rattle.std.proofs.Common.{◌≡◌, ℕ, ◌++◌, Bool, true, false, List,
 use Rattle.std.specs.Prelude.{◌&&◌, nat_eq}
 use Rattle.std.specs.List.{starts_with}
 use Rattle.std.specs.Bool.{one_answer}
-use Rattle.std.specs.Cmp.Lexicographic.{pointwise, same_text, nat_list_eq_equiv}
+use Rattle.std.specs.Cmp.Lexicographic.{pointwise, same_text, slice_cmp, texts_ties, nat_list_eq_equiv}
 use Rattle.std.proofs.Math.Dec.{eqb}
 use Rattle.std.proofs.lemmas.Bool.Decides.{Decides-eqb}
 use Rattle.std.proofs.lemmas.Slice.Eq.{starts_is}
-use Rattle.std.specs.Ordering.{eq_by_cmp}
+use Rattle.std.specs.Ordering.{eq_by_cmp, nat_cmp}
 use Rattle.names.specs.Order.{object_cmp}
 use Rattle.names.specs.Names.{is_name}
 use Rattle.names.specs.Spelling.{IsObject, IsNode}
 use Rattle.names.specs.declared.object.Object.{Object}
 use Rattle.names.specs.declared.node.Node.{Node}
 use Rattle.names.specs.declared.subject.Subject.{Subject}
-use Rattle.tuple_keys.specs.Spelled.{spelled_object, spelled_node, spelled_namespace, spelled_relation, spelled_subject, after_space, subject_in, tuple_of, IsSubjectSpelling, IsSpelling}
-use Rattle.tuple_keys.specs.Named.{is_at, is_of, is_within}
+use Rattle.tuple_keys.specs.Spelled.{spelled_objects, spelled_object, spelled_node, spelled_namespace, spelled_relation, spelled_subject, before_space, after_space, subject_in, tuple_of, IsSubjectSpelling, IsSpelling}
+use Rattle.tuple_keys.specs.Named.{is_in, is_at, is_of, is_within}
 use Rattle.tuple_keys.specs.Texts.{IsStartOf}
 use Rattle.tuple_keys.proofs.Parts.{before_joined, after_joined}
 use Rattle.tuple_keys.proofs.Joining.{name_above, id_above, above_lacks}
 use Rattle.tuple_keys.proofs.Spellings.{starts_of_node, same_object, object_itself, same_node, node_itself, node_of_joined, subject_of_joined, node_above, node_joined, subject_spelling}
+
+-- ---- the tuples of a namespace's objects
+
+objects_joined : (namespace rest : List ℕ) → spelled_objects namespace ++ rest ≡ namespace ++ 32 ∷ rest
+objects_joined namespace rest = append_assoc namespace (32 ∷ []) rest
+
+starts_objects : (namespace : List ℕ) → IsTrue (is_name namespace) → (a : List ℕ) → starts_with eqb a (spelled_objects namespace) ≡ true → (tuple_of a).node.object.namespace ≡ namespace
+starts_objects namespace is a starts =
+    ap before_space ((starts_is Decides-eqb a (spelled_objects namespace) (starts_with eqb a (spelled_objects namespace)) refl).0 starts ∙ objects_joined namespace _)
+    ∙ before_joined 32 namespace _ (above_lacks namespace (name_above namespace is))
+
+objects_start : (namespace a : List ℕ) → IsSpelling a → (tuple_of a).node.object.namespace ≡ namespace → starts_with eqb a (spelled_objects namespace) ≡ true
+objects_start namespace a x e =
+    let t = tuple_of a in
+    let rest = t.node.object.id ++ 32 ∷ (t.node.relation ++ 32 ∷ spelled_subject t.subject) in
+    (starts_is Decides-eqb a (spelled_objects namespace) (starts_with eqb a (spelled_objects namespace)) refl).1 rest
+    (sym x.same ∙ ap (λ (l : List ℕ). l ++ 32 ∷ rest) e ∙ sym (objects_joined namespace rest))
+
+pub objects_begin : (namespace : List ℕ) → IsTrue (is_name namespace) → IsStartOf (spelled_objects namespace) (is_in namespace)
+objects_begin namespace is = λ a s.
+    one_answer {P = (tuple_of a).node.object.namespace ≡ namespace} (starts_with eqb a (spelled_objects namespace)) (is_in namespace (tuple_of a)) (starts_objects namespace is a, objects_start namespace a s)
+    (same_texts_by_order (tuple_of a).node.object.namespace namespace, λ e. ap (λ (l : List ℕ). eq_by_cmp (slice_cmp nat_cmp) l namespace) e ∙ text_itself namespace)
+  where
+    same_texts_by_order : (xs ys : List ℕ) → eq_by_cmp (slice_cmp nat_cmp) xs ys ≡ true → xs ≡ ys
+    same_texts_by_order xs ys e = same_text xs ys (sym (texts_ties xs ys ∙ e))
+
+    text_itself : (xs : List ℕ) → eq_by_cmp (slice_cmp nat_cmp) xs xs ≡ true
+    text_itself xs = sym (texts_ties xs xs) ∙ nat_list_eq_equiv.refl xs
 
 -- ---- the tuples of one object
 

@@ -1,8 +1,8 @@
 -- What tuples are of, and what they name.
 use Rattle.std.specs.Prelude.{ℕ, ◌&&◌, List, Bool, Option, Some, None, nat_eq}
 use Rattle.std.specs.Option.{option_map}
-use Rattle.std.specs.Ordering.{eq_by_cmp}
-use Rattle.std.specs.Cmp.Lexicographic.{pointwise}
+use Rattle.std.specs.Ordering.{eq_by_cmp, nat_cmp}
+use Rattle.std.specs.Cmp.Lexicographic.{pointwise, slice_cmp}
 use Rattle.names.specs.Order.{object_cmp, node_cmp}
 use Rattle.names.specs.declared.object.Object.{Object}
 use Rattle.names.specs.declared.node.Node.{Node}
@@ -13,6 +13,10 @@ use Rattle.meaning.specs.Snap.{one}
 -- the tuple that names an object
 abbrev pub user_tuple : Node → Object → Tuple
 user_tuple n u = record { node = n; subject = one u }
+
+-- the tuple's object is of the namespace
+abbrev pub is_in : List ℕ → Tuple → Bool
+is_in namespace t = eq_by_cmp (slice_cmp nat_cmp) t.node.object.namespace namespace
 
 -- the tuple is of a node of the object
 abbrev pub is_at : Object → Tuple → Bool

@@ -12,6 +12,10 @@ abbrev pub spelled_relation : Option (List ℕ) → List ℕ
 spelled_relation None = []
 spelled_relation (Some relation) = 32 ∷ relation
 
+-- a namespace, with a space after it
+abbrev pub spelled_objects : List ℕ → List ℕ
+spelled_objects namespace = namespace ++ 32 ∷ []
+
 -- the parts of an object, each with a space after it
 abbrev pub spelled_object : Object → List ℕ
 spelled_object o = o.namespace ++ 32 ∷ (o.id ++ 32 ∷ [])

@@ -7,8 +7,8 @@ ghost use Rattle.names.specs.Spelling.{IsNode, IsObject, IsTuple};
 ghost use Rattle.names.specs.declared.node.Node.{Node};
 ghost use Rattle.names.specs.declared.object.Object.{Object};
 ghost use Rattle.names.specs.declared.tuple.Tuple.{Tuple};
-ghost use Rattle.tuple_keys.specs.Named.{is_at, is_of, is_within};
-ghost use Rattle.tuple_keys.specs.Spelled.{spelled, spelled_object, spelled_node, spelled_namespace, subject_in, tuple_of, IsSubjectSpelling, IsSpelling};
+ghost use Rattle.tuple_keys.specs.Named.{is_in, is_at, is_of, is_within};
+ghost use Rattle.tuple_keys.specs.Spelled.{spelled, spelled_objects, spelled_object, spelled_node, spelled_namespace, subject_in, tuple_of, IsSubjectSpelling, IsSpelling};
 ghost use Rattle.tuple_keys.specs.Texts.{text_cmp, begins, IsStartOf};
 
 /// Each tuple has a text, which spells it and no other.
@@ -19,6 +19,11 @@ pub fn each_tuple_has_a_text()
 /// The order of texts is the order of their tuples.
 pub fn texts_are_ordered_as_tuples()
     ensures { (a b : List ℕ) → IsSpelling a → IsSpelling b → text_cmp a b ≡ tuple_cmp (tuple_of a) (tuple_of b) }
+{}
+
+/// The tuples whose objects are of a namespace are those whose texts begin with the namespace's.
+pub fn the_texts_of_a_namespaces_objects_begin_with_it()
+    ensures { (namespace : List ℕ) → IsTrue (is_name namespace) → IsStartOf (spelled_objects namespace) (is_in namespace) }
 {}
 
 /// The tuples of an object are those whose texts begin with the object's.

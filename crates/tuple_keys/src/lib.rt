@@ -24,7 +24,7 @@ pub use law::{
     a_namespaces_texts_begin_with_its_text, a_nodes_texts_begin_with_its_text,
     a_subjects_text_follows_its_nodes, an_objects_texts_begin_with_its_text, each_tuple_has_a_text,
     texts_are_not_below_their_start, texts_are_ordered_as_tuples,
-    texts_that_begin_alike_stand_together,
+    texts_that_begin_alike_stand_together, the_texts_of_a_namespaces_objects_begin_with_it,
 };
 pub use scratch::Scratch;
 pub use start::Start;

@@ -2,7 +2,7 @@
 ghost use Rattle.std.specs.Prelude.{◌≡◌, ◌++◌, false, IsTrue, IfSome, IfNone};
 ghost use Rattle.names.specs.Names.{is_name};
 ghost use Rattle.names.specs.Spelling.{IsNode, IsObject};
-ghost use Rattle.tuple_keys.specs.Spelled.{spelled_object, spelled_node, spelled_namespace};
+ghost use Rattle.tuple_keys.specs.Spelled.{spelled_objects, spelled_object, spelled_node, spelled_namespace};
 ghost use Rattle.tuple_keys.specs.Texts.{begins};
 
 use crate::pushes::{push_name, push_node, push_object};
@@ -10,7 +10,8 @@ use arrayvec::ArrayString;
 use names::{Name, Node, Object};
 use std::marker::Model;
 
-/// What the texts of an object's tuples begin with, or of a node's, and no others. It takes no memory.
+/// What the texts of the tuples of a namespace's objects begin with, or of one object, or of a node, and no
+/// others. It takes no memory.
 #[derive(Drop)]
 pub struct Start {
     text: ArrayString<261>,
@@ -25,6 +26,17 @@ impl Model for Start {
 }
 
 impl Start {
+    /// What the texts of the tuples begin with whose objects are of the namespace.
+    pub fn of_objects(namespace: &Name) -> Start
+        ensures text { result ≡ spelled_objects namespace.now }
+        ensures name { IsTrue (is_name namespace.now) }
+    {
+        let mut name = ArrayString::new();
+        push_name(&mut name, namespace);
+        name.push_str(" ");
+        Start { text: name }
+    }
+
     /// What the texts of the object's tuples begin with.
     pub fn of_object(object: &Object) -> Start
         ensures text { result ≡ spelled_object object.now }

@@ -1,12 +1,15 @@
 //! Subjects, borrowed as texts.
 ghost use Rattle.std.specs.Prelude.{◌≡◌, IsTrue, IfSome};
-ghost use Rattle.std.specs.Option.{option_map};
+ghost use Rattle.std.specs.Ordering.{eq_by_cmp, nat_cmp};
+ghost use Rattle.std.specs.Cmp.Lexicographic.{slice_cmp};
+ghost use Rattle.std.specs.Option.{option_map, option_cmp};
 ghost use Rattle.names.specs.Names.{is_name, is_id};
+ghost use Rattle.names.specs.Order.{subject_cmp};
 ghost use Rattle.tuple_keys.specs.Named.{node_in};
 ghost use Rattle.tuple_keys.specs.Spelled.{spelled_subject, subject_in, IsSubjectSpelling};
 
 use crate::cuts::{cut, cut_last, name_of, object_of};
-use names::{Node, Object, Subject};
+use names::{Name, Node, Object, Subject};
 use std::marker::Model;
 
 /// Whom a tuple names, as the text that is the last part of the tuple's.
@@ -70,6 +73,20 @@ impl<'a> SubjectRef<'a> {
         relation
     }
 
+    /// Whether it is this subject.
+    pub fn is(&self, subject: &Subject) -> bool
+        ensures { result ≡ eq_by_cmp subject_cmp self.now subject.now }
+    {
+        let object = &subject.object;
+        if self.namespace() != object.namespace.as_str() {
+            return false;
+        }
+        if self.id() != object.id.as_str() {
+            return false;
+        }
+        is_relation(self.relation(), &subject.relation)
+    }
+
     /// The object, which may be that of a node.
     pub fn object(&self) -> Object
         ensures { result ≡ self.now.object }
@@ -98,5 +115,16 @@ impl<'a> SubjectRef<'a> {
             object,
             relation: Some(name_of(relation)),
         }
+    }
+}
+
+/// Whether the relation is this, or none where there is none.
+fn is_relation(text: Option<&str>, relation: &Option<Name>) -> bool
+    ensures { result ≡ eq_by_cmp (option_cmp (slice_cmp nat_cmp)) (option_map (λ t. t.now) text.entry) relation.now }
+{
+    match (text, relation) {
+        (Some(text), Some(relation)) => text == relation.as_str(),
+        (None, None) => true,
+        _ => false,
     }
 }

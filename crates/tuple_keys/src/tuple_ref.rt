@@ -1,5 +1,8 @@
 //! Tuples, borrowed as texts.
-ghost use Rattle.std.specs.Prelude.{◌≡◌};
+ghost use Rattle.std.specs.Prelude.{◌≡◌, IsTrue};
+ghost use Rattle.std.specs.Ordering.{is_lt};
+ghost use Rattle.names.specs.Names.{is_name};
+ghost use Rattle.names.specs.Order.{tuple_cmp};
 ghost use Rattle.tuple_keys.specs.Spelled.{spelled, tuple_of, IsSpelling};
 
 use crate::cuts::{cut, name_of, object_of};
@@ -56,6 +59,24 @@ impl<'a> TupleRef<'a> {
         let node = Node { object, relation };
         let subject = self.subject().subject();
         Tuple { node, subject }
+    }
+
+    /// Whether it comes later than another, in the order of tuples.
+    pub fn is_later(&self, other: &TupleRef<'_>) -> bool
+        ensures { result ≡ is_lt (tuple_cmp other.now self.now) }
+    {
+        other.text < self.text
+    }
+
+    /// The relation of the tuple's node.
+    pub fn relation(&self) -> &'a str
+        ensures text { result.now ≡ self.now.node.relation }
+        ensures is { IsTrue (is_name result.now) }
+    {
+        let (_, from_id) = cut(self.text);
+        let (_, from_relation) = cut(from_id);
+        let (name, _) = cut(from_relation);
+        name
     }
 
     /// Whom the tuple names.

@@ -3,9 +3,11 @@
 #![tactic(auto)]
 
 mod law;
+mod limits;
 mod pages;
 mod watched;
 
 pub use law::{replayed_events_give_the_tuples, replayed_events_give_what_is_watched};
+pub use limits::{MAX_COMMITS, MAX_NAMES};
 pub use pages::page;
 pub use watched::{Namespaces, Page, WatchedEvent};

@@ -8,7 +8,7 @@ use names::{Event, Items, Name, Tuple};
 #[derive(Debug, Drop)]
 pub enum Namespaces {
     All,
-    /// The objects of these namespaces. A name that stands twice counts once.
+    /// The objects of these namespaces. A name that stands twice means no more than one that stands once.
     These(Items<Name>),
 }
 

@@ -417,3 +417,187 @@ fn a_writer_that_fails_has_taken_a_beginning(rt: HostRuntime) {
         );
     }
 }
+
+// Two requests, cut after so many bytes, which come by so many; the reader then ends, or fails.
+fn cut_at(alloc: Global, len: usize, most: usize, fails: bool) -> Result<bool, AllocError> {
+    let mut input = Vec::from_slice(alloc, CHECK3)?;
+    input.extend_from_slice(CHECK3)?;
+    let mut text = Vec::new(alloc);
+    if len >= CHECK3.len() {
+        text.extend_from_slice(OK3.as_bytes())?;
+    }
+    if len >= input.len() {
+        text.extend_from_slice(OK3.as_bytes())?;
+    }
+    let whole = len == 0 || len == CHECK3.len() || len == input.len();
+    let wanted = match (fails, whole) {
+        (true, _) => End::ReadFault,
+        (false, true) => End::Closed,
+        (false, false) => End::Broken,
+    };
+    let bytes = &input[..len.min(input.len())];
+    let mut reader = TrackedReader::new(Slow { bytes, most, fails });
+    let mut writer = TrackedWriter::new(Vec::new(alloc));
+    let end = serve(alloc, &mut reader, &mut writer, &mut Echo(alloc));
+    let known = reader.has_failed() == fails && !writer.has_failed();
+    Ok(known && end == wanted && writer.inner().as_slice() == text.as_slice())
+}
+
+// The same at each byte.
+fn is_cut_anywhere(alloc: Global, most: usize, fails: bool) -> bool {
+    for len in 0..=CHECK3.len() + CHECK3.len() {
+        if !cut_at(alloc, len, most, fails).unwrap_or(false) {
+            return false;
+        }
+    }
+    true
+}
+
+#[test]
+fn an_input_may_end_at_any_byte(rt: HostRuntime) {
+    assert!(rt; is_cut_anywhere(rt.alloc(), 100_000, false));
+}
+
+#[test]
+fn an_input_that_comes_by_bytes_may_end_at_any(rt: HostRuntime) {
+    assert!(rt; is_cut_anywhere(rt.alloc(), 1, false));
+}
+
+// By one byte at a time the reader fails at each of its reads in turn.
+#[test]
+fn a_reader_may_fail_at_any_read(rt: HostRuntime) {
+    assert!(rt; is_cut_anywhere(rt.alloc(), 1, true));
+}
+
+fn fails_anywhere(alloc: Global) -> bool {
+    for taken in 0..OK3.len() {
+        if !writer_fails(alloc, taken).unwrap_or(false) {
+            return false;
+        }
+    }
+    true
+}
+
+// By one byte at a time the writer fails at each of its writes in turn.
+#[test]
+fn a_writer_may_fail_at_any_write(rt: HostRuntime) {
+    assert!(rt; fails_anywhere(rt.alloc()));
+}
+
+// A head whose beginning is this long, and which then ends.
+fn cut_head(
+    alloc: Global,
+    begins: &[u8],
+    fill: u8,
+    len: usize,
+    wanted: End,
+) -> Result<bool, AllocError> {
+    let mut input = Vec::from_slice(alloc, begins)?;
+    for _ in input.len()..len {
+        input.push(fill)?;
+    }
+    let bytes = input.as_slice();
+    let mut reader = TrackedReader::new(Slow {
+        bytes,
+        most: 4096,
+        fails: false,
+    });
+    let mut writer = TrackedWriter::new(Vec::new(alloc));
+    let end = serve(alloc, &mut reader, &mut writer, &mut Echo(alloc));
+    let text = if wanted == End::Asked { BAD } else { "" };
+    Ok(end == wanted && writer.inner().as_slice() == text.as_bytes())
+}
+
+// With so many bytes the head can still be ended within 8,192, and with one more it cannot.
+fn ends_in_time(alloc: Global, begins: &[u8], fill: u8, len: usize) -> bool {
+    cut_head(alloc, begins, fill, len, End::Broken).unwrap_or(false)
+        && cut_head(alloc, begins, fill, len.saturating_add(1), End::Asked).unwrap_or(false)
+}
+
+#[test]
+fn a_head_that_cannot_be_ended_in_time_is_refused(rt: HostRuntime) {
+    for (begins, fill, len) in [
+        (b"".as_slice(), b'\n', 8178usize),
+        (b"".as_slice(), b'G', 8179),
+        (b"GET / HTTP/1.1\r\n".as_slice(), b'a', 8189),
+        (b"GET / HTTP/1.1\r\na:".as_slice(), b'b', 8190),
+    ] {
+        assert!(rt; ends_in_time(rt.alloc(), begins, fill, len), "{len}");
+    }
+}
+
+#[test]
+fn a_target_is_read_to_the_limit(rt: HostRuntime) {
+    for fill in [b'a', 0xffu8] {
+        let cut = cut_head(rt.alloc(), b"GET /", fill, 8191, End::Broken);
+        assert!(rt; cut.unwrap_or(false), "{fill}");
+    }
+}
+
+// A check of this length, of which so many bytes come; then the reader fails.
+fn of_length(
+    alloc: Global,
+    length: &str,
+    body: usize,
+    wanted: End,
+    text: &str,
+) -> Result<bool, AllocError> {
+    let mut input = Vec::from_slice(alloc, b"POST /v1/check HTTP/1.1\r\nContent-Length: ")?;
+    input.extend_from_slice(length.as_bytes())?;
+    input.extend_from_slice(b"\r\n\r\n")?;
+    for _ in 0..body {
+        input.push(b'a')?;
+    }
+    let bytes = input.as_slice();
+    let mut reader = TrackedReader::new(Slow {
+        bytes,
+        most: 100_000,
+        fails: true,
+    });
+    let mut writer = TrackedWriter::new(Vec::new(alloc));
+    let end = serve(alloc, &mut reader, &mut writer, &mut Echo(alloc));
+    Ok(end == wanted && writer.inner().as_slice() == text.as_bytes())
+}
+
+// What answers a check with as many bytes.
+fn echoed(alloc: Global, length: &str, body: usize) -> Result<bool, AllocError> {
+    let mut text = String::new(alloc);
+    text.push_str("HTTP/1.1 200 OK\r\nContent-Type: application/json\r\nContent-Length: ")?;
+    text.push_str(length.trim_start_matches('0'))?;
+    text.push_str("\r\n\r\n")?;
+    for _ in 0..body {
+        text.push('a')?;
+    }
+    of_length(alloc, length, body, End::ReadFault, text.as_str())
+}
+
+#[test]
+fn a_length_may_begin_with_zeros(rt: HostRuntime) {
+    for (length, body) in [("41", 41usize), ("0041", 41), ("0000000000000000041", 41)] {
+        assert!(rt;
+            echoed(rt.alloc(), length, body).unwrap_or(false),
+            "{length}"
+        );
+    }
+}
+
+#[test]
+fn a_body_has_65536_bytes_at_most(rt: HostRuntime) {
+    assert!(rt; echoed(rt.alloc(), "65536", 65_536).unwrap_or(false));
+    let refused = of_length(rt.alloc(), "65537", 0, End::Asked, LARGE);
+    assert!(rt; refused.unwrap_or(false));
+}
+
+// The reader would fail at the next read.
+#[test]
+fn nothing_is_read_behind_what_is_refused(rt: HostRuntime) {
+    for (length, text) in [
+        ("65537", LARGE),
+        ("9999999999999999999", LARGE),
+        ("00000000000000000041", BAD),
+        ("", BAD),
+    ] {
+        let refused = of_length(rt.alloc(), length, 0, End::Asked, text);
+        assert!(rt; refused.unwrap_or(false), "{length}");
+    }
+}

@@ -16,7 +16,7 @@ use Rattle.tasks.specs.declared.words.Place.{Place}
 use Rattle.tasks.specs.declared.words.Place.TheVariants.{Memory, New, There}
 use Rattle.runs.specs.Runs.{ServedBy, PausedBy, CutBy, Ended}
 use Rattle.runs.specs.Over.{over, listed, BeginsIn, EndedOver}
-use Rattle.zanz.specs.Listening.{BeganAnnounced}
+use Rattle.zanz.specs.Listening.{Announced, BeganAnnounced}
 
 -- which lines of the input were answered
 pub data Extent : Type 0 where
@@ -66,7 +66,8 @@ abbrev pub AreWhole : {R W : Type 0} → TrackedReading R → TrackedWriting W �
 AreWhole reader writer = (reader.failed ≡ false) × (writer.failed ≡ false) × (writer.flushed ≡ true)
 
 -- Why the work ended early: the input could not be read on; the output could not be written on; a configuration is no valid
--- one, which was reported; or nothing was read or written, since something was refused. Only a service says where it listens.
+-- one, which was reported; or nothing was read or written, since something was refused. Only a service says where it listens,
+-- and it may find after that that it has no worker.
 pub data Stopped {R W D : Type 0} {g : disk.Ghosts D} (image : Image) (is_service : Bool) (remaining : R → Option (List ℕ)) (contents : W → Option (List ℕ))
     (old new : TrackedReading R × TrackedWriting W) (left : Option (Held (FileStore D g))) : Type 0 where
   input_failed : new.0.failed ≡ true → Ran image whole_lines remaining contents old new left → Stopped image is_service remaining contents old new left
@@ -74,4 +75,5 @@ pub data Stopped {R W D : Type 0} {g : disk.Ghosts D} (image : Image) (is_servic
   is_no_configuration : new.0 ≡ old.0 → Reported contents false old.1 new.1 → Stopped image is_service remaining contents old new left
   report_failed : new.0 ≡ old.0 → new.1.failed ≡ true → BeganReport contents old.1 new.1 → Stopped image is_service remaining contents old new left
   announcing_failed : is_service ≡ true → new.0 ≡ old.0 → new.1.failed ≡ true → BeganAnnounced contents old.1 new.1 → Stopped image is_service remaining contents old new left
+  workers_refused : is_service ≡ true → new.0 ≡ old.0 → Announced contents old.1 new.1 → Stopped image is_service remaining contents old new left
   nothing_done : new.0 ≡ old.0 → new.1 ≡ old.1 → Stopped image is_service remaining contents old new left

@@ -1,23 +1,26 @@
 //! The program, but for its process.
-ghost use Rattle.std.specs.Prelude.{◌≡◌, ◌≢◌, ◌≤◌, ◌⊎◌, true, false, None, IsTrue, IfOk, IfErr, OnOk, map, string_bytes};
+ghost use Rattle.std.specs.Prelude.{◌≡◌, ◌≢◌, ◌≤◌, ◌<◌, ◌^◌, ◌⊎◌, true, false, None, IsTrue, IfOk, IfErr, IfSome, OnOk, map, string_bytes};
 ghost use Rattle.sqlite_wal.specs.Files.{image_at};
 ghost use Rattle.tasks.specs.declared.fault.Fault.TheVariants.{Refused};
 ghost use Rattle.tasks.specs.Faults.{fault_status, IsRunFault};
 ghost use Rattle.tasks.specs.Words.{asks_to_serve};
 ghost use Rattle.runs.specs.Runs.{is_read_fault, is_write_fault};
-ghost use Rattle.zanz.specs.Listening.{Announced, BeganAnnounced};
+ghost use Rattle.zanz.specs.Listening.{Announced, BeganAnnounced, StoppedServing};
 ghost use Rattle.zanz.specs.Ran.{AreWhole, Ran, RanAt, Reported, BeganReport, Stopped, all_lines, whole_lines, first_lines};
 
 use crate::listening::serve;
 use crate::place::{is_number, is_there};
+use crate::sharing::{share, share_over, workers_of_machine};
 use names::Refusal;
-use runs::{Answering, open_in, run, run_in};
+use runs::{Answering, open_in, run, run_in, tables_in};
 use sqlite::{Connection, FileFrom, FileStore, Start};
 use std::alloc::Global;
 use std::io::{Read, Write};
 use std::net::{Net, TcpListener, TcpStream};
 use std::rt::Files;
 use std::sync::Wait;
+use std::thread::Threads;
+use std::time::Clock;
 use tables::Listed;
 use tasks::{Fault, Place, Task, read_file, report_of, task_of};
 use tracked_io::{TrackedReader, TrackedWriter, say};
@@ -95,8 +98,14 @@ fn run_at<P: Start, H: Wait + Drop, R: Read, W: Write>(
     }
 }
 
-// Serves connections from the store at a place. `start` says what its file holds.
-fn serve_at<P: Start, H: Wait + Drop, N: Net<Listener = TcpListener, Stream = TcpStream>, W: Write>(
+// Serves connections from the store at a place, one after the other, from a desk of its own. `start` says what its file
+// holds.
+fn serve_alone_at<
+    P: Start,
+    H: Wait + Drop,
+    N: Net<Listener = TcpListener, Stream = TcpStream>,
+    W: Write,
+>(
     rt: &HostRuntime,
     wait: H,
     net: &N,
@@ -135,11 +144,138 @@ fn serve_at<P: Start, H: Wait + Drop, N: Net<Listener = TcpListener, Stream = Tc
     }
 }
 
+// Serves connections from the store in a file, by so many workers. `start` says what the file holds.
+fn share_in<
+    P: Start + Send,
+    H: Wait + Drop + Send,
+    N: Net<Listener = TcpListener, Stream = TcpStream> + Threads + Wait + Clock + Sync,
+    W: Write,
+>(
+    rt: &HostRuntime,
+    wait: H,
+    net: &N,
+    file: &str,
+    store: Option<u64>,
+    port: u16,
+    workers: u64,
+    start: P,
+    writer: &mut TrackedWriter<W>,
+) -> Result<(), Fault>
+    requires number { IfSome store (λ number. (1 ≤ number) × (number < 2 ^ 63)) }
+    requires unbroken_writer { writer.old.failed ≡ false }
+    ensures ok { OnOk result (Announced W.contents writer.old writer.new) }
+    ensures whole { OnOk result ((writer.new.failed ≡ false) × (writer.new.flushed ≡ true)) }
+    ensures line { IfErr result (λ fault. fault ≢ Fault.CommandLine) }
+    ensures failed { IfErr result (λ _. StoppedServing W.contents writer.old writer.new) }
+{
+    match tables_in(rt, file, store, start) {
+        Ok(tables) => share_over(rt.alloc(), net, wait, tables, port, workers, writer),
+        Err(fault) => Err(fault),
+    }
+}
+
+// Serves connections from the store at a place, by so many workers. `start` says what its file holds.
+fn serve_shared_at<
+    P: Start + Send,
+    H: Wait + Drop + Send,
+    N: Net<Listener = TcpListener, Stream = TcpStream> + Threads + Wait + Clock + Sync,
+    W: Write,
+>(
+    rt: &HostRuntime,
+    wait: H,
+    net: &N,
+    place: &Place,
+    port: u16,
+    workers: u64,
+    start: P,
+    writer: &mut TrackedWriter<W>,
+) -> Result<(), Fault>
+    requires unbroken_writer { writer.old.failed ≡ false }
+    ensures ok { OnOk result (Announced W.contents writer.old writer.new) }
+    ensures whole { OnOk result ((writer.new.failed ≡ false) × (writer.new.flushed ≡ true)) }
+    ensures line { IfErr result (λ fault. fault ≢ Fault.CommandLine) }
+    ensures failed { IfErr result (λ _. StoppedServing W.contents writer.old writer.new) }
+{
+    match place {
+        Place::Memory { store } => {
+            let alloc = rt.alloc();
+            let tables = Listed::new(alloc, *store);
+            share(alloc, net, wait, tables, port, workers, writer)
+        }
+        Place::New { file, store } => {
+            if !is_number(*store) {
+                return Err(Fault::Refused(Refusal::StoreFault));
+            }
+            share_in(
+                rt,
+                wait,
+                net,
+                file.as_str(),
+                Some(*store),
+                port,
+                workers,
+                start,
+                writer,
+            )
+        }
+        Place::There { file } => {
+            is_there(rt, file.as_str())?;
+            share_in(
+                rt,
+                wait,
+                net,
+                file.as_str(),
+                None,
+                port,
+                workers,
+                start,
+                writer,
+            )
+        }
+    }
+}
+
+// Serves connections from the store at a place, by as many workers as are named, or else as the machine has processors.
+fn serve_at<
+    P: Start + Send,
+    H: Wait + Drop + Send,
+    N: Net<Listener = TcpListener, Stream = TcpStream> + Threads + Wait + Clock + Sync,
+    W: Write,
+>(
+    rt: &HostRuntime,
+    wait: H,
+    net: &N,
+    place: &Place,
+    port: u16,
+    workers: Option<u64>,
+    start: P,
+    writer: &mut TrackedWriter<W>,
+) -> Result<(), Fault>
+    requires unbroken_writer { writer.old.failed ≡ false }
+    ensures ok { OnOk result (Announced W.contents writer.old writer.new) }
+    ensures whole { OnOk result ((writer.new.failed ≡ false) × (writer.new.flushed ≡ true)) }
+    ensures line { IfErr result (λ fault. fault ≢ Fault.CommandLine) }
+    ensures failed { IfErr result (λ _. StoppedServing W.contents writer.old writer.new) }
+{
+    let workers = match workers {
+        Some(workers) => workers,
+        None => workers_of_machine(net),
+    };
+    if workers == 1 {
+        match serve_alone_at(rt, wait, net, place, port, start, writer) {
+            Ok(()) => Ok(()),
+            Err(fault) => Err(fault),
+        }
+    } else {
+        serve_shared_at(rt, wait, net, place, port, workers, start, writer)
+    }
+}
+
 // Does what the words say, and answers the status that the process ends with.
 fn obey<
-    P: Start,
-    H: Wait + Drop,
-    N: Net<Listener = TcpListener, Stream = TcpStream>,
+    P: Start + Send,
+    H: Wait + Drop + Send,
+    N: Net<Listener = TcpListener, Stream = TcpStream> + Threads + Wait + Clock + Sync,
     R: Read,
     W: Write,
 >(
@@ -175,8 +311,14 @@ fn obey<
                 Err(fault) => (Err(fault), left),
             }
         }
-        Ok(Task::Serve { place, port }) => {
-            match serve_at(rt, wait, net, &place, port, start, writer) {
+        Ok(
+            Task::Serve {
+                place,
+                port,
+                workers,
+            },
+        ) => {
+            match serve_at(rt, wait, net, &place, port, workers, start, writer) {
                 Ok(()) => (Ok(0), None),
                 Err(fault) => (Err(fault), None),
             }
@@ -189,9 +331,9 @@ fn obey<
 /// Does what the words say, tells of a fault on `errors`, and answers the status that the process ends with, and
 /// what is left of the file that it ran over, of which `start` says what it held.
 pub fn command<
-    P: Start,
-    H: Wait + Drop,
-    N: Net<Listener = TcpListener, Stream = TcpStream>,
+    P: Start + Send,
+    H: Wait + Drop + Send,
+    N: Net<Listener = TcpListener, Stream = TcpStream> + Threads + Wait + Clock + Sync,
     R: Read,
     W: Write,
     E: Write,

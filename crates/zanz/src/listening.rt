@@ -10,21 +10,16 @@ use http_api::{End, routes};
 use matchit::Router;
 use names::{Call, Refusal};
 use runs::{Answering, talk};
+use server::{sides_of, take_leave};
 use std::alloc::{AllocError, Global};
-use std::io::{BufWriter, Read, Write};
-use std::net::{Ipv4Addr, Net, Shutdown, TcpListener, TcpStream};
+use std::io::Write;
+use std::net::{Ipv4Addr, Net, TcpListener, TcpStream};
 use std::sync::Wait;
 use std::thread;
 use std::time::Duration;
 use tables::Tables;
 use tasks::Fault;
-use tracked_io::{TrackedReader, TrackedWriter, say};
-
-// For how many milliseconds a read waits for a peer that was refused to end its side.
-const LINGER: u64 = 100;
-
-// How many pieces are read of what such a peer still sends, each of 4,096 bytes at most.
-const PIECES: u32 = 256;
+use tracked_io::{TrackedWriter, say};
 
 // For how many milliseconds nothing is done after a failed accept: where no descriptors are left the next fails at once.
 const PAUSE: u64 = 1;
@@ -35,8 +30,12 @@ fn line_of(alloc: Global, port: u16) -> Result<String, AllocError>
     format!(in alloc; "listening 127.0.0.1:{port}\n")
 }
 
-// Says where the program listens.
-fn announce<W: Write>(alloc: Global, port: u16, writer: &mut TrackedWriter<W>) -> Result<(), Fault>
+/// Says where the program listens.
+pub(crate) fn announce<W: Write>(
+    alloc: Global,
+    port: u16,
+    writer: &mut TrackedWriter<W>,
+) -> Result<(), Fault>
     requires unbroken_writer { writer.old.failed ≡ false }
     ensures ok { OnOk result (Announced W.contents writer.old writer.new) }
     ensures whole { OnOk result ((writer.new.failed ≡ false) × (writer.new.flushed ≡ true)) }
@@ -53,8 +52,8 @@ fn announce<W: Write>(alloc: Global, port: u16, writer: &mut TrackedWriter<W>) -
     Ok(())
 }
 
-// Listens on this machine's own address, and says on which port.
-fn listen<N: Net<Listener = TcpListener, Stream = TcpStream>>(
+/// Listens on this machine's own address, and says on which port.
+pub(crate) fn listen<N: Net<Listener = TcpListener, Stream = TcpStream>>(
     net: &N,
     port: u16,
 ) -> Result<(TcpListener, u16), Fault>
@@ -69,26 +68,7 @@ fn listen<N: Net<Listener = TcpListener, Stream = TcpStream>>(
     }
 }
 
-// Ends the sending side of a connection that was refused, and reads what its peer had sent before it knew: a socket
-// that is closed with bytes unread resets the connection, and the peer may lose the reply that it was just sent.
-fn take_leave(stream: &TcpStream) {
-    let told = stream.shutdown(Shutdown::Write);
-    let bounded = stream.set_read_timeout(Some(Duration::from_millis(LINGER)));
-    if told.is_err() || bounded.is_err() {
-        return;
-    }
-    let mut from = stream;
-    let mut piece = [0u8; 4096];
-    for _ in 0..PIECES {
-        match from.read(&mut piece) {
-            Ok(0) => return,
-            Ok(_) => {}
-            Err(_) => return,
-        }
-    }
-}
-
-// Serves one connection, and closes it.
+// Serves one connection.
 fn serve_stream<T: Tables + Drop, H: Wait + Drop>(
     alloc: Global,
     routes: &Router<Call>,
@@ -98,13 +78,12 @@ fn serve_stream<T: Tables + Drop, H: Wait + Drop>(
     requires { routes.now ≡ table }
     ensures { StaysServing T.Tables answering.old answering.new }
 {
-    let _ = stream.set_nodelay(true);
-    let Ok(out) = BufWriter::new(alloc, stream) else {
-        return End::Memory;
-    };
-    let mut reader = TrackedReader::new(stream);
-    let mut writer = TrackedWriter::new(out);
-    talk(alloc, routes, answering, &mut reader, &mut writer)
+    match sides_of(alloc, stream) {
+        Some((mut reader, mut writer)) => {
+            talk(alloc, routes, answering, &mut reader, &mut writer)
+        }
+        None => End::Memory,
+    }
 }
 
 // Serves one connection after another. However one of them ends, the next is served.
@@ -121,9 +100,7 @@ fn serve_each<T: Tables + Drop, H: Wait + Drop>(
         match stream {
             Ok(stream) => {
                 let end = serve_stream(rt.alloc(), routes, answering, &stream);
-                if end == End::Asked || end == End::Memory {
-                    take_leave(&stream);
-                }
+                take_leave(&stream, end);
             }
             Err(_) => thread::sleep(rt, Duration::from_millis(PAUSE)),
         }

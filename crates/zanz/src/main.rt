@@ -1,11 +1,12 @@
 //! The program: `zanz run [--db FILE] [--store N]` answers the lines of its input, each by a line, from a store in
-//! memory or in a file; `zanz serve [--db FILE] [--store N] --port P` serves it over HTTP on 127.0.0.1 until it is
-//! stopped; `zanz config FILE` prints the level of each relation of a configuration, or why it is refused.
+//! memory or in a file; `zanz serve [--db FILE] [--store N] --port P [--workers W]` serves it over HTTP on 127.0.0.1
+//! until it is stopped; `zanz config FILE` prints the level of each relation of a configuration, or why it is refused.
 #![tactic(auto)]
 
 mod command;
 mod listening;
 mod place;
+mod sharing;
 
 use command::{command, tell};
 use names::Refusal;
@@ -16,6 +17,8 @@ use std::io::{BufWriter, ErrorKind};
 use std::net::{Net, TcpListener, TcpStream};
 use std::process::ExitCode;
 use std::sync::Wait;
+use std::thread::Threads;
+use std::time::Clock;
 use tasks::Fault;
 use tracked_io::{TrackedReader, TrackedWriter};
 
@@ -28,11 +31,10 @@ fn main(rt: HostRuntime) -> ExitCode {
 }
 
 // Hands on the process's words and streams, the leave to wait, and the network.
-fn start<H: Wait + Drop, N: Net<Listener = TcpListener, Stream = TcpStream>>(
-    rt: &HostRuntime,
-    wait: H,
-    net: &N,
-) -> Result<u8, Fault> {
+fn start<
+    H: Wait + Drop + Send,
+    N: Net<Listener = TcpListener, Stream = TcpStream> + Threads + Wait + Clock + Sync,
+>(rt: &HostRuntime, wait: H, net: &N) -> Result<u8, Fault> {
     let alloc = rt.alloc();
     let words = words_of(rt)?;
     let Ok(out) = BufWriter::new(alloc, io::writer(rt)) else {

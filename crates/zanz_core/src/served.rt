@@ -28,7 +28,7 @@ pub fn lines<R: Read, W: Write, A: Answers>(
     // All that was there was read, each line answered, and the answers handed on.
     ensures closed { result ≡ End.Closed → (input : List ℕ) × ReadsAll R.remaining reader.old reader.new input
         × Served A.step answers.old (W.contents writer.old.inner) input answers.new (W.contents writer.new.inner) }
-    ensures flushed { result ≡ End.Closed → writer.new.flushed ≡ true }
+    ensures handed_on { result ≡ End.Closed → writer.new.flushed ≡ true }
 
     // Each whole line of what was read was answered.
     ensures read_fault { result ≡ End.ReadFault → (input : List ℕ) × Reads R.remaining reader.old reader.new input
@@ -41,6 +41,7 @@ pub fn lines<R: Read, W: Write, A: Answers>(
     // A fault is told exactly where the reader or the writer failed in the call.
     ensures read_failed { reader.new.failed ≡ is_read_fault result }
     ensures write_failed { writer.new.failed ≡ is_write_fault result }
+    ensures flushed { writer.new.failed ≡ false → writer.old.flushed ≡ true → writer.new.flushed ≡ true }
 
     ensures memory { result ≡ End.Memory → (reader.new ≡ reader.old)
         × (writer.new ≡ writer.old) × (answers.new ≡ answers.old) }

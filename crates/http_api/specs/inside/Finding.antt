@@ -1,8 +1,10 @@
 -- What was found at the front of some bytes.
-use Rattle.std.specs.Prelude.{⊤, ℕ, List, map}
+use Rattle.std.specs.Prelude.{⊤, ℕ, ◌⊎◌, List, map}
+use Rattle.httparse.specs.Grammar.{EndsInTarget}
 use Rattle.httparse.specs.Spans.{header_bytes}
 use Rattle.httparse.specs.declared.spans.HeaderSpan.{HeaderSpan}
 use Rattle.httparse.specs.declared.spans.RequestSpans.{RequestSpans}
+use Rattle.http_api.specs.Heads.{CanBeHead}
 use Rattle.http_api.specs.declared.head.Front.{Front}
 use Rattle.http_api.specs.declared.head.Front.TheVariants.{Head, Unfinished, Hopeless}
 
@@ -24,3 +26,7 @@ OnHopeless Hopeless P = P
 -- the names and the values of the fields that lie so in the bytes
 abbrev pub pairs_at : List ℕ → List HeaderSpan → List (List ℕ × List ℕ)
 pairs_at bytes fields = map (header_bytes bytes) fields
+
+-- more bytes can end the head in time, or the target is still being read
+abbrev pub MayGoOn : List ℕ → Type 0
+MayGoOn bytes = CanBeHead bytes ⊎ EndsInTarget bytes

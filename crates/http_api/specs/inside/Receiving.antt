@@ -1,12 +1,14 @@
 -- A connection that goes on reading, or ends before a request has come whole.
-use Rattle.std.specs.Prelude.{ℕ, ◌≡◌, ◌⊎◌, ◌++◌, List, [], true, false, Option}
+use Rattle.std.specs.Prelude.{ℕ, ◌≡◌, ◌⊎◌, ◌≤◌, ◌+◌, ◌++◌, List, [], length, true, false, Option}
 use Rattle.std.specs.Io.KnownBytes.{Appends, Keeps, IsAtEnd}
 use Rattle.tracked_io.specs.Tracking.{TrackedReading, TrackedWriting, Reads}
 use Rattle.tracked_io.specs.Wrote.{WroteSome}
 use Rattle.http_api.specs.declared.end.End.{End}
 use Rattle.http_api.specs.declared.end.End.TheVariants.{Closed, Asked, Broken, ReadFault, WriteFault, Memory}
+use Rattle.http_api.specs.declared.looking.Heading.{Heading}
+use Rattle.http_api.specs.Heads.{max_head}
 use Rattle.http_api.specs.Ends.{is_read_fault, is_write_fault}
-use Rattle.http_api.specs.Connection.{NoRequest}
+use Rattle.http_api.specs.Connection.{NoRequest, IsFew}
 
 -- the end of an input that stops
 abbrev pub IsPause : End → Type 0
@@ -51,5 +53,10 @@ pub record Ended {R W : Type 0} (remaining : R → Option (List ℕ)) (contents 
   pub reads : Reads remaining old.1 reader more
   pub all : IsPause end → IsAtEnd (remaining reader.inner)
   pub ends : EndsSo (old.0 ++ more) (contents old.2.inner) (contents writer.inner) end
+  pub few : IsFew (old.0 ++ more)
   pub reader_failed : reader.failed ≡ is_read_fault end
   pub handed_on : HandedOn writer end
+
+-- no more waits than a head may have, or than this head and its body
+abbrev pub IsFewFor : Heading → List ℕ → Type 0
+IsFewFor heading waiting = (length waiting ≤ max_head) ⊎ (length waiting ≤ heading.head + heading.body)

@@ -10,7 +10,7 @@ pub returns-then-is_err-clause-err : goal.returns-then-is_err-clause-err
 returns-then-is_err-clause-err g c =
     let bad = (at_err _ _ c.flush.result (sym c.is_err.ensures.value ∙ c.if-is_err.true) c.flush.ensures.failed).1 in
     ended_now _ _ _ _ _ WriteFault [] (consumes_none _ _ (Keeps-refl _)) refl (λ p. absurd (not_pause p))
-    (c.args.end, [], c.requires.waits, no_text _ _ c.flush.ensures.bytes) c.requires.reads (record { failed = bad; flushed = λ e. absurd (true≢false (sym bad ∙ e)) })
+    (c.args.end, [], c.requires.waits, no_text _ _ c.flush.ensures.bytes) c.requires.few c.requires.reads (record { failed = bad; flushed = λ e. absurd (true≢false (sym bad ∙ e)) })
   where
     not_pause : IsPause WriteFault → ⊥
     not_pause (inl e) = true≢false (ap is_write_fault e)
@@ -24,7 +24,7 @@ returns-in-Ok-eq0-clause-err g c =
     let ok = c.in-Ok-eq0.ensures.ok in
     let faults = no_fault _ c.requires.pause in
     ended_now _ _ _ _ _ c.args.end ok.0 ok.3 (nothing _ (ok.1 ∙ c.in-Ok-eq0.field-0-test)) (λ p. c.in-Ok-eq0.ensures.end c.in-Ok-eq0.field-0-test)
-    (pause_ends _ _ _ _ c.requires.pause c.requires.waits c.flush.ensures.bytes) (c.in-Ok-eq0.ensures.failed ∙ c.requires.reads ∙ faults.0) (record { failed = writes ∙ faults.1; flushed = λ e. flushed })
+    (pause_ends _ _ _ _ c.requires.pause c.requires.waits c.flush.ensures.bytes) c.requires.few (c.in-Ok-eq0.ensures.failed ∙ c.requires.reads ∙ faults.0) (record { failed = writes ∙ faults.1; flushed = λ e. flushed })
 
 pub returns-in-Err-clause-err : goal.returns-in-Err-clause-err
 returns-in-Err-clause-err g c =
@@ -32,7 +32,7 @@ returns-in-Err-clause-err g c =
     let writes = (at_ok _ _ c.flush.result fine c.flush.ensures.failed).1 ∙ c.requires.writes in
     let flushed = (at_ok _ _ c.flush.result fine c.flush.ensures.flushed).1 in
     ended_now _ _ _ _ _ ReadFault [] (consumes_none _ _ c.in-Err.ensures.err.1) refl (λ p. absurd (not_pause p))
-    (c.args.end, c.requires.pause, c.requires.waits, appends_nothing _ _ c.flush.ensures.bytes) c.in-Err.ensures.failed (record { failed = writes; flushed = λ e. flushed })
+    (c.args.end, c.requires.pause, c.requires.waits, appends_nothing _ _ c.flush.ensures.bytes) c.requires.few c.in-Err.ensures.failed (record { failed = writes; flushed = λ e. flushed })
   where
     not_pause : IsPause ReadFault → ⊥
     not_pause (inl e) = true≢false (ap is_read_fault e)

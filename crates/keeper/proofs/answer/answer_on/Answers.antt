@@ -1,4 +1,4 @@
-use Rattle.names.specs.declared.call.Call.TheVariants.{Write, Config, Check, Expand, CatchUp, State}
+use Rattle.names.specs.declared.call.Call.TheVariants.{Write, Config, Check, Read, Expand, Watch, CatchUp, State}
 use Rattle.keeper.proofs.Answering.{step_of}
 use Rattle.keeper.proofs.answer.answer_on.Goals as goal
 
@@ -11,8 +11,14 @@ returns-in-Config-clause-step g c = step_of g.T.Tables c.args.desk.now _ Config 
 pub returns-in-Check-clause-step : goal.returns-in-Check-clause-step
 returns-in-Check-clause-step g c = step_of g.T.Tables c.args.desk.now _ Check _ _ _ c.in-Check.is c.answer_check.ensures.step
 
+pub returns-in-Read-clause-step : goal.returns-in-Read-clause-step
+returns-in-Read-clause-step g c = step_of g.T.Tables c.args.desk.now _ Read _ _ _ c.in-Read.is c.answer_read.ensures.step
+
 pub returns-in-Expand-clause-step : goal.returns-in-Expand-clause-step
 returns-in-Expand-clause-step g c = step_of g.T.Tables c.args.desk.now _ Expand _ _ _ c.in-Expand.is c.answer_expand.ensures.step
+
+pub returns-in-Watch-clause-step : goal.returns-in-Watch-clause-step
+returns-in-Watch-clause-step g c = step_of g.T.Tables c.args.desk.now _ Watch _ _ _ c.in-Watch.is c.answer_watch.ensures.step
 
 pub returns-in-CatchUp-clause-step : goal.returns-in-CatchUp-clause-step
 returns-in-CatchUp-clause-step g c = step_of g.T.Tables c.args.desk.now _ CatchUp _ _ _ c.in-CatchUp.is c.answer_catch_up.ensures.step

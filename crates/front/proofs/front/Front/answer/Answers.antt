@@ -1,4 +1,4 @@
-use Rattle.names.specs.declared.call.Call.TheVariants.{Write, Config, Check, Expand, CatchUp}
+use Rattle.names.specs.declared.call.Call.TheVariants.{Write, Config, Check, Read, Expand, Watch, CatchUp}
 use Rattle.front.proofs.Changed.{step_of}
 use Rattle.front.proofs.front.Front.answer.Goals as goal
 
@@ -11,8 +11,14 @@ returns-in-Config g c = step_of g.T.Tables c.args.self.now c.args.call Config c.
 pub returns-in-Check : goal.returns-in-Check
 returns-in-Check g c = step_of g.T.Tables c.args.self.now c.args.call Check c.args.body.now _ c.check.new.self c.in-Check.is c.check.ensures
 
+pub returns-in-Read : goal.returns-in-Read
+returns-in-Read g c = step_of g.T.Tables c.args.self.now c.args.call Read c.args.body.now _ c.read.new.self c.in-Read.is c.read.ensures
+
 pub returns-in-Expand : goal.returns-in-Expand
 returns-in-Expand g c = step_of g.T.Tables c.args.self.now c.args.call Expand c.args.body.now _ c.expand.new.self c.in-Expand.is c.expand.ensures
+
+pub returns-in-Watch : goal.returns-in-Watch
+returns-in-Watch g c = step_of g.T.Tables c.args.self.now c.args.call Watch c.args.body.now _ c.watch.new.self c.in-Watch.is c.watch.ensures
 
 pub returns-in-CatchUp : goal.returns-in-CatchUp
 returns-in-CatchUp g c = step_of g.T.Tables c.args.self.now c.args.call CatchUp c.args.body.now _ c.catch_up.new.self c.in-CatchUp.is c.catch_up.ensures

@@ -1,5 +1,4 @@
 use Rattle.std.proofs.Common.{sym}
-use Rattle.keeper.proofs.Refreshing.{shows_itself}
 use Rattle.keeper.proofs.calls.check.ask.Goals as goal
 
 pub refresh-requires : goal.refresh-requires

@@ -1,4 +1,4 @@
-use Rattle.keeper_core.proofs.Changed.{not_ready, too_many, caught_up, not_caught_up}
+use Rattle.keeper_core.proofs.Changed.{not_ready, caught_up, not_caught_up}
 use Rattle.keeper_core.specs.declared.desk.Posted.{Posted}
 use Rattle.keeper_core.proofs.desk.Desk.catch_up.Goals as goal
 

@@ -5,7 +5,8 @@ use Rattle.rows_core.specs.declared.version.Version.{Version}
 use Rattle.rows_core.specs.Versions.{stands}
 use Rattle.rows_core.specs.Texts.{Texts, entries_of, AreSpelled}
 use Rattle.rows_core.proofs.Decoding.{sorted_view}
-use Rattle.rows_core.proofs.Rising.{AllRising, all_rising}
+use Rattle.rows_core.specs.Ranges.{AllRising}
+use Rattle.rows_core.proofs.Rising.{all_rising}
 use Rattle.rows_core.proofs.Picking.{pick, picked_is}
 use Rattle.rows_core.proofs.version_map.VersionMap.tuples_at.Goals as goal
 

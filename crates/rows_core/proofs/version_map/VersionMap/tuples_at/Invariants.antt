@@ -2,7 +2,7 @@ use Rattle.std.proofs.Common.{◌≡◌, ◌++◌}
 use Rattle.rows_core.specs.Versions.{stands}
 use Rattle.rows_core.specs.Texts.{entries_of, AreSpelled}
 use Rattle.rows_core.proofs.Picking.{pick}
-use Rattle.rows_core.proofs.Rising.{AllRising}
+use Rattle.rows_core.specs.Ranges.{AllRising}
 use Rattle.rows_core.proofs.version_map.VersionMap.tuples_at.Given as goal
 
 -- what was found and what is left are all

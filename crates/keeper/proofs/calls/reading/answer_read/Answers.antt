@@ -1,0 +1,15 @@
+use Rattle.keeper.proofs.Reading.{read_unasked, read_done, read_not_done}
+use Rattle.keeper.proofs.calls.reading.answer_read.Goals as goal
+
+pub returns-in-Err-clause-step : goal.returns-in-Err-clause-step
+returns-in-Err-clause-step g c = read_unasked c.args.desk.now _ c.in-Err.why _ c.in-Err.ensures.err c.refusal.ensures
+
+pub returns-in-Ok-asked-clause-step : goal.returns-in-Ok-asked-clause-step
+returns-in-Ok-asked-clause-step g c =
+    read_done c.args.desk.now c.ask_for_tuples-asked.new.desk _ c.in-Ok.asked.0 c.in-Ok.asked.1 c.number-store.result _ c.number-store.ensures.posted c.ask_for_tuples-asked.ensures.shows
+    c.in-Ok-asked.found.rev c.in-Ok-asked.found.value _ c.as_slice.ensures c.in-Ok.ensures.ok c.in-Ok-asked.ensures.ok c.page.ensures
+
+pub returns-in-Err-asked-clause-step : goal.returns-in-Err-asked-clause-step
+returns-in-Err-asked-clause-step g c =
+    read_not_done c.args.desk.now c.ask_for_tuples-asked.new.desk _ c.in-Ok.asked.0 c.in-Ok.asked.1 c.number-store.result _ c.number-store.ensures.posted c.ask_for_tuples-asked.ensures.shows
+    c.in-Err-asked.refused.why c.in-Err-asked.refused.at c.in-Ok.ensures.ok c.in-Err-asked.ensures.err c.refused_question.ensures

@@ -1,0 +1,48 @@
+-- What of a keeper and its fronts may be sent to another thread, or shared with one.
+use denote.Param.Send.{IsSend, IsSync, sendable, recorded_send, shr_send, struct_send, view_send}
+use denote.RattleType.{RattleType}
+use denote.Ref.{NamedLft}
+use denote.Struct.Declared as S
+use Rattle.std.proofs.Crossing.{crosses}
+use Rattle.front.proofs.Crossing.{crosses_published}
+use Rattle.keeper_core.specs.contracts.desk.Desk as Desk
+use Rattle.front.specs.contracts.lock.KeptDesk as KeptDesk
+use Rattle.front.specs.contracts.lock.Keeper as Keeper
+use Rattle.front.specs.contracts.front.Front as Front
+use Rattle.front.specs.contracts.locked.Locked as Locked
+use Rattle.server.specs.contracts.counted.Counted as Counted
+
+Desk-inside-send : (T H : RattleType) (g : _) → IsSend T → IsSend H → IsSend (Desk.TheInside.the_row T H g)
+Desk-inside-send T H g t h =
+    let D = Desk.TheInside.the_type T H g in
+    recorded_send _ _ D.to D.to_one (struct_send (S.shape D)
+    ((search (crosses, sendable) depth 20), ((search (crosses, sendable) depth 40), ((search (crosses_published, crosses, sendable) depth 40), ((search (crosses_published, crosses, sendable) depth 40), tt)))))
+
+Desk-send : (T H : RattleType) (g : _) → IsSend T → IsSend H → IsSend (Desk.the_row T H g)
+Desk-send T H g t h = search (Desk-inside-send, sendable) depth 10
+
+KeptDesk-inside-send : (T J H : RattleType) (g : _) (j : _) → IsSend T → IsSend J → IsSend H → IsSend (KeptDesk.TheInside.the_row T J H g j)
+KeptDesk-inside-send T J H g j t s h = search (Desk-send, crosses, sendable) depth 40
+
+pub KeptDesk-send : (T J H : RattleType) (g : _) (j : _) → IsSend T → IsSend J → IsSend H → IsSend (KeptDesk.the_row T J H g j)
+KeptDesk-send T J H g j t s h = search (KeptDesk-inside-send, sendable) depth 10
+
+pub Keeper-sync : (T J H : RattleType) (g : _) (j : _) → IsSend T → IsSend J → IsSend H → IsSync (Keeper.the_row T J H g j)
+Keeper-sync T J H g j t s h = search (KeptDesk-send, crosses, sendable) depth 40
+
+Front-inside-send : (lives : NamedLft) (T J H : RattleType) (g : _) (j : _) → IsSend T → IsSend J → IsSend H → IsSend (Front.TheInside.the_row lives T J H g j)
+Front-inside-send lives T J H g j t s h = search (Keeper-sync, crosses_published, crosses, sendable) depth 40
+
+Front-send : (lives : NamedLft) (T J H : RattleType) (g : _) (j : _) → IsSend T → IsSend J → IsSend H → IsSend (Front.the_row lives T J H g j)
+Front-send lives T J H g j t s h = view_send _ _ _ _ _ (Front-inside-send lives T J H g j t s h)
+
+Locked-inside-send : (lives : NamedLft) (T J H R : RattleType) (g : _) (j : _) → IsSend T → IsSend J → IsSend H → IsSync R → IsSend (Locked.TheInside.the_row lives T J H R g j)
+Locked-inside-send lives T J H R g j t s h r =
+    let L = Locked.TheInside.the_type lives T J H R g j in
+    recorded_send _ _ L.to L.to_one (struct_send (S.shape L) (shr_send _ _ _ r, (Front-send _ T J H g j t s h, tt)))
+
+pub Locked-send : (lives : NamedLft) (T J H R : RattleType) (g : _) (j : _) → IsSend T → IsSend J → IsSend H → IsSync R → IsSend (Locked.the_row lives T J H R g j)
+Locked-send lives T J H R g j t s h r = view_send _ _ _ _ _ (Locked-inside-send lives T J H R g j t s h r)
+
+pub Counted-send : (lives : NamedLft) (A G : RattleType) → IsSend A → IsSync G → IsSend (Counted.the_row lives A G)
+Counted-send lives A G a s = search (crosses, sendable) depth 40

@@ -1,0 +1,103 @@
+//! The threads of a server, and what hands connections to them.
+ghost use Rattle.std.specs.Iterator.{IsFinite};
+ghost use Rattle.http_api.specs.declared.end.End.{End};
+ghost use Rattle.server.specs.Attending.{ServesEach};
+
+use crate::gate::Gate;
+use crate::stream::take_leave;
+use crossbeam_channel::{Receiver, Sender};
+use http_api::End;
+use std::alloc::Global;
+use std::net::{TcpListener, TcpStream};
+use std::sync::Wait;
+use std::thread;
+use std::thread::Threads;
+use std::time::{Clock, Duration};
+
+/// For how many milliseconds nothing is done after a failed accept: where no descriptors are left the next fails at once.
+const PAUSE: u64 = 1;
+
+/// What serves connections.
+pub(crate) trait Serves {
+    /// A connection that ended so took it from the first state to the second.
+    ghost served: { Self → End → Self → Type 0 };
+
+    fn serve(&mut self, alloc: Global, stream: &TcpStream) -> End
+        ensures { served self.old result self.new };
+}
+
+/// Serves each connection that the queue gives, one after another, until it gives no more. However one of them ends, the
+/// next is served.
+pub(crate) fn serve_each<Q: Iterator<Item = TcpStream>, S: Serves>(
+    alloc: Global,
+    queue: Q,
+    server: &mut S,
+)
+    requires { Q.can_next queue × IsFinite (Q.remaining queue) }
+    ensures { ServesEach Q.next_gives S.served queue server.old server.new }
+{
+    for stream in queue {
+        let end = server.serve(alloc, &stream);
+        take_leave(&stream, end);
+    }
+}
+
+// Hands on connections while the gate says so. One that finds no memory in the queue is dropped.
+fn accept<R: Wait + Clock, G: Gate>(
+    rt: &R,
+    listener: &TcpListener,
+    queue: &Sender<TcpStream>,
+    gate: &G,
+) {
+    let mut accepted: u64 = 0;
+    if !gate.more(accepted) {
+        return;
+    }
+    for stream in listener.incoming() {
+        match stream {
+            Ok(stream) => {
+                accepted = accepted.saturating_add(1);
+                let _ = queue.send(rt, stream);
+            }
+            Err(_) => thread::sleep(rt, Duration::from_millis(PAUSE)),
+        }
+        if !gate.more(accepted) {
+            return;
+        }
+    }
+}
+
+/// Serves the connections of a listener, by a thread for each of these that one can be made for, while the gate takes more;
+/// then those that wait, and ends once each thread has. Where no thread could be made it accepts nothing, and answers so.
+pub(crate) fn serve_by_threads<
+    R: Threads + Wait + Clock + Sync,
+    S: Serves + Send + Drop,
+    G: Gate + Sync,
+>(
+    rt: &R,
+    alloc: Global,
+    listener: &TcpListener,
+    queue: (Sender<TcpStream>, Receiver<TcpStream>),
+    servers: Vec<S>,
+    gate: &G,
+) -> bool {
+    let (to, from) = queue;
+    let waiting = &from;
+    thread::scope(thread::scope_env(), rt, |scope| {
+        let mut made = false;
+        for server in servers {
+            let mut server = server;
+            if scope
+                .spawn(move || serve_each(alloc, waiting.iter(rt), &mut server))
+                .is_ok()
+            {
+                made = true;
+            }
+        }
+        if made {
+            accept(rt, listener, &to, gate);
+        }
+        drop(to);
+        made
+    })
+}

@@ -1,0 +1,61 @@
+//! A server over a keeper.
+ghost use Rattle.std.specs.Prelude.{◌≡◌, ◌⊎◌, IfErr};
+ghost use Rattle.names.specs.declared.refusal.Refusal.TheVariants.{Memory, NoSeat};
+
+use crate::counted::Counted;
+use crate::gate::Gate;
+use crate::pool::serve_by_threads;
+use crate::worker::Worker;
+use front::{Front, Keeper, Locked};
+use http_api::routes;
+use names::Refusal;
+use published::Naming;
+use std::alloc::Global;
+use std::net::TcpListener;
+use std::sync::Wait;
+use std::sync::atomic::AtomicU64;
+use std::thread::Threads;
+use std::time::Clock;
+use tables::Tables;
+
+/// Serves the connections of a listener over HTTP/1.1 by so many workers, each with a front of its own, until the gate takes
+/// no more; then serves those that wait, and returns once each connection has ended.
+///
+/// All that can be refused is asked for first, before any thread is made and any connection accepted: a session for each
+/// worker, and memory. Where no thread can be made at all it accepts nothing, and is refused as for want of memory.
+pub fn run<
+    R: Threads + Wait + Clock + Sync,
+    T: Tables + Drop + Send,
+    J: Naming + Send,
+    H: Wait + Drop + Send,
+    G: Gate + Sync,
+>(
+    rt: &R,
+    alloc: Global,
+    listener: &TcpListener,
+    keeper: &Keeper<T, J, H>,
+    workers: usize,
+    gate: &G,
+) -> Result<(), Refusal>
+    ensures { IfErr result (λ why. (why ≡ NoSeat) ⊎ (why ≡ Memory)) }
+{
+    let Ok(routes) = routes(alloc) else {
+        return Err(Refusal::Memory);
+    };
+    let calls = AtomicU64::new(0);
+    let queue = crossbeam_channel::unbounded(alloc)?;
+    let mut machines = Vec::with_capacity(alloc, workers)?;
+    for _ in 0..workers {
+        let answers = Counted {
+            answers: Locked::new(rt, Front::new(alloc, rt, keeper)?),
+            calls: &calls,
+            gate,
+        };
+        machines.push(Worker::new(answers, &routes))?;
+    }
+    if serve_by_threads(rt, alloc, listener, queue, machines, gate) {
+        Ok(())
+    } else {
+        Err(Refusal::Memory)
+    }
+}

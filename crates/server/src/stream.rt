@@ -1,0 +1,80 @@
+//! One connection over TCP.
+ghost use Rattle.std.specs.Prelude.{◌≡◌, false, true, IfSome};
+ghost use Rattle.http_api.specs.Routes.{table};
+ghost use Rattle.server.specs.Attending.{Attended};
+
+use http_api::{Answers, End, serve_by};
+use matchit::Router;
+use names::Call;
+use std::alloc::Global;
+use std::io::{BufWriter, Read};
+use std::net::{Shutdown, TcpStream};
+use std::time::Duration;
+use tracked_io::{TrackedReader, TrackedWriter};
+
+/// For how many milliseconds a read waits for a peer that was refused to end its side.
+const LINGER: u64 = 100;
+
+/// How many pieces are read of what such a peer still sends, each of 4,096 bytes at most.
+const PIECES: u32 = 256;
+
+/// What a connection is read and written by.
+pub type Sides<'a> = (
+    TrackedReader<&'a TcpStream>,
+    TrackedWriter<BufWriter<&'a TcpStream>>,
+);
+
+/// The sides of a connection, of which what is written goes out at each flush. There are none where there is no memory
+/// for the buffer of what is written.
+pub fn sides_of(alloc: Global, stream: &TcpStream) -> Option<Sides<'_>>
+    ensures reader { IfSome result (λ sides. sides.0.failed ≡ false) }
+    ensures writer { IfSome result (λ sides. sides.1.failed ≡ false) }
+    ensures flushed { IfSome result (λ sides. sides.1.flushed ≡ true) }
+{
+    let _ = stream.set_nodelay(true);
+    let Ok(out) = BufWriter::new(alloc, stream) else {
+        return None;
+    };
+    Some((TrackedReader::new(stream), TrackedWriter::new(out)))
+}
+
+/// Serves one connection. The routes are those that [`routes`](http_api::routes) made.
+pub fn serve_stream<A: Answers>(
+    alloc: Global,
+    routes: &Router<Call>,
+    stream: &TcpStream,
+    answers: &mut A,
+) -> End
+    requires { routes.now ≡ table }
+    ensures { Attended A.step answers.old result answers.new }
+{
+    match sides_of(alloc, stream) {
+        Some((mut reader, mut writer)) => {
+            serve_by(alloc, routes, &mut reader, &mut writer, answers)
+        }
+        None => End::Memory,
+    }
+}
+
+/// Before a connection is closed that ended so: where its peer was refused, it ends the sending side, and reads for a
+/// while what the peer had sent before it knew. A socket that is closed with bytes unread resets the connection, and the
+/// peer may lose the reply that it was just sent (RFC 9112, section 9.6).
+pub fn take_leave(stream: &TcpStream, end: End) {
+    if end != End::Asked && end != End::Memory {
+        return;
+    }
+    let told = stream.shutdown(Shutdown::Write);
+    let bounded = stream.set_read_timeout(Some(Duration::from_millis(LINGER)));
+    if told.is_err() || bounded.is_err() {
+        return;
+    }
+    let mut from = stream;
+    let mut piece = [0u8; 4096];
+    for _ in 0..PIECES {
+        match from.read(&mut piece) {
+            Ok(0) => return,
+            Ok(_) => {}
+            Err(_) => return,
+        }
+    }
+}

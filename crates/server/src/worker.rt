@@ -1,0 +1,38 @@
+//! A worker: a machine that answers calls, and the routes by which they are told apart.
+ghost use Rattle.std.specs.Prelude.{◌≡◌};
+ghost use Rattle.http_api.specs.Routes.{table};
+
+use crate::pool::Serves;
+use crate::stream::serve_stream;
+use http_api::{Answers, End};
+use matchit::Router;
+use names::Call;
+use std::alloc::Global;
+use std::net::TcpStream;
+
+/// A machine that answers calls, with the routes.
+#[derive(Drop)]
+pub(crate) struct Worker<'a, A> {
+    answers: A,
+    routes: &'a Router<Call>,
+    ghost routed: { routes.now ≡ table },
+}
+
+impl<'a, A> Worker<'a, A> {
+    pub(crate) fn new(answers: A, routes: &'a Router<Call>) -> Worker<'a, A>
+        requires { routes.now ≡ table }
+        ensures { result.answers ≡ answers }
+    {
+        Worker { answers, routes }
+    }
+}
+
+impl<'a, A: Answers> Serves for Worker<'a, A> {
+    ghost use Rattle.server.specs.Attending.{Attended};
+
+    ghost served = { λ s end t. Attended A.step s.answers end t.answers };
+
+    fn serve(&mut self, alloc: Global, stream: &TcpStream) -> End {
+        serve_stream(alloc, self.routes, stream, &mut self.answers)
+    }
+}

@@ -1,0 +1,138 @@
+//! Listening for connections, and serving them by many workers.
+ghost use Rattle.std.specs.Prelude.{◌≡◌, ◌≢◌, true, false, IfErr, OnOk};
+ghost use Rattle.tasks.specs.Words.{AreWorkers};
+ghost use Rattle.zanz.specs.Listening.{Announced, StoppedServing};
+
+use crate::listening::{announce, listen};
+use front::Keeper;
+use published::{Naming, Opened};
+use server::{Gate, run};
+use sqlite::Alter;
+use std::alloc::Global;
+use std::io::Write;
+use std::marker::Brand;
+use std::net::{Net, TcpListener, TcpStream};
+use std::sync::Wait;
+use std::thread;
+use std::thread::Threads;
+use std::time::Clock;
+use store::Store;
+use tables::Tables;
+use tasks::{Fault, MAX_WORKERS};
+use tracked_io::TrackedWriter;
+
+// How many workers there are where it is not known how many processors.
+const SOME_WORKERS: u64 = 4;
+
+/// How many workers serve where none is named: as many as there are processors.
+pub fn workers_of_machine<R: Threads>(rt: &R) -> u64
+    ensures { AreWorkers result }
+{
+    match thread::available_parallelism(rt) {
+        Ok(count) => u64::try_from(count.get())
+            .unwrap_or(MAX_WORKERS)
+            .clamp(1, MAX_WORKERS),
+        Err(_) => SOME_WORKERS,
+    }
+}
+
+// A gate that takes each connection, until the process is stopped.
+struct AlwaysOpen;
+
+impl Gate for AlwaysOpen {
+    fn more(&self, _accepted: u64) -> bool {
+        true
+    }
+
+    fn enter(&self, _call: u64) {}
+
+    fn leave(&self, _call: u64) {}
+}
+
+// Serves as `share` does, by a desk of the book that `J` names.
+fn serve_by_many<
+    N: Net<Listener = TcpListener, Stream = TcpStream> + Threads + Wait + Clock + Sync,
+    T: Tables + Drop + Send,
+    J: Naming + Send,
+    H: Wait + Drop + Send,
+    W: Write,
+>(
+    alloc: Global,
+    net: &N,
+    wait: H,
+    opened: Opened,
+    tables: T,
+    port: u16,
+    workers: usize,
+    writer: &mut TrackedWriter<W>,
+) -> Result<(), Fault>
+    requires book { opened.book ≡ J.book }
+    requires unbroken_writer { writer.old.failed ≡ false }
+    ensures ok { OnOk result (Announced W.contents writer.old writer.new) }
+    ensures whole { OnOk result ((writer.new.failed ≡ false) × (writer.new.flushed ≡ true)) }
+    ensures line { IfErr result (λ fault. fault ≢ Fault.CommandLine) }
+
+    ensures failed { IfErr result (λ _. StoppedServing W.contents writer.old writer.new) }
+{
+    let keeper = match Keeper::<T, J, H>::open(alloc, wait, opened, tables) {
+        Ok(keeper) => keeper,
+        Err((why, _)) => return Err(Fault::Refused(why)),
+    };
+    let (listener, port) = listen(net, port)?;
+    announce(alloc, port, writer)?;
+    match run(net, alloc, &listener, &keeper, workers, &AlwaysOpen) {
+        Ok(()) => Ok(()),
+        Err(why) => Err(Fault::Refused(why)),
+    }
+}
+
+/// Listens on a port, 0 for one that is free, says so, and serves connections by so many workers, from tables that they
+/// share.
+pub fn share<
+    N: Net<Listener = TcpListener, Stream = TcpStream> + Threads + Wait + Clock + Sync,
+    T: Tables + Drop + Send,
+    H: Wait + Drop + Send,
+    W: Write,
+>(
+    alloc: Global,
+    net: &N,
+    wait: H,
+    tables: T,
+    port: u16,
+    workers: u64,
+    writer: &mut TrackedWriter<W>,
+) -> Result<(), Fault>
+    requires unbroken_writer { writer.old.failed ≡ false }
+    ensures ok { OnOk result (Announced W.contents writer.old writer.new) }
+    ensures whole { OnOk result ((writer.new.failed ≡ false) × (writer.new.flushed ≡ true)) }
+    ensures line { IfErr result (λ fault. fault ≢ Fault.CommandLine) }
+    ensures failed { IfErr result (λ _. StoppedServing W.contents writer.old writer.new) }
+{
+    let opened = Opened::new();
+    let workers = workers as usize;
+    serve_by_many::<N, T, Brand, H, W>(alloc, net, wait, opened, tables, port, workers, writer)
+}
+
+/// The same from tables over a database connection.
+pub fn share_over<
+    N: Net<Listener = TcpListener, Stream = TcpStream> + Threads + Wait + Clock + Sync,
+    S: Alter + Drop + Send,
+    H: Wait + Drop + Send,
+    W: Write,
+>(
+    alloc: Global,
+    net: &N,
+    wait: H,
+    tables: Store<S>,
+    port: u16,
+    workers: u64,
+    writer: &mut TrackedWriter<W>,
+) -> Result<(), Fault>
+    requires unbroken_writer { writer.old.failed ≡ false }
+    ensures ok { OnOk result (Announced W.contents writer.old writer.new) }
+    ensures whole { OnOk result ((writer.new.failed ≡ false) × (writer.new.flushed ≡ true)) }
+    ensures line { IfErr result (λ fault. fault ≢ Fault.CommandLine) }
+    ensures failed { IfErr result (λ _. StoppedServing W.contents writer.old writer.new) }
+{
+    share(alloc, net, wait, tables, port, workers, writer)
+}
