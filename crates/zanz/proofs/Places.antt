@@ -1,27 +1,49 @@
--- What ended at a place.
-use Rattle.std.proofs.Common.{◌≡◌, ℕ, List, refl, sym, subst}
-use Rattle.std.specs.Prelude.{Option, Some, None, IsSomeAnd}
+-- What ended, or was refused, at a place.
+use Rattle.std.proofs.Common.{◌≡◌, ◌⊎◌, ℕ, List, refl, sym, subst, ◌∙◌, inl, inr, arith}
+use Rattle.std.specs.Prelude.{Option, Result, Ok, Err, IfOk}
 use Rattle.sqlite_disk.specs.declared.Disk as disk
 use Rattle.sqlite_wal.specs.Recovery.{Image}
-use Rattle.sqlite_store.specs.declared.store.FileStore.{FileStore}
-use Rattle.sqlite.specs.Files.{over_files}
-use Rattle.sqlite.specs.Held.{Held}
-use Rattle.rows.specs.Retained.{Retained, empty_store}
-use Rattle.tracked_io.specs.Tracking.{TrackedWriting}
+use Rattle.sqlite.specs.State.{HasCleanDisk}
+use Rattle.sqlite.specs.Files.{file_state}
+use Rattle.names.specs.declared.refusal.Refusal.TheVariants.{StoreFault}
+use Rattle.rows.specs.Retained.{Retained}
+use Rattle.tables.specs.Device.{sound_device}
+use Rattle.keeper_core.specs.Posts.{FailsToLoad}
+use Rattle.tasks.specs.declared.fault.Fault.{Fault}
+use Rattle.tasks.specs.declared.fault.Fault.TheVariants.{Refused}
 use Rattle.tasks.specs.declared.words.Place.{Place}
-use Rattle.tasks.specs.declared.words.Place.TheVariants.{Memory, New}
-use Rattle.runs.specs.Runs.{Ended}
-use Rattle.runs.specs.Over.{over, listed, BeginsIn, EndedOver}
-use Rattle.zanz.specs.Ran.{Extent, AnsweredBy, EndedAt}
+use Rattle.tasks.specs.declared.words.Task.{Task}
+use Rattle.runs.specs.Files.{Remains, IsFoundIn}
+use Rattle.runs.specs.Over.{listed, CannotBeginIn}
 
-module _ {W D : Type 0} {g : disk.Ghosts D} (image : Image) (extent : Extent) (contents : W → Option (List ℕ)) (old : TrackedWriting W) (input : List ℕ) (new : TrackedWriting W) where
-  pub in_memory : (left : Option (Held (FileStore D g))) → left ≡ None → (place : Place) (number : ℕ) (tables back : Retained) → place ≡ Memory number → tables ≡ empty_store number
-      → Ended listed tables input (AnsweredBy extent listed contents old input new) back → EndedAt {W = W} {D = D} {g = g} image extent place contents old input new left
-  in_memory left none place number tables back is empty ended =
-      subst (λ (p : Place). EndedAt {W = W} {D = D} {g = g} image extent p contents old input new left) (sym is)
-      (none, back, subst (λ (t : Retained). Ended listed t input (AnsweredBy extent listed contents old input new) back) empty ended)
+pub at_place : (P : Place → Type 0) {place made : Place} → place ≡ made → P made → P place
+at_place P is h = subst P (sym is) h
 
-  pub in_new : (place made : Place) (number : ℕ) (left : Option (Held (FileStore D g))) → place ≡ made → (EndedAt {W = W} {D = D} {g = g} image extent made contents old input new left
-      ≡ IsSomeAnd left (EndedOver over_files (BeginsIn image (Some number)) input (AnsweredBy extent (over over_files) contents old input new)))
-      → IsSomeAnd left (EndedOver over_files (BeginsIn image (Some number)) input (AnsweredBy extent (over over_files) contents old input new)) → EndedAt {W = W} {D = D} {g = g} image extent place contents old input new left
-  in_new place made number left is same ended = subst (λ (p : Place). EndedAt {W = W} {D = D} {g = g} image extent p contents old input new left) (sym is) (subst (λ (X : Type 0). X) (sym same) ended)
+pub at_task : (P : Task → Type 0) {task made : Task} → task ≡ made → P made → P task
+at_task P is h = subst P (sym is) h
+
+pub at_tables : (P : Retained → Type 0) {tables empty : Retained} → tables ≡ empty → P tables → P empty
+at_tables P is h = subst P is h
+
+-- what a run over files says of another thing that they hold
+abbrev pub Takes : {D : Type 0} {g : disk.Ghosts D} → Image → Option ℕ → Result (Unit {0}) Fault → Remains g → Type 0
+Takes image store told left = CannotBeginIn image store → IfOk left (λ conn. HasCleanDisk (file_state conn) → (told ≡ Err (Refused StoreFault)) × IsFoundIn image (file_state conn))
+
+module _ {D : Type 0} {g : disk.Ghosts D} (image : Image) (store : Option ℕ) (told : Result (Unit {0}) Fault) where
+  -- where it is not told as a fault of the store, it could begin
+  pub began : (left : Remains g) → Takes image store told left → ¬ (told ≡ Err (Refused StoreFault)) → IfOk left (λ conn. HasCleanDisk (file_state conn) → ¬ (CannotBeginIn image store))
+  began (Ok conn) takes other = λ clean cannot. other (takes cannot clean).0
+  began (Err left) takes other = tt
+
+  same_fault : (fault : Fault) → told ≡ Err fault → told ≡ Err (Refused StoreFault) → fault ≡ Refused StoreFault
+  same_fault fault is told_so = let e : Err fault ≡ Err (Refused StoreFault) = sym is ∙ told_so in cc
+
+  pub taken : (left : Remains g) → Takes image store told left → (fault : Fault) → told ≡ Err fault → CannotBeginIn image store
+      → IfOk left (λ conn. HasCleanDisk (file_state conn) → (fault ≡ Refused StoreFault) × IsFoundIn image (file_state conn))
+  taken (Ok conn) takes fault is cannot = λ clean. let k = takes cannot clean in (same_fault fault is k.0, k.1)
+  taken (Err left) takes fault is cannot = tt
+
+-- tables in memory are never at fault
+pub never_fails : (tables back : Retained) → ¬ (FailsToLoad listed tables back)
+never_fails tables back (inl failed) = let no = failed refl in absurd (omega (arith, no))
+never_fails tables back (inr none) = none tables refl refl

@@ -1,40 +1,29 @@
 -- Why a run stopped.
-use Rattle.std.proofs.Common.{◌≡◌, ◌≢◌, ◌⊎◌, ℕ, Bool, true, false, List, refl, inl, inr, arith}
-use Rattle.std.specs.Prelude.{Option, Result, Err}
+use Rattle.std.proofs.Common.{◌≡◌, ◌≢◌, ℕ, List, refl, arith}
+use Rattle.std.specs.Prelude.{Option, Err}
 use Rattle.sqlite_disk.specs.declared.Disk as disk
 use Rattle.sqlite_wal.specs.Recovery.{Image}
-use Rattle.sqlite_store.specs.declared.store.FileStore.{FileStore}
-use Rattle.sqlite.specs.Held.{Held}
 use Rattle.names.specs.declared.refusal.Refusal.{Refusal}
 use Rattle.tracked_io.specs.Tracking.{TrackedReading, TrackedWriting}
 use Rattle.tasks.specs.Faults.{IsRunFault, fault_status}
 use Rattle.tasks.specs.declared.fault.Fault.{Fault}
 use Rattle.tasks.specs.declared.fault.Fault.TheVariants.{CommandLine, Refused, CannotRead, CannotWrite, CannotListen}
+use Rattle.tasks.specs.declared.words.Place.{Place}
+use Rattle.runs.specs.Files.{Remains}
 use Rattle.runs.specs.Runs.{is_read_fault, is_write_fault}
-use Rattle.zanz.specs.Ran.{Extent, all_lines, whole_lines, first_lines, Ran, BeganReport, Stopped, input_failed, output_failed, is_no_configuration, report_failed, announcing_failed, workers_refused, nothing_done}
-use Rattle.zanz.specs.Listening.{Announced, BeganAnnounced}
+use Rattle.zanz.specs.Ran.{whole_lines, first_lines, RanAt, RefusedAt, RunStopped, input_failed, output_failed, run_refused}
 
-module _ {R W D : Type 0} {g : disk.Ghosts D} (image : Image) (is_service : Bool) (remaining : R → Option (List ℕ)) (contents : W → Option (List ℕ)) (reader reader_after : TrackedReading R) (writer writer_after : TrackedWriting W) (left : Option (Held (FileStore D g))) where
+module _ {R W D : Type 0} {g : disk.Ghosts D} (image : Image) (place : Place) (remaining : R → Option (List ℕ)) (contents : W → Option (List ℕ)) (reader reader_after : TrackedReading R) (writer writer_after : TrackedWriting W) (left : Remains g) where
   pub stopped_run : (A : Type 0) (fault : Fault) → IsRunFault fault → reader_after.failed ≡ is_read_fault {A = A} (Err fault) → writer_after.failed ≡ is_write_fault {A = A} (Err fault)
-      → (fault ≡ CannotRead → Ran image whole_lines remaining contents (reader, writer) (reader_after, writer_after) left)
-      → (fault ≡ CannotWrite → Ran image first_lines remaining contents (reader, writer) (reader_after, writer_after) left)
-      → ((why : Refusal) → fault ≡ Refused why → (reader_after ≡ reader) × (writer_after ≡ writer)) → Stopped image is_service remaining contents (reader, writer) (reader_after, writer_after) left
+      → (fault ≡ CannotRead → RanAt image whole_lines place remaining contents (reader, writer) (reader_after, writer_after) left)
+      → (fault ≡ CannotWrite → RanAt image first_lines place remaining contents (reader, writer) (reader_after, writer_after) left)
+      → ((why : Refusal) → fault ≡ Refused why → (reader_after ≡ reader) × (writer_after ≡ writer) × RefusedAt image place fault left)
+      → RunStopped image place fault remaining contents (reader, writer) (reader_after, writer_after) left
   stopped_run A CommandLine run unread unwritten paused cut refused = absurd run
-  stopped_run A (Refused why) run unread unwritten paused cut refused = let k = refused why refl in nothing_done k.0 k.1
-  stopped_run A CannotRead run unread unwritten paused cut refused = input_failed unread (paused refl)
-  stopped_run A CannotWrite run unread unwritten paused cut refused = output_failed unwritten (cut refl)
+  stopped_run A (Refused why) run unread unwritten paused cut refused = let k = refused why refl in run_refused k.0 k.1 k.2
+  stopped_run A CannotRead run unread unwritten paused cut refused = input_failed refl unread (paused refl)
+  stopped_run A CannotWrite run unread unwritten paused cut refused = output_failed refl unwritten (cut refl)
   stopped_run A CannotListen run unread unwritten paused cut refused = absurd run
-
-  pub stopped_report : reader_after ≡ reader → ((writer_after.failed ≡ true) × BeganReport contents writer writer_after) ⊎ (writer_after ≡ writer) → Stopped image is_service remaining contents (reader, writer) (reader_after, writer_after) left
-  stopped_report same (inl began) = report_failed same began.0 began.1
-  stopped_report same (inr unwritten) = nothing_done same unwritten
-
-  pub stopped_service : is_service ≡ true → reader_after ≡ reader
-      → Announced contents writer writer_after ⊎ (((writer_after.failed ≡ true) × BeganAnnounced contents writer writer_after) ⊎ (writer_after ≡ writer))
-      → Stopped image is_service remaining contents (reader, writer) (reader_after, writer_after) left
-  stopped_service asked same (inl announced) = workers_refused asked same announced
-  stopped_service asked same (inr (inl began)) = announcing_failed asked same began.0 began.1
-  stopped_service asked same (inr (inr unwritten)) = nothing_done same unwritten
 
 pub is_no_line : (fault : Fault) → fault_status fault ≡ 1 → fault ≢ CommandLine
 is_no_line CommandLine one is = let e : 2 ≡ 1 = one in absurd (omega arith)
@@ -42,3 +31,11 @@ is_no_line (Refused why) one is = let e : Refused why ≡ CommandLine = is in cc
 is_no_line CannotRead one is = let e : CannotRead ≡ CommandLine = is in cc
 is_no_line CannotWrite one is = let e : CannotWrite ≡ CommandLine = is in cc
 is_no_line CannotListen one is = let e : CannotListen ≡ CommandLine = is in cc
+
+-- any other ends with 1
+pub ends_with_1 : (fault : Fault) → fault ≢ CommandLine → fault_status fault ≡ 1
+ends_with_1 CommandLine other = absurd (other refl)
+ends_with_1 (Refused why) other = refl
+ends_with_1 CannotRead other = refl
+ends_with_1 CannotWrite other = refl
+ends_with_1 CannotListen other = refl
