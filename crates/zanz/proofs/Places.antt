@@ -1,29 +1,24 @@
 -- What ended, or was refused, at a place.
-use Rattle.std.proofs.Common.{◌≡◌, ◌⊎◌, ℕ, List, refl, sym, subst, ◌∙◌, inl, inr, arith}
-use Rattle.std.specs.Prelude.{Option, Result, Ok, Err, IfOk}
+use Rattle.std.proofs.Common.{◌≡◌, ◌⊎◌, ℕ, List, Global, String, refl, sym, subst, ◌∙◌, inl, inr, arith}
+use Rattle.std.specs.Prelude.{Option, Some, None, Result, Ok, Err, IfOk, IsOkAnd}
 use Rattle.sqlite_disk.specs.declared.Disk as disk
 use Rattle.sqlite_wal.specs.Recovery.{Image}
 use Rattle.sqlite.specs.State.{HasCleanDisk}
-use Rattle.sqlite.specs.Files.{file_state}
+use Rattle.sqlite.specs.Files.{file_state, over_files}
 use Rattle.names.specs.declared.refusal.Refusal.TheVariants.{StoreFault}
-use Rattle.rows.specs.Retained.{Retained}
-use Rattle.tables.specs.Device.{sound_device}
+use Rattle.rows.specs.Retained.{Retained, empty_store}
+use Rattle.tables.specs.Device.{Lasts, sound_device}
 use Rattle.keeper_core.specs.Posts.{FailsToLoad}
+use Rattle.store.specs.History.{device_below}
 use Rattle.tasks.specs.declared.fault.Fault.{Fault}
-use Rattle.tasks.specs.declared.fault.Fault.TheVariants.{Refused}
+use Rattle.tasks.specs.declared.fault.Fault.TheVariants.{Refused, CannotRead, CannotWrite}
 use Rattle.tasks.specs.declared.words.Place.{Place}
-use Rattle.tasks.specs.declared.words.Task.{Task}
+use Rattle.tasks.specs.declared.words.Place.TheVariants.{Memory, New, There}
+use Rattle.tracked_io.specs.Tracking.{TrackedReading, TrackedWriting}
 use Rattle.runs.specs.Files.{Remains, IsFoundIn}
-use Rattle.runs.specs.Over.{listed, CannotBeginIn}
-
-pub at_place : (P : Place → Type 0) {place made : Place} → place ≡ made → P made → P place
-at_place P is h = subst P (sym is) h
-
-pub at_task : (P : Task → Type 0) {task made : Task} → task ≡ made → P made → P task
-at_task P is h = subst P (sym is) h
-
-pub at_tables : (P : Retained → Type 0) {tables empty : Retained} → tables ≡ empty → P tables → P empty
-at_tables P is h = subst P is h
+use Rattle.runs.specs.Runs.{Ended}
+use Rattle.runs.specs.Over.{over, listed, BeginsIn, EndedOver, CannotBeginIn, LeavesRefusedIn, IsDeservedIn}
+use Rattle.zanz.specs.Ran.{Extent, ReadBy, AnsweredBy, RanAt, RefusedAt}
 
 -- what a run over files says of another thing that they hold
 abbrev pub Takes : {D : Type 0} {g : disk.Ghosts D} → Image → Option ℕ → Result (Unit {0}) Fault → Remains g → Type 0
@@ -47,3 +42,72 @@ module _ {D : Type 0} {g : disk.Ghosts D} (image : Image) (store : Option ℕ) (
 pub never_fails : (tables back : Retained) → ¬ (FailsToLoad listed tables back)
 never_fails tables back (inl failed) = let no = failed refl in absurd (omega (arith, no))
 never_fails tables back (inr none) = none tables refl refl
+
+-- ---- told apart
+
+pub ok_is_no_fault : {A : Type 0} (told : Result A Fault) (a : A) → told ≡ Ok a → ¬ (told ≡ Err (Refused StoreFault))
+ok_is_no_fault told a is other = let e : Ok a ≡ Err (Refused StoreFault) = sym is ∙ other in cc
+
+pub unread_is_no_fault : {A : Type 0} (told : Result A Fault) (fault : Fault) → told ≡ Err fault → fault ≡ CannotRead → ¬ (told ≡ Err (Refused StoreFault))
+unread_is_no_fault {A} told fault is why other = let e : Err {A} fault ≡ Err (Refused StoreFault) = sym is ∙ other in let n : CannotRead ≡ Refused StoreFault = cc in cc
+
+pub unwritten_is_no_fault : {A : Type 0} (told : Result A Fault) (fault : Fault) → told ≡ Err fault → fault ≡ CannotWrite → ¬ (told ≡ Err (Refused StoreFault))
+unwritten_is_no_fault {A} told fault is why other = let e : Err {A} fault ≡ Err (Refused StoreFault) = sym is ∙ other in let n : CannotWrite ≡ Refused StoreFault = cc in cc
+
+-- ---- at each place
+
+module _ {R W D : Type 0} {g : disk.Ghosts D} (image : Image) (remaining : R → Option (List ℕ)) (contents : W → Option (List ℕ)) (reader reader_after : TrackedReading R) (writer writer_after : TrackedWriting W) where
+  abbrev Ran : Extent → Remains g → Place → Type 0
+  Ran extent left place = RanAt image extent place remaining contents (reader, writer) (reader_after, writer_after) left
+
+  pub ran_in_memory : (extent : Extent) (place : Place) (number : ℕ) (tables back : Retained) → place ≡ Memory number → tables ≡ empty_store number
+      → (input : List ℕ) × ReadBy extent remaining reader reader_after input × Ended listed tables input (AnsweredBy extent listed contents writer input writer_after) back → Ran extent (Err None) place
+  ran_in_memory extent place number tables back is empty h = subst (Ran extent (Err None)) (sym is) (record {
+    input = h.0;
+    read = h.1;
+    ended = (refl, back, subst (λ (t : Retained). Ended listed t h.0 (AnsweredBy extent listed contents writer h.0 writer_after) back) empty h.2);
+    began = tt;
+    lasts = tt;
+  })
+
+  pub ran_in_new : (extent : Extent) (place : Place) (file : String Global) (number : ℕ) (told : Result (Unit {0}) Fault) (left : Remains g) → place ≡ New file number
+      → Takes image (Some number) told left → ¬ (told ≡ Err (Refused StoreFault)) → IfOk left (λ conn. Lasts sound_device (device_below over_files conn))
+      → (input : List ℕ) × ReadBy extent remaining reader reader_after input
+          × IsOkAnd left (EndedOver over_files (BeginsIn image (Some number)) input (AnsweredBy extent (over over_files) contents writer input writer_after))
+      → Ran extent left place
+  ran_in_new extent place file number told left is takes other lasts h =
+      subst (Ran extent left) (sym is) (record { input = h.0; read = h.1; ended = h.2; began = began image (Some number) told left takes other; lasts = lasts })
+
+  pub ran_in_there : (extent : Extent) (place : Place) (file : String Global) (told : Result (Unit {0}) Fault) (left : Remains g) → place ≡ There file
+      → Takes image None told left → ¬ (told ≡ Err (Refused StoreFault)) → IfOk left (λ conn. Lasts sound_device (device_below over_files conn))
+      → (input : List ℕ) × ReadBy extent remaining reader reader_after input
+          × IsOkAnd left (EndedOver over_files (BeginsIn image None) input (AnsweredBy extent (over over_files) contents writer input writer_after))
+      → Ran extent left place
+  ran_in_there extent place file told left is takes other lasts h =
+      subst (Ran extent left) (sym is) (record { input = h.0; read = h.1; ended = h.2; began = began image None told left takes other; lasts = lasts })
+
+module _ {D : Type 0} {g : disk.Ghosts D} (image : Image) (place : Place) (fault : Fault) where
+  abbrev Refuses : Remains g → Place → Type 0
+  Refuses left at = RefusedAt image at fault left
+
+  -- tables in memory are at fault for nothing
+  pub refused_in_memory : (number : ℕ) (tables back : Retained) → place ≡ Memory number → (fault ≡ Refused StoreFault → FailsToLoad listed tables back) → Refuses (Err None) place
+  refused_in_memory number tables back is caused =
+      subst (Refuses (Err None)) (sym is) (record { leaves = refl; deserved = λ fault_is. never_fails tables back (caused fault_is); taken = λ cannot. absurd cannot; lasts = tt })
+
+  pub refused_in_new : (file : String Global) (number : ℕ) (told : Result (Unit {0}) Fault) (left : Remains g) → place ≡ New file number → told ≡ Err fault → LeavesRefusedIn image (Some number) left
+      → (fault ≡ Refused StoreFault → IsDeservedIn image (Some number) left) → Takes image (Some number) told left → IfOk left (λ conn. Lasts sound_device (device_below over_files conn)) → Refuses left place
+  refused_in_new file number told left is told_is leaves deserved takes lasts =
+      subst (Refuses left) (sym is) (record { leaves = leaves; deserved = deserved; taken = taken image (Some number) told left takes fault told_is; lasts = lasts })
+
+  pub refused_in_there : (file : String Global) (told : Result (Unit {0}) Fault) (left : Remains g) → place ≡ There file → told ≡ Err fault → LeavesRefusedIn image None left
+      → (fault ≡ Refused StoreFault → IsDeservedIn image None left) → Takes image None told left → IfOk left (λ conn. Lasts sound_device (device_below over_files conn)) → Refuses left place
+  refused_in_there file told left is told_is leaves deserved takes lasts =
+      subst (Refuses left) (sym is) (record { leaves = leaves; deserved = deserved; taken = taken image None told left takes fault told_is; lasts = lasts })
+
+  -- no file was opened
+  pub refused_for_new : (file : String Global) (number : ℕ) → place ≡ New file number → Refuses (Err None) place
+  refused_for_new file number is = subst (Refuses (Err None)) (sym is) (record { leaves = tt; deserved = λ _. tt; taken = λ _. tt; lasts = tt })
+
+  pub refused_for_there : (file : String Global) → place ≡ There file → Refuses (Err None) place
+  refused_for_there file is = subst (Refuses (Err None)) (sym is) (record { leaves = tt; deserved = λ _. tt; taken = λ _. tt; lasts = tt })
