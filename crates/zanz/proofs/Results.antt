@@ -5,6 +5,9 @@ use Rattle.std.specs.Prelude.{Result, Ok, Err, OnOk, IfOk, IfErr}
 pub ok_at : {A E : Type 0} (P : Type 0) (r : Result A E) (a : A) → r ≡ Ok a → OnOk r P → P
 ok_at P r a is h = subst (λ (s : Result _ _). OnOk s P) is h
 
+pub ok_value : {A E : Type 0} (P : A → Type 0) (r : Result A E) (a : A) → r ≡ Ok a → IfOk r P → P a
+ok_value P r a is h = subst (λ (s : Result _ _). IfOk s P) is h
+
 pub err_at : {A E : Type 0} (P : E → Type 0) (r : Result A E) (e : E) → r ≡ Err e → IfErr r P → P e
 err_at P r e is h = subst (λ (s : Result _ _). IfErr s P) is h
 

@@ -66,14 +66,15 @@ module _ {R W D : Type 0} {g : disk.Ghosts D} (image : Image) (remaining : R →
 pub is_report : (task : Task) (file : String Global) → task ≡ Config file → IsReport task
 is_report task file is = subst IsReport (sym is) tt
 
-pub is_no_line : (fault : Fault) → fault_status fault ≡ 1 → fault ≢ CommandLine
-is_no_line CommandLine one is = let e : 2 ≡ 1 = one in absurd (omega arith)
-is_no_line (Refused why) one is = let e : Refused why ≡ CommandLine = is in cc
-is_no_line CannotRead one is = let e : CannotRead ≡ CommandLine = is in cc
-is_no_line CannotWrite one is = let e : CannotWrite ≡ CommandLine = is in cc
-is_no_line CannotListen one is = let e : CannotListen ≡ CommandLine = is in cc
+-- a fault ends with another status than 0
+pub never_0 : (fault : Fault) → ¬ (fault_status fault ≡ 0)
+never_0 CommandLine is = let e : 2 ≡ 0 = is in absurd (omega arith)
+never_0 (Refused why) is = let e : 1 ≡ 0 = is in absurd (omega arith)
+never_0 CannotRead is = let e : 1 ≡ 0 = is in absurd (omega arith)
+never_0 CannotWrite is = let e : 1 ≡ 0 = is in absurd (omega arith)
+never_0 CannotListen is = let e : 1 ≡ 0 = is in absurd (omega arith)
 
--- any other ends with 1
+-- any but that of a command line ends with 1
 pub ends_with_1 : (fault : Fault) → fault ≢ CommandLine → fault_status fault ≡ 1
 ends_with_1 CommandLine other = absurd (other refl)
 ends_with_1 (Refused why) other = refl
