@@ -1,8 +1,8 @@
 #!/usr/bin/env python3
 """Sees that the prover refuses wrong bodies: for each, a function that it changes must fail its own proof.
 
-usage: .ci/wrong_bodies.py [--all] [--minutes M] [--show] [CRATE ..]
-       rt ci 2>&1 | .ci/wrong_bodies.py --follow [--all] [--minutes M] [--show] [CRATE ..]
+usage: .ci/wrong_bodies.py [--due] [--all] [--minutes M] [--show] [CRATE ..]
+       rt ci 2>&1 | .ci/wrong_bodies.py --follow [--due] [--all] [--minutes M] [--show] [CRATE ..]
 
 A wrong body is an edit of a crate, a file crates/CRATE/wrong/NAME.edit: a line 'file: src/x.rt', and then pairs of
 lines 'old: TEXT' and 'new: TEXT', where each old TEXT stands in that file exactly once. Each edit gets a verdict:
@@ -16,12 +16,13 @@ Which are tried. .ci/refused.txt has a line for each that was seen refused, with
 
   must   it has no such line, or one of these has changed since: the logic, the edit, its crate but for the bodies and
          proofs of other functions, the definitions (specs/) of a crate below. It is tried first
-  due    only the code, contracts or lemmas of crates below have changed, how edits are judged, or the kit
-  held   nothing has changed. It is read and applied, as each is
+  due    only the code, contracts or lemmas of crates below have changed, how edits are judged, or the kit. It is tried
+         with --due
+  held   nothing has changed. It is tried with --all alone, and read and applied always
 
-By hand, what must be tried and what is due is tried. With --minutes, as in the gate, no check begins after so many; beside
-what must be tried, which fails if it is not, all edits of a quarter of the crates are. Which they are the commit's id says,
-so that nobody chooses. With --all, every one is tried. What is refused gets its line, and what is not loses it.
+With --minutes, as in the gate, no check begins after so many: one that must be tried and was not fails. Beside these, all
+edits of a quarter of the crates are tried, and which they are the commit's id says, so that nobody chooses. An edit that is
+refused gets its line, and one that is not loses it.
 
 How they are tried. What the proof of another function reads of a function is its contract, not its body. So the edits
 of a crate stand side by side in one copy of it, at most one for each function (or for each cycle of calls, which has
@@ -386,14 +387,15 @@ class Run:
         wrongs = [Wrong(it, edits_of(it)[0]) for it in every]
         keys = keys_of(wrongs)
         self.refused.keep(keys)
-        is_gate = given.minutes is not None
-        chosen = drawn(commit(), {it.crate.name: len(it.edits) for it in wrongs}) if is_gate else set()
+        numbers = {it.crate.name: len(it.edits) for it in wrongs if it.edits}
+        chosen = drawn(commit(), numbers) if given.minutes is not None else set()
+        most = Standing.HELD if given.all else Standing.DUE if given.due else Standing.MUST
         for wrong in wrongs:
             for it in wrong.edits:
                 it.key = keys.get(it.label)
                 it.standing = self.refused.standing(it.label, it.key)
-                is_tried = it.standing == Standing.MUST or given.all or (wrong.crate.name in chosen if is_gate else it.standing == Standing.DUE)
-                it.turn = (FIRST if it.standing == Standing.MUST else LATER) if is_tried and not it.verdict else None
+                is_tried = not it.verdict and (it.standing <= most or wrong.crate.name in chosen)
+                it.turn = (FIRST if it.standing == Standing.MUST else LATER) if is_tried else None
         wrongs = [it for it in wrongs if not given.crates or it.crate.name in given.crates]
         found = [it.standing for wrong in wrongs for it in wrong.edits]
         say(f"{found.count(Standing.MUST)} must be tried, {found.count(Standing.DUE)} are due, {found.count(Standing.HELD)} are held")
@@ -479,6 +481,7 @@ def main():
     since = time.time()
     parser = argparse.ArgumentParser(description=__doc__, formatter_class=argparse.RawDescriptionHelpFormatter)
     parser.add_argument("--follow", action="store_true", help="try them beside rt ci, whose output is the input")
+    parser.add_argument("--due", action="store_true", help="try also what is due")
     parser.add_argument("--all", action="store_true", help="try every one")
     parser.add_argument("--minutes", type=float, metavar="M", help="begin no check after M minutes; beside what must be tried, try a quarter of the crates")
     parser.add_argument("--show", action="store_true", help="print what the check said of each edit")
