@@ -18,7 +18,7 @@ HEAD = """\
 """
 # The files of proofs/ that belong to one function. The others may be cited by any other, and by the crates above.
 OF_A_FUNCTION = re.compile(r"proofs/.+/(Answers|Invariants|Proof)\.antt")
-# Which part of the wrong bodies that need not be tried is drawn at each commit.
+# A landing tries one of so many parts of all wrong bodies, whatever their standing.
 PARTS = 4
 
 
@@ -162,13 +162,13 @@ class Known:
             self.keys[label] = key
 
 
-def drawn(commit, numbers):
-    """Returns the crates whose wrong bodies are all tried at a commit, also those that need not be: a part of all, which nobody chooses.
+def drawn(lot, numbers):
+    """Returns the crates whose wrong bodies are all tried, also those that need not be, by a text that nobody chooses.
 
     numbers: how many each crate has. A crate is tried whole, since the proofs of what its edited functions call come first.
     """
     left, found = sum(numbers.values()) / PARTS, set()
-    for it in sorted(numbers, key=lambda name: sum_of([commit, name])):
+    for it in sorted(numbers, key=lambda name: sum_of([lot, name])):
         if left > 0:
             left -= numbers[it]
             found.add(it)

@@ -110,13 +110,13 @@ class Refused(unittest.TestCase):
 
 
 class Drawn(unittest.TestCase):
-    def test_a_part_is_drawn_and_each_crate_at_some_commit(self):
+    def test_a_part_is_drawn_and_each_crate_by_some_lot(self):
         numbers = {f"crate_{it}": 5 for it in range(32)}
-        each = [drawn(f"commit {it}", numbers) for it in range(60)]
+        each = [drawn(f"lot {it}", numbers) for it in range(60)]
         self.assertEqual({len(it) for it in each}, {len(numbers) // PARTS})
         self.assertEqual(set().union(*each), {*numbers})
-        self.assertEqual(drawn("commit 1", numbers), each[1])
-        self.assertEqual(drawn("commit 1", {}), set())
+        self.assertEqual(drawn("lot 1", numbers), each[1])
+        self.assertEqual(drawn("lot 1", {}), set())
 
 
 if __name__ == "__main__":

@@ -21,8 +21,8 @@ Which are tried. .ci/refused.txt has a line for each that was seen refused, with
   held   nothing has changed. It is tried with --all alone, and read and applied always
 
 With --minutes, as in the gate, no check begins after so many: one that must be tried and was not fails. Beside these, all
-edits of a quarter of the crates are tried, and which they are the commit's id says, so that nobody chooses. An edit that is
-refused gets its line, and one that is not loses it.
+edits of so many crates are tried as have a quarter of all. A checksum of all that the verdicts rest on draws them: another
+quarter at each landing, and nobody chooses. An edit that is refused gets its line, and one that is not loses it.
 
 How they are tried. What the proof of another function reads of a function is its contract, not its body. So the edits
 of a crate stand side by side in one copy of it, at most one for each function (or for each cycle of calls, which has
@@ -66,7 +66,7 @@ import time
 import traceback
 
 sys.dont_write_bytecode = True
-from known import Basis, Known, Standing, drawn
+from known import Basis, Known, Standing, drawn, sum_of
 from sources import rt, rtlib, text_of
 from trials import MOST_JOBS, Trial, Wrong
 
@@ -109,15 +109,6 @@ say = voice.say
 
 
 # -- what was seen refused
-
-
-def commit():
-    """Returns the id of the commit that stands here, or "" where there is none."""
-    try:
-        ran = subprocess.run(["git", "rev-parse", "HEAD"], stdin=subprocess.DEVNULL, capture_output=True, text=True, errors="replace")
-    except OSError:
-        return ""
-    return ran.stdout.strip() if ran.returncode == 0 else ""
 
 
 class Refused(Known):
@@ -388,7 +379,7 @@ class Run:
         keys = keys_of(wrongs)
         self.refused.keep(keys)
         numbers = {it.crate.name: len(it.edits) for it in wrongs if it.edits}
-        chosen = drawn(commit(), numbers) if given.minutes is not None else set()
+        chosen = drawn(sum_of(keys), numbers) if given.minutes is not None else set()
         most = Standing.HELD if given.all else Standing.DUE if given.due else Standing.MUST
         for wrong in wrongs:
             for it in wrong.edits:
@@ -483,7 +474,7 @@ def main():
     parser.add_argument("--follow", action="store_true", help="try them beside rt ci, whose output is the input")
     parser.add_argument("--due", action="store_true", help="try also what is due")
     parser.add_argument("--all", action="store_true", help="try every one")
-    parser.add_argument("--minutes", type=float, metavar="M", help="begin no check after M minutes; beside what must be tried, try a quarter of the crates")
+    parser.add_argument("--minutes", type=float, metavar="M", help="begin no check after M minutes; beside what must be tried, try a quarter of all")
     parser.add_argument("--show", action="store_true", help="print what the check said of each edit")
     parser.add_argument("crates", nargs="*", metavar="CRATE")
     given = parser.parse_args()
