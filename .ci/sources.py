@@ -77,11 +77,12 @@ def read(texts):
             with open(file, "w", encoding="utf-8", errors="surrogateescape", newline="") as it:
                 it.write(text)
         ran = subprocess.run([rtlib.RATTLE, "fmt", "--tokens", *files], stdin=subprocess.DEVNULL, capture_output=True, encoding="utf-8")
-    parts = re.split(r"(?m)^file \d+\n", ran.stdout)[1:]
-    if ran.returncode == 0 and len(parts) == len(new):
+    # (a line before the tokens of each file names it)
+    parts = re.split(r"(?m)^file .*\n", ran.stdout)[1:]
+    if len(new) == 1:
+        READ[new[0]] = tokens_in(ran.stdout.partition("\n")[2]) if ran.returncode == 0 else None
+    elif ran.returncode == 0 and len(parts) == len(new):
         READ.update((text, tokens_in(part)) for text, part in zip(new, parts))
-    elif len(new) == 1:
-        READ[new[0]] = None
     else:
         for it in new:
             read([it])
