@@ -1,5 +1,5 @@
 -- What is kept after a change.
-use Rattle.std.proofs.Common.{ℕ, ◌≡◌, ◌<◌, ◌+◌, Bool, true, false, not, ◌&&◌, ◌||◌, cond, take, length, nat_eq, List, get_or, refl, sym, ◌∙◌, ap, ⊎_elim}
+use Rattle.std.proofs.Common.{ℕ, ◌≡◌, ◌<◌, ◌+◌, Bool, true, false, not, ◌&&◌, ◌||◌, cond, take, length, nat_eq, List, get_or, refl, sym, ◌∙◌, ap, ⊎_elim, inl, inr}
 use Rattle.std.specs.Prelude.{Option, Some, None, is_some}
 use Rattle.std.specs.Ordering.{nat_cmp, is_eq}
 use Rattle.std.specs.BTreeMap.{BTreeMap, get}
@@ -7,7 +7,7 @@ use Rattle.std.proofs.lemmas.List.Folds.{list_any_more}
 use Rattle.std.proofs.lemmas.Bool.{or_cases, cases_Bool, or_left, or_right, and_parts, false≢true, eqb-true}
 use Rattle.region_core.specs.World.{Fact, has, arcs_of}
 use Rattle.region_core.specs.Least.{IsLeastIn, Derived, outside, follows}
-use Rattle.region_core.specs.Walks.{Walk, here, on, arc_of, IsTouched}
+use Rattle.region_core.specs.Walks.{Walk, here, on, arc_of, IsTouched, IsReached}
 use Rattle.region_core.proofs.Gives.{gives_agree, plain_named, taken_named}
 use Rattle.region_core.proofs.Laws.{refresh}
 use Rattle.region.specs.declared.sets.Row.{Row}
@@ -16,7 +16,7 @@ use Rattle.region.specs.Rules.{fact_of, shape_of}
 use Rattle.region.specs.Steps.{is_told, Tells}
 use Rattle.region.specs.Tables.{Rows, Lists, row_of, arcs_or_none, members_or_none, kept, arc_in, holds, listed, IsClosed, IsBacked}
 use Rattle.region.specs.Sets.{IsHeld}
-use Rattle.region.specs.Gathered.{stays, in_region, IsGathered, IsSameElsewhere}
+use Rattle.region.specs.Gathered.{stays, in_region, IsGathered, IsTurned, IsSameElsewhere}
 use Rattle.region.specs.Filled.{AreReady, names_in, row_or}
 use Rattle.region.proofs.Listing.{eq_is, turn_eq}
 use Rattle.region.proofs.Rooms.{tells_at, slice_at}
@@ -110,7 +110,7 @@ pub kept_is : (old new : Rows) (ready : BTreeMap ℕ Row) (told : List Told) (to
 kept_is old new ready told touched f n = ap is_some (f.rows n) ∙ kept_bool (get nat_cmp ready n) (row_of old n) (has touched n)
     ∙ ap (λ b. stays old touched n || b) (f.nodes n)
 
-none_if : (o : Option Row) → is_some o ≡ false → o ≡ None
+pub none_if : (o : Option Row) → is_some o ≡ false → o ≡ None
 none_if None h = refl
 none_if (Some x) h = absurd (false≢true (sym h))
 
@@ -170,13 +170,26 @@ least_part world p q user set e l = record {
   derived = λ n h s. derived_part world p q user set e n (l.derived n (e n ∙ h) s);
 }
 
-walk_kept : (p : ℕ → ℕ → Bool) (found : ℕ → Bool) (a b : ℕ)
+pub walk_kept : (p : ℕ → ℕ → Bool) (found : ℕ → Bool) (a b : ℕ)
     → ((n m : ℕ) → found n ≡ true → p n m ≡ true → found m ≡ true) → found a ≡ true → Walk p a b → found b ≡ true
 walk_kept p found a b closed start here = start
 walk_kept p found a b closed start (on {b = m} w h) = closed m b (walk_kept p found a m closed start w) h
 
-module _ (world : ℕ → Fact) (roots changed : List ℕ) (old new : Rows) (ready : BTreeMap ℕ Row) (told : List Told) (touched : List ℕ) (sets : ℕ → ℕ → Bool)
-    (got : IsGathered world old roots changed told touched) (filled : IsFilled old new ready told touched) (rows : AreReady world sets ready) where
+-- what is reached in the world is reached along the arcs that are kept
+walk_in : (world : ℕ → Fact) (roots : List ℕ) (old : Rows) → IsHeld world roots old → (a b : ℕ) → kept old a ≡ true → Walk (arc_of world) a b → (kept old b ≡ true) × Walk (arc_in old) a b
+walk_in world roots old was a b k here = (k, here)
+walk_in world roots old was a b k (on {b = m} w h) =
+    let p = walk_in world roots old was a m k w in
+    let arc : arc_in old m b ≡ true = was.arcs m b p.0 ∙ h in
+    (was.closed m b p.0 arc, on p.1 arc)
+
+reached_in : (world : ℕ → Fact) (roots : List ℕ) (old : Rows) → IsHeld world roots old → (n : ℕ) → kept old n ≡ true → IsReached (arc_in old) roots n
+reached_in world roots old was n k =
+    let r = was.reached n k in
+    record { start = r.start; among = r.among; walk = (walk_in world roots old was r.start n (was.from_roots r.start r.among) r.walk).1 }
+
+module _ (world : ℕ → Fact) (roots turned changed : List ℕ) (old new : Rows) (ready : BTreeMap ℕ Row) (told : List Told) (touched : List ℕ) (sets : ℕ → ℕ → Bool)
+    (got : IsGathered world old roots turned changed told touched) (filled : IsFilled old new ready told touched) (rows : AreReady world sets ready) where
   told_arc : (n m : ℕ) → is_told told n ≡ true → arc_in new n m ≡ arc_of world n m
   told_arc n m h =
       let r = told_row old new ready told touched filled n h in
@@ -206,12 +219,21 @@ module _ (world : ℕ → Fact) (roots changed : List ℕ) (old new : Rows) (rea
       there n m t (ap (λ (o : Option Row). has (arcs_or_none o) m) (r.1 ∙ sym r.2) ∙ a))
       (or_cases (stays old touched n) (is_told told n) (sym (kept_is old new ready told touched filled n) ∙ none_kept n m a))
 
-  pub held_after : (before : ℕ → Fact) (first : List ℕ) → IsHeld before first old → IsSameElsewhere before world old changed
+  pub held_after : (before : ℕ → Fact) (first : List ℕ) → IsHeld before first old → IsTurned first roots turned → IsSameElsewhere before world old changed
       → ((user : ℕ) → IsLeastIn world (is_told told) user (sets user))
       → ((user n : ℕ) → is_told told n ≡ false → sets user n ≡ holds old user n)
       → IsHeld world roots new
-  held_after before first was same least others = record {
-    from_roots = λ n h. kept_is old new ready told touched filled n ∙ got.from_roots n h;
+  held_after before first was turns same least others = record {
+    from_roots = λ n h. kept_is old new ready told touched filled n ∙ got.from_roots n h (⊎_elim
+        (λ t. inr t)
+        (λ t. inl (was.from_roots n (sym (turns n t) ∙ h)))
+        (cases_Bool (has turned n)));
+    reached = λ n h. ⊎_elim
+        (λ s. got.stay_reached first
+        (λ m k. reached_in before first old was m k) turns
+        (λ a b st arc. ap (λ (f : Fact). has (arcs_of f.shape) b) (unchanged a st) ∙ sym (was.arcs a b (got.untouched a st).0) ∙ arc) n s)
+        (λ t. got.reached n t)
+        (or_cases (stays old touched n) (is_told told n) (sym (kept_is old new ready told touched filled n) ∙ h));
     arcs = λ n m h. ⊎_elim
         (λ s. stay_arc n m s ∙ was.arcs n m (got.untouched n s).0 ∙ ap (λ (f : Fact). has (arcs_of f.shape) m) (sym (unchanged n s)))
         (λ t. told_arc n m t)

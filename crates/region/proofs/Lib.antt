@@ -5,3 +5,4 @@ pub mod Round
 pub mod Settled
 pub mod Walked
 pub mod AfterChange
+pub mod Swept

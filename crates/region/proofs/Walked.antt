@@ -5,16 +5,16 @@ use Rattle.std.specs.Cmp.{nat_eq_equiv}
 use Rattle.std.proofs.lemmas.Map.Keys.{IsDistinct-push}
 use Rattle.std.proofs.lemmas.List.{take_more, take_all}
 use Rattle.std.proofs.lemmas.List.Folds.{list_any-append, list_any_more}
-use Rattle.std.proofs.lemmas.Bool.{or_cases, cases_Bool, or_left, or_right, and_parts, and_from, false≢true, eqb-true, eq-eqb, not_from_true, not_from_false, false_from_ne_true}
+use Rattle.std.proofs.lemmas.Bool.{or_cases, cases_Bool, or_left, or_right, and_parts, and_from, false≢true, eqb-true, eq-eqb, not_from_false, false_from_ne_true}
 use Rattle.region_core.specs.World.{Fact, has}
-use Rattle.region_core.specs.Walks.{Adds, Walk, here, on, arc_of, IsTouched}
+use Rattle.region_core.specs.Walks.{Adds, Walk, here, on, arc_of, IsTouched, IsReached}
 use Rattle.region_core.proofs.Gives.{has-append}
 use Rattle.region_core.proofs.Found.{SearchAt, search_none, search_more, search_end, distinct_none, has_at, has_take}
 use Rattle.region.specs.declared.rule.Told.{Told}
 use Rattle.region.specs.Rules.{fact_of}
 use Rattle.region.specs.Steps.{is_told, Tells}
-use Rattle.region.specs.Tables.{Rows, kept, arc_in, IsClosed}
-use Rattle.region.specs.Gathered.{nodes_of, stays, IsGathered, IsAskedOnce, IsAskedSome}
+use Rattle.region.specs.Tables.{Rows, kept, arc_in}
+use Rattle.region.specs.Gathered.{nodes_of, stays, IsAskedOnce, IsAskedSome}
 use Rattle.region.specs.Walking.{IsVisit, IsWalked, IsAskedSomeOf}
 
 pick : (h e s b : Bool) → (e ≡ true → s ≡ b) → ((h && s) || (e && b)) ≡ ((h || e) && s)
@@ -117,28 +117,42 @@ not_stays : (b : Bool) → not b ≡ true → b ≡ false
 not_stays true h = sym h
 not_stays false h = refl
 
-pub record GatherAt (world : ℕ → Fact) (old : Rows) (touched roots first : List ℕ) (at : ℕ) (found : List ℕ) (told : List Told) (asked : List ℕ) : Type 0 where
+pub search_start : (arc : ℕ → ℕ → Bool) (found : List ℕ) → IsDistinct nat_eq found → SearchAt arc found 0 found
+search_start arc found distinct = search_none arc found found [] refl (record {
+  members = λ u. refl;
+  distinct = distinct;
+  front = λ i le. (let z : i ≡ 0 = omega arith in subst (λ (k : ℕ). take k found ≡ take k []) (sym z) refl);
+  longer = omega arith;
+})
+
+pub record GatherAt (world : ℕ → Fact) (old : Rows) (touched roots turned first : List ℕ) (at : ℕ) (found : List ℕ) (told : List Told) (asked : List ℕ) : Type 0 where
   pub start : List ℕ
-  pub start_is : (n : ℕ) → has start n ≡ (has roots n && not (stays old touched n))
+  pub start_roots : (n : ℕ) → has start n ≡ true → has roots n ≡ true
+  pub start_all : (n : ℕ) → has roots n ≡ true → (has turned n || has touched n) ≡ true → stays old touched n ≡ false → has start n ≡ true
   pub search : SearchAt (needed world old touched) start at found
   pub off : (n : ℕ) → has found n ≡ true → stays old touched n ≡ false
   pub done : (n : ℕ) → has (take at found) n ≡ is_told told n
   pub tells : Tells world told
   pub askings : IsAskedOnce told first asked
 
-pub gather_none : (world : ℕ → Fact) (old : Rows) (touched roots first nothing found : List ℕ) (told : List Told)
-    → nothing ≡ [] → Adds nothing found (λ u. has roots u && not (stays old touched u)) → told ≡ []
-    → GatherAt world old touched roots first 0 found told first
-gather_none world old touched roots first nothing found told e adds no_told = record {
+pub gather_none : (world : ℕ → Fact) (old : Rows) (touched roots turned first nothing half found : List ℕ) (told : List Told)
+    → nothing ≡ [] → Adds nothing half (λ u. has turned u && (has roots u && not (stays old touched u)))
+    → Adds half found (λ u. has touched u && (has roots u && not (stays old touched u))) → told ≡ []
+    → GatherAt world old touched roots turned first 0 found told first
+gather_none world old touched roots turned first nothing half found told e some others no_told = record {
   start = found;
-  start_is = is;
-  search = search_none (needed world old touched) found found [] refl (record {
-    members = λ u. refl;
-    distinct = adds.distinct;
-    front = λ i le. (let z : i ≡ 0 = omega arith in subst (λ (k : ℕ). take k found ≡ take k []) (sym z) refl);
-    longer = omega arith;
-  });
-  off = λ n h. not_stays (stays old touched n) (and_parts (has roots n) (not (stays old touched n)) (sym (is n) ∙ h)).1;
+  start_roots = λ n h. (and_parts (has roots n) (not (stays old touched n)) (one_of n h)).0;
+  start_all = λ n r t s.
+      let fit : (has roots n && not (stays old touched n)) ≡ true = and_from (has roots n) (not (stays old touched n)) r (not_from_false (stays old touched n) s) in
+      others.members n ∙ ⊎_elim
+      (λ h. or_left (has half n) (has touched n && (has roots n && not (stays old touched n)))
+      (some.members n ∙ or_right (has nothing n) (has turned n && (has roots n && not (stays old touched n)))
+      (and_from (has turned n) (has roots n && not (stays old touched n)) h fit)))
+      (λ h. or_right (has half n) (has touched n && (has roots n && not (stays old touched n)))
+      (and_from (has touched n) (has roots n && not (stays old touched n)) h fit))
+      (or_cases (has turned n) (has touched n) t);
+  search = search_start (needed world old touched) found others.distinct;
+  off = λ n h. not_stays (stays old touched n) (and_parts (has roots n) (not (stays old touched n)) (one_of n h)).1;
   done = λ n. ap (λ (xs : List Told). is_told xs n) (sym no_told);
   tells = subst (λ (xs : List Told). Tells world xs) (sym no_told) tt;
   askings = record {
@@ -147,8 +161,14 @@ gather_none world old touched roots first nothing found told e adds no_told = re
   };
 }
   where
-    is : (n : ℕ) → has found n ≡ (has roots n && not (stays old touched n))
-    is n = adds.members n ∙ ap (λ xs. has xs n || (has roots n && not (stays old touched n))) e
+    one_of : (n : ℕ) → has found n ≡ true → (has roots n && not (stays old touched n)) ≡ true
+    one_of n h = ⊎_elim
+        (λ f. ⊎_elim
+        (λ g. absurd (false≢true (ap (λ xs. has xs n) (sym e) ∙ g)))
+        (λ g. (and_parts (has turned n) (has roots n && not (stays old touched n)) g).1)
+        (or_cases (has nothing n) (has turned n && (has roots n && not (stays old touched n))) (sym (some.members n) ∙ f)))
+        (λ f. (and_parts (has touched n) (has roots n && not (stays old touched n)) f).1)
+        (or_cases (has half n) (has touched n && (has roots n && not (stays old touched n))) (sym (others.members n) ∙ h))
 
 taken : (xs ys : List ℕ) (more : ℕ → Bool) (at node n : ℕ) → Adds xs ys more → at < length xs → node ≡ get_or xs at node
     → has (take (at + 1) ys) n ≡ (has (take at xs) n || nat_eq n node)
@@ -157,21 +177,22 @@ taken xs ys more at node n a lt e =
     ∙ has_push (take at xs) node n
 
 -- a node that the walk comes to was not asked yet
-pub not_asked : (world : ℕ → Fact) (old : Rows) (touched roots first : List ℕ) (at : ℕ) (found : List ℕ) (told : List Told) (asked : List ℕ) (node : ℕ)
-    → GatherAt world old touched roots first at found told asked → at < length found → node ≡ get_or found at node → is_told told node ≡ false
-not_asked world old touched roots first at found told asked node so_far lt e =
+pub not_asked : (world : ℕ → Fact) (old : Rows) (touched roots turned first : List ℕ) (at : ℕ) (found : List ℕ) (told : List Told) (asked : List ℕ) (node : ℕ)
+    → GatherAt world old touched roots turned first at found told asked → at < length found → node ≡ get_or found at node → is_told told node ≡ false
+not_asked world old touched roots turned first at found told asked node so_far lt e =
     sym (so_far.done node) ∙ distinct_front found at node so_far.search.distinct lt e
 
-pub off_at : (world : ℕ → Fact) (old : Rows) (touched roots first : List ℕ) (at : ℕ) (found : List ℕ) (told : List Told) (asked : List ℕ) (node : ℕ)
-    → GatherAt world old touched roots first at found told asked → at < length found → node ≡ get_or found at node → stays old touched node ≡ false
-off_at world old touched roots first at found told asked node so_far lt e = so_far.off node (has_at found at node lt e)
+pub off_at : (world : ℕ → Fact) (old : Rows) (touched roots turned first : List ℕ) (at : ℕ) (found : List ℕ) (told : List Told) (asked : List ℕ) (node : ℕ)
+    → GatherAt world old touched roots turned first at found told asked → at < length found → node ≡ get_or found at node → stays old touched node ≡ false
+off_at world old touched roots turned first at found told asked node so_far lt e = so_far.off node (has_at found at node lt e)
 
-pub gather_more : (world : ℕ → Fact) (old : Rows) (touched roots first : List ℕ) (at node : ℕ) (found found' : List ℕ) (told told' : List Told) (asked asked' : List ℕ)
-    → GatherAt world old touched roots first at found told asked → at < length found → node ≡ get_or found at node
-    → IsVisit world old touched node found told asked found' told' asked' → GatherAt world old touched roots first (at + 1) found' told' asked'
-gather_more world old touched roots first at node found found' told told' asked asked' so_far lt e v = record {
+pub gather_more : (world : ℕ → Fact) (old : Rows) (touched roots turned first : List ℕ) (at node : ℕ) (found found' : List ℕ) (told told' : List Told) (asked asked' : List ℕ)
+    → GatherAt world old touched roots turned first at found told asked → at < length found → node ≡ get_or found at node
+    → IsVisit world old touched node found told asked found' told' asked' → GatherAt world old touched roots turned first (at + 1) found' told' asked'
+gather_more world old touched roots turned first at node found found' told told' asked asked' so_far lt e v = record {
   start = so_far.start;
-  start_is = so_far.start_is;
+  start_roots = so_far.start_roots;
+  start_all = so_far.start_all;
   search = search_more (needed world old touched) so_far.start at node found found' so_far.search lt e
       (adds_same found found' (λ u. arc_of world node u && not (stays old touched u)) (needed world old touched node) (λ u. needed_same world old touched node u) v.adds);
   off = λ n h. ⊎_elim (λ f. so_far.off n f)
@@ -186,7 +207,7 @@ gather_more world old touched roots first at node found found' told told' asked 
         ∙ ap (λ xs. first ++ xs) (sym nodes_is);
     once = subst (λ xs. IsDistinct nat_eq xs) (sym nodes_is)
         (IsDistinct-push nat_eq_equiv (nodes_of told) node so_far.askings.once
-        (told_nodes told node ∙ not_asked world old touched roots first at found told asked node so_far lt e));
+        (told_nodes told node ∙ not_asked world old touched roots turned first at found told asked node so_far lt e));
   };
 }
   where
@@ -200,20 +221,25 @@ walk_as : (p q : ℕ → ℕ → Bool) (a b : ℕ) → ((n m : ℕ) → p n m �
 walk_as p q a b f here = here
 walk_as p q a b f (on {b = m} w h) = on (walk_as p q a m f w) (f m b h)
 
-pub walked : (world : ℕ → Fact) (old : Rows) (touched roots first : List ℕ) (at : ℕ) (found : List ℕ) (told : List Told) (asked : List ℕ)
-    → GatherAt world old touched roots first at found told asked → length found ≤ at → IsWalked world old touched roots told
-walked world old touched roots first at found told asked so_far le = record {
+-- what was found is reached from the roots
+found_reached : (world : ℕ → Fact) (old : Rows) (touched roots turned first : List ℕ) (at : ℕ) (found : List ℕ) (told : List Told) (asked : List ℕ)
+    → GatherAt world old touched roots turned first at found told asked → (n : ℕ) → has found n ≡ true → IsReached (arc_of world) roots n
+found_reached world old touched roots turned first at found told asked so_far n h =
+    let r = so_far.search.sound n h in
+    record {
+      start = r.start;
+      among = so_far.start_roots r.start r.among;
+      walk = walk_as (needed world old touched) (arc_of world) r.start n (needed_to world old touched) r.walk;
+    }
+
+pub walked : (world : ℕ → Fact) (old : Rows) (touched roots turned first : List ℕ) (at : ℕ) (found : List ℕ) (told : List Told) (asked : List ℕ)
+    → GatherAt world old touched roots turned first at found told asked → length found ≤ at → IsWalked world old touched roots turned told
+walked world old touched roots turned first at found told asked so_far le = record {
   tells = so_far.tells;
   needed = λ n h. so_far.off n (all n ∙ h);
-  from_roots = λ n h s. sym (all n) ∙ so_far.search.starts_in n (so_far.start_is n ∙ and_from (has roots n) (not (stays old touched n)) h (not_from_false (stays old touched n) s));
+  from_roots = λ n h t s. sym (all n) ∙ so_far.search.starts_in n (so_far.start_all n h t s);
   told_arcs = λ n m h a s. sym (all m) ∙ search_end (needed world old touched) so_far.start at found so_far.search le n m (all n ∙ h) (needed_from world old touched n m a s);
-  reached = λ n h.
-      let r = so_far.search.sound n (all n ∙ h) in
-      record {
-        start = r.start;
-        among = (and_parts (has roots r.start) (not (stays old touched r.start)) (sym (so_far.start_is r.start) ∙ r.among)).0;
-        walk = walk_as (needed world old touched) (arc_of world) r.start n (needed_to world old touched) r.walk;
-      };
+  reached = λ n h. found_reached world old touched roots turned first at found told asked so_far n (all n ∙ h);
 }
   where
     all : (n : ℕ) → has found n ≡ is_told told n
@@ -225,64 +251,71 @@ touched_if world old touched changed sound n s k = sound n (⊎_elim (λ t. t)
     (λ f. absurd (false≢true (sym s ∙ and_from (kept old n) (not (has touched n)) k (not_from_false (has touched n) f))))
     (cases_Bool (has touched n)))
 
-pub gathered : (world : ℕ → Fact) (old : Rows) (touched roots changed : List ℕ) (told : List Told)
-    → IsWalked world old touched roots told → IsClosed old
-    → ((n : ℕ) → has changed n ≡ true → has touched n ≡ true)
-    → ((n m : ℕ) → arc_in old n m ≡ true → has touched m ≡ true → has touched n ≡ true)
-    → ((n : ℕ) → has touched n ≡ true → IsTouched (arc_in old) changed n)
-    → IsGathered world old roots changed told touched
-gathered world old touched roots changed told w closed has_changed back sound = record {
-  tells = w.tells;
-  new_or_touched = λ n h k. touched_if world old touched changed sound n (w.needed n h) k;
-  apart = λ n h. false_from_ne_true (is_told told n) (λ t. false≢true (sym (w.needed n t) ∙ h));
-  untouched = λ n h. let two = and_parts (kept old n) (not (has touched n)) h in
-      (two.0, false_from_ne_true (has changed n) (λ c. false≢true (sym (not_from_true (has touched n) (has_changed n c)) ∙ two.1)));
-  stay_arcs = λ n m h a.
-      let two = and_parts (kept old n) (not (has touched n)) h in
-      and_from (kept old m) (not (has touched m)) (closed n m two.0 a)
-      (not_from_false (has touched m) (false_from_ne_true (has touched m) (λ t. false≢true (sym (not_from_true (has touched n) (back n m a t)) ∙ two.1))));
-  from_roots = λ n h. ⊎_elim (λ s. or_left (stays old touched n) (is_told told n) s)
-      (λ s. or_right (stays old touched n) (is_told told n) (w.from_roots n h s)) (cases_Bool (stays old touched n));
-  told_arcs = λ n m h a. ⊎_elim (λ s. or_left (stays old touched m) (is_told told m) s)
-      (λ s. or_right (stays old touched m) (is_told told m) (w.told_arcs n m h a s)) (cases_Bool (stays old touched m));
-  reached = w.reached;
+pub some_none : (world : ℕ → Fact) (roots : List ℕ) (s : ℕ → Bool) (asked : List ℕ) → IsAskedSomeOf world roots s asked asked
+some_none world roots s asked = record {
+  nodes = [];
+  asked = sym (append-nil asked);
+  once = distinct_none [] refl;
+  needed = λ n h. absurd (false≢true h);
+  reached = λ n h. absurd (false≢true h);
 }
 
-pub some_none : (s : ℕ → Bool) (asked : List ℕ) → IsAskedSomeOf s asked asked
-some_none s asked = record { nodes = []; asked = sym (append-nil asked); once = distinct_none [] refl; needed = λ n h. absurd (false≢true h) }
-
-pub some_at : (world : ℕ → Fact) (old : Rows) (touched roots first : List ℕ) (at : ℕ) (found : List ℕ) (told : List Told) (asked later : List ℕ) (node : ℕ)
-    → GatherAt world old touched roots first at found told asked → at < length found → node ≡ get_or found at node
-    → (later ≡ asked) ⊎ (later ≡ asked ++ node ∷ []) → IsAskedSomeOf (stays old touched) first later
-some_at world old touched roots first at found told asked later node so_far lt e which = ⊎_elim
+pub some_at : (world : ℕ → Fact) (old : Rows) (touched roots turned first : List ℕ) (at : ℕ) (found : List ℕ) (told : List Told) (asked later : List ℕ) (node : ℕ)
+    → GatherAt world old touched roots turned first at found told asked → at < length found → node ≡ get_or found at node
+    → (later ≡ asked) ⊎ (later ≡ asked ++ node ∷ []) → IsAskedSomeOf world roots (stays old touched) first later
+some_at world old touched roots turned first at found told asked later node so_far lt e which = ⊎_elim
     (λ same. record {
       nodes = nodes_of told;
       asked = same ∙ so_far.askings.asked;
       once = so_far.askings.once;
-      needed = off;
+      needed = λ n h. so_far.off n (there n h);
+      reached = λ n h. found_reached world old touched roots turned first at found told asked so_far n (there n h);
     })
     (λ more. record {
       nodes = nodes_of told ++ node ∷ [];
       asked = more ∙ ap (λ xs. xs ++ node ∷ []) so_far.askings.asked ∙ append_assoc first (nodes_of told) (node ∷ []);
       once = IsDistinct-push nat_eq_equiv (nodes_of told) node so_far.askings.once
-          (told_nodes told node ∙ not_asked world old touched roots first at found told asked node so_far lt e);
-      needed = λ n h. ⊎_elim (λ f. off n f)
-          (λ q. subst (λ i. stays old touched i ≡ false) (sym (eqb-true n node q)) (off_at world old touched roots first at found told asked node so_far lt e))
-          (or_cases (has (nodes_of told) n) (nat_eq n node) (sym (has_push (nodes_of told) node n) ∙ h));
+          (told_nodes told node ∙ not_asked world old touched roots turned first at found told asked node so_far lt e);
+      needed = λ n h. so_far.off n (there_too n h);
+      reached = λ n h. found_reached world old touched roots turned first at found told asked so_far n (there_too n h);
     })
     which
   where
-    off : (n : ℕ) → has (nodes_of told) n ≡ true → stays old touched n ≡ false
-    off n h = so_far.off n (has_take found at n (so_far.done n ∙ sym (told_nodes told n) ∙ h))
+    there : (n : ℕ) → has (nodes_of told) n ≡ true → has found n ≡ true
+    there n h = has_take found at n (so_far.done n ∙ sym (told_nodes told n) ∙ h)
 
-pub some_touched : (world : ℕ → Fact) (old : Rows) (touched changed first later : List ℕ) → ((n : ℕ) → has touched n ≡ true → IsTouched (arc_in old) changed n)
-    → IsAskedSomeOf (stays old touched) first later → IsAskedSome old changed first later
-some_touched world old touched changed first later sound s = record {
+    there_too : (n : ℕ) → has (nodes_of told ++ node ∷ []) n ≡ true → has found n ≡ true
+    there_too n h = ⊎_elim (λ f. there n f)
+        (λ q. subst (λ i. has found i ≡ true) (sym (eqb-true n node q)) (has_at found at node lt e))
+        (or_cases (has (nodes_of told) n) (nat_eq n node) (sym (has_push (nodes_of told) node n) ∙ h))
+
+pub some_touched : (world : ℕ → Fact) (old : Rows) (touched roots changed first later : List ℕ) → ((n : ℕ) → has touched n ≡ true → IsTouched (arc_in old) changed n)
+    → IsAskedSomeOf world roots (stays old touched) first later → IsAskedSome world old roots changed first later
+some_touched world old touched roots changed first later sound s = record {
   nodes = s.nodes;
   asked = s.asked;
   once = s.once;
   few = λ n h k. touched_if world old touched changed sound n (s.needed n h) k;
+  reached = s.reached;
 }
 
-pub none_asked : (old : Rows) (changed asked : List ℕ) → IsAskedSome old changed asked asked
-none_asked old changed asked = record { nodes = []; asked = sym (append-nil asked); once = distinct_none [] refl; few = λ n h. absurd (false≢true h) }
+-- all who were asked
+pub some_told : (world : ℕ → Fact) (old : Rows) (touched roots turned changed first later : List ℕ) (told : List Told)
+    → ((n : ℕ) → has touched n ≡ true → IsTouched (arc_in old) changed n)
+    → IsWalked world old touched roots turned told → IsAskedOnce told first later → IsAskedSome world old roots changed first later
+some_told world old touched roots turned changed first later told sound w asked = record {
+  nodes = nodes_of told;
+  asked = asked.asked;
+  once = asked.once;
+  few = λ n h k. touched_if world old touched changed sound n (w.needed n (sym (told_nodes told n) ∙ h)) k;
+  reached = λ n h. w.reached n (sym (told_nodes told n) ∙ h);
+}
+
+pub none_asked : (world : ℕ → Fact) (old : Rows) (roots changed asked : List ℕ) → IsAskedSome world old roots changed asked asked
+none_asked world old roots changed asked = record {
+  nodes = [];
+  asked = sym (append-nil asked);
+  once = distinct_none [] refl;
+  few = λ n h. absurd (false≢true h);
+  reached = λ n h. absurd (false≢true h);
+}

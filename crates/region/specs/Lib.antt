@@ -5,4 +5,5 @@ pub mod Steps
 pub mod Sets
 pub mod Gathered
 pub mod Walking
+pub mod Sweeping
 pub mod Filled

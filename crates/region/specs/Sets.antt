@@ -6,15 +6,8 @@ use Rattle.region_core.specs.Walks.{arc_of, IsReached}
 use Rattle.region.specs.declared.sets.Sets.{Sets}
 use Rattle.region.specs.Tables.{Rows, kept, arc_in, holds, IsClosed, IsBacked}
 
--- the least sets of the roots and of all that they depend on, and maybe of other nodes
+-- exactly the roots and all that they depend on are kept, with their least sets
 pub record IsHeld (world : ℕ → Fact) (roots : List ℕ) (sets : Rows) : Type 0 where
-  pub from_roots : (n : ℕ) → has roots n ≡ true → kept sets n ≡ true
-  pub arcs : (n m : ℕ) → kept sets n ≡ true → arc_in sets n m ≡ arc_of world n m
-  pub closed : IsClosed sets
-  pub least : (user : ℕ) → IsLeastIn world (kept sets) user (holds sets user)
-
--- the least sets of the roots and of all that they depend on
-pub record IsKept (world : ℕ → Fact) (roots : List ℕ) (sets : Rows) : Type 0 where
   pub from_roots : (n : ℕ) → has roots n ≡ true → kept sets n ≡ true
   pub reached : (n : ℕ) → kept sets n ≡ true → IsReached (arc_of world) roots n
   pub arcs : (n m : ℕ) → kept sets n ≡ true → arc_in sets n m ≡ arc_of world n m

@@ -1,5 +1,5 @@
 -- A walk that asks. No promise rests on it.
-use Rattle.std.specs.Prelude.{ℕ, ◌≡◌, Bool, true, false, not, ◌&&◌, List, ◌∷◌, [], ◌++◌, nat_eq}
+use Rattle.std.specs.Prelude.{ℕ, ◌≡◌, Bool, true, false, not, ◌&&◌, ◌||◌, List, ◌∷◌, [], ◌++◌, nat_eq}
 use Rattle.std.specs.List.{IsDistinct}
 use Rattle.region_core.specs.World.{Fact, has}
 use Rattle.region_core.specs.Walks.{Adds, arc_of, IsReached}
@@ -19,16 +19,17 @@ pub record IsVisit (world : ℕ → Fact) (old : Rows) (touched : List ℕ) (nod
   pub adds : Adds found found' (λ u. arc_of world node u && not (stays old touched u))
 
 -- all that the roots depend on and that does not stay is told of
-pub record IsWalked (world : ℕ → Fact) (old : Rows) (touched roots : List ℕ) (told : List Told) : Type 0 where
+pub record IsWalked (world : ℕ → Fact) (old : Rows) (touched roots turned : List ℕ) (told : List Told) : Type 0 where
   pub tells : Tells world told
   pub needed : (n : ℕ) → is_told told n ≡ true → stays old touched n ≡ false
-  pub from_roots : (n : ℕ) → has roots n ≡ true → stays old touched n ≡ false → is_told told n ≡ true
+  pub from_roots : (n : ℕ) → has roots n ≡ true → (has turned n || has touched n) ≡ true → stays old touched n ≡ false → is_told told n ≡ true
   pub told_arcs : (n m : ℕ) → is_told told n ≡ true → arc_of world n m ≡ true → stays old touched m ≡ false → is_told told m ≡ true
   pub reached : (n : ℕ) → is_told told n ≡ true → IsReached (arc_of world) roots n
 
--- some nodes that do not stay were asked, each once
-pub record IsAskedSomeOf (stays : ℕ → Bool) (before after : List ℕ) : Type 0 where
+-- some nodes that do not stay and that the roots reach were asked, each once
+pub record IsAskedSomeOf (world : ℕ → Fact) (roots : List ℕ) (stays : ℕ → Bool) (before after : List ℕ) : Type 0 where
   pub nodes : List ℕ
   pub asked : after ≡ before ++ nodes
   pub once : IsDistinct nat_eq nodes
   pub needed : (n : ℕ) → has nodes n ≡ true → stays n ≡ false
+  pub reached : (n : ℕ) → has nodes n ≡ true → IsReached (arc_of world) roots n

@@ -102,8 +102,8 @@ pub(crate) fn value(
     }
 }
 
-// Adds the nodes that a rule names at the end.
-fn push_named(nodes: &mut Vec<u64>, rule: &Rule) -> Result<(), AllocError>
+/// Adds the nodes that a rule names at the end.
+pub(crate) fn push_named(nodes: &mut Vec<u64>, rule: &Rule) -> Result<(), AllocError>
     ensures { OnOk result ((m : ℕ) → has nodes.new.items m ≡ (has nodes.old.items m || has (arcs_of (shape_of rule.now)) m)) }
 {
     match rule {

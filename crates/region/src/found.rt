@@ -88,6 +88,13 @@ impl Found {
         let _ = &self.list;
     }
 
+    /// The nodes, in order.
+    pub(crate) fn as_slice(&self) -> &[u64]
+        ensures { result.now ≡ self.now }
+    {
+        self.list.as_slice()
+    }
+
     /// The nodes.
     pub(crate) fn into_list(self) -> Vec<u64>
         ensures { result.items ≡ self }

@@ -1,24 +1,28 @@
 //! Asking for what a change touches or newly brings in.
-ghost use Rattle.std.specs.Prelude.{◌≡◌, ℕ, true, not, ◌&&◌, ◌++◌, ◌∷◌, [], ◌⊎◌, nat_eq, List, IfOk, OnOk, OnErr};
+ghost use Rattle.std.specs.Prelude.{◌≡◌, ℕ, true, not, ◌&&◌, ◌||◌, ◌++◌, ◌∷◌, [], ◌⊎◌, nat_eq, List, IfOk, OnOk, OnErr};
 ghost use Rattle.region_core.specs.World.{Fact, has, arcs_of};
 ghost use Rattle.region_core.specs.Walks.{Adds, arc_of};
 ghost use Rattle.region.specs.Sets.{IsWhole};
 ghost use Rattle.region.specs.Rules.{fact_of, shape_of};
 ghost use Rattle.region.specs.Gathered.{stays, IsGathered, IsAskedOnce, IsAskedSome};
 ghost use Rattle.region.specs.Walking.{IsVisit, IsWalked, IsAskedSomeOf};
+ghost use Rattle.region.specs.Sweeping.{names_told};
 
-use crate::eval::named;
+use crate::eval::{named, push_named};
 use crate::found::Found;
 use crate::rule::Told;
 use crate::sets::Sets;
+use crate::sweeping::unreached;
 use crate::touched::touched;
+use idsets::IdSet;
 use std::alloc::{AllocError, Global};
 
-/// What was told of the touched and the new nodes, and which nodes are touched.
+/// What was told of the touched and the new nodes, and whose rows are dropped: those of the touched nodes, and of
+/// those that the roots no longer reach.
 #[derive(Drop)]
 pub struct Region {
     pub told: Vec<Told>,
-    pub touched: Vec<u64>,
+    pub dropped: Vec<u64>,
 }
 
 /// Who knows the facts of nodes.
@@ -39,7 +43,7 @@ pub trait Facts {
 }
 
 // Whether a node stays as it was.
-fn does_stay(old: &Sets, touched: &Found, node: u64) -> bool
+pub(crate) fn does_stay(old: &Sets, touched: &Found, node: u64) -> bool
     ensures { result ≡ stays old.now.rows touched.now node }
 {
     old.is_kept(node) && !touched.contains(node)
@@ -95,21 +99,43 @@ fn visit<F: Facts>(
     Ok(())
 }
 
-// Walks from the roots over what does not stay as it was, and asks for each node.
+// Adds those of some nodes that are roots and do not stay as they were.
+fn add_roots(
+    found: &mut Found,
+    old: &Sets,
+    touched: &Found,
+    roots: &IdSet,
+    more: &[u64],
+) -> Result<(), AllocError>
+    ensures { OnOk result (Adds found.old found.new (λ u. has more.now u && (has roots.now u && not (stays old.now.rows touched.now u)))) }
+{
+    found.is_distinct();
+    for node in more {
+        found.add_if(
+            *node,
+            roots.contains(*node) && !does_stay(old, touched, *node),
+        )?;
+    }
+    Ok(())
+}
+
+// Walks from the new and the touched roots over what does not stay as it was, and asks for each node.
 fn walk<F: Facts>(
     alloc: Global,
     old: &Sets,
-    roots: &[u64],
+    roots: &IdSet,
+    turned: &[u64],
     touched: &Found,
     facts: &mut F,
 ) -> Result<Vec<Told>, AllocError>
     ensures same { F.world facts.new ≡ F.world facts.old }
-    ensures walked { IfOk result (λ told. IsWalked (F.world facts.old) old.now.rows touched.now roots.now told.items) }
+    ensures walked { IfOk result (λ told. IsWalked (F.world facts.old) old.now.rows touched.now roots.now turned.now told.items) }
     ensures asked { IfOk result (λ told. IsAskedOnce told.items (F.asked facts.old) (F.asked facts.new)) }
-    ensures refused { OnErr result (IsAskedSomeOf (stays old.now.rows touched.now) (F.asked facts.old) (F.asked facts.new)) }
+    ensures refused { OnErr result (IsAskedSomeOf (F.world facts.old) roots.now (stays old.now.rows touched.now) (F.asked facts.old) (F.asked facts.new)) }
 {
     let mut found = Found::new(alloc);
-    add_needed(&mut found, old, touched, roots)?;
+    add_roots(&mut found, old, touched, roots, turned)?;
+    add_roots(&mut found, old, touched, roots, touched.as_slice())?;
     let mut told = Vec::new(alloc);
     let mut at = 0;
     while at < found.len() {
@@ -120,25 +146,44 @@ fn walk<F: Facts>(
     Ok(told)
 }
 
-/// Asks for each node that the roots depend on and that is new or has a walk to a changed one. What stays as it
-/// was is not walked over: no walk from it leads to a node that is touched or new.
+// The nodes that one told of names.
+fn named_by(alloc: Global, told: &[Told]) -> Result<IdSet, AllocError>
+    ensures { IfOk result (λ named. (m : ℕ) → has named m ≡ names_told told.now m) }
+{
+    let mut nodes = Vec::new(alloc);
+    for t in told {
+        push_named(&mut nodes, &t.rule)?;
+    }
+    Ok(IdSet::of(nodes))
+}
+
+/// Asks for each node that the roots reach and that is new or has a walk to a changed one. What stays as it was is
+/// not walked over: no walk from it leads to a node that is touched or new. `turned` are the nodes that have become
+/// roots, or are none any more; `changed` those of which other facts may be known than before.
+///
+/// It costs what is touched, what is asked for, and what leads to and from those nodes to which an arc or a mark as
+/// a root was lost; nothing in what else is kept.
 pub fn gather<F: Facts>(
     alloc: Global,
     old: &Sets,
-    roots: &[u64],
+    roots: &IdSet,
+    turned: &[u64],
     changed: &[u64],
     facts: &mut F,
 ) -> Result<Region, AllocError>
     requires { IsWhole old.now }
     ensures same { F.world facts.new ≡ F.world facts.old }
-    ensures gathered { IfOk result (λ region. IsGathered (F.world facts.old) old.now.rows roots.now changed.now region.told.items region.touched.items) }
+    ensures gathered { IfOk result (λ region. IsGathered (F.world facts.old) old.now.rows roots.now turned.now changed.now region.told.items region.dropped.items) }
     ensures asked { IfOk result (λ region. IsAskedOnce region.told.items (F.asked facts.old) (F.asked facts.new)) }
-    ensures refused { OnErr result (IsAskedSome old.now.rows changed.now (F.asked facts.old) (F.asked facts.new)) }
+    ensures refused { OnErr result (IsAskedSome (F.world facts.old) old.now.rows roots.now changed.now (F.asked facts.old) (F.asked facts.new)) }
 {
-    let touched = touched(alloc, old, changed)?;
-    let told = walk(alloc, old, roots, &touched, facts)?;
+    let mut touched = touched(alloc, old, changed)?;
+    let told = walk(alloc, old, roots, turned, &touched, facts)?;
+    let named = named_by(alloc, &told)?;
+    let gone = unreached(alloc, old, &touched, &named, roots, turned)?;
+    touched.add_all(gone.as_slice())?;
     Ok(Region {
         told,
-        touched: touched.into_list(),
+        dropped: touched.into_list(),
     })
 }

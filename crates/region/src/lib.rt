@@ -10,9 +10,10 @@ mod refreshing;
 mod rule;
 mod sets;
 mod solve;
+mod sweeping;
 mod touched;
 
 pub use gathering::{Facts, Region, gather};
-pub use refreshing::{fill, refresh};
+pub use refreshing::{fill, refresh, sweep};
 pub use rule::{Rule, Told};
 pub use sets::{Row, Sets};

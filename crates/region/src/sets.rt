@@ -57,6 +57,16 @@ impl Sets {
         }
     }
 
+    /// The nodes that a kept node names.
+    pub(crate) fn arcs(&self, node: u64) -> Option<&IdSet>
+        ensures { option_map (λ ids. ids.now) result ≡ option_map (λ row. row.arcs) (row_of self.now.rows node) }
+    {
+        match self.rows.get(&node) {
+            Some(Some(row)) => Some(&row.arcs),
+            _ => None,
+        }
+    }
+
     /// Whether a kept node names another.
     pub(crate) fn names(&self, node: u64, other: u64) -> bool
         ensures { result ≡ arc_in self.now.rows node other }

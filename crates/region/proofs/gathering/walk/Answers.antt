@@ -8,8 +8,8 @@ use Rattle.region.proofs.gathering.walk.Goals as goal
 pub loop-at-init : goal.loop-at-init
 loop-at-init g c = record {
   same = refl;
-  so_far = gather_none (g.F.Facts.world c.args.facts.now) c.args.old.now.rows c.args.touched.now c.args.roots.now (g.F.Facts.asked c.args.facts.now)
-      c.new-found.result c.add_needed.new.found c.new-told.result.items c.new-found.ensures c.in_ok-add_needed.ensures c.new-told.ensures.items;
+  so_far = gather_none (g.F.Facts.world c.args.facts.now) c.args.old.now.rows c.args.touched.now c.args.roots.now c.args.turned.now (g.F.Facts.asked c.args.facts.now)
+      c.new-found.result c.add_roots.new.found c.add_roots-2.new.found c.new-told.result.items c.new-found.ensures c.in_ok-add_roots.ensures (rw c.as_slice.ensures at c.in_ok-add_roots-2.ensures) c.new-told.ensures.items;
 }
 
 pub loop-at-preserved : goal.loop-at-preserved
@@ -17,7 +17,7 @@ loop-at-preserved g c =
     let lt : c.loop-at.at < length c.loop-at.found = omega arith in
     record {
       same = c.in_ok-visit.ensures.same ∙ c.loop-at.invariant.same;
-      so_far = gather_more (g.F.Facts.world c.args.facts.now) c.args.old.now.rows c.args.touched.now c.args.roots.now (g.F.Facts.asked c.args.facts.now)
+      so_far = gather_more (g.F.Facts.world c.args.facts.now) c.args.old.now.rows c.args.touched.now c.args.roots.now c.args.turned.now (g.F.Facts.asked c.args.facts.now)
           c.loop-at.at c.get-node.result c.loop-at.found c.visit.new.found c.loop-at.told.items c.visit.new.told.items
           (g.F.Facts.asked c.loop-at.facts) (g.F.Facts.asked c.visit.new.facts)
           c.loop-at.invariant.so_far lt c.get-node.ensures
@@ -28,7 +28,7 @@ loop-at-preserved g c =
 pub returns-clause-walked : goal.returns-clause-walked
 returns-clause-walked g c =
     let le : length c.loop-at.found ≤ c.loop-at.at = omega arith in
-    walked (g.F.Facts.world c.args.facts.now) c.args.old.now.rows c.args.touched.now c.args.roots.now (g.F.Facts.asked c.args.facts.now)
+    walked (g.F.Facts.world c.args.facts.now) c.args.old.now.rows c.args.touched.now c.args.roots.now c.args.turned.now (g.F.Facts.asked c.args.facts.now)
     c.loop-at.at c.loop-at.found c.loop-at.told.items (g.F.Facts.asked c.loop-at.facts) c.loop-at.invariant.so_far le
 
 pub returns-clause-asked : goal.returns-clause-asked
@@ -41,6 +41,6 @@ pub returns-in_err-visit-clause-refused : goal.returns-in_err-visit-clause-refus
 returns-in_err-visit-clause-refused g c =
     let lt : c.loop-at.at < length c.loop-at.found = omega arith in
     on_err_all c.from_residual-in_err-visit.result
-    (some_at (g.F.Facts.world c.args.facts.now) c.args.old.now.rows c.args.touched.now c.args.roots.now (g.F.Facts.asked c.args.facts.now)
+    (some_at (g.F.Facts.world c.args.facts.now) c.args.old.now.rows c.args.touched.now c.args.roots.now c.args.turned.now (g.F.Facts.asked c.args.facts.now)
     c.loop-at.at c.loop-at.found c.loop-at.told.items (g.F.Facts.asked c.loop-at.facts) (g.F.Facts.asked c.visit.new.facts) c.get-node.result
     c.loop-at.invariant.so_far lt c.get-node.ensures c.in_err-visit.ensures.refused)

@@ -5,7 +5,7 @@ use Rattle.region.proofs.gathering.walk.Given as goal
 abbrev pub invariant-loop-at : goal.invariant-loop-at
 invariant-loop-at g l = record {
   same : g.F.Facts.world l.facts ≡ g.F.Facts.world l.initial.facts;
-  so_far : GatherAt (g.F.Facts.world l.initial.facts) l.old.rows l.touched l.roots (g.F.Facts.asked l.initial.facts) l.at l.found l.told.items (g.F.Facts.asked l.facts);
+  so_far : GatherAt (g.F.Facts.world l.initial.facts) l.old.rows l.touched l.roots l.turned (g.F.Facts.asked l.initial.facts) l.at l.found l.told.items (g.F.Facts.asked l.facts);
 }
 
 abbrev pub decreases-loop-at : goal.decreases-loop-at

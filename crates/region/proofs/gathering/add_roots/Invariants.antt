@@ -1,0 +1,8 @@
+use Rattle.std.proofs.Common.{◌&&◌, not, take}
+use Rattle.region_core.specs.World.{has}
+use Rattle.region_core.specs.Walks.{Adds}
+use Rattle.region.specs.Gathered.{stays}
+use Rattle.region.proofs.gathering.add_roots.Given as goal
+
+abbrev pub invariant-loop-node : goal.invariant-loop-node
+invariant-loop-node l = Adds l.initial.found l.found (λ u. has (take l.node-index l.more) u && (has l.roots u && not (stays l.old.rows l.touched u)))

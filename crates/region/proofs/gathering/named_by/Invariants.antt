@@ -1,0 +1,7 @@
+use Rattle.std.proofs.Common.{ℕ, ◌≡◌, take}
+use Rattle.region_core.specs.World.{has}
+use Rattle.region.specs.Sweeping.{names_told}
+use Rattle.region.proofs.gathering.named_by.Given as goal
+
+abbrev pub invariant-loop-t : goal.invariant-loop-t
+invariant-loop-t l = (m : ℕ) → has l.nodes.items m ≡ names_told (take l.t-index l.told) m
