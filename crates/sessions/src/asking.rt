@@ -212,11 +212,12 @@ fn ask_beside<J: Naming, H: Wait + Drop, W: Threads + Wait + Clock + CpuClock + 
     let list = take(rt, alloc, &mut front, lines)?;
     let tuples = keeper.hold(rt).session()?.state()?.tuples;
     let askers = askers_of(rt, alloc, keeper, asked.sessions)?;
+    let (list, questions) = (list.as_slice(), asked.questions);
     let done = AtomicBool::new(!asked.beside_a_writer);
     let began = Instant::now(rt);
     let (counts, writes) = join(
         rt,
-        || ask_all(rt, askers, list.as_slice(), asked.questions, &done),
+        || ask_all(rt, askers, list, questions, &done),
         || write_until(rt, alloc, &mut front, &done),
     );
     let clock = match began {
