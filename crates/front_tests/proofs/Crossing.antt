@@ -11,6 +11,7 @@ use Rattle.std.specs.contracts.sync.Mutex as Mutex
 use Rattle.std.specs.contracts.option.Option as Option
 use Rattle.std.proofs.Crossing.{crosses}
 use Rattle.front.proofs.Crossing.{Session-send}
+use Rattle.published.proofs.receipt.Receipt.TheSendSync as Receipt
 use Rattle.front_tests.specs.contracts.threads.Reader as Reader
 use Rattle.front_tests.specs.contracts.threads.Handed as Handed
 
@@ -18,7 +19,7 @@ pub Reader-send : (A : RattleType) (j : _) → IsSend A → IsSend (Reader.the_r
 Reader-send A j s = declared_send (Reader.the_type A j) (Session-send, ((search (crosses, sendable) depth 10), tt))
 
 Handed-send : (A : RattleType) (j : _) → IsSend A → IsSend (Handed.the_row A j)
-Handed-send A j s = declared_send (Handed.the_type A j) ((search (crosses, sendable) depth 20), ((search (crosses, sendable) depth 10), tt))
+Handed-send A j s = declared_send (Handed.the_type A j) (Receipt.the_field_send, ((search (crosses, sendable) depth 10), tt))
 
 Option-send : (A : RattleType) → IsSend A → IsSend (Option.the_row A)
 Option-send A s = let T = Option.the_type A in recorded_send _ _ T.to T.to_one (enum_send (E.shape T) (tt, ((s, tt), tt)))

@@ -56,6 +56,15 @@ impl<J: Naming> Reader<J> {
         }
     }
 
+    // What is shown now, to hand on to other readers.
+    fn refresh<H: Wait + Drop, W: Wait>(
+        &mut self,
+        rt: &W,
+        keeper: &Keeper<Listed, J, H>,
+    ) -> Handed<J> {
+        refreshed(rt, keeper, &mut self.session)
+    }
+
     // How fresh an answer must be that reflects all that the receipt tells of.
     fn learn(&mut self, handed: &Handed<J>) -> Consistency {
         self.session.learn(&handed.receipt);
@@ -105,6 +114,8 @@ fn all_read<J: Naming + Send + Sync, W: Threads + Wait + Sync>(
 fn writes<J: Naming, H: Wait + Drop, W: Wait>(
     rt: &W,
     front: &mut Front<'_, Listed, J, H>,
+    keeper: &Keeper<Listed, J, H>,
+    own: &mut Reader<J>,
     desktop: &Desktop<J>,
 ) -> bool {
     for number in 0..WRITES {
@@ -112,18 +123,22 @@ fn writes<J: Naming, H: Wait + Drop, W: Wait>(
         if status_of(&front.write(rt, body)) != 200 {
             return false;
         }
-        hand_on(rt, front, desktop);
+        let handed = own.refresh(rt, keeper);
+        *desktop.lock(rt) = Some(handed);
     }
     true
 }
 
-fn hand_on<J: Naming, H: Wait + Drop, W: Wait>(
+fn refreshed<J: Naming, H: Wait + Drop, W: Wait>(
     rt: &W,
-    front: &mut Front<'_, Listed, J, H>,
-    desktop: &Desktop<J>,
-) {
-    let handed = handed_of(front.refresh(rt));
-    *desktop.lock(rt) = Some(handed);
+    keeper: &Keeper<Listed, J, H>,
+    session: &mut Session,
+) -> Handed<J>
+    requires { session.old.book ≡ J.book }
+    ensures { session.new.book ≡ J.book }
+{
+    let receipt = keeper.hold(rt).refresh(session);
+    handed_of(receipt)
 }
 
 fn handed_of<J: Naming>(receipt: Receipt) -> Handed<J>
@@ -164,11 +179,12 @@ fn read_beside<J: Naming + Send + Sync, H: Wait + Drop, W: Threads + Wait + Sync
     let mut front = Front::new(alloc, rt, keeper)?;
     let taken = status_of(&front.configure(rt, GROUPS));
     let readers = readers_of(rt, alloc, keeper)?;
+    let mut own = reader_of(keeper.hold(rt).session()?);
     let desktop = Mutex::new(None);
     let (right, written) = join(
         rt,
         || all_read(rt, readers, &desktop),
-        || writes(rt, &mut front, &desktop),
+        || writes(rt, &mut front, keeper, &mut own, &desktop),
     );
     Ok(taken == 200 && right? && written)
 }
