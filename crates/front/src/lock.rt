@@ -104,12 +104,7 @@ impl<T: Tables + Drop, J: Naming, R: Wait + Drop> KeptDesk<T, J, R> {
     }
 
     /// Does the operations that a body asks for, as one commit, if its conditions hold, and tells of it.
-    pub fn write(
-        &mut self,
-        alloc: Global,
-        session: &mut Session,
-        write: Write<Zookie>,
-    ) -> Reply
+    pub fn write(&mut self, alloc: Global, session: &mut Session, write: Write<Zookie>) -> Reply
         requires { session.old.book ≡ J.book }
         ensures step { (body : List ℕ) → AsksWrite body write
             → WriteStep T.Tables self.old body (told result) self.new }

@@ -209,4 +209,3 @@ module _ {T : Type 0} (g : Ghosts T) (old mid : Posts T) (more : ShowsMore old m
           → IfErr r (λ why. IsRefused g mid (λ c. c ≡ commit) IsMemory why new) → IfErr r (λ why. IsRefused g old made judged why new)
       refuses_on made commit judged (Ok receipt) asked memory refused = tt
       refuses_on made commit judged (Err why) asked memory refused = refused_on made commit judged why asked memory refused
-

@@ -39,7 +39,7 @@ module _ (why : Refusal) (tables : is_of_tables why ≡ true) where
       neither _ _ (if_other TypeRefused _ refl) (
       neither _ _ (if_other TwiceInOneWrite _ refl) (
       neither _ _
-        (neither _ _ (if_other ForeignZookie _ refl) (neither _ _ (if_other Future _ refl) (neither _ _ (if_other Expired _ refl) (place_other (λ i. ConditionFailed i) _ (λ i. refl))))) (
+      (neither _ _ (if_other ForeignZookie _ refl) (neither _ _ (if_other Future _ refl) (neither _ _ (if_other Expired _ refl) (place_other (λ i. ConditionFailed i) _ (λ i. refl))))) (
       neither _ _ (place_other (λ i. AlreadyThere i) _ (λ i. refl)) (
       neither _ _ (place_other (λ i. NotThere i) _ (λ i. refl)) (if_other Full _ refl))))))))
 
