@@ -1,8 +1,8 @@
 -- The rows after a trim are the history from the higher floor on.
 use Rattle.std.proofs.Common.{◌≡◌, ℕ, ◌+◌, ◌-◌, ◌<◌, ◌≤◌, List, [], ◌∷◌, length, take, drop, refl, sym, ap, subst, ◌∙◌, inl, inr, arith, zero, suc}
-use Rattle.std.specs.Prelude.{Bool, true, false, cond, not, ◌&&◌, ◌||◌, ◌==◌, ◌⊎◌, map, filter, All, codes, nat_lt, Option, Some, None, IsPermutation}
+use Rattle.std.specs.Prelude.{Bool, true, false, cond, not, ◌&&◌, ◌||◌, ◌==◌, ◌⊎◌, map, filter, codes, nat_lt, Option, Some, None, IsPermutation}
 use Rattle.std.specs.List.{list_any}
-use Rattle.std.proofs.lemmas.Bool.{true≢false, or_cases, or_left, or_right, and_right, eqb-false, eqb-true, ltb-true, ltb-false, lt-ltb, ne_eqb, cases_lt}
+use Rattle.std.proofs.lemmas.Bool.{true≢false, or_cases, or_left, or_right, and_right, eqb-false, ltb-true, ltb-false, lt-ltb, ne_eqb, cases_lt}
 use Rattle.std.proofs.lemmas.List.Sorted.{IsPermutation-map}
 use Rattle.names.specs.declared.limits.TheConstants.{MAX_ROWS, MAX_TUPLES}
 use Rattle.names.specs.Order.{is_same_tuple}
@@ -15,7 +15,7 @@ use Rattle.meaning.specs.Snap.{Snap}
 use Rattle.meaning.specs.Admits.{admits}
 use Rattle.meaning.specs.History.{History}
 use Rattle.meaning.proofs.TupleSets.{same_tuples}
-use Rattle.rows.specs.Retained.{Retained, newest, newest_of, spans_of, snap_at, after_trim, last_config, commits_between}
+use Rattle.rows.specs.Retained.{Retained, newest, newest_of, spans_of, after_trim, last_config, commits_between}
 use Rattle.rows.proofs.Committing.{tuples_within}
 use Rattle.rows.proofs.Trimming.{spans_split}
 use Rattle.tables.specs.Storing.{IsTrimTo}
@@ -25,7 +25,7 @@ use Rattle.store_core.specs.Steps as steps
 use Rattle.store.specs.Written.{TupleSpan, ConfigAt, Written, IsSpan, IsConfigAt, IsSound, IsWritten, IsHistory, Ends, Pairwise, is_alive, is_moved, tuples_of, is_put_at, event_at, events_at, config_at, commit_of, commit_at, commits_above, last_up_to, config_up_to, are_apart, are_distinct, is_one, brings_one, history_of, span_of, config_row_of, entries_of}
 use Rattle.store.proofs.Picking.{In, all_in, all_from}
 use Rattle.store.proofs.Living.{is_of, contains_of, alive_says, moved_says}
-use Rattle.store.proofs.Held.{IsWhole, snap_in, held_at, held_newest, last_below, whole_of}
+use Rattle.store.proofs.Held.{IsWhole, held_at, held_newest, last_below, whole_of}
 use Rattle.store.proofs.Following.{newest_is, same_history, same_snap}
 use Rattle.store.proofs.Once.{at_in, at_none, distinct_revs, last_in, last_most, unset}
 
