@@ -73,7 +73,7 @@ module _ {R W D : Type 0} {g : disk.Ghosts D} (image : Image) (remaining : R →
   pub ran_in_new : (extent : Extent) (place : Place) (file : String Global) (number : ℕ) (told : Result (Unit {0}) Fault) (left : Remains g) → place ≡ New file number
       → Takes image (Some number) told left → ¬ (told ≡ Err (Refused StoreFault)) → IfOk left (λ conn. Lasts sound_device (device_below over_files conn))
       → (input : List ℕ) × ReadBy extent remaining reader reader_after input
-          × IsOkAnd left (EndedOver over_files (BeginsIn image (Some number)) input (AnsweredBy extent (over over_files) contents writer input writer_after))
+      × IsOkAnd left (EndedOver over_files (BeginsIn image (Some number)) input (AnsweredBy extent (over over_files) contents writer input writer_after))
       → Ran extent left place
   ran_in_new extent place file number told left is takes other lasts h =
       subst (Ran extent left) (sym is) (record { input = h.0; read = h.1; ended = h.2; began = began image (Some number) told left takes other; lasts = lasts })
@@ -81,7 +81,7 @@ module _ {R W D : Type 0} {g : disk.Ghosts D} (image : Image) (remaining : R →
   pub ran_in_there : (extent : Extent) (place : Place) (file : String Global) (told : Result (Unit {0}) Fault) (left : Remains g) → place ≡ There file
       → Takes image None told left → ¬ (told ≡ Err (Refused StoreFault)) → IfOk left (λ conn. Lasts sound_device (device_below over_files conn))
       → (input : List ℕ) × ReadBy extent remaining reader reader_after input
-          × IsOkAnd left (EndedOver over_files (BeginsIn image None) input (AnsweredBy extent (over over_files) contents writer input writer_after))
+      × IsOkAnd left (EndedOver over_files (BeginsIn image None) input (AnsweredBy extent (over over_files) contents writer input writer_after))
       → Ran extent left place
   ran_in_there extent place file told left is takes other lasts h =
       subst (Ran extent left) (sym is) (record { input = h.0; read = h.1; ended = h.2; began = began image None told left takes other; lasts = lasts })
