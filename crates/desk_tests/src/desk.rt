@@ -14,7 +14,7 @@ use zookie::{Consistency, Zookie};
 
 const GROUPS: &str = r#"{"namespaces":{"group":{"member":{"types":["user"]}},"user":{}}}"#;
 
-/// Tables that store nothing: each write is a fault.
+/// Tables that store nothing: each write and each trim is a fault.
 #[derive(Drop)]
 struct Broken {
     inner: Listed,
@@ -40,6 +40,11 @@ impl Tables for Broken {
     }
 
     fn write(&mut self, _rev: u64, _commit: &KeptCommit, _puts: Puts) -> Result<(), TablesError> {
+        self.faults = self.faults.saturating_add(1);
+        Err(TablesError::Fault)
+    }
+
+    fn trim(&mut self, _floor: u64, _first: u64) -> Result<(), TablesError> {
         self.faults = self.faults.saturating_add(1);
         Err(TablesError::Fault)
     }

@@ -1,5 +1,6 @@
 -- What a commit makes of tables that hold a history, and what is known of these before.
-use Rattle.std.proofs.Common.{◌≡◌, ℕ, ◌+◌, ◌-◌, ◌*◌, ◌≤◌, List, length, sym, ap, subst, ◌∙◌, arith}
+use Rattle.std.proofs.lemmas.List.{length-drop}
+use Rattle.std.proofs.Common.{◌≡◌, ℕ, ◌+◌, ◌-◌, ◌*◌, ◌^◌, ◌<◌, ◌≤◌, List, length, sym, ap, subst, ◌∙◌, arith}
 use Rattle.std.specs.Prelude.{map}
 use Rattle.sqlite.specs.State.{State}
 use Rattle.names.specs.Spelling.{IsTuple}
@@ -8,16 +9,17 @@ use Rattle.names.specs.declared.commit.Commit.TheVariants as kinds
 use Rattle.names.specs.declared.commit.Event.{Event}
 use Rattle.meaning.specs.Config.{Configured}
 use Rattle.config.specs.Causes.{Accepts}
-use Rattle.rows.specs.Retained.{Retained, newest, newest_of, with_commit}
+use Rattle.rows.specs.Retained.{Retained, newest, newest_of, with_commit, after_trim}
 use Rattle.rows.proofs.Committing.{length_push}
-use Rattle.tables.specs.Storing.{IsNextAt}
+use Rattle.tables.specs.Storing.{IsNextAt, IsTrimTo, CanTrim}
 use Rattle.tables.specs.declared.puts.Puts.{Puts}
 use Rattle.store_core.specs.declared.stored.StoredEvent as stored
-use Rattle.store_core.specs.Caused.{CanConfigure, CanTake, IsBefore}
+use Rattle.store_core.specs.Caused.{CanConfigure, CanDrop, CanTake, IsBefore}
 use Rattle.store_core.specs.Reading.{CanLoad}
 use Rattle.store_core.specs.Numbered.{AreNumbered, IsUpTo}
 use Rattle.store_core.specs.Tables.{Contents}
 use Rattle.store_core.specs.Steps.{after_write, after_configure}
+use Rattle.store_core.specs.Steps as steps
 use Rattle.store.specs.Written.{IsHistory, canonical}
 use Rattle.store.specs.inside.EventTexts.{event_texts, event_texts_in}
 use Rattle.store.specs.History.{HasCommitted}
@@ -26,6 +28,7 @@ use Rattle.store.proofs.Causes.{accepted}
 use Rattle.store.proofs.Following.{newest_is}
 use Rattle.store.proofs.Fitting.{up_to, readable, are_distinct, are_short}
 use Rattle.store.proofs.Storing.{events_next, config_next}
+use Rattle.store.proofs.Trimming.{trim_next, first_below}
 use Rattle.store.proofs.Leaving.{LeadsTo, holds_now, sound_now}
 
 newest_with : (r : Retained) (c : Commit Configured) → newest (with_commit r c) ≡ newest r + 1
@@ -45,6 +48,19 @@ pub config_lead : (r : Retained) (rev : ℕ) (puts : Puts) (text : List ℕ) (co
 config_lead r rev puts text config next text_is accepts =
     let one = newest_with r (kinds.Config config) in
     record { follows = λ h is. config_next h r rev text config is next.0 next.1 text_is accepts; more = omega (arith, one); within = omega arith }
+
+pub trim_lead : (r : Retained) (floor first : ℕ) → IsTrimTo r floor first → LeadsTo (steps.after_trim floor first) 0 r (after_trim r floor)
+trim_lead r floor first to =
+    let left = length-drop (floor - r.floor) r.commits in
+    let above = to.above in
+    let below = to.below in
+    record { follows = λ h is. trim_next h r floor first is to; more = omega (arith, left, above, below); within = omega arith }
+
+pub small_trim : (Holds : Retained → Type 0) (floor first : ℕ) → CanTrim Holds floor first → (floor < 2 ^ 63) × (first < 2 ^ 63)
+small_trim Holds floor first can =
+    let small = can.2.small in
+    let low = first_below can.0 floor first can.2 in
+    (omega (arith, small), omega (arith, small, low))
 
 -- ---- the tables before
 
@@ -77,3 +93,6 @@ pub can_load : (s : State) (r : Retained) → HasCommitted s r → CanLoad s.now
 can_load s r k =
     let from = k.held.history in
     record { contents = k.held.contents; holds = holds_now s r k; readable = readable k.held.contents from.0 from.1 from.2; top = 256 * newest r; numbered = k.held.numbered }
+
+pub can_drop : (s : State) (r : Retained) → HasCommitted s r → CanDrop s.now
+can_drop s r k = record { contents = k.held.contents; top = 256 * newest r; store = record { sound = sound_now s r k; holds = holds_now s r k; numbered = k.held.numbered } }

@@ -15,16 +15,16 @@ use Rattle.sqlite.specs.Held.{Held, state}
 use Rattle.sqlite.proofs.StateLemmas.{survives_then, survives_weaker}
 use Rattle.names.specs.declared.commit.Commit.{Commit}
 use Rattle.meaning.specs.Config.{Configured}
-use Rattle.rows.specs.Retained.{Retained, newest, with_commit}
+use Rattle.rows.specs.Retained.{Retained, newest, with_commit, after_trim}
 use Rattle.tables.specs.Device.{HasFailed, Lasts}
-use Rattle.tables.specs.Storing.{IsNextAt}
+use Rattle.tables.specs.Storing.{IsNextAt, IsTrimTo}
 use Rattle.tables.specs.declared.puts.Puts.{Puts}
 use Rattle.store_core.specs.Format.{schema}
 use Rattle.store_core.specs.Numbered.{IsNumbered, AreNumbered, AreNumberedTo}
 use Rattle.store_core.specs.Tables.{Contents, Holds}
 use Rattle.store_core.specs.Steps.{Alters, Stores, Stays, Undoes, LeavesAtMost, MayStore}
 use Rattle.store.specs.Written.{IsHistory}
-use Rattle.store.specs.History.{TreesHold, HasCommitted, KeepsHistory, KeepsOn, LeavesHistory, LeavesAlone, HoldNext, LeavesNext, IsSettled, device_of}
+use Rattle.store.specs.History.{TreesHold, HasCommitted, KeepsHistory, KeepsOn, LeavesHistory, LeavesAlone, HoldNext, LeavesNext, HoldTrimmed, LeavesTrimmed, IsSettled, device_of}
 
 pub clean_before : (old new : State) (P : Trees → Type 0) → Survives old new P → HasCleanDisk new → HasCleanDisk old
 clean_before old new P survives clean = omega (arith, survives.clean, clean)
@@ -129,6 +129,25 @@ module _ {S : Type 0} (g : Ghosts S) where
       elim (survives.crash clean trees left) [
         | inl was ↦ let it = leaves (clean_before (state g old) (state g new) (HoldNext g old rev commit puts) survives clean) trees was in (it.0, inr it.1, it.2)
         | inr hold ↦ (with_commit r commit, inl refl, hold r keeps next)
+      ]
+
+  -- what a crash may leave of a trim
+  pub leaves_trimmed : (old new : Held S) (floor first : ℕ) (f : Contents → Contents) (last : ℕ) → LeavesAtMost g old new f last
+      → ((r : Retained) → IsTrimTo r floor first → LeadsTo f last r (after_trim r floor)) → LeavesTrimmed g old new floor first
+  leaves_trimmed old new floor first f last survives leads =
+      survives_weaker (state g old) (state g new) (MayStore (state g old) f last) (HoldTrimmed g old floor first)
+      (λ clean trees may r keeps to.
+      let k = keeps (clean_before (state g old) (state g new) (MayStore (state g old) f last) survives clean) may.was_open in
+      let it = altered_hold (state g old) may.db f last r (after_trim r floor) k may.made (leads r to) in
+      subst (λ (t : Trees). TreesHold t (after_trim r floor)) (sym may.is) (trees_hold may.db it.0 (after_trim r floor) it.1 it.2 it.3 it.4))
+      survives
+
+  pub leaves_either : (old new : Held S) (floor first : ℕ) → LeavesTrimmed g old new floor first → (r : Retained) (rs : List Retained) → KeepsHistory g old r → LeavesHistory g old rs
+      → IsTrimTo r floor first → LeavesHistory g new (after_trim r floor ∷ rs)
+  leaves_either old new floor first survives r rs keeps leaves to clean trees left =
+      elim (survives.crash clean trees left) [
+        | inl was ↦ let it = leaves (clean_before (state g old) (state g new) (HoldTrimmed g old floor first) survives clean) trees was in (it.0, inr it.1, it.2)
+        | inr hold ↦ (after_trim r floor, inl refl, hold r keeps to)
       ]
 
   -- ---- a call that was refused

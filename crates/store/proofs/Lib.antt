@@ -10,6 +10,7 @@ pub mod Configuring
 pub mod Spellings
 pub mod Begins
 pub mod Storing
+pub mod Trimming
 pub mod Fitting
 pub mod Leaving
 pub mod Leading

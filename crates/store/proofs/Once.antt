@@ -233,10 +233,10 @@ same_at floor at cs ds apart f b = by_both (config_at at cs) refl (config_at at 
         let one = distinct_revs floor ds apart r.0 s.0 (f r.0 r.1) s.1 (r.2 ∙ sym s.2) in
         ap (λ n. Some n) (sym r.3 ∙ ap (λ (c : ConfigAt). c.config) one ∙ s.3)
 
-abbrev unset : ConfigAt
+abbrev pub unset : ConfigAt
 unset = record { rev = 0; config = empty_config }
 
-last_in : (at : ℕ) (cs : List ConfigAt) → In (last_up_to at cs) cs ⊎ (last_up_to at cs ≡ unset)
+pub last_in : (at : ℕ) (cs : List ConfigAt) → In (last_up_to at cs) cs ⊎ (last_up_to at cs ≡ unset)
 last_in at [] = inr refl
 last_in at (c ∷ cs) = by_test (nat_le c.rev at && nat_lt (last_up_to at cs).rev c.rev) (last_in at cs)
   where
@@ -245,7 +245,7 @@ last_in at (c ∷ cs) = by_test (nat_le c.rev at && nat_lt (last_up_to at cs).re
     by_test false (inl i) = inl (inr i)
     by_test false (inr e) = inr e
 
-last_most : (at : ℕ) (cs : List ConfigAt) (c : ConfigAt) → In c cs → c.rev ≤ at → c.rev ≤ (last_up_to at cs).rev
+pub last_most : (at : ℕ) (cs : List ConfigAt) (c : ConfigAt) → In c cs → c.rev ≤ at → c.rev ≤ (last_up_to at cs).rev
 last_most at [] c i low = absurd i
 last_most at (d ∷ cs) c i low = by_first (nat_le d.rev at) refl (nat_lt (last_up_to at cs).rev d.rev) refl i (last_most at cs c)
   where

@@ -8,12 +8,12 @@ use Rattle.sqlite.specs.View.{doubt}
 use Rattle.sqlite.specs.Effect.{IsDatabase}
 use Rattle.names.specs.declared.commit.Commit.{Commit}
 use Rattle.meaning.specs.Config.{Configured}
-use Rattle.rows.specs.Retained.{Retained, empty_store, newest, with_commit}
+use Rattle.rows.specs.Retained.{Retained, empty_store, newest, with_commit, after_trim}
 use Rattle.rows.specs.Loads.{retained_of}
 use Rattle.rows.specs.declared.loaded.Loaded.{Loaded}
 use Rattle.tables.specs.Device.{Device, HasFailed, IsClean, IsOpen}
 use Rattle.tables.specs.Leaving.{IsOneOf}
-use Rattle.tables.specs.Storing.{IsNextAt}
+use Rattle.tables.specs.Storing.{IsNextAt, IsTrimTo}
 use Rattle.tables.specs.declared.puts.Puts.{Puts}
 use Rattle.tables.specs.declared.tables.TablesError.{TablesError}
 use Rattle.tables.specs.declared.tables.TablesError.TheVariants as refusals
@@ -105,3 +105,17 @@ LeavesNext g old new rev commit puts = Survives (state g old) (state g new) (Hol
 -- it is a fault only where the device failed
 abbrev pub HasFailedIf : {S A : Type 0} → Ghosts S → Held S → Held S → Result A TablesError → Type 0
 HasFailedIf g old new result = result ≡ Err refusals.Fault → IsOpen (device_below g old) → HasFailed (device_below g old) (device_below g new)
+
+-- ---- a higher floor
+
+-- they hold the history from the floor on, where it can be raised so
+abbrev pub Trims : {S A : Type 0} → Ghosts S → Held S → Held S → ℕ → ℕ → Result A TablesError → Type 0
+Trims g old new floor first result = (r : Retained) → KeepsHistory g old r → IsTrimTo r floor first → OnOk result (KeepsHistory g new (after_trim r floor))
+
+-- such trees hold the history from the floor on
+abbrev pub HoldTrimmed : {S : Type 0} → Ghosts S → Held S → ℕ → ℕ → Trees → Type 0
+HoldTrimmed g old floor first trees = (r : Retained) → KeepsHistory g old r → IsTrimTo r floor first → TreesHold trees (after_trim r floor)
+
+-- nothing is forgotten, and a crash leaves what it left before, or the history from the floor on
+abbrev pub LeavesTrimmed : {S : Type 0} → Ghosts S → Held S → Held S → ℕ → ℕ → Type 0
+LeavesTrimmed g old new floor first = Survives (state g old) (state g new) (HoldTrimmed g old floor first)

@@ -11,9 +11,9 @@ ghost use Rattle.names.specs.declared.commit.Commit.TheVariants as kinds;
 ghost use Rattle.rows.specs.Loads.{IsWithin, retained_of};
 ghost use Rattle.rows.specs.Retained.{empty_store};
 ghost use Rattle.tables.specs.Device.{HasFailed, IsOpen};
-ghost use Rattle.tables.specs.Storing.{CanStore};
+ghost use Rattle.tables.specs.Storing.{CanStore, CanTrim};
 ghost use Rattle.store.specs.inside.Asking.{told_as};
-ghost use Rattle.store.specs.History.{KeepsHistory, KeepsOn, LeavesAlone, LeavesAtMostNew, LeavesNext, FindsHistory, HasNoneOrFailed, HasFailedIf, IsSettled, Commits, device_below};
+ghost use Rattle.store.specs.History.{KeepsHistory, KeepsOn, LeavesAlone, LeavesAtMostNew, LeavesNext, LeavesTrimmed, FindsHistory, HasNoneOrFailed, HasFailedIf, IsSettled, Commits, Trims, device_below};
 
 use crate::reading::read;
 use crate::texts::events_of;
@@ -21,7 +21,7 @@ use config::Config;
 use rows::Loaded;
 use sqlite::{Alter, Connection, Error, ErrorCode};
 use std::alloc::Global;
-use store_core::{Probe, ask, configure, create, load, write};
+use store_core::{Probe, ask, configure, create, load, trim, write};
 use tables::{Puts, TablesError};
 use tuple_keys::{KeptCommit, KeptEvents};
 
@@ -152,6 +152,28 @@ pub(crate) fn write_commit<S: Alter>(
             None => unreachable!(),
         },
     }
+}
+
+/// Raises the floor, and takes out what no revision from it on looks at, in one transaction.
+pub(crate) fn trim_tables<S: Alter>(
+    conn: &mut Connection<S>,
+    floor: u64,
+    first: u64,
+) -> Result<(), TablesError>
+    requires can { CanTrim (KeepsHistory S.Store conn.old) floor first }
+    requires idle { conn.old.in_transaction ≡ false }
+    requires unlimited { conn.old.step_limit ≡ None }
+    ensures idle { conn.new.in_transaction ≡ false }
+    ensures done { Trims S.Store conn.old conn.new floor first result }
+    ensures open { OnOk result (IsOpen (device_below S.Store conn.new)) }
+    ensures undone { OnErr result (KeepsOn S.Store conn.old conn.new) }
+    ensures crash { LeavesTrimmed S.Store conn.old conn.new floor first }
+    ensures caused { HasFailedIf S.Store conn.old conn.new result }
+{
+    let Err(error) = trim(conn, floor, first) else {
+        return Ok(());
+    };
+    Err(why(conn, &error))
 }
 
 /// Makes the tables of a store that has this number and no commit, in one transaction. Where there is a table, an

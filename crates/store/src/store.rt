@@ -1,7 +1,7 @@
 //! The tables of a store.
 ghost use Rattle.std.specs.Prelude.{◌≡◌, false, None};
 
-use crate::history::{load_history, make_tables, write_commit};
+use crate::history::{load_history, make_tables, trim_tables, write_commit};
 use rows::Loaded;
 use sqlite::{Alter, Connection};
 use std::alloc::Global;
@@ -119,6 +119,17 @@ impl<S: Alter> Tables for Store<S> {
 
     fn write(&mut self, rev: u64, commit: &KeptCommit, puts: Puts) -> Result<(), TablesError> {
         match write_commit(self.alloc, &mut self.conn, rev, commit, puts) {
+            Ok(()) => Ok(()),
+            Err(TablesError::Memory) => Err(TablesError::Memory),
+            Err(TablesError::Fault) => {
+                self.faults = self.faults.saturating_add(1);
+                Err(TablesError::Fault)
+            }
+        }
+    }
+
+    fn trim(&mut self, floor: u64, first: u64) -> Result<(), TablesError> {
+        match trim_tables(&mut self.conn, floor, first) {
             Ok(()) => Ok(()),
             Err(TablesError::Memory) => Err(TablesError::Memory),
             Err(TablesError::Fault) => {

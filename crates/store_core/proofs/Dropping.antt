@@ -105,7 +105,7 @@ map_same (r ∷ rows) = ap (λ (more : List Row). r ∷ more) (map_same rows)
 abbrev pub past_params : ℕ → Row
 past_params floor = Int (pos floor) ∷ []
 
-abbrev passes_span : ℕ → Row → Bool
+abbrev pub passes_span : ℕ → Row → Bool
 passes_span floor r = list_all (holds (past_params floor ∷ r ∷ [])) drop_query.filter
 
 span_reads : (floor : ℕ) (r : Row) → passes_span floor r ≡ passes_span floor (Null ∷ drop 1 r)
@@ -153,10 +153,10 @@ drops_spans old new floor count h holds w =
 
 -- ---- the configurations
 
-abbrev config_table_at : Table
+abbrev pub config_table_at : Table
 config_table_at = record config_table { tree = 2 }
 
-abbrev passes_config : ℕ → Row → Bool
+abbrev pub passes_config : ℕ → Row → Bool
 passes_config rev r = list_all (holds (past_params rev ∷ r ∷ [])) drop_configs_query.filter
 
 config_below : (rev : ℕ) (c : ConfigRow) → passes_config rev (config_with_rowid c) ≡ is_below rev c

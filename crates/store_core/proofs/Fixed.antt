@@ -9,6 +9,7 @@ pub mod Checks
 pub mod Setting
 pub mod Configuring
 pub mod Closing
+pub mod Deleting
 pub mod Beginning
 pub mod Queries
 pub mod Creation

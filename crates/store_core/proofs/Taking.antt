@@ -12,7 +12,7 @@ use Rattle.store_core.specs.Tables.{Span, Contents, config_at, same_tuple, after
 use Rattle.store_core.specs.Stored.{span_between}
 use Rattle.store_core.specs.Numbered.{BeganBefore, IsShort, IsUpTo}
 use Rattle.sqlite.specs.Effect.{Database}
-use Rattle.store_core.specs.Caused.{CanAdd, CanApply, CanBegin, CanClose, CanConfigure, CanSet, CanTake, IsBefore}
+use Rattle.store_core.specs.Caused.{CanAdd, CanApply, CanBegin, CanClose, CanConfigure, CanDrop, CanSet, CanTake, IsBefore}
 use Rattle.store_core.specs.Numbered.{span_rowid}
 use Rattle.store_core.specs.Steps.{Alters, with_closed, with_span, after_change, after_event, after_events}
 use Rattle.store_core.specs.Caused.{spans_of}
@@ -132,3 +132,21 @@ can_add text rev db positive can = record {
   later = omega (arith, positive);
   short = omega (arith, can.short);
 }
+
+-- what a change leaves, rows can be taken out of
+pub can_drop : (f : Contents → Contents) (db next : Database) → CanDrop db → Alters f 0 db next → CanDrop next
+can_drop f db next can made = record {
+  contents = f can.contents;
+  top = can.top;
+  store = record {
+    sound = made.sound can.contents can.store.holds can.store.sound;
+    holds = made.holds can.contents can.store.holds;
+    numbered = made.numbered can.contents can.store.holds can.top (omega arith) can.store.numbered;
+  };
+}
+
+-- and the state be written
+pub can_raise : (key : List ℕ) (f : Contents → Contents) (db next : Database) → length key ≤ 10 ^ 8 → CanDrop db → Alters f 0 db next → CanSet key next
+can_raise key f db next short can made =
+    let left = can_drop f db next can made in
+    record { contents = left.contents; top = left.top; store = left.store; short = short }

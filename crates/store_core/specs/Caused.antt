@@ -101,6 +101,12 @@ pub record CanAdd (config : ConfigRow) (db : Database) : Type 0 where
   pub later : newest < config.rev
   pub short : length config.text ≤ 10 ^ 8
 
+-- rows can be taken out, and values of the state be written
+pub record CanDrop (db : Database) : Type 0 where
+  pub contents : Contents
+  pub top : ℕ
+  pub store : IsStore contents top db
+
 -- the event at this place of the commit can be done
 pub record CanApply (event : StoredEvent) (rev at : ℕ) (db : Database) : Type 0 where
   pub contents : Contents

@@ -6,7 +6,7 @@ ghost use Rattle.store_core.specs.Format.{no_schema};
 ghost use Rattle.store_core.specs.Numbered.{span_rowid};
 ghost use Rattle.store_core.specs.Steps.{Changes, Makes, RunsOpen, IsQuiet, Stores, Undoes, LeavesAtMost, HasNone, HasNew, after_event, after_events, after_write, after_configure, after_drop, after_trim};
 ghost use Rattle.store_core.specs.Leaves.{HoldsNew, IsBlank, MayLeaveNew, LeavesAtMostNew};
-ghost use Rattle.store_core.specs.Caused.{IsCaused, IsCausedInside, CanApply, CanTake, CanConfigure};
+ghost use Rattle.store_core.specs.Caused.{IsCaused, IsCausedInside, CanApply, CanTake, CanConfigure, CanDrop};
 
 use crate::statement::{
     close_span, delete_configs, delete_spans, init_state, insert_config, insert_span, make_config,
@@ -115,6 +115,7 @@ fn drop_past<S: Alter>(tx: &mut Transaction<'_, S>, floor: u64, first: u64) -> R
     ensures same_reference { tx.new.conn.ghost_name ≡ tx.old.conn.ghost_name }
     ensures done { Changes S.Store tx.old.conn tx.new.conn result (after_drop floor first) 0 }
     ensures quiet { IsQuiet S.Store tx.old.conn tx.new.conn }
+    ensures caused { IsCausedInside S.Store tx.old.conn tx.new.conn result CanDrop }
 {
     delete_spans(tx, floor)?;
     delete_configs(tx, first)?;
@@ -130,6 +131,7 @@ pub fn trim<S: Alter>(conn: &mut Connection<S>, floor: u64, first: u64) -> Resul
     ensures done { OnOk result (Stores S.Store conn.old conn.new (after_trim floor first) 0) }
     ensures undone { OnErr result (Undoes S.Store conn.old conn.new) }
     ensures crash { LeavesAtMost S.Store conn.old conn.new (after_trim floor first) 0 }
+    ensures caused { IsCaused S.Store conn.old conn.new result CanDrop }
 {
     let mut tx = conn.transaction();
     drop_past(&mut tx, floor, first)?;

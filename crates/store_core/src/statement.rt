@@ -4,7 +4,7 @@ ghost use Rattle.std.specs.Prelude.{◌≡◌, ◌^◌, ◌<◌};
 ghost use Rattle.store_core.specs.Tables.{config_at};
 ghost use Rattle.store_core.specs.Stored.{span_between};
 ghost use Rattle.store_core.specs.Steps.{Changes, Makes, RunsOpen, IsQuiet, with_span, with_closed, with_config, with_entry, without_past, without_below, HasNone, HasRow, HasConfig, HasTables, HasNew};
-ghost use Rattle.store_core.specs.Caused.{IsCausedInside, CanBegin, CanClose, CanAdd, CanSet};
+ghost use Rattle.store_core.specs.Caused.{IsCausedInside, CanBegin, CanClose, CanAdd, CanSet, CanDrop};
 
 use crate::stored::TupleText;
 use sqlite::{Alter, Error, Transaction, params};
@@ -103,6 +103,7 @@ pub(crate) fn delete_spans<S: Alter>(
     ensures same_reference { tx.new.conn.ghost_name ≡ tx.old.conn.ghost_name }
     ensures done { Changes S.Store tx.old.conn tx.new.conn result (without_past floor) 0 }
     ensures quiet { IsQuiet S.Store tx.old.conn tx.new.conn }
+    ensures caused { IsCausedInside S.Store tx.old.conn tx.new.conn result CanDrop }
 {
     let floor = floor as i64;
     tx.execute(
@@ -120,6 +121,7 @@ pub(crate) fn delete_configs<S: Alter>(
     ensures same_reference { tx.new.conn.ghost_name ≡ tx.old.conn.ghost_name }
     ensures done { Changes S.Store tx.old.conn tx.new.conn result (without_below rev) 0 }
     ensures quiet { IsQuiet S.Store tx.old.conn tx.new.conn }
+    ensures caused { IsCausedInside S.Store tx.old.conn tx.new.conn result CanDrop }
 {
     let rev = rev as i64;
     tx.execute("DELETE FROM config WHERE rev < ?1", params![rev])

@@ -3,3 +3,4 @@ pub mod Device
 pub mod Leaving
 pub mod Storing
 pub mod Limits
+pub mod Listing

@@ -1,6 +1,7 @@
 -- What may be stored, and how refusals are counted.
-use Rattle.std.specs.Prelude.{◌≡◌, ◌+◌, ◌-◌, ◌^◌, ◌&&◌, ℕ, Bool, true, false, min}
+use Rattle.std.specs.Prelude.{◌≡◌, ◌≤◌, ◌+◌, ◌-◌, ◌^◌, ◌&&◌, ℕ, Bool, true, false, min}
 use Rattle.std.specs.List.{list_any}
+use Rattle.names.specs.declared.limits.TheConstants.{MAX_REV}
 use Rattle.names.specs.declared.write.Op.{Op}
 use Rattle.names.specs.declared.write.OpKind.{OpKind}
 use Rattle.names.specs.declared.write.OpKind.TheVariants.{Insert, Touch, Delete}
@@ -11,7 +12,7 @@ use Rattle.names.specs.declared.commit.EventKind.{EventKind}
 use Rattle.names.specs.declared.commit.EventKind.TheVariants.{Put, Del}
 use Rattle.meaning.specs.Config.{Configured}
 use Rattle.meaning.specs.TupleSet as set
-use Rattle.rows.specs.Retained.{Retained, newest, newest_of}
+use Rattle.rows.specs.Retained.{Retained, newest, newest_of, commits_between, last_config}
 use Rattle.rows.specs.Follows.{IsNext}
 use Rattle.tables.specs.declared.puts.Puts.{Puts}
 use Rattle.tables.specs.declared.puts.Puts.TheVariants.{Absent}
@@ -45,6 +46,17 @@ IsNextAt r rev commit puts = IsNext r commit × (rev ≡ newest r + 1) × (puts 
 -- some history that the tables hold can go on so
 abbrev pub CanStore : (Retained → Type 0) → ℕ → Commit Configured → Puts → Type 0
 CanStore Holds rev commit puts = (r : Retained) × Holds r × IsNextAt r rev commit puts
+
+-- the floor can be raised to the revision, and the last configuration that goes into what it holds is of the other, or there is none and that is 0
+pub record IsTrimTo (r : Retained) (floor first : ℕ) : Type 0 where
+  pub above : r.floor ≤ floor
+  pub below : floor ≤ newest r
+  pub small : floor ≤ MAX_REV
+  pub first_is : first ≡ last_config 0 r.floor (commits_between r r.floor floor)
+
+-- the floor of some history that the tables hold can be raised so
+abbrev pub CanTrim : (Retained → Type 0) → ℕ → ℕ → Type 0
+CanTrim Holds floor first = (r : Retained) × Holds r × IsTrimTo r floor first
 
 -- one refusal more; at its greatest number a count stays, and this counts as more
 abbrev pub one_more : ℕ → ℕ

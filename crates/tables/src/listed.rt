@@ -1,37 +1,40 @@
 //! Tables in memory.
-ghost use Rattle.std.specs.Prelude.{◌≡◌};
-ghost use Rattle.rows.specs.Retained.{empty_store};
+ghost use Rattle.std.specs.Prelude.{◌≡◌, ◌≤◌, ◌+◌, length, take, drop, OnOk};
+ghost use Rattle.rows.specs.Retained.{empty_store, newest};
+ghost use Rattle.tables.specs.Limits.{IsLoadable};
+ghost use Rattle.tables.specs.Listing.{listed};
 
 use crate::copy::commits_again;
 use crate::puts::Puts;
 use crate::tables::{Tables, TablesError};
-use config::Config;
 use names::Items;
-use rows::{Loaded, what_follows_has_room};
-use std::alloc::Global;
+use rows::{Loaded, Rows, what_follows_has_room};
+use std::alloc::{AllocError, Global};
 use std::marker::Model;
 use tuple_keys::KeptCommit;
 
-/// Tables that hold a list of commits in memory. They are lost with the program, and never fault.
+/// Tables that hold a history in memory. They are lost with the program, and never fault.
 #[derive(Drop)]
 pub struct Listed {
     alloc: Global,
     number: u64,
+    // What stands at the floor. A trim that was refused memory has left commits in it that `commits` still has.
+    base: Rows,
     commits: Vec<KeptCommit>,
 }
 
 impl Model for Listed {
-    ghost use Rattle.rows.specs.Retained.{Retained, store_from};
+    ghost use Rattle.rows.specs.Retained.{Retained};
     ghost use Rattle.rows.specs.inside.Codes.{coded_retained};
-    ghost use Rattle.tables.specs.Limits.{IsLoadable};
+    ghost use Rattle.tables.specs.Listing.{listed, IsListed};
 
     ghost Value = { Retained };
 
     ghost coded = { coded_retained };
 
-    ghost view = { λ t. store_from t.number t.commits.items };
+    ghost view = { λ t. listed t.number t.base t.commits.items };
 
-    ghost invariant = { λ t. IsLoadable (store_from t.number t.commits.items) };
+    ghost invariant = { λ t. IsListed t.number t.base t.commits.items };
 }
 
 impl Listed {
@@ -42,6 +45,7 @@ impl Listed {
         Listed {
             alloc,
             number,
+            base: Rows::empty(alloc),
             commits: Vec::new(alloc),
         }
     }
@@ -64,11 +68,19 @@ impl Tables for Listed {
         let Ok(commits) = commits_again(alloc, &self.commits) else {
             return Err(TablesError::Memory);
         };
+        let floor = self.base.floor();
+        let view = self.base.at(floor);
+        let Ok(tuples) = view.tuples(alloc) else {
+            return Err(TablesError::Memory);
+        };
+        let Ok(config) = view.config().again(alloc) else {
+            return Err(TablesError::Memory);
+        };
         Ok(Loaded {
             number: self.number,
-            floor: 0,
-            config: Config::empty(alloc),
-            tuples: Items::of(Vec::new(alloc)),
+            floor,
+            config,
+            tuples: Items::of(tuples),
             commits: Items::of(commits),
         })
     }
@@ -85,6 +97,16 @@ impl Tables for Listed {
         Ok(())
     }
 
+    fn trim(&mut self, floor: u64, _first: u64) -> Result<(), TablesError> {
+        let Ok(()) = absorb_up_to(&mut self.base, &self.commits, floor) else {
+            return Err(TablesError::Memory);
+        };
+        let count = (floor - self.base.floor()) as usize;
+        self.base.trim(floor);
+        drop_first(&mut self.commits, count);
+        Ok(())
+    }
+
     fn faults(&self) -> u64 {
         0
     }
@@ -92,4 +114,32 @@ impl Tables for Listed {
     ghost settled = { λ t r held whole. only_one t r held };
 
     ghost weaker = { λ t rs ss among left. among t left };
+}
+
+// Takes the commits up to a revision into the rows, which have the first of them already.
+fn absorb_up_to(rows: &mut Rows, commits: &[KeptCommit], rev: u64) -> Result<(), AllocError>
+    requires first { rows.old.commits ≡ take (length rows.old.commits) commits.now }
+    requires loadable { IsLoadable (listed rows.old.number rows.old commits.now) }
+    requires low { rows.old.floor ≤ rev }
+    requires high { rev ≤ rows.old.floor + length commits.now }
+    ensures same { rows.new ≡ listed rows.old.number rows.old rows.new.commits }
+    ensures first { rows.new.commits ≡ take (length rows.new.commits) commits.now }
+    ensures up { OnOk result (rev ≤ newest rows.new) }
+{
+    let start = (rows.newest() - rows.floor()) as usize;
+    let end = (rev - rows.floor()) as usize;
+    for i in start..end {
+        rows.absorb(&commits[i])?;
+    }
+    Ok(())
+}
+
+// Drops the oldest commits.
+fn drop_first(commits: &mut Vec<KeptCommit>, count: usize)
+    requires { count ≤ length commits.old.items }
+    ensures { commits.new.items ≡ drop count commits.old.items }
+{
+    let left = commits.as_slice().len() - count;
+    commits.rotate_left(count);
+    commits.truncate(left);
 }

@@ -1,5 +1,7 @@
 use Rattle.std.proofs.Common.{◌≡◌, List, [], ap, sym, subst, refl, not, None}
 use Rattle.std.specs.List.{find}
+use Rattle.std.specs.List.Sorted.{IsStrictlySortedBy}
+use Rattle.names.specs.Order.{tuple_cmp}
 use Rattle.names.specs.declared.tuple.Tuple.{Tuple}
 use Rattle.meaning.specs.Admits.{admits}
 use Rattle.meaning.specs.Config.{Configured}
@@ -11,8 +13,11 @@ use Rattle.names.specs.declared.commit.Commit.{Commit}
 use Rattle.rows.specs.Follows.{IsNext}
 use Rattle.rows.specs.Retained.{empty_store}
 use Rattle.tables.specs.Storing.{PutsAbsent}
-use Rattle.tables.proofs.Storing.{none_ordered}
 use Rattle.desk_tests.proofs.listed.stores_one.Goals as goal
+
+none_ordered : IsStrictlySortedBy tuple_cmp []
+unfolding IsStrictlySortedBy
+none_ordered = tt
 
 -- any configuration can follow nothing
 can_follow : (config : Configured) → or_else (in_the_way (find (λ t. not (admits config t)) (items empty_snap.tuples))) None ≡ None

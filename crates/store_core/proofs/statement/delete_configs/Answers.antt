@@ -2,7 +2,12 @@ use Rattle.std.proofs.Common.{w64}
 use Rattle.std.proofs.lemmas.Int.{to_z_pos}
 use Rattle.sqlite.specs.Held.{state}
 use Rattle.store_core.specs.Steps.{Alters, without_below}
-use Rattle.store_core.proofs.Texts.{drop_configs_text}
+use Rattle.sqlite.specs.Command.TheVariants.{Delete}
+use Rattle.store_core.specs.Caused.{CanDrop}
+use Rattle.store_core.specs.Format.{schema}
+use Rattle.store_core.proofs.Fixed.Deleting.{drop_configs_caused}
+use Rattle.store_core.proofs.Refusing.{caused_inside, stays_inside}
+use Rattle.store_core.proofs.Texts.{alone, drop_configs_is, drop_configs_query, drop_configs_text}
 use Rattle.store_core.proofs.Dropping.{past_params}
 use Rattle.store_core.proofs.Inside.{does_inside, quiet_inside, drop_configs_does}
 use Rattle.store_core.proofs.statement.delete_configs.Goals as goal
@@ -15,3 +20,11 @@ returns-clause-done g c =
 
 pub returns-clause-quiet : goal.returns-clause-quiet
 returns-clause-quiet g c = quiet_inside g.S.Store c.args.tx.now.conn c.execute.new.self.conn c.execute.result c.execute.ensures.ended _ _ c.execute.ensures.runs c.execute.ensures.survives
+
+pub returns-clause-caused : goal.returns-clause-caused
+returns-clause-caused g c =
+    let old = state g.S.Store c.args.tx.now.conn.now in
+    caused_inside g.S.Store c.args.tx.now.conn c.execute.new.self.conn c.execute.result drop_configs_text (past_params c.args.rev)
+    (λ clean inside. rw (c.params-to_sql.ensures, to_z_pos w64 c.args.rev c.requires) at (c.execute.ensures.runs clean inside)) CanDrop
+    (λ e other ready can. drop_configs_caused old can.contents can.store.holds can.store.sound ready.unlimited c.args.rev (state g.S.Store c.execute.new.self.conn.now) e other ready.is_open)
+    (λ can. stays_inside drop_configs_text (past_params c.args.rev) old schema can.store.holds.schema_is (Delete 1 (alone drop_configs_query)) drop_configs_is tt)
