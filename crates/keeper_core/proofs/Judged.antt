@@ -1,0 +1,50 @@
+-- No write is refused for what the tables did.
+use Rattle.std.proofs.Common.{◌≡◌, ℕ, Bool, true, false, not, List, map, refl, ap, sym, ◌∙◌, true≢false}
+use Rattle.std.specs.Prelude.{Option, Some, None}
+use Rattle.std.specs.List.{list_any}
+use Rattle.names.specs.declared.write.Write.{Write}
+use Rattle.names.specs.declared.refusal.Refusal.{Refusal}
+use Rattle.names.specs.declared.refusal.Refusal.TheVariants.{Malformed, UnknownRelation, TypeRefused, TwiceInOneWrite, ForeignZookie, Future, Expired, ConditionFailed, AlreadyThere, NotThere, Full, StoreFault, Reopen}
+use Rattle.meaning.specs.Verdict.{or_else, refused_if, at_place}
+use Rattle.zookie.specs.declared.Zookie.{Zookie}
+use Rattle.rows.specs.Retained.{Retained}
+use Rattle.verdict.specs.Verdict.{verdict, RefusesWrite}
+
+abbrev is_of_tables : Refusal → Bool
+is_of_tables StoreFault = true
+is_of_tables Reopen = true
+is_of_tables _ = false
+
+module _ (why : Refusal) (tables : is_of_tables why ≡ true) where
+  other : (cause : Refusal) → is_of_tables cause ≡ false → Some cause ≡ Some why → ⊥
+  other cause plain is = let same : cause ≡ why = cc is in true≢false (sym tables ∙ sym (ap is_of_tables same) ∙ plain)
+
+  if_other : (cause : Refusal) (b : Bool) → is_of_tables cause ≡ false → refused_if cause b ≡ Some why → ⊥
+  if_other cause true plain is = other cause plain is
+  if_other cause false plain is = absurd (cc is)
+
+  place_other : (cause : ℕ → Refusal) (o : Option ℕ) → ((i : ℕ) → is_of_tables (cause i) ≡ false) → at_place cause o ≡ Some why → ⊥
+  place_other cause (Some i) plain is = other (cause i) (plain i) is
+  place_other cause None plain is = absurd (cc is)
+
+  neither : (a b : Option Refusal) → (a ≡ Some why → ⊥) → (b ≡ Some why → ⊥) → or_else a b ≡ Some why → ⊥
+  neither (Some a) b first second is = first is
+  neither None b first second is = second is
+
+  no_verdict : (r : Retained) (write : Write Zookie) → verdict r write ≡ Some why → ⊥
+  no_verdict r write =
+      neither _ _ (if_other Malformed _ refl) (
+      neither _ _ (if_other Malformed _ refl) (
+      neither _ _ (if_other UnknownRelation _ refl) (
+      neither _ _ (if_other TypeRefused _ refl) (
+      neither _ _ (if_other TwiceInOneWrite _ refl) (
+      neither _ _
+      (neither _ _ (if_other ForeignZookie _ refl) (neither _ _ (if_other Future _ refl) (neither _ _ (if_other Expired _ refl) (place_other (λ i. ConditionFailed i) _ (λ i. refl))))) (
+      neither _ _ (place_other (λ i. AlreadyThere i) _ (λ i. refl)) (
+      neither _ _ (place_other (λ i. NotThere i) _ (λ i. refl)) (if_other Full _ refl))))))))
+
+pub write_reopens : (r : Retained) (write : Write Zookie) → RefusesWrite r write Reopen → ⊥
+write_reopens r write is = no_verdict Reopen refl r write is
+
+pub write_faults : (r : Retained) (write : Write Zookie) → RefusesWrite r write StoreFault → ⊥
+write_faults r write is = no_verdict StoreFault refl r write is
