@@ -15,7 +15,7 @@ use Rattle.zookie.specs.declared.Zookie.{Zookie}
 use Rattle.rows.specs.Retained.{Retained, newest_of, with_commit}
 use Rattle.rows.specs.Follows.{AreEventsOf, IsNext}
 use Rattle.rows.specs.Judging.{ConfigRefused}
-use Rattle.verdict.specs.Verdict.{verdict, AcceptsWrite, RefusesWrite}
+use Rattle.verdict.specs.Verdict.{AcceptsWrite, RefusesWrite}
 use Rattle.shown.specs.declared.step.Step.{Step}
 use Rattle.names.specs.declared.part.Part.{Part}
 use Rattle.shown.specs.declared.step.Step.TheVariants.{Commit, Take}
@@ -95,7 +95,7 @@ module _ {T : Type 0} (g : Ghosts T) (old mid : Posts T) (more : ShowsMore old m
         let made = IsCommitOfWrite (standing old.posted).kept write in
         let judged = RefusesWrite (standing old.posted).kept write in
         refused_exit (λ e. IsRefused g old made judged e mid) r why was
-        (refused_judged made judged why (write_reopens _ write) (write_faults _ write)
+        (refused_judged made judged why (write_reopens (standing old.posted).kept write) (write_faults (standing old.posted).kept write)
         (subst (λ (steps : List Step). RefusesWrite (standing steps).kept write why) more.posted is))
 
     -- too many commits at once
