@@ -22,7 +22,7 @@ use Rattle.shown.specs.declared.step.Step.TheVariants.{Take}
 use Rattle.shown.specs.Standing.{Standing, standing, nothing, after_step, after_take}
 use Rattle.std.proofs.lemmas.List.Sums.{fold-append}
 use Rattle.keeper_core.specs.Posts.{Posts}
-use Rattle.keeper_core.specs.Changes.{IsStored, IsRefused, Touches, leaves_alone, adds_one}
+use Rattle.keeper_core.specs.Changes.{IsStored, IsRefused, IsCommitOfWrite, Touches, leaves_alone, adds_one}
 use Rattle.keeper.specs.Rules.{DeskStep}
 use Rattle.keeper.specs.Showing.{OnlyShows}
 use Rattle.keeper.specs.calls.Write.{WriteStep, write_malformed, write_bad_zookie, write_accepted, write_refused, write_unread}
@@ -102,7 +102,7 @@ module _ {T : Type 0} (g : Ghosts T) (weaker : Weaker g) (P : Commit Configured 
   after_write old body told new asked (write_malformed asks says same) h = same_desk old new same h
   after_write old body told new asked (write_bad_zookie bad says same) h = same_desk old new same h
   after_write old body told new asked (write_accepted write receipt asks is says) h = stored old new is.stored h
-  after_write old body told new asked (write_refused write why asks is says) h = refused old new _ _ why (λ c made. asked c (write, asks, made.1)) is h
+  after_write old body told new asked (write_refused write why asks is says) h = refused old new (IsCommitOfWrite (kept_by old) write) _ why (λ c made. asked c (write, asks, made.1)) is h
   after_write old body told new asked (write_unread none same) h = same_desk old new same h
 
   after_config : (old : Posts T) (body : List ℕ) (told : Option (ℕ × List ℕ)) (new : Posts T) → ((c : Commit Configured) → AsksCommit call.Config body c → P c)
