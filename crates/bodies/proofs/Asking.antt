@@ -1,5 +1,5 @@
 -- What the values of operations ask for, one after another.
-use Rattle.std.proofs.Common.{◌≡◌, ℕ, ◌<◌, ◌+◌, List, [], ◌∷◌, ◌++◌, length, take, drop, get_or, refl, sym, ap, ◌∙◌, subst, arith, drop-cons, ◌≤◌, true, add-one, suc}
+use Rattle.std.proofs.Common.{◌≡◌, ℕ, ◌<◌, ◌+◌, List, [], ◌∷◌, ◌++◌, length, take, drop, get_or, refl, sym, ap, ◌∙◌, subst, arith, drop-cons, ◌≤◌, add-one, suc}
 use Rattle.std.specs.Prelude.{Some, codes}
 use Rattle.std.proofs.lemmas.List.{take-append-drop}
 use Rattle.std.proofs.Math.Seq.{take-suc}
@@ -8,9 +8,9 @@ use Rattle.serde_json.specs.View.{view, items_view}
 use Rattle.serde_json.specs.declared.value.Value.{Value}
 use Rattle.names.specs.declared.write.Op.{Op}
 use Rattle.names.specs.declared.part.Part.{Part}
-use Rattle.config_core.specs.Objects.{has_only}
 use Rattle.config_core.specs.Reading.{Reads}
-use Rattle.bodies.specs.Requests.{AsksOp, AskOps, items_at, WriteOf, AsksWrite, CatchUpOf, AsksCatchUp}
+use Rattle.bodies.specs.Requests.{items_at, CatchUpOf, AsksCatchUp}
+use Rattle.bodies.specs.Writing.{AsksOp, AskOps, OpsOf}
 use Rattle.bodies.proofs.Bytes.{same_read}
 
 ask_last : (vs : List Value) (v : Value) (os : List Op) (o : Op) → AskOps (items_view vs) os → AsksOp (view v) o → AskOps (items_view (vs ++ v ∷ [])) (os ++ o ∷ [])
@@ -47,25 +47,22 @@ ask_count (v ∷ vs) [] asks = absurd asks
 ask_count (v ∷ vs) (o ∷ os) asks = ap suc (ask_count vs os asks.1)
 
 -- as many operations as values
-asked_count : (d : Data) (vs : List Value) → Some (items_view vs) ≡ items_at (codes "ops") d → (ops : List Op) → WriteOf d ops → length ops ≡ length vs
+asked_count : (d : Data) (vs : List Value) → Some (items_view vs) ≡ items_at (codes "ops") d → (ops : List Op) → OpsOf d ops → length ops ≡ length vs
 asked_count d vs at ops w =
     let both : Some (items_view vs) ≡ Some w.items = at ∙ w.listed in
     let same : items_view vs ≡ w.items = cc in
     ask_count vs ops (subst (λ (xs : Items). AskOps xs ops) (sym same) w.each)
 
-pub asked_none : (d : Data) (vs : List Value) → Some (items_view vs) ≡ items_at (codes "ops") d → length vs ≡ 0 → (ops : List Op) → WriteOf d ops → ⊥
+pub asked_none : (d : Data) (vs : List Value) → Some (items_view vs) ≡ items_at (codes "ops") d → length vs ≡ 0 → (ops : List Op) → OpsOf d ops → ⊥
 asked_none d vs at count ops w = let e = asked_count d vs at ops w in let r = w.in_range in grind (arith, e, r, count)
 
-pub asked_many : (d : Data) (vs : List Value) → Some (items_view vs) ≡ items_at (codes "ops") d → 256 < length vs → (ops : List Op) → WriteOf d ops → ⊥
+pub asked_many : (d : Data) (vs : List Value) → Some (items_view vs) ≡ items_at (codes "ops") d → 256 < length vs → (ops : List Op) → OpsOf d ops → ⊥
 asked_many d vs at count ops w = let e = asked_count d vs at ops w in let r = w.in_range in grind (arith, e, r, count)
 
-pub asked_write : (d : Data) (vs : List Value) (ops : List Op) → has_only (codes "ops" ∷ []) d ≡ true → Some (items_view vs) ≡ items_at (codes "ops") d → 0 < length vs → length vs ≤ 256
-    → AskOps (items_view vs) ops → WriteOf d ops
-asked_write d vs ops only at low high each = let e = ask_count vs ops each in
-    record { only = only; items = items_view vs; listed = sym at; each = each; in_range = grind (arith, e, low, high) }
-
-pub write_other : (body : List ℕ) (d : Data) → Reads body d → ((ops : List Op) → WriteOf d ops → ⊥) → (ops : List Op) → AsksWrite body ops → ⊥
-write_other body d r not ops a = not ops (subst (λ (x : Data). WriteOf x ops) (same_read body a.data_read d a.reads r) a.write)
+pub asked_ops : (d : Data) (vs : List Value) (ops : List Op) → Some (items_view vs) ≡ items_at (codes "ops") d → 0 < length vs → length vs ≤ 256
+    → AskOps (items_view vs) ops → OpsOf d ops
+asked_ops d vs ops at low high each = let e = ask_count vs ops each in
+    record { items = items_view vs; listed = sym at; each = each; in_range = grind (arith, e, low, high) }
 
 pub catch_up_other : (body : List ℕ) (d : Data) → Reads body d → ((part : Part) (commits : ℕ) → CatchUpOf d part commits → ⊥) → (part : Part) (commits : ℕ) → AsksCatchUp body part commits → ⊥
 catch_up_other body d r not part commits a = not part commits (subst (λ (x : Data). CatchUpOf x part commits) (same_read body a.data_read d a.reads r) a.catch_up)

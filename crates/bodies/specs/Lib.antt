@@ -1,7 +1,9 @@
 pub mod Replies
 pub mod Requests
+pub mod Writing
 pub mod Expanding
 pub mod Trees
 pub mod Watching
 pub mod Pages
 pub mod Paging
+pub mod inside

@@ -1,15 +1,13 @@
 -- What the body of a call asks, by what `serde_json` reads from it.
 use Rattle.std.specs.Prelude.{ℕ, ◌≡◌, ◌⊎◌, ◌<◌, ◌≤◌, ◌^◌, if◌then◌else◌, Bool, true, false, List, [], ◌∷◌, Option, Some, None, option_and_then, codes}
-use Rattle.serde_json.specs.Data.{Data, Items, no_items, item}
+use Rattle.serde_json.specs.Data.{Data, Items}
 use Rattle.serde_json.specs.Find.{get, as_str, as_array, as_number, as_u64}
 use Rattle.names.specs.declared.limits.TheConstants.{MAX_CATCH_UP}
 use Rattle.config_core.specs.Objects.{is_text, has_only, text_at}
 use Rattle.config_core.specs.Reading.{Reads}
-use Rattle.names.specs.Spelling.{SpellsTuple, SpellsNode, SpellsObject}
+use Rattle.names.specs.Spelling.{SpellsNode, SpellsObject}
 use Rattle.names.specs.declared.node.Node.{Node}
 use Rattle.names.specs.declared.object.Object.{Object}
-use Rattle.names.specs.declared.write.Op.{Op}
-use Rattle.names.specs.declared.write.Write.{Write}
 use Rattle.names.specs.declared.refusal.Refusal.{Refusal}
 use Rattle.names.specs.declared.refusal.Refusal.TheVariants.{Malformed, BadZookie, Memory}
 use Rattle.zookie.specs.Text.{zookie_text}
@@ -18,57 +16,10 @@ use Rattle.zookie.specs.declared.consistency.Consistency.{Consistency}
 use Rattle.zookie.specs.declared.consistency.Consistency.TheVariants.{Latest, AtLeast, Exactly}
 use Rattle.names.specs.declared.part.Part.{Part}
 use Rattle.names.specs.declared.part.Part.TheVariants.{Index, Hot}
-use Rattle.names.specs.declared.write.OpKind.{OpKind}
-use Rattle.names.specs.declared.write.OpKind.TheVariants.{Insert, Touch, Delete}
-use Rattle.meaning.specs.Verdict.{is_in_range}
 
 -- the items of the array that the member is
 abbrev pub items_at : List ℕ → Data → Option Items
 items_at name d = option_and_then as_array (get name d)
-
--- the word of an operation; a touch is not asked yet
-abbrev pub IsKind : List ℕ → OpKind → Type 0
-IsKind word Insert = is_text word (codes "insert") ≡ true
-IsKind word Delete = is_text word (codes "delete") ≡ true
-IsKind word Touch = ⊥
-
--- `{"op": "insert" or "delete", "tuple": tuple}`
-pub record AsksOp (d : Data) (o : Op) : Type 0 where
-  pub only : has_only (codes "op" ∷ codes "tuple" ∷ []) d ≡ true
-  pub word : List ℕ
-  pub op : text_at (codes "op") d ≡ Some word
-  pub kind : IsKind word o.kind
-  pub text : List ℕ
-  pub tuple : text_at (codes "tuple") d ≡ Some text
-  pub spells : SpellsTuple text o.tuple
-
-abbrev pub AskOps : Items → List Op → Type 0
-AskOps no_items [] = Unit {0}
-AskOps no_items (o ∷ os) = ⊥
-AskOps (item d ds) [] = ⊥
-AskOps (item d ds) (o ∷ os) = AsksOp d o × AskOps ds os
-
--- `{"ops": [op, ..]}`, with 1 to 256 operations
-pub record WriteOf (d : Data) (ops : List Op) : Type 0 where
-  pub only : has_only (codes "ops" ∷ []) d ≡ true
-  pub items : Items
-  pub listed : items_at (codes "ops") d ≡ Some items
-  pub each : AskOps items ops
-  pub in_range : is_in_range ops ≡ true
-
--- the body of a `write` asks for the operations
-pub record AsksWrite (body : List ℕ) (ops : List Op) : Type 0 where
-  pub data_read : Data
-  pub reads : Reads body data_read
-  pub write : WriteOf data_read ops
-
--- it asks for no write
-abbrev pub AsksNoWrite : List ℕ → Type 0
-AsksNoWrite body = (ops : List Op) → ¬ (AsksWrite body ops)
-
--- the write of the operations, which has no condition
-abbrev pub unconditional_write : List Op → Write Zookie
-unconditional_write ops = record { conditions = []; ops = ops }
 
 -- absent or `"latest"`
 abbrev pub is_latest_text : Option (List ℕ) → Bool

@@ -1,6 +1,7 @@
 //! The bodies of calls and replies as JSON: what a body asks for, or why it is refused, and what a reply says.
 #![tactic(auto)]
 
+mod conditions;
 mod ops;
 pub mod pages;
 pub mod paging;
@@ -9,3 +10,4 @@ pub mod replies;
 pub mod requests;
 pub mod trees;
 pub mod watching;
+pub mod writing;

@@ -2,7 +2,7 @@
 ghost use Rattle.std.specs.Prelude.{◌≡◌, List, IfOk, IfErr, MatchOption};
 ghost use Rattle.serde_json.specs.View.{view, items_view};
 ghost use Rattle.names.specs.Refusals.{IsMalformed, ReadCause};
-ghost use Rattle.bodies.specs.Requests.{IsKind, AsksOp, AskOps};
+ghost use Rattle.bodies.specs.Writing.{IsKind, AsksOp, AskOps};
 
 use config_core::{has_only_members, text_at};
 use names::{Op, OpKind, Refusal, Tuple};
@@ -15,6 +15,9 @@ fn kind_of(word: &str) -> Option<OpKind>
 {
     if word == "insert" {
         return Some(OpKind::Insert);
+    }
+    if word == "touch" {
+        return Some(OpKind::Touch);
     }
     if word == "delete" {
         return Some(OpKind::Delete);

@@ -6,14 +6,13 @@ ghost use Rattle.serde_json.specs.View.{view, items_view};
 ghost use Rattle.names.specs.Refusals.{IsMalformed, ReadCause};
 ghost use Rattle.names.specs.declared.refusal.Refusal.TheVariants.{BadZookie};
 ghost use Rattle.config_core.specs.Reading.{Reads};
-ghost use Rattle.bodies.specs.Requests.{items_at, number_at, only_text, WriteOf, AsksWrite, AsksNoWrite, IsZookieOf, AsksAt, AtCause, CheckOf, IsOfNoCheck, AsksCheck, CheckCause, IsPart, CatchUpOf, IsOfNoCatchUp, AsksCatchUp, AsksNoCatchUp};
+ghost use Rattle.bodies.specs.Requests.{items_at, number_at, only_text, IsZookieOf, AsksAt, AtCause, CheckOf, IsOfNoCheck, AsksCheck, CheckCause, IsPart, CatchUpOf, IsOfNoCatchUp, AsksCatchUp, AsksNoCatchUp};
 ghost use Rattle.bodies.specs.Expanding.{ExpandOf, IsOfNoExpand, AsksExpand, ExpandBodyCause};
 
-use crate::ops::read_ops;
 use config_core::{has_only_members, text_at};
 use expand::MAX_DEPTH;
-use names::limits::{MAX_CATCH_UP, MAX_OPS};
-use names::{Items, Node, Object, Op, Part, Refusal};
+use names::limits::MAX_CATCH_UP;
+use names::{Node, Object, Part, Refusal};
 use serde_json::Value;
 use std::alloc::Global;
 use std::str;
@@ -40,7 +39,7 @@ pub(crate) fn read_value(alloc: Global, body: &[u8]) -> Result<Value, Refusal>
 }
 
 /// The array that a member is.
-fn items_of<'a>(value: &'a Value, name: &str) -> Option<&'a Vec<Value>>
+pub(crate) fn items_of<'a>(value: &'a Value, name: &str) -> Option<&'a Vec<Value>>
     ensures { option_map (λ v. items_view v.now.items) result ≡ items_at name.now (view value.now) }
 {
     value.get(name).and_then(Value::as_array)
@@ -100,24 +99,6 @@ pub(crate) fn consistency_of(value: &Value) -> Result<Consistency, Refusal>
     }
 }
 
-/// The operations that a value asks for.
-fn write_of(alloc: Global, value: &Value) -> Result<Items<Op>, Refusal>
-    ensures ok { IfOk result (λ ops. WriteOf (view value.now) ops) }
-    ensures err { IfErr result (ReadCause ((ops : List Op) → ¬ (WriteOf (view value.now) ops))) }
-{
-    if !has_only_members(value, ["ops"].as_slice()) {
-        return Err(Refusal::Malformed);
-    }
-    let Some(items) = items_of(value, "ops") else {
-        return Err(Refusal::Malformed);
-    };
-    if items.is_empty() || items.len() > MAX_OPS {
-        return Err(Refusal::Malformed);
-    }
-    let ops = read_ops(alloc, items)?;
-    Ok(Items::of(ops))
-}
-
 /// The node and the user that a value asks about.
 fn check_of(value: &Value) -> Result<(Node, Object), Refusal>
     ensures ok { IfOk result (λ asked. CheckOf (view value.now) asked.0 asked.1) }
@@ -135,16 +116,6 @@ fn check_of(value: &Value) -> Result<(Node, Object), Refusal>
     let node = Node::parse(node)?;
     let user = Object::parse(user)?;
     Ok((node, user))
-}
-
-/// What a body of `write` asks: 1 to 256 operations.
-pub fn write_body(alloc: Global, body: &[u8]) -> Result<Items<Op>, Refusal>
-    ensures ok { IfOk result (λ ops. AsksWrite body.now ops) }
-    ensures err { IfErr result (ReadCause (AsksNoWrite body.now)) }
-{
-    let value = read_value(alloc, body)?;
-    let ops = write_of(alloc, &value)?;
-    Ok(ops)
 }
 
 /// What a body of `check` asks: how fresh a snapshot, and whether a user is a member of a node there.

@@ -18,7 +18,8 @@ use crate::trees::{AskedTree, expand_again, expand_from};
 use crate::tuples::{AskedTuples, read_again, read_from};
 use bodies::refusals::refusal;
 use bodies::replies::no_route;
-use bodies::requests::{catch_up_body, write_body};
+use bodies::requests::catch_up_body;
+use bodies::writing::write_body;
 use config::Config as Configuration;
 use names::{Call, Refusal, Reply};
 use published::{Naming, Receipt, Session};
@@ -172,10 +173,10 @@ impl<'k, T: Tables + Drop, J: Naming, R: Wait + Drop> Front<'k, T, J, R> {
         ensures { ChangeFrom T.Tables self.old Write body.now (told result) self.new }
     {
         match write_body(self.alloc, body) {
-            Ok(ops) => self
+            Ok(write) => self
                 .keeper
                 .hold(rt)
-                .write(self.alloc, &mut self.session, ops),
+                .write(self.alloc, &mut self.session, write),
             Err(why) => refusal(self.alloc, &why),
         }
     }

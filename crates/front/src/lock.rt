@@ -3,7 +3,8 @@ ghost use Rattle.std.specs.Prelude.{◌≡◌, ◌↔◌, ◌+◌, ℕ, List, Er
 ghost use Rattle.names.specs.Calls.{told};
 ghost use Rattle.names.specs.declared.refusal.Refusal.TheVariants.{NoSeat, StoreFault};
 ghost use Rattle.config.specs.Causes.{Accepts};
-ghost use Rattle.bodies.specs.Requests.{AsksWrite, AsksCatchUp};
+ghost use Rattle.bodies.specs.Requests.{AsksCatchUp};
+ghost use Rattle.bodies.specs.Writing.{AsksWrite};
 ghost use Rattle.tables.specs.Device.{IsOpen};
 ghost use Rattle.tables.specs.Opening.{CannotOpen};
 ghost use Rattle.published.specs.Known.{Begins};
@@ -17,12 +18,13 @@ ghost use Rattle.front.specs.Kept.{IsKept, IsKnownIn, WereKept};
 use config::Config;
 use keeper::{catch_up_on, configure_on, write_on};
 use keeper_core::{Desk, Posted};
-use names::{Items, Op, Part, Refusal, Reply};
+use names::{Part, Refusal, Reply, Write};
 use published::{Naming, Opened, Receipt, Session};
 use std::alloc::Global;
 use std::marker::{Model, PhantomData};
 use std::sync::{Mutex, MutexGuard, Wait};
 use tables::Tables;
+use zookie::Zookie;
 
 /// A desk of the book that `J` names, which shows what it was opened with. Contracts see it as the desk.
 #[derive(Drop)]
@@ -101,15 +103,15 @@ impl<T: Tables + Drop, J: Naming, R: Wait + Drop> KeptDesk<T, J, R> {
         self.desk.catch_up(part, commits)
     }
 
-    /// Does the operations that a body asks for, as one commit, and tells of it.
-    pub fn write(&mut self, alloc: Global, session: &mut Session, ops: Items<Op>) -> Reply
+    /// Does the operations that a body asks for, as one commit, if its conditions hold, and tells of it.
+    pub fn write(&mut self, alloc: Global, session: &mut Session, write: Write<Zookie>) -> Reply
         requires { session.old.book ≡ J.book }
-        ensures step { (body : List ℕ) → AsksWrite body ops
+        ensures step { (body : List ℕ) → AsksWrite body write
             → WriteStep T.Tables self.old body (told result) self.new }
         ensures kept { Begins session.old session.new }
         ensures known { Begins (shown_by self.new) session.new }
     {
-        write_on(alloc, &mut self.desk, session, ops)
+        write_on(alloc, &mut self.desk, session, write)
     }
 
     /// Takes the configuration that a body is, and tells of it.

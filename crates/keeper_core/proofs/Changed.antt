@@ -3,8 +3,6 @@ use Rattle.std.proofs.Common.{◌≡◌, Bool, true, false, List, [], ◌∷◌,
 use Rattle.std.specs.Prelude.{Result, Ok, Err, IfOk, IfErr, IsErrAnd, OnOk, Option, Some, None}
 use Rattle.names.specs.declared.limits.TheConstants.{MAX_CATCH_UP}
 use Rattle.names.specs.declared.tuple.Tuple.{Tuple}
-use Rattle.names.specs.declared.write.Op.{Op}
-use Rattle.names.specs.declared.write.Condition.{Condition}
 use Rattle.names.specs.declared.write.Write.{Write}
 use Rattle.names.specs.declared.commit.Event.{Event}
 use Rattle.names.specs.declared.commit.Commit.{Commit as Stored}
@@ -15,8 +13,9 @@ use Rattle.meaning.specs.Config.{Configured}
 use Rattle.meaning.specs.Verdict.{Newest, config_cause, or_else, in_the_way, refused_if}
 use Rattle.zookie.specs.declared.Zookie.{Zookie}
 use Rattle.rows.specs.Retained.{Retained, newest_of, with_commit}
-use Rattle.rows.specs.Follows.{AreEventsOf, IsAccepted, IsNext}
+use Rattle.rows.specs.Follows.{AreEventsOf, IsNext}
 use Rattle.rows.specs.Judging.{ConfigRefused}
+use Rattle.verdict.specs.Verdict.{AcceptsWrite, RefusesWrite}
 use Rattle.shown.specs.declared.step.Step.{Step}
 use Rattle.names.specs.declared.part.Part.{Part}
 use Rattle.shown.specs.declared.step.Step.TheVariants.{Commit, Take}
@@ -27,9 +26,10 @@ use Rattle.tables.specs.declared.tables.Tables.{Ghosts}
 use Rattle.tables.proofs.Lasting.{lasts_self}
 use Rattle.keeper_core.specs.Posts.{Posts, ShowsMore, SameTables, PostsStep, newest_posted}
 use Rattle.published.specs.Receipts.{ReceiptFacts}
-use Rattle.keeper_core.specs.Changes.{Tells, TellsShown, IsStored, WriteAccepted, ConfigAccepted, JudgedWith, CatchUpAccepted, CatchUpJudged, IsNoCommit, MayLeave, Touches, leaves_alone, adds_one, Refuses, IsRefused}
+use Rattle.keeper_core.specs.Changes.{Tells, TellsShown, IsStored, WriteAccepted, ConfigAccepted, CatchUpAccepted, CatchUpJudged, IsCommitOfWrite, IsNoCommit, MayLeave, Touches, leaves_alone, adds_one, Refuses, IsRefused}
 use Rattle.keeper_core.specs.inside.Posting.{IsMemory}
 use Rattle.published.proofs.Prefixes.{prefix_trans}
+use Rattle.keeper_core.proofs.Judged.{write_reopens, write_faults}
 
 tuple_or_limit : (o : Option Tuple) (b : Bool) (why : Refusal) → or_else (in_the_way o) (refused_if Full b) ≡ Some why → ((t : Tuple) → ¬ (TupleInTheWay t ≡ why)) → ¬ (Full ≡ why) → ⊥
 tuple_or_limit (Some t) b why is way full = way t (cc is)
@@ -83,6 +83,21 @@ module _ {T : Type 0} (g : Ghosts T) (old mid : Posts T) (more : ShowsMore old m
         (refused_judged (λ commit. commit ≡ Config config) (ConfigRefused (newest_posted old) config) why (config_reopens (newest_posted old) config) (config_faults (newest_posted old) config)
         (subst (λ (steps : List Step). ConfigRefused (newest_of (standing steps).kept) config why) more.posted is))
 
+    -- no more was posted since
+    pub still_accepted : (write : Write Zookie) → AcceptsWrite (standing mid.posted).kept write → AcceptsWrite (standing old.posted).kept write
+    still_accepted write accepted = subst (λ (steps : List Step). AcceptsWrite (standing steps).kept write) more.posted accepted
+
+    -- a write is refused for its operations or its conditions
+    pub write_refused : {A : Type 0} (r : Result A Refusal) (write : Write Zookie) (why : Refusal) → IsErrAnd r (λ e. e ≡ why)
+        → RefusesWrite (standing mid.posted).kept write why
+        → IfErr r (λ e. IsRefused g old (IsCommitOfWrite (standing old.posted).kept write) (RefusesWrite (standing old.posted).kept write) e mid)
+    write_refused r write why was is =
+        let made = IsCommitOfWrite (standing old.posted).kept write in
+        let judged = RefusesWrite (standing old.posted).kept write in
+        refused_exit (λ e. IsRefused g old made judged e mid) r why was
+        (refused_judged made judged why (write_reopens (standing old.posted).kept write) (write_faults (standing old.posted).kept write)
+        (subst (λ (steps : List Step). RefusesWrite (standing steps).kept write why) more.posted is))
+
     -- too many commits at once
     pub too_many : (commits : ℕ) → MAX_CATCH_UP < commits → IsRefused g old IsNoCommit (CatchUpJudged commits) Malformed mid
     too_many commits many = refused_early IsNoCommit (CatchUpJudged commits) Malformed (works, same.1 ∙ works, same.2, same.0, many)
@@ -116,22 +131,21 @@ module _ {T : Type 0} (g : Ghosts T) (old mid : Posts T) (more : ShowsMore old m
             lasts = subst (λ (t : T). Lasts (g.device t) (g.device new.tables)) same.0 stored.lasts;
           }
 
-      pub write_accepted : (write : Write Zookie) (events : List Event) (r : Result ReceiptFacts Refusal) → write.conditions ≡ []
-          → IsAccepted (newest_posted mid) write.ops → AreEventsOf write.ops events
+      pub write_accepted : (write : Write Zookie) (events : List Event) (r : Result ReceiptFacts Refusal)
+          → AcceptsWrite (standing mid.posted).kept write → AreEventsOf write.ops events
           → OnOk r (PostsStep mid (Commit (Tuples events)) new) → IfOk r (λ receipt. Tells receipt new) → OnOk r (IsStored g mid new)
           → IfOk r (λ receipt. WriteAccepted g old write receipt new)
-      write_accepted write events (Ok receipt) plain accepted are posts tells stored =
+      write_accepted write events (Ok receipt) accepted are posts tells stored =
           record {
             works = works;
-            plain = plain;
-            accepted = subst (λ (steps : List Step). IsAccepted (newest_of (standing steps).kept) write.ops) more.posted accepted;
+            accepted = still_accepted write accepted;
             events = events;
             events_of = are;
             posts = posts_on (Commit (Tuples events)) posts;
             stored = stored_on stored;
             tells = tells;
           }
-      write_accepted write events (Err why) plain accepted are posts tells stored = tt
+      write_accepted write events (Err why) accepted are posts tells stored = tt
 
       pub config_accepted : (config : Configured) (r : Result ReceiptFacts Refusal) → config_cause (newest_posted mid) config ≡ Option.None
           → OnOk r (PostsStep mid (Commit (Config config)) new) → IfOk r (λ receipt. Tells receipt new) → OnOk r (IsStored g mid new)
@@ -195,8 +209,3 @@ module _ {T : Type 0} (g : Ghosts T) (old mid : Posts T) (more : ShowsMore old m
           → IfErr r (λ why. IsRefused g mid (λ c. c ≡ commit) IsMemory why new) → IfErr r (λ why. IsRefused g old made judged why new)
       refuses_on made commit judged (Ok receipt) asked memory refused = tt
       refuses_on made commit judged (Err why) asked memory refused = refused_on made commit judged why asked memory refused
-
--- want of memory is never the write's fault
-pub memory_judged : (newest : Newest) (ops : List Op) (conditions : List (Condition Zookie)) → JudgedWith newest ops conditions Memory
-memory_judged newest ops [] = tt
-memory_judged newest ops (condition ∷ conditions) = tt

@@ -3,3 +3,4 @@ pub mod Agreeing
 pub mod Changed
 pub mod Sound
 pub mod Unposted
+pub mod Judged

@@ -1,9 +1,7 @@
 -- What an accepted change leaves and tells, and why one is refused.
 use Rattle.std.specs.Prelude.{◌≡◌, ◌<◌, ◌≤◌, ◌↔◌, ℕ, List, [], ◌∷◌, Bool, true, false, IsTrue, Option}
 use Rattle.names.specs.declared.limits.TheConstants.{MAX_CATCH_UP}
-use Rattle.names.specs.Refusals.{ReadCause}
 use Rattle.names.specs.declared.write.Op.{Op}
-use Rattle.names.specs.declared.write.Condition.{Condition}
 use Rattle.names.specs.declared.write.Write.{Write}
 use Rattle.names.specs.declared.commit.Event.{Event}
 use Rattle.names.specs.declared.commit.Commit.{Commit}
@@ -11,11 +9,11 @@ use Rattle.names.specs.declared.commit.Commit.TheVariants.{Tuples, Config}
 use Rattle.names.specs.declared.refusal.Refusal.{Refusal}
 use Rattle.names.specs.declared.refusal.Refusal.TheVariants.{Malformed, Memory, StoreFault, Reopen}
 use Rattle.meaning.specs.Config.{Configured}
-use Rattle.meaning.specs.Verdict.{Newest, config_cause}
+use Rattle.meaning.specs.Verdict.{config_cause}
 use Rattle.zookie.specs.declared.Zookie.{Zookie}
 use Rattle.rows.specs.Retained.{Retained, newest, with_commit}
-use Rattle.rows.specs.Follows.{AreEventsOf, IsAccepted, IsNext}
-use Rattle.rows.specs.Judging.{WriteRefused}
+use Rattle.rows.specs.Follows.{AreEventsOf, IsNext}
+use Rattle.verdict.specs.Verdict.{AcceptsWrite}
 use Rattle.tables.specs.Device.{IsOpen, Lasts, HasFailed}
 use Rattle.tables.specs.Storing.{one_more}
 use Rattle.tables.specs.declared.tables.Tables.{Ghosts}
@@ -56,12 +54,11 @@ pub record IsStored {T : Type 0} (g : Ghosts T) (old new : Posts T) : Type 0 whe
   pub is_open : IsOpen (g.device new.tables)
   pub lasts : Lasts (g.device old.tables) (g.device new.tables)
 
--- the operations were accepted, and their commit is posted and stored, and the receipt tells of it
+-- the write was accepted, and the commit of its operations is posted and stored, and the receipt tells of it
 pub record WriteAccepted {T : Type 0} (g : Ghosts T)
     (old : Posts T) (write : Write Zookie) (receipt : ReceiptFacts) (new : Posts T) : Type 0 where
   pub works : old.failed ≡ false
-  pub plain : write.conditions ≡ []
-  pub accepted : IsAccepted (newest_posted old) write.ops
+  pub accepted : AcceptsWrite (standing old.posted).kept write
   pub events : List Event
   pub events_of : AreEventsOf write.ops events
   pub posts : PostsStep old (CommitStep (Tuples events)) new
@@ -90,15 +87,6 @@ pub record CatchUpAccepted {T : Type 0}
   pub moved : cursor ≡ cursor_of part (standing new.posted)
   pub tells : TellsShown receipt new
 
--- Why a write is refused on a revision. Conditions are not answered yet: a write with one is
--- malformed.
-abbrev pub JudgedWith : Newest → List Op → List (Condition Zookie) → Refusal → Type 0
-JudgedWith newest ops [] why = WriteRefused newest ops why
-JudgedWith newest ops (condition ∷ conditions) why = ReadCause (Unit {0}) why
-
-abbrev pub WriteJudged : Newest → Write Zookie → Refusal → Type 0
-WriteJudged newest write why = JudgedWith newest write.ops write.conditions why
-
 -- too many commits at once, or no memory
 abbrev pub CatchUpJudged : ℕ → Refusal → Type 0
 CatchUpJudged commits Malformed = MAX_CATCH_UP < commits
@@ -108,6 +96,10 @@ CatchUpJudged commits _ = ⊥
 -- the commit is that of the operations
 abbrev pub IsCommitOf : List Op → Commit Configured → Type 0
 IsCommitOf ops commit = (events : List Event) × AreEventsOf ops events × (commit ≡ Tuples events)
+
+-- it is that of a write which the history accepts
+abbrev pub IsCommitOfWrite : Retained → Write Zookie → Commit Configured → Type 0
+IsCommitOfWrite r write commit = AcceptsWrite r write × IsCommitOf write.ops commit
 
 -- no commit at all
 abbrev pub IsNoCommit : Commit Configured → Type 0

@@ -7,6 +7,7 @@ ghost use Rattle.meaning.specs.Verdict.{config_cause};
 ghost use Rattle.rows.specs.Retained.{newest};
 ghost use Rattle.rows.specs.Follows.{IsAccepted, IsNext};
 ghost use Rattle.rows.specs.Judging.{ConfigRefused};
+ghost use Rattle.verdict.specs.Verdict.{AcceptsWrite, RefusesWrite};
 ghost use Rattle.shown.specs.declared.step.Step.TheVariants.{Commit as CommitStep, Take};
 ghost use Rattle.shown.specs.Standing.{standing, state_of, cursor_of};
 ghost use Rattle.expand.specs.declared.limits.TheConstants.{MAX_DEPTH};
@@ -20,7 +21,7 @@ ghost use Rattle.tables.specs.Storing.{PutsAbsent};
 ghost use Rattle.published.specs.declared.publication.TheConstants.{MAX_SESSIONS};
 ghost use Rattle.published.specs.Known.{Begins};
 ghost use Rattle.keeper_core.specs.Posts.{Agrees, OpensWith, ComesBack, FailsToLoad, SameTables, ShowsMore, PostsStep, newest_posted, shown_by};
-ghost use Rattle.keeper_core.specs.Changes.{Tells, TellsShown, IsStored, WriteAccepted, ConfigAccepted, CatchUpAccepted, IsRefused, IsCommitOf, IsNoCommit, JudgedWith, WriteJudged, CatchUpJudged, receipt_at};
+ghost use Rattle.keeper_core.specs.Changes.{Tells, TellsShown, IsStored, WriteAccepted, ConfigAccepted, CatchUpAccepted, IsRefused, IsCommitOfWrite, IsNoCommit, CatchUpJudged, receipt_at};
 ghost use Rattle.keeper_core.specs.inside.Posting.{IsMemory};
 
 use crate::latched_tables::{LatchedTables, load};
@@ -29,7 +30,7 @@ use crate::storing::store;
 use config::Config;
 use expand::Tree;
 use names::limits::MAX_CATCH_UP;
-use names::{Commit, Condition, Items, Node, Object, Op, Part, Refusal, State, Tuple, Write};
+use names::{Commit, Items, Node, Object, Part, Refusal, State, Tuple, Write};
 use published::{Opened, Publication, Receipt, Session};
 use rows::{Tupleset, events_of, refuses_what_no_write_gives};
 use shown::{Answer, Refused, Shown, Step};
@@ -126,18 +127,18 @@ impl<T: Tables + Drop, R: Wait + Drop> Desk<T, R> {
         self.tables.into_tables()
     }
 
-    /// Does operations on distinct tuples together, or none of them. A write with a condition is
-    /// malformed yet.
+    /// Does operations on distinct tuples together, if the conditions hold, or none of them. It is judged on all that is
+    /// posted, shown or not.
     pub fn write(&mut self, write: Write<Zookie>) -> Result<Receipt, Refusal>
         ensures ok { IfOk result (λ receipt. WriteAccepted T.Tables self.old write receipt self.new) }
         ensures err { IfErr result (λ why.
-            IsRefused T.Tables self.old (IsCommitOf write.ops)
-            (WriteJudged (newest_posted self.old) write) why self.new) }
+            IsRefused T.Tables self.old (IsCommitOfWrite (standing self.old.posted).kept write)
+            (RefusesWrite (standing self.old.posted).kept write) why self.new) }
         ensures seats { self.new.seats ≡ self.old.seats }
     {
         self.make_ready()?;
-        let Write { conditions, ops } = write;
-        self.judge(&conditions, &ops)?;
+        self.judge_write(&write)?;
+        let Write { ops, .. } = write;
         let puts = puts_of(ops.as_slice());
         let events = events_of(ops)?;
         refuses_what_no_write_gives();
@@ -323,15 +324,12 @@ impl<T: Tables + Drop, R: Wait + Drop> Desk<T, R> {
     }
 
     // Why a write is refused, if it is.
-    fn judge(&self, conditions: &Items<Condition<Zookie>>, ops: &Items<Op>) -> Result<(), Refusal>
-        ensures plain { OnOk result (conditions.now ≡ []) }
-        ensures ok { OnOk result (IsAccepted (newest_posted self.now) ops.now) }
-        ensures err { IfErr result (JudgedWith (newest_posted self.now) ops.now conditions.now) }
+    fn judge_write(&self, write: &Write<Zookie>) -> Result<(), Refusal>
+        ensures ok { OnOk result (AcceptsWrite (standing self.now.posted).kept write.now) }
+        ensures accepted { OnOk result (IsAccepted (newest_posted self.now) write.now.ops) }
+        ensures err { IfErr result (RefusesWrite (standing self.now.posted).kept write.now) }
     {
-        if !conditions.as_slice().is_empty() {
-            return Err(Refusal::Malformed);
-        }
-        self.own.judge(ops.as_slice())
+        self.own.judge_write(write)
     }
 
     // Why a configuration is refused, if it is.

@@ -22,10 +22,10 @@ use Rattle.shown.specs.declared.step.Step.TheVariants.{Take}
 use Rattle.shown.specs.Standing.{Standing, standing, nothing, after_step, after_take}
 use Rattle.std.proofs.lemmas.List.Sums.{fold-append}
 use Rattle.keeper_core.specs.Posts.{Posts}
-use Rattle.keeper_core.specs.Changes.{IsStored, IsRefused, Touches, leaves_alone, adds_one}
+use Rattle.keeper_core.specs.Changes.{IsStored, IsRefused, IsCommitOfWrite, Touches, leaves_alone, adds_one}
 use Rattle.keeper.specs.Rules.{DeskStep}
 use Rattle.keeper.specs.Showing.{OnlyShows}
-use Rattle.keeper.specs.calls.Write.{WriteStep, write_malformed, write_accepted, write_refused, write_unread}
+use Rattle.keeper.specs.calls.Write.{WriteStep, write_malformed, write_bad_zookie, write_accepted, write_refused, write_unread}
 use Rattle.keeper.specs.calls.Config.{ConfigStep, config_invalid, config_accepted, config_refused, config_unread}
 use Rattle.keeper.specs.calls.Check.{CheckStep, check_malformed, check_bad_zookie, check_answered, check_refused, check_unread}
 use Rattle.keeper.specs.calls.Read.{ReadStep, read_malformed, read_bad_zookie, read_answered, read_refused, read_unread}
@@ -100,8 +100,9 @@ module _ {T : Type 0} (g : Ghosts T) (weaker : Weaker g) (P : Commit Configured 
   after_write : (old : Posts T) (body : List ℕ) (told : Option (ℕ × List ℕ)) (new : Posts T) → ((c : Commit Configured) → AsksCommit call.Write body c → P c)
       → WriteStep g old body told new → HasLeft g P start old → HasLeft g P start new
   after_write old body told new asked (write_malformed asks says same) h = same_desk old new same h
-  after_write old body told new asked (write_accepted ops receipt asks is says) h = stored old new is.stored h
-  after_write old body told new asked (write_refused ops why asks is says) h = refused old new _ _ why (λ c made. asked c (ops, asks, made)) is h
+  after_write old body told new asked (write_bad_zookie bad says same) h = same_desk old new same h
+  after_write old body told new asked (write_accepted write receipt asks is says) h = stored old new is.stored h
+  after_write old body told new asked (write_refused write why asks is says) h = refused old new (IsCommitOfWrite (kept_by old) write) _ why (λ c made. asked c (write, asks, made.1)) is h
   after_write old body told new asked (write_unread none same) h = same_desk old new same h
 
   after_config : (old : Posts T) (body : List ℕ) (told : Option (ℕ × List ℕ)) (new : Posts T) → ((c : Commit Configured) → AsksCommit call.Config body c → P c)

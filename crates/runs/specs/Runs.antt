@@ -6,10 +6,11 @@ use Rattle.names.specs.declared.call.Call.{Call}
 use Rattle.names.specs.declared.call.Call.TheVariants as call
 use Rattle.names.specs.declared.commit.Commit.{Commit}
 use Rattle.names.specs.declared.commit.Commit.TheVariants.{Config}
-use Rattle.names.specs.declared.write.Op.{Op}
+use Rattle.names.specs.declared.write.Write.{Write}
 use Rattle.meaning.specs.Config.{Configured}
 use Rattle.config.specs.Causes.{Accepts}
-use Rattle.bodies.specs.Requests.{AsksWrite}
+use Rattle.bodies.specs.Writing.{AsksWrite}
+use Rattle.zookie.specs.declared.Zookie.{Zookie}
 use Rattle.rows.specs.Retained.{Retained}
 use Rattle.rows.specs.Loads.{retained_of}
 use Rattle.rows.specs.declared.loaded.Loaded.{Loaded}
@@ -48,7 +49,7 @@ pub record Began {T : Type 0} (g : Ghosts T) (tables : T) (first : Posts T) : Ty
 
 -- the call with this body asks for the commit
 abbrev pub AsksCommit : Call → List ℕ → Commit Configured → Type 0
-AsksCommit call.Write body commit = (ops : List Op) × AsksWrite body ops × IsCommitOf ops commit
+AsksCommit call.Write body commit = (write : Write Zookie) × AsksWrite body write × IsCommitOf write.ops commit
 AsksCommit call.Config body commit = (config : Configured) × Accepts body config × (commit ≡ Config config)
 AsksCommit _ body commit = ⊥
 

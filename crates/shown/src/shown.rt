@@ -9,6 +9,7 @@ ghost use Rattle.meaning.specs.Membership.{IsMember};
 ghost use Rattle.meaning.specs.Verdict.{config_cause};
 ghost use Rattle.rows.specs.Follows.{IsAccepted};
 ghost use Rattle.rows.specs.Judging.{WriteRefused, ConfigRefused};
+ghost use Rattle.verdict.specs.Verdict.{AcceptsWrite, RefusesWrite};
 ghost use Rattle.rows.specs.Retained.{IsRetained, newest, newest_of, snap_at};
 ghost use Rattle.shown.specs.Standing.{nothing, after_step, after_take, before_commit, cursor_after, state_of, CanGoBack, HasRoom, IsSteady};
 ghost use Rattle.expand.specs.declared.limits.TheConstants.{MAX_DEPTH};
@@ -24,7 +25,7 @@ use crate::step::Step;
 use config::Config;
 use decide::Nothing;
 use expand::Tree;
-use names::{Items, Node, Object, Op, Part, Refusal, State, Tuple};
+use names::{Items, Node, Object, Op, Part, Refusal, State, Tuple, Write};
 use rows::{Loaded, Rows, Tupleset, what_follows_has_room};
 use std::alloc::{AllocError, Global};
 use std::marker::Model;
@@ -253,7 +254,16 @@ impl Shown {
         }
     }
 
-    /// Why the operations are refused, if they are.
+    /// Why a write is refused at the newest revision, if it is.
+    pub fn judge_write(&self, write: &Write<Zookie>) -> Result<(), Refusal>
+        ensures ok { OnOk result (AcceptsWrite self.now.kept write.now) }
+        ensures accepted { OnOk result (IsAccepted (newest_of self.now.kept) write.now.ops) }
+        ensures err { IfErr result (RefusesWrite self.now.kept write.now) }
+    {
+        verdict::judge(&self.rows, write)
+    }
+
+    /// Why operations are refused at the newest revision, if they are.
     pub fn judge(&self, ops: &[Op]) -> Result<(), Refusal>
         ensures ok { OnOk result (IsAccepted (newest_of self.now.kept) ops.now) }
         ensures err { IfErr result (WriteRefused (newest_of self.now.kept) ops.now) }

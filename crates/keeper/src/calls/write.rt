@@ -2,7 +2,7 @@
 ghost use Rattle.std.specs.Prelude.{◌≡◌, ℕ, List};
 ghost use mathlib.Core.List.{IsPrefix};
 ghost use Rattle.names.specs.Calls.{told};
-ghost use Rattle.bodies.specs.Requests.{AsksWrite};
+ghost use Rattle.bodies.specs.Writing.{AsksWrite};
 ghost use Rattle.published.specs.Known.{Begins};
 ghost use Rattle.keeper_core.specs.Posts.{shown_by};
 ghost use Rattle.keeper.specs.calls.Write.{WriteStep};
@@ -10,32 +10,32 @@ ghost use Rattle.keeper.specs.calls.Write.{WriteStep};
 use crate::calls::refusing::refuse;
 use bodies::refusals::refusal;
 use bodies::replies::receipt;
-use bodies::requests::write_body;
+use bodies::writing::write_body;
 use keeper_core::Desk;
-use names::{Items, Op, Reply, Write};
+use names::{Reply, Write};
 use published::Session;
 use std::alloc::Global;
 use std::sync::Wait;
 use tables::Tables;
+use zookie::Zookie;
 
-/// Does the operations that a body asks for, as one commit, and tells of it. The session then knows no less than it did,
+/// Does the operations that a body asks for, as one commit, if its conditions hold, and tells of it. The session then knows no less than it did,
 /// and all that is shown.
 pub fn write_on<T: Tables + Drop, R: Wait + Drop>(
     alloc: Global,
     desk: &mut Desk<T, R>,
     session: &mut Session,
-    ops: Items<Op>,
+    write: Write<Zookie>,
 ) -> Reply
     requires { session.old.book ≡ desk.old.book }
-    ensures step { (body : List ℕ) → AsksWrite body ops
+    ensures step { (body : List ℕ) → AsksWrite body write
         → WriteStep T.Tables desk.old body (told result) desk.new }
     ensures book { desk.new.book ≡ desk.old.book }
     ensures later { IsPrefix desk.old.shown desk.new.shown }
     ensures kept { Begins session.old session.new }
     ensures known { Begins (shown_by desk.new) session.new }
 {
-    let conditions = Items::of(Vec::new(alloc));
-    match desk.write(Write { conditions, ops }) {
+    match desk.write(write) {
         Ok(accepted) => {
             session.learn(&accepted);
             receipt(alloc, accepted.is_shown(), &accepted.zookie())
@@ -56,7 +56,7 @@ pub(crate) fn answer_write<T: Tables + Drop, R: Wait + Drop>(
     ensures known { Begins (shown_by desk.new) session.new }
 {
     match write_body(alloc, body) {
-        Ok(ops) => write_on(alloc, desk, session, ops),
+        Ok(write) => write_on(alloc, desk, session, write),
         Err(why) => refusal(alloc, &why),
     }
 }

@@ -1,6 +1,6 @@
 use Rattle.std.proofs.Common.{take}
 use Rattle.serde_json.specs.View.{items_view}
-use Rattle.bodies.specs.Requests.{AskOps}
+use Rattle.bodies.specs.Writing.{AskOps}
 use Rattle.bodies.proofs.ops.read_ops.Given as goal
 
 abbrev pub invariant-loop-item : goal.invariant-loop-item

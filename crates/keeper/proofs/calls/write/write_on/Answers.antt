@@ -11,8 +11,8 @@ learn-requires g c =
 
 pub returns-in-Ok-clause-step : goal.returns-in-Ok-clause-step
 returns-in-Ok-clause-step g c body asks =
-    write_done g.T.Tables c.args.desk.now body c.args.ops c.of-conditions.result c.in-Ok.accepted c.is_shown.result c.zookie.result _ _
-    asks (c.of-conditions.ensures ∙ c.new.ensures.items) c.in-Ok.ensures.ok c.is_shown.ensures c.zookie.ensures c.receipt.ensures
+    write_done g.T.Tables c.args.desk.now body c.args.write c.in-Ok.accepted c.is_shown.result c.zookie.result _ _
+    asks c.in-Ok.ensures.ok c.is_shown.ensures c.zookie.ensures c.receipt.ensures
 
 pub returns-in-Ok-clause-known : goal.returns-in-Ok-clause-known
 returns-in-Ok-clause-known g c = subst (λ (k : Known). Begins k c.learn.new.self) c.in-Ok.ensures.ok.tells.published c.learn.ensures.told
@@ -22,8 +22,8 @@ refuse-requires g c = c.requires ∙ sym c.in-Err.ensures.err.shows.book
 
 pub returns-in-Err-clause-step : goal.returns-in-Err-clause-step
 returns-in-Err-clause-step g c body asks =
-    write_not_done g.T.Tables c.args.desk.now c.write.new.self body c.args.ops c.of-conditions.result c.in-Err.why _ _
-    asks (c.of-conditions.ensures ∙ c.new.ensures.items) c.in-Err.ensures.err c.refuse.ensures.more c.refuse.ensures.same c.refuse.ensures.says
+    write_not_done g.T.Tables c.args.desk.now c.write.new.self body c.args.write c.in-Err.why _ _
+    asks c.in-Err.ensures.err c.refuse.ensures.more c.refuse.ensures.same c.refuse.ensures.says
 
 pub returns-in-Err-clause-later : goal.returns-in-Err-clause-later
 returns-in-Err-clause-later g c = shown_later c.args.desk.now c.write.new.self c.refuse.new.desk c.in-Err.ensures.err.shows c.refuse.ensures.more

@@ -1,7 +1,7 @@
-use Rattle.std.proofs.Common.{arith, rules}
-use Rattle.bodies.proofs.Asking.{asked_none, asked_many, asked_write}
-use Rattle.bodies.proofs.requests.write_of.Goals.{then-is_empty-via-then-is_empty, then-is_empty-via-else-is_empty+then-len-gt-MAX_OPS}
-use Rattle.bodies.proofs.requests.write_of.Goals as goal
+use Rattle.std.proofs.Common.{arith}
+use Rattle.bodies.proofs.Asking.{asked_none, asked_many, asked_ops}
+use Rattle.bodies.proofs.writing.ops_of.Goals.{then-is_empty-via-then-is_empty, then-is_empty-via-else-is_empty+then-len-gt-MAX_OPS}
+use Rattle.bodies.proofs.writing.ops_of.Goals as goal
 
 pub returns-then-is_empty-clause-err : goal.returns-then-is_empty-clause-err
 returns-then-is_empty-clause-err c ops w = elim c.then-is_empty.branch [
@@ -11,5 +11,5 @@ returns-then-is_empty-clause-err c ops w = elim c.then-is_empty.branch [
 
 pub returns-clause-ok : goal.returns-clause-ok
 returns-clause-ok c =
-    rw c.of.ensures (asked_write _ c.in-Some.items.now.items _ (let e = c.has_only_members.ensures in let f = c.if-not-has_only_members.false in search rules) c.in-Some.ensures
+    rw c.of.ensures (asked_ops _ c.in-Some.items.now.items _ c.in-Some.ensures
     (grind (arith, c.is_empty.ensures, c.if-is_empty.false, c.in-Some.items.now.ok)) (grind (arith, c.len.ensures, c.if-len-gt-MAX_OPS.false, c.in-Some.items.now.ok)) c.in_ok-ops.ensures.ok)

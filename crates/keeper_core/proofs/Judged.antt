@@ -1,0 +1,60 @@
+-- No write is refused for what the tables did.
+use Rattle.std.proofs.Common.{◌≡◌, ℕ, Bool, true, false, not, List, map, refl, ap, sym, ◌∙◌, true≢false}
+use Rattle.std.specs.Prelude.{Option, Some, None}
+use Rattle.std.specs.List.{list_any}
+use Rattle.names.specs.declared.write.Condition.{Condition}
+use Rattle.names.specs.declared.write.Write.{Write}
+use Rattle.names.specs.declared.refusal.Refusal.{Refusal}
+use Rattle.names.specs.declared.refusal.Refusal.TheVariants.{Malformed, UnknownRelation, TypeRefused, TwiceInOneWrite, ForeignZookie, Future, Expired, ConditionFailed, AlreadyThere, NotThere, Full, StoreFault, Reopen}
+use Rattle.meaning.specs.Verdict.{or_else, refused_if, at_place, first_from, is_in_range, is_unknown, is_untyped, is_twice, inserts_again, deletes_nothing, is_full, event_of}
+use Rattle.zookie.specs.declared.Zookie.{Zookie}
+use Rattle.rows.specs.Retained.{Retained, newest, newest_of}
+use Rattle.verdict.specs.Verdict.{verdict, condition_cause, are_few, is_foreign, is_future, is_expired, fails, RefusesWrite}
+
+abbrev is_of_tables : Refusal → Bool
+is_of_tables StoreFault = true
+is_of_tables Reopen = true
+is_of_tables _ = false
+
+module _ (why : Refusal) (tables : is_of_tables why ≡ true) where
+  other : (cause : Refusal) → is_of_tables cause ≡ false → Some cause ≡ Some why → ⊥
+  other cause plain is = let same : cause ≡ why = cc is in true≢false (sym tables ∙ sym (ap is_of_tables same) ∙ plain)
+
+  if_other : (cause : Refusal) (b : Bool) → is_of_tables cause ≡ false → refused_if cause b ≡ Some why → ⊥
+  if_other cause true plain is = other cause plain is
+  if_other cause false plain is = absurd (cc is)
+
+  place_other : (cause : ℕ → Refusal) (o : Option ℕ) → ((i : ℕ) → is_of_tables (cause i) ≡ false) → at_place cause o ≡ Some why → ⊥
+  place_other cause (Some i) plain is = other (cause i) (plain i) is
+  place_other cause None plain is = absurd (cc is)
+
+  neither : (a b : Option Refusal) → (a ≡ Some why → ⊥) → (b ≡ Some why → ⊥) → or_else a b ≡ Some why → ⊥
+  neither (Some a) b first second is = first is
+  neither None b first second is = second is
+
+  no_condition : (r : Retained) (conditions : List (Condition Zookie)) → condition_cause r conditions ≡ Some why → ⊥
+  no_condition r conditions =
+      neither _ _ (if_other ForeignZookie (list_any (is_foreign r.number) conditions) refl) (
+      neither _ _ (if_other Future (list_any (is_future (newest r)) conditions) refl) (
+      neither _ _ (if_other Expired (list_any (is_expired r.floor) conditions) refl)
+      (place_other (λ i. ConditionFailed i) (first_from (fails r) 0 conditions) (λ i. refl))))
+
+  no_verdict : (r : Retained) (write : Write Zookie) → verdict r write ≡ Some why → ⊥
+  no_verdict r write =
+      let n = newest_of r in
+      let ops = write.ops in
+      neither _ _ (if_other Malformed (not (is_in_range ops)) refl) (
+      neither _ _ (if_other Malformed (not (are_few write.conditions)) refl) (
+      neither _ _ (if_other UnknownRelation (list_any (is_unknown n.held.config) ops) refl) (
+      neither _ _ (if_other TypeRefused (list_any (is_untyped n.held.config) ops) refl) (
+      neither _ _ (if_other TwiceInOneWrite (is_twice ops) refl) (
+      neither _ _ (no_condition r write.conditions) (
+      neither _ _ (place_other (λ i. AlreadyThere i) (first_from (inserts_again n.held.tuples) 0 ops) (λ i. refl)) (
+      neither _ _ (place_other (λ i. NotThere i) (first_from (deletes_nothing n.held.tuples) 0 ops) (λ i. refl))
+      (if_other Full (is_full n (map event_of ops)) refl))))))))
+
+pub write_reopens : (r : Retained) (write : Write Zookie) → RefusesWrite r write Reopen → ⊥
+write_reopens r write is = no_verdict Reopen refl r write is
+
+pub write_faults : (r : Retained) (write : Write Zookie) → RefusesWrite r write StoreFault → ⊥
+write_faults r write is = no_verdict StoreFault refl r write is

@@ -1,0 +1,75 @@
+-- Why a write is refused, with its conditions: each cause is looked for over the whole write before the next.
+use Rattle.std.specs.Prelude.{◌≡◌, ℕ, List, length, map, Bool, false, not, Option, Some, None, nat_eq, nat_lt, nat_le}
+use Rattle.std.specs.List.{list_any}
+use Rattle.names.specs.declared.tuple.Tuple.{Tuple}
+use Rattle.names.specs.declared.write.Condition.{Condition}
+use Rattle.names.specs.declared.write.Condition.TheVariants.{Exists, Absent, Unchanged}
+use Rattle.names.specs.declared.write.Write.{Write}
+use Rattle.names.specs.declared.refusal.Refusal.{Refusal}
+use Rattle.names.specs.declared.refusal.Refusal.TheVariants.{Malformed, UnknownRelation, TypeRefused, TwiceInOneWrite, ForeignZookie, Future, Expired, ConditionFailed, AlreadyThere, NotThere, Full, Memory}
+use Rattle.meaning.specs.TupleSet as set
+use Rattle.meaning.specs.Verdict.{or_else, refused_if, at_place, first_from, is_in_range, is_unknown, is_untyped, is_twice, inserts_again, deletes_nothing, is_full, event_of}
+use Rattle.zookie.specs.declared.Zookie.{Zookie}
+use Rattle.rows.specs.Retained.{Retained, newest, newest_of, is_touched_after}
+use Rattle.verdict.specs.declared.limits.TheConstants.{MAX_CONDITIONS}
+
+-- the condition's zookie is another store's
+abbrev pub is_foreign : ℕ → Condition Zookie → Bool
+is_foreign number (Exists t) = false
+is_foreign number (Absent t) = false
+is_foreign number (Unchanged t z) = not (nat_eq z.store number)
+
+-- it is above the newest revision
+abbrev pub is_future : ℕ → Condition Zookie → Bool
+is_future newest (Exists t) = false
+is_future newest (Absent t) = false
+is_future newest (Unchanged t z) = nat_lt newest z.rev
+
+-- it is below the floor
+abbrev pub is_expired : ℕ → Condition Zookie → Bool
+is_expired floor (Exists t) = false
+is_expired floor (Absent t) = false
+is_expired floor (Unchanged t z) = nat_lt z.rev floor
+
+-- The condition does not hold at the newest revision: its tuple is not there, is there, or some commit after the zookie's
+-- revision has an event on it.
+abbrev pub fails : Retained → Condition Zookie → Bool
+fails r (Exists t) = not (set.contains (newest_of r).held.tuples t)
+fails r (Absent t) = set.contains (newest_of r).held.tuples t
+fails r (Unchanged t z) = is_touched_after r t z.rev
+
+-- why the conditions are refused, or nothing
+abbrev pub condition_cause : Retained → List (Condition Zookie) → Option Refusal
+condition_cause r conditions =
+    or_else (refused_if ForeignZookie (list_any (is_foreign r.number) conditions)) (
+    or_else (refused_if Future (list_any (is_future (newest r)) conditions)) (
+    or_else (refused_if Expired (list_any (is_expired r.floor) conditions)) (
+    at_place (λ i. ConditionFailed i) (first_from (fails r) 0 conditions))))
+
+-- there are at most 64 conditions
+abbrev pub are_few : List (Condition Zookie) → Bool
+are_few conditions = nat_le (length conditions) MAX_CONDITIONS
+
+-- why the write is refused, or nothing
+abbrev pub verdict : Retained → Write Zookie → Option Refusal
+verdict r write =
+    let n = newest_of r in
+    let ops = write.ops in
+    or_else (refused_if Malformed (not (is_in_range ops))) (
+    or_else (refused_if Malformed (not (are_few write.conditions))) (
+    or_else (refused_if UnknownRelation (list_any (is_unknown n.held.config) ops)) (
+    or_else (refused_if TypeRefused (list_any (is_untyped n.held.config) ops)) (
+    or_else (refused_if TwiceInOneWrite (is_twice ops)) (
+    or_else (condition_cause r write.conditions) (
+    or_else (at_place (λ i. AlreadyThere i) (first_from (inserts_again n.held.tuples) 0 ops)) (
+    or_else (at_place (λ i. NotThere i) (first_from (deletes_nothing n.held.tuples) 0 ops)) (
+    refused_if Full (is_full n (map event_of ops))))))))))
+
+-- nothing speaks against the write
+abbrev pub AcceptsWrite : Retained → Write Zookie → Type 0
+AcceptsWrite r write = verdict r write ≡ None
+
+-- the first cause; or there was no memory
+abbrev pub RefusesWrite : Retained → Write Zookie → Refusal → Type 0
+RefusesWrite r write Memory = Unit {0}
+RefusesWrite r write why = verdict r write ≡ Some why
