@@ -175,6 +175,22 @@ impl<T: Tables + Drop, R: Wait + Drop> Desk<T, R> {
         self.take(part, commits as u32)
     }
 
+    /// Raises the floor to the zookie's revision, in the tables and then in what is shown; at or below the floor nothing
+    /// changes. It is refused for another store's zookie, above the newest revision, and above a cursor.
+    pub fn trim(&mut self, floor: Zookie) -> Result<Posted, Refusal>
+        ensures seats { self.new.seats ≡ self.old.seats }
+    {
+        self.make_ready()?;
+        self.own.judge_floor(&floor)?;
+        if self.own.can_raise(floor.rev) {
+            self.raise(floor.rev)?;
+        }
+        let shown = self.publish();
+        let value = self.own.state().floor;
+        let receipt = self.shown_receipt(shown);
+        Ok(Posted { value, receipt })
+    }
+
     /// A session that knows what is shown now. It is refused exactly where all have been given out; the place of
     /// one that is dropped is not given out again.
     pub fn session(&mut self) -> Result<Session, Refusal>
@@ -370,6 +386,16 @@ impl<T: Tables + Drop, R: Wait + Drop> Desk<T, R> {
         let value = self.cursor(part);
         let receipt = self.shown_receipt(shown);
         Ok(Posted { value, receipt })
+    }
+
+    // Stores the floor, posts it, and raises it. Room is taken for its step first.
+    fn raise(&mut self, floor: u64) -> Result<(), Refusal> {
+        self.publication.reserve()?;
+        let first = self.own.last_below(floor);
+        self.tables.trim(floor, first)?;
+        self.own.raise(floor);
+        self.publication.post(Step::Trim(floor));
+        Ok(())
     }
 
     // The cursor of a part.

@@ -1,9 +1,9 @@
 //! Tables that are known to have failed.
 ghost use Rattle.std.specs.Prelude.{◌≡◌, ◌∷◌, [], List, false, Err, IfOk, IfErr, OnOk, OnErr};
-ghost use Rattle.rows.specs.Retained.{Retained, with_commit};
+ghost use Rattle.rows.specs.Retained.{Retained, with_commit, after_trim};
 ghost use Rattle.rows.specs.Loads.{retained_of, IsWithin};
 ghost use Rattle.tables.specs.Device.{IsClean, IsOpen, Lasts};
-ghost use Rattle.tables.specs.Storing.{IsNextAt, CanStore};
+ghost use Rattle.tables.specs.Storing.{IsNextAt, CanStore, IsTrimTo, CanTrim};
 ghost use Rattle.tables.specs.Opening.{CannotOpen};
 ghost use Rattle.keeper_core.specs.Posts.{Agrees, ComesBack, FailsToLoad};
 ghost use Rattle.keeper_core.specs.inside.Latching.{IsLatched, AgreeWith};
@@ -66,6 +66,35 @@ impl<T: Tables + Drop> LatchedTables<T> {
         ensures lasts { Lasts (T.device self.old.tables) (T.device self.new.tables) }
     {
         match self.tables.write(rev, commit, puts) {
+            Ok(()) => Ok(()),
+            Err(TablesError::Memory) => Err(Refusal::Memory),
+            Err(TablesError::Fault) => {
+                self.failed = true;
+                Err(Refusal::StoreFault)
+            }
+        }
+    }
+}
+
+/// Raises the floor, and notes a fault.
+impl<T: Tables + Drop> LatchedTables<T> {
+    pub(crate) fn trim(&mut self, floor: u64, first: u64) -> Result<(), Refusal>
+        requires works { self.old.failed ≡ false }
+        requires can { CanTrim (T.holds self.old.tables) floor first }
+        ensures ok { OnOk result (self.new.failed ≡ false) }
+        ensures open { OnOk result (IsOpen (T.device self.new.tables)) }
+        ensures quiet { OnOk result (T.count self.new.tables ≡ T.count self.old.tables) }
+        ensures err { IfErr result (λ why. IsLatched T.Tables self.old why self.new) }
+        ensures stored { (r : Retained) → AgreeWith T.Tables self.old r → IsTrimTo r floor first
+            → OnOk result (AgreeWith T.Tables self.new (after_trim r floor)) }
+        ensures settled { (r : Retained) → AgreeWith T.Tables self.old r → IsTrimTo r floor first
+            → OnOk result (T.leaves self.new.tables (after_trim r floor ∷ [])) }
+        ensures left { (r : Retained) (rs : List Retained) → AgreeWith T.Tables self.old r
+            → IsTrimTo r floor first → T.leaves self.old.tables rs
+            → T.leaves self.new.tables (after_trim r floor ∷ rs) }
+        ensures lasts { Lasts (T.device self.old.tables) (T.device self.new.tables) }
+    {
+        match self.tables.trim(floor, first) {
             Ok(()) => Ok(()),
             Err(TablesError::Memory) => Err(Refusal::Memory),
             Err(TablesError::Fault) => {

@@ -9,9 +9,14 @@ ghost use Rattle.meaning.specs.Membership.{IsMember};
 ghost use Rattle.meaning.specs.Verdict.{config_cause};
 ghost use Rattle.rows.specs.Follows.{IsAccepted};
 ghost use Rattle.rows.specs.Judging.{WriteRefused, ConfigRefused};
+<<<<<<< ours
 ghost use Rattle.verdict.specs.Verdict.{AcceptsWrite, RefusesWrite};
 ghost use Rattle.rows.specs.Retained.{IsRetained, newest, newest_of, snap_at};
 ghost use Rattle.shown.specs.Standing.{nothing, after_step, after_take, before_commit, cursor_after, state_of, CanGoBack, HasRoom, IsSteady};
+=======
+ghost use Rattle.rows.specs.Retained.{IsRetained, newest, newest_of, snap_at, commits_between, last_config};
+ghost use Rattle.shown.specs.Standing.{nothing, after_step, after_take, before_commit, cursor_after, state_of, CanGoBack, CanRaise, HasRoom, IsSteady};
+>>>>>>> theirs
 ghost use Rattle.expand.specs.declared.limits.TheConstants.{MAX_DEPTH};
 ghost use Rattle.expand.specs.Causes.{ExpandCause};
 ghost use Rattle.expand.specs.Viewed.{tree_of};
@@ -84,7 +89,50 @@ impl Shown {
                 self.take(*part, *commits);
                 Ok(())
             }
+            Step::Trim(floor) => {
+                self.raise(*floor);
+                Ok(())
+            }
         }
+    }
+
+    /// Raises the floor. It takes no memory.
+    pub fn raise(&mut self, floor: u64)
+        requires { CanRaise self.old floor }
+        ensures { self.new ≡ after_step self.old (Step.Trim floor) }
+    {
+        self.rows.trim(floor);
+    }
+
+    /// Why the floor is not raised to a zookie's revision, if it is not: it is of another store, above the newest
+    /// revision, or above a cursor.
+    pub fn judge_floor(&self, floor: &Zookie) -> Result<(), Refusal> {
+        if floor.store != self.rows.number() {
+            return Err(Refusal::ForeignZookie);
+        }
+        if floor.rev > self.rows.newest() {
+            return Err(Refusal::Future);
+        }
+        if floor.rev > self.index || floor.rev > self.hot {
+            return Err(Refusal::InUse);
+        }
+        Ok(())
+    }
+
+    /// Whether the floor can be raised to the revision.
+    pub fn can_raise(&self, floor: u64) -> bool
+        ensures { IsTrue result → CanRaise self.now floor }
+    {
+        self.rows.floor() <= floor && floor <= self.index && floor <= self.hot
+    }
+
+    /// The revision of the last configuration that comes to lie at or below a higher floor, or 0.
+    pub fn last_below(&self, floor: u64) -> u64
+        requires above { self.now.kept.floor ≤ floor }
+        requires below { floor ≤ newest self.now.kept }
+        ensures { result ≡ last_config 0 self.now.kept.floor (commits_between self.now.kept self.now.kept.floor floor) }
+    {
+        self.rows.last_config(0, self.rows.floor(), floor)
     }
 
     /// Takes the newest commit off again, which no part has taken. It takes no memory.
