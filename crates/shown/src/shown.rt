@@ -9,14 +9,11 @@ ghost use Rattle.meaning.specs.Membership.{IsMember};
 ghost use Rattle.meaning.specs.Verdict.{config_cause};
 ghost use Rattle.rows.specs.Follows.{IsAccepted};
 ghost use Rattle.rows.specs.Judging.{WriteRefused, ConfigRefused};
-<<<<<<< ours
 ghost use Rattle.verdict.specs.Verdict.{AcceptsWrite, RefusesWrite};
 ghost use Rattle.rows.specs.Retained.{IsRetained, newest, newest_of, snap_at};
 ghost use Rattle.shown.specs.Standing.{nothing, after_step, after_take, before_commit, cursor_after, state_of, CanGoBack, HasRoom, IsSteady};
-=======
 ghost use Rattle.rows.specs.Retained.{IsRetained, newest, newest_of, snap_at, commits_between, last_config};
 ghost use Rattle.shown.specs.Standing.{nothing, after_step, after_take, before_commit, cursor_after, state_of, CanGoBack, CanRaise, HasRoom, IsSteady};
->>>>>>> theirs
 ghost use Rattle.expand.specs.declared.limits.TheConstants.{MAX_DEPTH};
 ghost use Rattle.expand.specs.Causes.{ExpandCause};
 ghost use Rattle.expand.specs.Viewed.{tree_of};
