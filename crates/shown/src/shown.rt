@@ -10,8 +10,6 @@ ghost use Rattle.meaning.specs.Verdict.{config_cause};
 ghost use Rattle.rows.specs.Follows.{IsAccepted};
 ghost use Rattle.rows.specs.Judging.{WriteRefused, ConfigRefused};
 ghost use Rattle.verdict.specs.Verdict.{AcceptsWrite, RefusesWrite};
-ghost use Rattle.rows.specs.Retained.{IsRetained, newest, newest_of, snap_at};
-ghost use Rattle.shown.specs.Standing.{nothing, after_step, after_take, before_commit, cursor_after, state_of, CanGoBack, HasRoom, IsSteady};
 ghost use Rattle.rows.specs.Retained.{IsRetained, newest, newest_of, snap_at, commits_between, last_config};
 ghost use Rattle.shown.specs.Standing.{nothing, after_step, after_take, before_commit, cursor_after, state_of, CanGoBack, CanRaise, HasRoom, IsSteady};
 ghost use Rattle.expand.specs.declared.limits.TheConstants.{MAX_DEPTH};
