@@ -1,5 +1,5 @@
 //! Tables that are known to have failed.
-ghost use Rattle.std.specs.Prelude.{◌≡◌, ◌∷◌, [], List, false, Err, IfOk, IfErr, OnOk, OnErr};
+ghost use Rattle.std.specs.Prelude.{◌≡◌, ◌<◌, ◌∷◌, [], List, false, Err, IfOk, IfErr, OnOk, OnErr};
 ghost use Rattle.rows.specs.Retained.{Retained, with_commit, after_trim};
 ghost use Rattle.rows.specs.Loads.{retained_of, IsWithin};
 ghost use Rattle.tables.specs.Device.{IsClean, IsOpen, Lasts};
@@ -74,10 +74,8 @@ impl<T: Tables + Drop> LatchedTables<T> {
             }
         }
     }
-}
 
-/// Raises the floor, and notes a fault.
-impl<T: Tables + Drop> LatchedTables<T> {
+    /// Raises the floor, and notes a fault.
     pub(crate) fn trim(&mut self, floor: u64, first: u64) -> Result<(), Refusal>
         requires works { self.old.failed ≡ false }
         requires can { CanTrim (T.holds self.old.tables) floor first }
@@ -89,6 +87,8 @@ impl<T: Tables + Drop> LatchedTables<T> {
             → OnOk result (AgreeWith T.Tables self.new (after_trim r floor)) }
         ensures settled { (r : Retained) → AgreeWith T.Tables self.old r → IsTrimTo r floor first
             → OnOk result (T.leaves self.new.tables (after_trim r floor ∷ [])) }
+        ensures unstored { (r : Retained) → AgreeWith T.Tables self.old r → IsTrimTo r floor first
+            → r.floor < floor → OnErr result (AgreeWith T.Tables self.new r) }
         ensures left { (r : Retained) (rs : List Retained) → AgreeWith T.Tables self.old r
             → IsTrimTo r floor first → T.leaves self.old.tables rs
             → T.leaves self.new.tables (after_trim r floor ∷ rs) }

@@ -60,13 +60,14 @@ abbrev pub cursor_of : Part → Standing → ℕ
 cursor_of Index s = s.index
 cursor_of Hot s = s.hot
 
--- the revision is not below the floor, and no cursor is below it
+-- the revision is above the floor, it is there, and no cursor is below it
 pub record CanRaise (s : Standing) (floor : ℕ) : Type 0 where
-  pub above : s.kept.floor ≤ floor
+  pub above : s.kept.floor < floor
+  pub there : floor ≤ newest s.kept
   pub index : floor ≤ s.index
   pub hot : floor ≤ s.hot
 
--- what was opened is within the limits, a commit is one that can follow, and a floor can be raised
+-- what was opened is within the limits, a commit is one that can follow, and the floor can be raised so
 abbrev pub HasRoom : Standing → Step → Type 0
 HasRoom s (Open loaded) = IsWithin loaded
 HasRoom s (Commit commit) = IsNext s.kept commit
