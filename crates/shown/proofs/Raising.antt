@@ -1,6 +1,7 @@
 -- What a higher floor keeps.
 use Rattle.std.proofs.Common.{◌≡◌, ℕ, ◌+◌, ◌-◌, ◌<◌, ◌≤◌, Bool, true, false, List, [], ◌∷◌, ◌++◌, length, take, drop, map, refl, ap, sym, subst, ◌∙◌, arith, Option, Some, None}
 use Rattle.std.specs.Prelude.{◌||◌, ◌&&◌, not, nat_lt, nat_le}
+use Rattle.std.specs.List.{list_any}
 use Rattle.std.proofs.Math.Seq.{take-add}
 use Rattle.std.proofs.lemmas.List.{take-append-drop, take-append-le, drop-append-le, drop-drop, length-drop}
 use Rattle.std.proofs.lemmas.Bool.Decides.{nat_tests}
@@ -10,14 +11,14 @@ use Rattle.names.specs.declared.commit.Event.{Event}
 use Rattle.names.specs.declared.commit.Commit.{Commit}
 use Rattle.names.specs.declared.commit.Commit.TheVariants.{Tuples, Config}
 use Rattle.names.specs.declared.refusal.Refusal.{Refusal}
-use Rattle.names.specs.declared.refusal.Refusal.TheVariants.{Full}
+use Rattle.names.specs.declared.refusal.Refusal.TheVariants.{Malformed, UnknownRelation, TypeRefused, TwiceInOneWrite, AlreadyThere, NotThere, Full}
 use Rattle.meaning.specs.Config.{Configured}
 use Rattle.meaning.specs.Snap.{Snap}
 use Rattle.meaning.specs.TupleSet as set
 use Rattle.meaning.specs.History.{History, after_commit, after_commits, replay, puts_in}
-use Rattle.meaning.specs.Verdict.{Newest, event_of, or_else, refused_if, is_full, write_cause}
+use Rattle.meaning.specs.Verdict.{Newest, event_of, or_else, refused_if, at_place, first_from, is_in_range, is_unknown, is_untyped, is_twice, inserts_again, deletes_nothing, is_full, write_cause}
 use Rattle.rows.specs.Retained.{Retained, newest, newest_of, spans_of, snap_at, with_commit, after_trim, commits_between}
-use Rattle.rows.specs.Follows.{commit_cause, touch_of, IsNext}
+use Rattle.rows.specs.Follows.{commit_cause, touch_of, is_in_order, IsNext}
 use Rattle.rows.proofs.Committing.{tuples_within}
 use Rattle.rows.proofs.Trimming.{spans_split}
 use Rattle.shown.specs.Standing.{Standing, CanRaise}
@@ -118,10 +119,16 @@ module _ (n : Newest) (rows : ℕ) (fewer : rows ≤ n.rows) where
 
   still_written : (ops : List Op) → write_cause n ops ≡ None → write_cause (with_rows n rows) ops ≡ None
   still_written ops =
-      on_none _ _ _ (on_none _ _ _ (on_none _ _ _ (on_none _ _ _ (on_none _ _ _ (on_none _ _ _ (still_room (map event_of ops)))))))
+      on_none (refused_if Malformed (not (is_in_range ops))) _ _
+      (on_none (refused_if UnknownRelation (list_any (is_unknown n.held.config) ops)) _ _
+      (on_none (refused_if TypeRefused (list_any (is_untyped n.held.config) ops)) _ _
+      (on_none (refused_if TwiceInOneWrite (is_twice ops)) _ _
+      (on_none (at_place (λ i. AlreadyThere i) (first_from (inserts_again n.held.tuples) 0 ops)) _ _
+      (on_none (at_place (λ i. NotThere i) (first_from (deletes_nothing n.held.tuples) 0 ops)) _ _
+      (still_room (map event_of ops)))))))
 
   still_next : (c : Commit Configured) → commit_cause n c ≡ None → commit_cause (with_rows n rows) c ≡ None
-  still_next (Tuples events) = on_none _ _ _ (still_written (map touch_of events))
+  still_next (Tuples events) = on_none (refused_if Malformed (not (is_in_order events))) _ _ (still_written (map touch_of events))
   still_next (Config config) = λ h. h
 
 -- what can follow the history can follow it from a higher floor on

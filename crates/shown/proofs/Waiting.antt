@@ -157,11 +157,24 @@ room_above : (s t : Standing) (floor : ℕ) (waiting : History) → s.kept.floor
 room_above s t floor [] above there same have = tt
 room_above s t floor (c ∷ waiting) above there same have =
     let one = length-append s.kept.commits (c ∷ []) in
-    let on : after_trim (with_commit s.kept c) floor ≡ with_commit t.kept c = trim_commit s.kept floor c there ∙ ap (λ (r : Retained). with_commit r c) same in
-    (
+    let on : after_trim (with_commit s.kept c) floor ≡ with_commit t.kept c = trim_commit s.kept floor c there ∙ ap (λ (r : Retained). with_commit r c) same in (
       subst (λ (r : Retained). IsNext r c) same (trim_next s.kept floor c above there have.0),
       room_above (after_step s (Commit c)) (after_step t (Commit c)) floor waiting above (omega (arith, one, there)) on have.1,
     )
+
+-- what is posted has room
+pub posted_room : (posted steps : List Step) (waiting : History) → steps ≡ posted → HaveRoom nothing (all_steps posted waiting) → HaveRoom nothing steps
+posted_room posted steps waiting same have = subst (λ (xs : List Step). HaveRoom nothing xs) (sym same) (room_before nothing posted (map (λ c. Commit c) waiting) have)
+
+-- where the floor can be raised above what is posted, it can be in what is stored
+pub raise_stored : (posted : List Step) (waiting : History) (stored : Retained) (shown : ℕ) (published : Standing) (floor : ℕ) → Fit posted waiting stored shown published → CanRaise (standing posted) floor
+    → (stored.floor ≤ floor) × (floor ≤ last stored)
+raise_stored posted waiting stored shown published floor fit can =
+    let kept = (standing posted).kept in
+    let above = can.above in
+    let there = can.there in
+    let more = length-append kept.commits waiting in
+    subst (λ (r : Retained). (r.floor ≤ floor) × (floor ≤ last r)) (sym (fit.stored ∙ kept_all posted waiting)) (omega (arith, above), omega (arith, there, more))
 
 -- after the floor is raised
 pub fit_trimmed : (posted posted' : List Step) (waiting : History) (floor : ℕ) (newest newest' : Retained) (shown : ℕ) (published : Standing)
