@@ -16,7 +16,7 @@ returns-in_err-reserve-clause-err g c =
     let inside = c.self.inside in
     let room = c.reserve.ensures.same in
     no_room g.T.Tables c.args.self.now inside.tables inside.own inside.publication c.reserve.new.self c.self.view_is c.requires.open c.self.invariant.stands c.self.invariant.beginning
-    room.0 room.1 room.2 c.from_residual-in_err-reserve.result _ c.from_residual-in_err-reserve.ensures.1
+    room.0 room.1 room.2 c.from_residual.result _ c.from_residual.ensures.1
 
 pub returns-in_err-step-clause-err : goal.returns-in_err-step-clause-err
 returns-in_err-step-clause-err g c =
