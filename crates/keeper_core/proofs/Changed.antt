@@ -27,7 +27,7 @@ use Rattle.tables.proofs.Lasting.{lasts_self}
 use Rattle.keeper_core.specs.TableChanges.{TableChange, Adds, Raises, changed, CanChange}
 use Rattle.keeper_core.specs.Posts.{Posts, ShowsMore, SameTables, PostsStep, newest_posted}
 use Rattle.published.specs.Receipts.{ReceiptFacts}
-use Rattle.keeper_core.specs.Changes.{Tells, TellsShown, IsStored, WriteAccepted, ConfigAccepted, CatchUpAccepted, TrimAccepted, IsTrimmed, trim_raises, trim_stays, CatchUpJudged, IsCommitOfWrite, IsRaiseTo, IsNoChange, MayLeave, Touches, leaves_alone, adds_one, Refuses, IsRefused}
+use Rattle.keeper_core.specs.Changes.{Tells, TellsShown, IsStored, WriteAccepted, ConfigAccepted, CatchUpAccepted, TrimAccepted, trim_raises, CatchUpJudged, IsCommitOfWrite, IsRaiseTo, IsNoChange, MayLeave, Touches, leaves_alone, adds_one, Refuses, IsRefused}
 use Rattle.keeper_core.specs.inside.Posting.{IsMemory}
 use Rattle.published.proofs.Prefixes.{prefix_trans}
 use Rattle.keeper_core.proofs.Judged.{write_reopens, write_faults, floor_reopens, floor_faults}
@@ -96,7 +96,7 @@ module _ {T : Type 0} (g : Ghosts T) (old mid : Posts T) (more : ShowsMore old m
         let made = IsCommitOfWrite (standing old.posted).kept write in
         let judged = RefusesWrite (standing old.posted).kept write in
         refused_exit (λ e. IsRefused g old made judged e mid) r why was
-        (refused_judged made judged why (write_reopens _ write) (write_faults _ write)
+        (refused_judged made judged why (write_reopens (standing old.posted).kept write) (write_faults (standing old.posted).kept write)
         (subst (λ (steps : List Step). RefusesWrite (standing steps).kept write why) more.posted is))
 
     refuses_floor : (stood : Standing) (zookie : Zookie) (why : Refusal) → floor_cause stood zookie ≡ Some why → RefusesFloor stood zookie why
@@ -241,18 +241,6 @@ module _ {T : Type 0} (g : Ghosts T) (old mid : Posts T) (more : ShowsMore old m
               tells = tells;
             }
         trim_accepted value receipt (Err why) above posts stored told tells = tt
-
-        -- it was that high already
-        pub trim_kept : (value : ℕ) (receipt : ReceiptFacts) → zookie.rev ≤ (standing mid.posted).kept.floor → ShowsMore mid new → SameTables mid new
-            → value ≡ (standing new.posted).kept.floor → TellsShown receipt new → TrimAccepted g old zookie value receipt new
-        trim_kept value receipt low shows tables told tells =
-            record {
-              works = works;
-              accepted = still_fits;
-              done = trim_stays (subst (λ (steps : List Step). zookie.rev ≤ (standing steps).kept.floor) more.posted low) (shows_on shows) (tables.0 ∙ same.0, tables.1 ∙ same.1, tables.2 ∙ same.2);
-              told = told;
-              tells = tells;
-            }
 
         -- it could not be stored
         pub trim_refused : {A : Type 0} (r : Result A Refusal) → IfErr r (λ why. IsRefused g mid (λ c. c ≡ Raises zookie.rev) IsMemory why new)

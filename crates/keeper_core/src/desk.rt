@@ -6,9 +6,9 @@ ghost use Rattle.names.specs.declared.refusal.Refusal.TheVariants.{Memory, NoSea
 ghost use Rattle.names.specs.declared.limits.TheConstants.{MAX_REV};
 ghost use Rattle.meaning.specs.Verdict.{config_cause};
 ghost use Rattle.rows.specs.Retained.{newest};
-ghost use Rattle.rows.specs.Follows.{IsNext};
+ghost use Rattle.rows.specs.Follows.{IsAccepted, IsNext};
 ghost use Rattle.rows.specs.Judging.{ConfigRefused};
-ghost use Rattle.verdict.specs.Verdict.{RefusesWrite};
+ghost use Rattle.verdict.specs.Verdict.{AcceptsWrite, RefusesWrite};
 ghost use Rattle.shown.specs.declared.step.Step.TheVariants.{Commit as CommitStep, Take, Trim};
 ghost use Rattle.shown.specs.Standing.{standing, state_of, cursor_of, CanRaise};
 ghost use Rattle.shown.specs.Raising.{floor_cause, RefusesFloor};
@@ -140,7 +140,7 @@ impl<T: Tables + Drop, R: Wait + Drop> Desk<T, R> {
         ensures seats { self.new.seats ≡ self.old.seats }
     {
         self.make_ready()?;
-        self.own.judge_write(&write)?;
+        self.judge_write(&write)?;
         let Write { ops, .. } = write;
         let puts = puts_of(ops.as_slice());
         let events = events_of(ops)?;
@@ -342,6 +342,15 @@ impl<T: Tables + Drop, R: Wait + Drop> Desk<T, R> {
         } else {
             Ok(())
         }
+    }
+
+    // Why a write is refused, if it is.
+    fn judge_write(&self, write: &Write<Zookie>) -> Result<(), Refusal>
+        ensures ok { OnOk result (AcceptsWrite (standing self.now.posted).kept write.now) }
+        ensures accepted { OnOk result (IsAccepted (newest_posted self.now) write.now.ops) }
+        ensures err { IfErr result (RefusesWrite (standing self.now.posted).kept write.now) }
+    {
+        self.own.judge_write(write)
     }
 
     // Why a configuration is refused, if it is.
