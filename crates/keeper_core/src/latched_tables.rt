@@ -1,5 +1,5 @@
 //! Tables that are known to have failed.
-ghost use Rattle.std.specs.Prelude.{◌≡◌, ◌<◌, ◌∷◌, [], List, false, Err, IfOk, IfErr, OnOk, OnErr};
+ghost use Rattle.std.specs.Prelude.{◌≡◌, ◌<◌, ◌∷◌, [], List, true, false, Err, IfOk, IfErr, OnOk, OnErr};
 ghost use Rattle.rows.specs.Retained.{Retained, with_commit, after_trim};
 ghost use Rattle.rows.specs.Loads.{retained_of, IsWithin};
 ghost use Rattle.tables.specs.Device.{IsClean, IsOpen, Lasts};
@@ -46,6 +46,16 @@ impl<T: Tables + Drop> LatchedTables<T> {
         self.tables
     }
 
+    // Notes that the tables failed.
+    fn note_fault(&mut self) -> Refusal
+        ensures refusal { result ≡ Refusal.StoreFault }
+        ensures failed { self.new.failed ≡ true }
+        ensures tables { self.new.tables ≡ self.old.tables }
+    {
+        self.failed = true;
+        Refusal::StoreFault
+    }
+
     /// Stores a commit, and notes a fault.
     pub(crate) fn write(&mut self, rev: u64, commit: &KeptCommit, puts: Puts) -> Result<(), Refusal>
         requires works { self.old.failed ≡ false }
@@ -68,10 +78,7 @@ impl<T: Tables + Drop> LatchedTables<T> {
         match self.tables.write(rev, commit, puts) {
             Ok(()) => Ok(()),
             Err(TablesError::Memory) => Err(Refusal::Memory),
-            Err(TablesError::Fault) => {
-                self.failed = true;
-                Err(Refusal::StoreFault)
-            }
+            Err(TablesError::Fault) => Err(self.note_fault()),
         }
     }
 
@@ -97,10 +104,7 @@ impl<T: Tables + Drop> LatchedTables<T> {
         match self.tables.trim(floor, first) {
             Ok(()) => Ok(()),
             Err(TablesError::Memory) => Err(Refusal::Memory),
-            Err(TablesError::Fault) => {
-                self.failed = true;
-                Err(Refusal::StoreFault)
-            }
+            Err(TablesError::Fault) => Err(self.note_fault()),
         }
     }
 }
