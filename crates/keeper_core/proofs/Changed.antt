@@ -14,7 +14,7 @@ use Rattle.zookie.specs.declared.Zookie.{Zookie}
 use Rattle.rows.specs.Retained.{Retained, newest_of}
 use Rattle.rows.specs.Follows.{AreEventsOf}
 use Rattle.rows.specs.Judging.{ConfigRefused}
-use Rattle.verdict.specs.Verdict.{verdict, AcceptsWrite, RefusesWrite}
+use Rattle.verdict.specs.Verdict.{AcceptsWrite, RefusesWrite}
 use Rattle.shown.specs.declared.step.Step.{Step}
 use Rattle.names.specs.declared.part.Part.{Part}
 use Rattle.shown.specs.declared.step.Step.TheVariants.{Commit, Take, Trim}

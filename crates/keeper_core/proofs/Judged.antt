@@ -2,13 +2,14 @@
 use Rattle.std.proofs.Common.{◌≡◌, ℕ, Bool, true, false, not, List, map, refl, ap, sym, ◌∙◌, true≢false}
 use Rattle.std.specs.Prelude.{Option, Some, None}
 use Rattle.std.specs.List.{list_any}
+use Rattle.names.specs.declared.write.Condition.{Condition}
 use Rattle.names.specs.declared.write.Write.{Write}
 use Rattle.names.specs.declared.refusal.Refusal.{Refusal}
 use Rattle.names.specs.declared.refusal.Refusal.TheVariants.{Malformed, UnknownRelation, TypeRefused, TwiceInOneWrite, ForeignZookie, Future, Expired, ConditionFailed, AlreadyThere, NotThere, Full, InUse, StoreFault, Reopen}
 use Rattle.meaning.specs.Verdict.{or_else, refused_if, at_place, first_from, is_in_range, is_unknown, is_untyped, is_twice, inserts_again, deletes_nothing, is_full, event_of}
 use Rattle.zookie.specs.declared.Zookie.{Zookie}
 use Rattle.rows.specs.Retained.{Retained, newest, newest_of}
-use Rattle.verdict.specs.Verdict.{is_foreign, is_future, is_expired, fails, are_few, verdict, RefusesWrite}
+use Rattle.verdict.specs.Verdict.{verdict, condition_cause, are_few, is_foreign, is_future, is_expired, fails, RefusesWrite}
 use Rattle.shown.specs.Standing.{Standing}
 use Rattle.shown.specs.Raising.{floor_cause, RefusesFloor}
 
@@ -33,22 +34,26 @@ module _ (why : Refusal) (tables : is_of_tables why ≡ true) where
   neither (Some a) b first second is = first is
   neither None b first second is = second is
 
+  no_condition : (r : Retained) (conditions : List (Condition Zookie)) → condition_cause r conditions ≡ Some why → ⊥
+  no_condition r conditions =
+      neither _ _ (if_other ForeignZookie (list_any (is_foreign r.number) conditions) refl) (
+      neither _ _ (if_other Future (list_any (is_future (newest r)) conditions) refl) (
+      neither _ _ (if_other Expired (list_any (is_expired r.floor) conditions) refl)
+      (place_other (λ i. ConditionFailed i) (first_from (fails r) 0 conditions) (λ i. refl))))
+
   no_verdict : (r : Retained) (write : Write Zookie) → verdict r write ≡ Some why → ⊥
   no_verdict r write =
       let n = newest_of r in
       let ops = write.ops in
-      let cs = write.conditions in
       neither _ _ (if_other Malformed (not (is_in_range ops)) refl) (
-      neither _ _ (if_other Malformed (not (are_few cs)) refl) (
+      neither _ _ (if_other Malformed (not (are_few write.conditions)) refl) (
       neither _ _ (if_other UnknownRelation (list_any (is_unknown n.held.config) ops) refl) (
       neither _ _ (if_other TypeRefused (list_any (is_untyped n.held.config) ops) refl) (
       neither _ _ (if_other TwiceInOneWrite (is_twice ops) refl) (
-      neither _ _
-      (neither _ _ (if_other ForeignZookie (list_any (is_foreign r.number) cs) refl) (
-      neither _ _ (if_other Future (list_any (is_future (newest r)) cs) refl) (
-      neither _ _ (if_other Expired (list_any (is_expired r.floor) cs) refl) (place_other (λ i. ConditionFailed i) (first_from (fails r) 0 cs) (λ i. refl))))) (
+      neither _ _ (no_condition r write.conditions) (
       neither _ _ (place_other (λ i. AlreadyThere i) (first_from (inserts_again n.held.tuples) 0 ops) (λ i. refl)) (
-      neither _ _ (place_other (λ i. NotThere i) (first_from (deletes_nothing n.held.tuples) 0 ops) (λ i. refl)) (if_other Full (is_full n (map event_of ops)) refl))))))))
+      neither _ _ (place_other (λ i. NotThere i) (first_from (deletes_nothing n.held.tuples) 0 ops) (λ i. refl))
+      (if_other Full (is_full n (map event_of ops)) refl))))))))
 
   no_floor_cause : (s : Standing) (zookie : Zookie) → floor_cause s zookie ≡ Some why → ⊥
   no_floor_cause s zookie = neither _ _ (if_other ForeignZookie _ refl) (neither _ _ (if_other Future _ refl) (if_other InUse _ refl))

@@ -9,7 +9,7 @@ use Rattle.names.specs.declared.commit.Commit.TheVariants.{Tuples, Config}
 use Rattle.names.specs.declared.refusal.Refusal.{Refusal}
 use Rattle.names.specs.declared.refusal.Refusal.TheVariants.{Malformed, Memory, StoreFault, Reopen}
 use Rattle.meaning.specs.Config.{Configured}
-use Rattle.meaning.specs.Verdict.{Newest, config_cause}
+use Rattle.meaning.specs.Verdict.{config_cause}
 use Rattle.zookie.specs.declared.Zookie.{Zookie}
 use Rattle.rows.specs.Retained.{Retained, newest}
 use Rattle.rows.specs.Follows.{AreEventsOf}

@@ -1,7 +1,7 @@
-use Rattle.std.proofs.Common.{◌≡◌, ap, ◌∙◌, subst}
+use Rattle.std.proofs.Common.{◌≡◌, ◌∙◌, ap, subst}
 use Rattle.std.specs.Prelude.{OnOk}
-use Rattle.shown.specs.Standing.{Standing, standing}
 use Rattle.verdict.specs.Verdict.{AcceptsWrite}
+use Rattle.shown.specs.Standing.{Standing, standing}
 use Rattle.keeper_core.proofs.desk.Desk.judge_write.Goals as goal
 
 pub returns-clause-ok : goal.returns-clause-ok
