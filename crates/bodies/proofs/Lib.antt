@@ -1,7 +1,7 @@
 pub mod Bytes
 pub mod Asking
-pub mod Conditions
-pub mod Writing
+pub mod AskedConditions
+pub mod AskedWrites
 pub mod Checking
 pub mod Literals
 pub mod Listing

@@ -1,6 +1,6 @@
 -- What the body of a call asks, by what `serde_json` reads from it.
 use Rattle.std.specs.Prelude.{ℕ, ◌≡◌, ◌⊎◌, ◌<◌, ◌≤◌, ◌^◌, if◌then◌else◌, Bool, true, false, List, [], ◌∷◌, Option, Some, None, option_and_then, codes}
-use Rattle.serde_json.specs.Data.{Data, Items, no_items, item}
+use Rattle.serde_json.specs.Data.{Data, Items}
 use Rattle.serde_json.specs.Find.{get, as_str, as_array, as_number, as_u64}
 use Rattle.names.specs.declared.limits.TheConstants.{MAX_CATCH_UP}
 use Rattle.config_core.specs.Objects.{is_text, has_only, text_at}

@@ -1,11 +1,11 @@
 //! The conditions of a write, as JSON.
-ghost use Rattle.std.specs.Prelude.{◌≡◌, ℕ, List, IfOk, IfErr, codes};
+ghost use Rattle.std.specs.Prelude.{◌≡◌, ℕ, List, IfOk, IfErr, MatchOption, codes};
 ghost use Rattle.serde_json.specs.Find.{get};
 ghost use Rattle.serde_json.specs.View.{view, items_view};
 ghost use Rattle.names.specs.Refusals.{IsMalformed};
 ghost use Rattle.names.specs.declared.tuple.Tuple.{Tuple as AskedTuple};
 ghost use Rattle.bodies.specs.Writing.{IsOfTuple, IsOfTupleSince, ConditionsOf, IsConditionList, AskConditions};
-ghost use Rattle.bodies.specs.inside.Conditions.{AsksCondition, ConditionCause, Asks, Cause};
+ghost use Rattle.bodies.specs.inside.Conditions.{AsksCondition, AsksBadly, IsNoCondition, Asks, Cause};
 
 use crate::requests::zookie_of;
 use config_core::{has_only_members, text_at};
@@ -49,26 +49,29 @@ fn tuple_since(value: &Value) -> Result<(Tuple, &str), Refusal>
     Ok((tuple, since))
 }
 
-/// The condition that a value asks for. `BadZookie` comes only where all else is of the form.
-fn read_condition(value: &Value) -> Result<Condition<Zookie>, Refusal>
-    ensures ok { IfOk result (AsksCondition (view value.now)) }
-    ensures err { IfErr result (ConditionCause (view value.now)) }
+/// The condition that a value asks for; or nothing, where it is of the form and the text in the zookie's place is none.
+fn read_condition(value: &Value) -> Result<Option<Condition<Zookie>>, Refusal>
+    ensures ok { IfOk result (λ read.
+        MatchOption read (AsksBadly (view value.now)) (λ condition. AsksCondition (view value.now) condition)) }
+    ensures err { IfErr result (IsMalformed (IsNoCondition (view value.now))) }
 {
     let Some(word) = text_at(value, "if") else {
         return Err(Refusal::Malformed);
     };
     if word == "exists" {
         let tuple = tuple_of(value)?;
-        return Ok(Condition::Exists(tuple));
+        return Ok(Some(Condition::Exists(tuple)));
     }
     if word == "absent" {
         let tuple = tuple_of(value)?;
-        return Ok(Condition::Absent(tuple));
+        return Ok(Some(Condition::Absent(tuple)));
     }
     if word == "unchanged" {
         let (tuple, since) = tuple_since(value)?;
-        let zookie = zookie_of(since)?;
-        return Ok(Condition::Unchanged(tuple, zookie));
+        return match zookie_of(since) {
+            Ok(zookie) => Ok(Some(Condition::Unchanged(tuple, zookie))),
+            Err(_) => Ok(None),
+        };
     }
     Err(Refusal::Malformed)
 }
@@ -82,10 +85,9 @@ fn read_conditions(alloc: Global, items: &Vec<Value>) -> Result<Vec<Condition<Zo
     let mut conditions = Vec::new(alloc);
     let mut bad = false;
     for item in items {
-        match read_condition(item) {
-            Ok(condition) => conditions.push(condition)?,
-            Err(Refusal::BadZookie) => bad = true,
-            Err(why) => return Err(why),
+        match read_condition(item)? {
+            Some(condition) => conditions.push(condition)?,
+            None => bad = true,
         }
     }
     if bad {

@@ -1,23 +1,25 @@
 -- How the value of a condition, a list of them and a write are read.
-use Rattle.std.specs.Prelude.{ℕ, List, Option}
-use Rattle.serde_json.specs.Data.{Data, Items}
+use Rattle.std.specs.Prelude.{ℕ, List}
+use Rattle.serde_json.specs.Data.{Data}
 use Rattle.names.specs.declared.write.Op.{Op}
 use Rattle.names.specs.declared.write.Condition.{Condition}
 use Rattle.names.specs.declared.write.Write.{Write}
 use Rattle.names.specs.declared.refusal.Refusal.{Refusal}
 use Rattle.names.specs.declared.refusal.Refusal.TheVariants.{Malformed, BadZookie, Memory}
 use Rattle.zookie.specs.declared.Zookie.{Zookie}
-use Rattle.bodies.specs.Writing.{ConditionOf, ConditionsOf, AskConditions, HasZookieOf, HaveZookiesOf, HasBadText, HaveBadText, WriteOf}
+use Rattle.bodies.specs.Writing.{ConditionOf, HasZookieOf, HaveZookiesOf, HasBadText, HaveBadText, WriteOf}
 
 -- the value asks for the condition
 abbrev pub AsksCondition : Data → Condition Zookie → Type 0
 AsksCondition d condition = (c : Condition (List ℕ)) × ConditionOf d c × HasZookieOf c condition
 
--- it is of no condition's form, or of one with a text that is no zookie's
-abbrev pub ConditionCause : Data → Refusal → Type 0
-ConditionCause d Malformed = (c : Condition (List ℕ)) → ¬ (ConditionOf d c)
-ConditionCause d BadZookie = (c : Condition (List ℕ)) × ConditionOf d c × HasBadText c
-ConditionCause d _ = ⊥
+-- it asks for one with a text that is no zookie's
+abbrev pub AsksBadly : Data → Type 0
+AsksBadly d = (c : Condition (List ℕ)) × ConditionOf d c × HasBadText c
+
+-- it is of no condition's form
+abbrev pub IsNoCondition : Data → Type 0
+IsNoCondition d = (c : Condition (List ℕ)) → ¬ (ConditionOf d c)
 
 -- what lists of texts are of this form, and what is asked with their zookies
 module _ (IsForm : List (Condition (List ℕ)) → Type 0) where

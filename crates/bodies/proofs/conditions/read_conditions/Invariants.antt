@@ -1,6 +1,6 @@
 use Rattle.std.proofs.Common.{take}
 use Rattle.serde_json.specs.View.{items_view}
-use Rattle.bodies.proofs.Conditions.{Read}
+use Rattle.bodies.proofs.AskedConditions.{Read}
 use Rattle.bodies.proofs.conditions.read_conditions.Given as goal
 
 abbrev pub invariant-loop-item : goal.invariant-loop-item

@@ -1,5 +1,5 @@
 -- What the values of conditions ask for, one after another.
-use Rattle.std.proofs.Common.{◌≡◌, ℕ, ◌<◌, ◌≤◌, ◌+◌, ◌⊎◌, inl, inr, Bool, true, false, List, [], ◌∷◌, ◌++◌, length, take, drop, get_or, refl, sym, ap, ◌∙◌, subst, arith, drop-cons, add-one, suc, true≢false}
+use Rattle.std.proofs.Common.{◌≡◌, ℕ, ◌<◌, ◌≤◌, ◌+◌, inl, inr, Bool, true, false, List, [], ◌∷◌, ◌++◌, length, take, drop, get_or, refl, sym, ap, ◌∙◌, subst, arith, drop-cons, add-one, suc, true≢false}
 use Rattle.std.specs.Prelude.{Option, Some, None, codes, nat_eq, ◌&&◌}
 use Rattle.std.proofs.lemmas.List.{take-append-drop}
 use Rattle.std.proofs.Math.Seq.{take-suc}
@@ -8,14 +8,16 @@ use Rattle.serde_json.specs.Find.{as_array}
 use Rattle.serde_json.specs.View.{view, items_view}
 use Rattle.serde_json.specs.declared.value.Value.{Value}
 use Rattle.config_core.specs.Objects.{is_text, text_at}
+use Rattle.names.specs.Refusals.{IsMalformed}
 use Rattle.names.specs.declared.tuple.Tuple.{Tuple}
 use Rattle.names.specs.declared.write.Condition.{Condition}
 use Rattle.names.specs.declared.write.Condition.TheVariants.{Exists, Absent, Unchanged}
 use Rattle.names.specs.declared.refusal.Refusal.{Refusal}
 use Rattle.names.specs.declared.refusal.Refusal.TheVariants.{Malformed, BadZookie, Memory}
 use Rattle.zookie.specs.declared.Zookie.{Zookie}
+use Rattle.bodies.specs.Requests.{IsZookieOf}
 use Rattle.bodies.specs.Writing.{is_word, IsOfTuple, IsOfTupleSince, ConditionOf, ConditionsOf, IsConditionList, AskConditions, HasZookieOf, HaveZookiesOf, HasBadText, HaveBadText}
-use Rattle.bodies.specs.inside.Conditions.{AsksCondition, ConditionCause, Asks, Cause}
+use Rattle.bodies.specs.inside.Conditions.{AsksCondition, AsksBadly, IsNoCondition, Asks, Cause}
 
 both : (a b : Bool) → (a && b) ≡ true → (a ≡ true) × (b ≡ true)
 both true b h = (refl, h)
@@ -35,29 +37,63 @@ is_same (z ∷ w) (x ∷ a) (y ∷ b) p q =
 
 -- the word of a condition's `if`
 module _ (at : Option (List ℕ)) (w : List ℕ) (there : Some w ≡ at) where
-  pub says : (word : List ℕ) → is_text w word ≡ true → is_word word at ≡ true
+  says : (word : List ℕ) → is_text w word ≡ true → is_word word at ≡ true
   says word is = ap (is_word word) (sym there) ∙ is
 
   said : (word : List ℕ) → is_word word at ≡ true → is_text w word ≡ true
   said word is = ap (is_word word) there ∙ is
 
-  pub says_no_other : (a b : List ℕ) → is_text a b ≡ false → is_text w a ≡ true → is_word b at ≡ true → ⊥
+  says_no_other : (a b : List ℕ) → is_text a b ≡ false → is_text w a ≡ true → is_word b at ≡ true → ⊥
   says_no_other a b other is says = true≢false (sym (is_same w a b is (said b says)) ∙ other)
 
-  pub says_not : (word : List ℕ) → is_text w word ≡ false → is_word word at ≡ true → ⊥
+  says_not : (word : List ℕ) → is_text w word ≡ false → is_word word at ≡ true → ⊥
   says_not word not is = true≢false (sym (said word is) ∙ not)
 
-pub no_word : (at : Option (List ℕ)) (word : List ℕ) → at ≡ None → is_word word at ≡ true → ⊥
+no_word : (at : Option (List ℕ)) (word : List ℕ) → at ≡ None → is_word word at ≡ true → ⊥
 no_word at word none is = true≢false (sym is ∙ ap (is_word word) none)
 
 -- it is of no form
-pub of_none : (d : Data) → ((t : Tuple) → is_word (codes "exists") (text_at (codes "if") d) ≡ true → IsOfTuple d t → ⊥)
-    → ((t : Tuple) → is_word (codes "absent") (text_at (codes "if") d) ≡ true → IsOfTuple d t → ⊥)
-    → ((t : Tuple) (since : List ℕ) → is_word (codes "unchanged") (text_at (codes "if") d) ≡ true → IsOfTupleSince d t since → ⊥)
-    → (c : Condition (List ℕ)) → ConditionOf d c → ⊥
-of_none d exists absent unchanged (Exists t) is = exists t is.0 is.1
-of_none d exists absent unchanged (Absent t) is = absent t is.0 is.1
-of_none d exists absent unchanged (Unchanged t since) is = unchanged t since is.0 is.1
+module _ (d : Data) where
+  of_none : ((t : Tuple) → is_word (codes "exists") (text_at (codes "if") d) ≡ true → IsOfTuple d t → ⊥)
+      → ((t : Tuple) → is_word (codes "absent") (text_at (codes "if") d) ≡ true → IsOfTuple d t → ⊥)
+      → ((t : Tuple) (since : List ℕ) → is_word (codes "unchanged") (text_at (codes "if") d) ≡ true → IsOfTupleSince d t since → ⊥)
+      → IsNoCondition d
+  of_none exists absent unchanged (Exists t) is = exists t is.0 is.1
+  of_none exists absent unchanged (Absent t) is = absent t is.0 is.1
+  of_none exists absent unchanged (Unchanged t since) is = unchanged t since is.0 is.1
+
+  pub wordless : text_at (codes "if") d ≡ None → IsNoCondition d
+  wordless none =
+      let no = no_word (text_at (codes "if") d) in
+      of_none (λ t word is. no (codes "exists") none word) (λ t word is. no (codes "absent") none word) (λ t since word is. no (codes "unchanged") none word)
+
+  module _ (w : List ℕ) (there : Some w ≡ text_at (codes "if") d) where
+    pub other_word : is_text w (codes "exists") ≡ false → is_text w (codes "absent") ≡ false → is_text w (codes "unchanged") ≡ false → IsNoCondition d
+    other_word exists absent unchanged =
+        let not = says_not (text_at (codes "if") d) w there in
+        of_none (λ t word is. not (codes "exists") exists word) (λ t word is. not (codes "absent") absent word) (λ t since word is. not (codes "unchanged") unchanged word)
+
+    pub no_tuple : (a : List ℕ) → is_text w a ≡ true → is_text a (codes "unchanged") ≡ false → ((t : Tuple) → IsOfTuple d t → ⊥) → IsNoCondition d
+    no_tuple a is other not =
+        of_none (λ t word. not t) (λ t word. not t) (λ t since word there_is. says_no_other (text_at (codes "if") d) w there a (codes "unchanged") other is word)
+
+    pub no_tuple_since : is_text w (codes "unchanged") ≡ true → ((t : Tuple) (since : List ℕ) → IsOfTupleSince d t since → ⊥) → IsNoCondition d
+    no_tuple_since is not =
+        let no = says_no_other (text_at (codes "if") d) w there (codes "unchanged") in
+        of_none (λ t word of. no (codes "exists") refl is word) (λ t word of. no (codes "absent") refl is word) (λ t since word. not t since)
+
+    pub asks_exists : (t : Tuple) → is_text w (codes "exists") ≡ true → IsOfTuple d t → AsksCondition d (Exists t)
+    asks_exists t is of = (Exists t, (says (text_at (codes "if") d) w there (codes "exists") is, of), refl)
+
+    pub asks_absent : (t : Tuple) → is_text w (codes "absent") ≡ true → IsOfTuple d t → AsksCondition d (Absent t)
+    asks_absent t is of = (Absent t, (says (text_at (codes "if") d) w there (codes "absent") is, of), refl)
+
+    module _ (t : Tuple) (since : List ℕ) (is : is_text w (codes "unchanged") ≡ true) (of : IsOfTupleSince d t since) where
+      pub asks_unchanged : (z : Zookie) → IsZookieOf since z → AsksCondition d (Unchanged t z)
+      asks_unchanged z text = (Unchanged t since, (says (text_at (codes "if") d) w there (codes "unchanged") is, of), (refl, text))
+
+      pub asks_badly : ((z : Zookie) → IsZookieOf since z → ⊥) → AsksBadly d
+      asks_badly bad = (Unchanged t since, (says (text_at (codes "if") d) w there (codes "unchanged") is, of), bad)
 
 -- one more at the end
 condition_last : (vs : List Value) (v : Value) (cs : List (Condition (List ℕ))) (c : Condition (List ℕ)) → ConditionsOf (items_view vs) cs → ConditionOf (view v) c
@@ -108,7 +144,7 @@ module _ (vs : List Value) (i : ℕ) (v : Value) (in_range : i < length vs) (at 
       })
 
   pub read_bad : (conditions : List (Condition Zookie)) (bad : Bool) → Read (items_view (take i vs)) conditions bad
-      → (c : Condition (List ℕ)) × ConditionOf (view v) c × HasBadText c → Read (items_view (take (i + 1) vs)) conditions true
+      → AsksBadly (view v) → Read (items_view (take (i + 1) vs)) conditions true
   read_bad conditions bad read cause =
       rw one_more (record {
         texts = read.texts ++ cause.0 ∷ [];
@@ -120,7 +156,7 @@ module _ (vs : List Value) (i : ℕ) (v : Value) (in_range : i < length vs) (at 
   dropped : drop i vs ≡ v ∷ drop (i + 1) vs
   dropped = grind (arith, drop-cons, in_range, at)
 
-  pub read_refused : ((c : Condition (List ℕ)) → ConditionOf (view v) c → ⊥) → (cs : List (Condition (List ℕ))) → ConditionsOf (items_view vs) cs → ⊥
+  pub read_refused : IsNoCondition (view v) → (cs : List (Condition (List ℕ))) → ConditionsOf (items_view vs) cs → ⊥
   read_refused refused cs asks =
       let t : vs ≡ take i vs ++ v ∷ drop (i + 1) vs = sym (take-append-drop i vs) ∙ ap (λ xs. take i vs ++ xs) dropped in
       among (take i vs) (drop (i + 1) vs) cs (subst (λ (xs : List Value). ConditionsOf (items_view xs) cs) t asks)
@@ -130,6 +166,11 @@ module _ (vs : List Value) (i : ℕ) (v : Value) (in_range : i < length vs) (at 
       among [] ws (p ∷ cs) asks = refused p asks.0
       among (u ∷ us) ws [] asks = asks
       among (u ∷ us) ws (p ∷ cs) asks = among us ws cs asks.1
+
+-- some value is of no condition's form
+pub unread : {P : Type 0} (IsForm : List (Condition (List ℕ)) → Type 0) → (P → (cs : List (Condition (List ℕ))) → IsForm cs → ⊥) → (e : Refusal) → IsMalformed P e → Cause IsForm e
+unread IsForm f Malformed not = f not
+unread IsForm f _ not = absurd not
 
 condition_count : (vs : List Value) (cs : List (Condition (List ℕ))) → ConditionsOf (items_view vs) cs → length cs ≡ length vs
 condition_count [] [] asks = refl

@@ -12,7 +12,7 @@ use Rattle.names.specs.declared.write.Write.{Write}
 use Rattle.names.specs.declared.refusal.Refusal.{Refusal}
 use Rattle.names.specs.declared.refusal.Refusal.TheVariants.{Malformed, BadZookie, Memory}
 use Rattle.zookie.specs.declared.Zookie.{Zookie}
-use Rattle.bodies.specs.Writing.{OpsOf, AskConditions, HaveZookiesOf, WriteOf, AsksWrite, WriteBodyCause}
+use Rattle.bodies.specs.Writing.{OpsOf, AskConditions, WriteOf, AsksWrite, WriteBodyCause}
 use Rattle.bodies.specs.inside.Conditions.{Asks, Cause, AsksWriteOf, WriteCause}
 use Rattle.bodies.proofs.Bytes.{same_read}
 
