@@ -12,7 +12,7 @@ learn-requires g c =
 pub returns-in-Ok-clause-step : goal.returns-in-Ok-clause-step
 returns-in-Ok-clause-step g c body asks =
     trim_done g.T.Tables c.args.desk.now body c.args.floor c.in-Ok.posted.value c.in-Ok.posted.receipt c.is_shown.result c.zookie-store.result _ _
-    asks c.in-Ok.ensures.ok c.is_shown.ensures c.zookie-store.ensures c.floor_reply.ensures
+    asks c.in-Ok.ensures.ok c.is_shown.ensures c.zookie-store.ensures c.floor.ensures
 
 pub returns-in-Ok-clause-book : goal.returns-in-Ok-clause-book
 returns-in-Ok-clause-book g c = trimmed_book g.T.Tables _ _ _ c.in-Ok.ensures.ok.done
