@@ -9,4 +9,5 @@ pub mod Refusing
 pub mod Branches
 pub mod Naming
 pub mod Cursors
+pub mod Floors
 pub mod Events

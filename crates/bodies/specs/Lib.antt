@@ -4,6 +4,7 @@ pub mod Writing
 pub mod Expanding
 pub mod Trees
 pub mod Watching
+pub mod Trimming
 pub mod Pages
 pub mod Paging
 pub mod inside

@@ -40,6 +40,11 @@ abbrev pub cursor_data : List ℕ → Bool → Data
 cursor_data cursor shown =
     object (text_member (codes "cursor") cursor (flag_member (codes "shown") shown no_members))
 
+-- `{"floor": .., "shown": ..}`
+abbrev pub floor_data : List ℕ → Bool → Data
+floor_data floor shown =
+    object (text_member (codes "floor") floor (flag_member (codes "shown") shown no_members))
+
 -- the member is the zookie of a revision of the store
 abbrev pub rev_member : List ℕ → ℕ → ℕ → Members → Members
 rev_member name store rev rest = text_member name (zookie_text store rev) rest

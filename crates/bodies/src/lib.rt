@@ -9,5 +9,6 @@ pub mod refusals;
 pub mod replies;
 pub mod requests;
 pub mod trees;
+pub mod trimming;
 pub mod watching;
 pub mod writing;

@@ -5,7 +5,7 @@ ghost use Rattle.serde_json.specs.Data.{string};
 ghost use Rattle.serde_json.specs.View.{view};
 ghost use Rattle.serde_json.specs.Written.{has_float};
 ghost use Rattle.zookie.specs.Text.{zookie_text};
-ghost use Rattle.bodies.specs.Replies.{Says, SaysText, receipt_data, answer_data, cursor_data, state_data, no_route_data};
+ghost use Rattle.bodies.specs.Replies.{Says, SaysText, receipt_data, answer_data, cursor_data, floor_data, state_data, no_route_data};
 
 use names::{Reply, State};
 use serde_json::{Value, json};
@@ -76,6 +76,18 @@ pub fn cursor(alloc: Global, cursor: &Zookie, shown: bool) -> Reply
         return Reply::NoMemory;
     };
     let value = json!(in alloc; {"cursor": text.as_str(), "shown": shown});
+    say(alloc, 200, value)
+}
+
+/// What an accepted `trim` is answered: the floor after it, and whether all that is posted is shown.
+pub fn floor(alloc: Global, floor: &Zookie, shown: bool) -> Reply
+    ensures { Says (told result) 200
+        (floor_data (zookie_text floor.now.store floor.now.rev) shown) }
+{
+    let Ok(text) = floor.to_text(alloc) else {
+        return Reply::NoMemory;
+    };
+    let value = json!(in alloc; {"floor": text.as_str(), "shown": shown});
     say(alloc, 200, value)
 }
 

@@ -46,7 +46,7 @@ pub(crate) fn items_of<'a>(value: &'a Value, name: &str) -> Option<&'a Vec<Value
 }
 
 /// The text of the one member of an object, which has this name.
-fn only_text<'a>(value: &'a Value, name: &str) -> Option<&'a str>
+pub(crate) fn only_text<'a>(value: &'a Value, name: &str) -> Option<&'a str>
     ensures { option_map (λ t. t.now) result ≡ only_text name.now (view value.now) }
 {
     if has_only_members(value, [name].as_slice()) {

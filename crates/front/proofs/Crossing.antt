@@ -79,10 +79,10 @@ Loaded-field-sync : IsSync (Struct (S.shape Loaded.the_type))
 Loaded-field-sync = search (Config-sync, KeptCommit-sync, Tuple.the_sync, crosses, sendable) depth 40
 
 Step-field-send : IsSend (Enum (E.shape Step.the_type))
-Step-field-send = enum_send (E.shape Step.the_type) ((Loaded-field-send, tt), ((KeptCommit-send, tt), ((search sendable, (search sendable, tt)), tt)))
+Step-field-send = enum_send (E.shape Step.the_type) ((Loaded-field-send, tt), ((KeptCommit-send, tt), ((search sendable, (search sendable, tt)), ((search sendable, tt), tt))))
 
 Step-field-sync : IsSync (Enum (E.shape Step.the_type))
-Step-field-sync = enum_sync (E.shape Step.the_type) ((Loaded-field-sync, tt), ((KeptCommit-sync, tt), ((search sendable, (search sendable, tt)), tt)))
+Step-field-sync = enum_sync (E.shape Step.the_type) ((Loaded-field-sync, tt), ((KeptCommit-sync, tt), ((search sendable, (search sendable, tt)), ((search sendable, tt), tt))))
 
 pub Step-send : IsSend Step.the_row
 Step-send = let T = Step.the_type in recorded_send _ _ T.to T.to_one Step-field-send

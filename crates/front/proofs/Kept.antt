@@ -12,7 +12,7 @@ use Rattle.published.specs.Known.{Known, Begins}
 use Rattle.published.specs.Receipts.{ReceiptFacts}
 use Rattle.published.proofs.Prefixes.{prefix_self, prefix_trans}
 use Rattle.keeper_core.specs.Posts.{Posts, OpensWith, shown_by}
-use Rattle.keeper_core.specs.Changes.{CatchUpAccepted, CatchUpJudged, IsNoCommit, IsRefused}
+use Rattle.keeper_core.specs.Changes.{CatchUpAccepted, CatchUpJudged, IsNoChange, IsRefused}
 use Rattle.front.specs.Kept.{IsOpened, IsKnownIn, IsKept}
 
 opened_on : (xs ys : List Step) → IsOpened xs → IsPrefix xs ys → IsOpened ys
@@ -39,7 +39,7 @@ module _ {T : Type 0} (b : Book) where
 
   -- a part took commits, or did not
   pub caught_up_kept : {A : Type 0} (g : Ghosts T) (value : A → ℕ) (receipt : A → ReceiptFacts) (part : Part) (commits : ℕ) (r : Result A Refusal) (d e : Posts T)
-      → IfOk r (λ p. CatchUpAccepted d part commits (value p) (receipt p) e) → IfErr r (λ why. IsRefused g d IsNoCommit (CatchUpJudged commits) why e)
+      → IfOk r (λ p. CatchUpAccepted d part commits (value p) (receipt p) e) → IfErr r (λ why. IsRefused g d IsNoChange (CatchUpJudged commits) why e)
       → IsKept b d → IsKept b e
   caught_up_kept g value receipt part commits (Ok p) d e ok err kept = kept_on d e kept ok.posts.book ok.posts.later
   caught_up_kept g value receipt part commits (Err why) d e ok err kept = kept_on d e kept err.shows.book err.shows.later

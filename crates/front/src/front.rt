@@ -1,7 +1,7 @@
 //! Calls by bytes, of one worker.
 ghost use Rattle.std.specs.Prelude.{◌≡◌, IfOk, IfErr};
 ghost use Rattle.names.specs.Calls.{told};
-ghost use Rattle.names.specs.declared.call.Call.TheVariants.{Write, Config, CatchUp};
+ghost use Rattle.names.specs.declared.call.Call.TheVariants.{Write, Config, Trim, CatchUp};
 ghost use Rattle.names.specs.declared.refusal.Refusal.TheVariants.{NoSeat};
 ghost use Rattle.published.specs.Known.{Begins};
 ghost use Rattle.front.specs.Kept.{IsKnownIn};
@@ -19,6 +19,7 @@ use crate::tuples::{AskedTuples, read_again, read_from};
 use bodies::refusals::refusal;
 use bodies::replies::no_route;
 use bodies::requests::catch_up_body;
+use bodies::trimming::trim_body;
 use bodies::writing::write_body;
 use config::Config as Configuration;
 use names::{Call, Refusal, Reply};
@@ -194,6 +195,19 @@ impl<'k, T: Tables + Drop, J: Naming, R: Wait + Drop> Front<'k, T, J, R> {
         }
     }
 
+    /// Answers `trim`. The desk is held once the body is read.
+    pub fn trim<W: Wait>(&mut self, rt: &W, body: &[u8]) -> Reply
+        ensures { ChangeFrom T.Tables self.old Trim body.now (told result) self.new }
+    {
+        match trim_body(self.alloc, body) {
+            Ok(floor) => self
+                .keeper
+                .hold(rt)
+                .trim(self.alloc, &mut self.session, floor),
+            Err(why) => refusal(self.alloc, &why),
+        }
+    }
+
     /// Answers `catchup`. The desk is held once the body is read.
     pub fn catch_up<W: Wait>(&mut self, rt: &W, body: &[u8]) -> Reply
         ensures { ChangeFrom T.Tables self.old CatchUp body.now (told result) self.new }
@@ -219,6 +233,7 @@ impl<'k, T: Tables + Drop, J: Naming, R: Wait + Drop> Front<'k, T, J, R> {
             Call::Expand => self.expand(rt, body),
             Call::Read => self.read(rt, body),
             Call::Watch => self.watch(rt, body),
+            Call::Trim => self.trim(rt, body),
             Call::CatchUp => self.catch_up(rt, body),
             Call::State => self.state(),
             _ => no_route(self.alloc),

@@ -4,19 +4,21 @@ ghost use Rattle.names.specs.Calls.{told};
 ghost use Rattle.names.specs.declared.refusal.Refusal.TheVariants.{NoSeat, StoreFault};
 ghost use Rattle.config.specs.Causes.{Accepts};
 ghost use Rattle.bodies.specs.Requests.{AsksCatchUp};
+ghost use Rattle.bodies.specs.Trimming.{AsksTrim};
 ghost use Rattle.bodies.specs.Writing.{AsksWrite};
 ghost use Rattle.tables.specs.Device.{IsOpen};
 ghost use Rattle.tables.specs.Opening.{CannotOpen};
 ghost use Rattle.published.specs.Known.{Begins};
 ghost use Rattle.keeper_core.specs.Posts.{ComesBack, FailsToLoad, SameTables, ShowsMore, shown_by};
-ghost use Rattle.keeper_core.specs.Changes.{CatchUpAccepted, CatchUpJudged, IsNoCommit, IsRefused, TellsShown};
+ghost use Rattle.keeper_core.specs.Changes.{CatchUpAccepted, CatchUpJudged, IsNoChange, IsRefused, TellsShown};
 ghost use Rattle.keeper.specs.calls.Write.{WriteStep};
 ghost use Rattle.keeper.specs.calls.Config.{ConfigStep};
+ghost use Rattle.keeper.specs.calls.Trim.{TrimStep};
 ghost use Rattle.keeper.specs.calls.CatchUp.{CatchUpStep};
 ghost use Rattle.front.specs.Kept.{IsKept, IsKnownIn, WereKept};
 
 use config::Config;
-use keeper::{catch_up_on, configure_on, write_on};
+use keeper::{catch_up_on, configure_on, trim_on, write_on};
 use keeper_core::{Desk, Posted};
 use names::{Part, Refusal, Reply, Write};
 use published::{Naming, Opened, Receipt, Session};
@@ -97,7 +99,7 @@ impl<T: Tables + Drop, J: Naming, R: Wait + Drop> KeptDesk<T, J, R> {
         ensures ok { IfOk result (λ posted.
             CatchUpAccepted self.old part commits posted.value posted.receipt self.new) }
         ensures err { IfErr result (λ why.
-            IsRefused T.Tables self.old IsNoCommit (CatchUpJudged commits) why self.new) }
+            IsRefused T.Tables self.old IsNoChange (CatchUpJudged commits) why self.new) }
         ensures seats { self.new.seats ≡ self.old.seats }
     {
         self.desk.catch_up(part, commits)
@@ -123,6 +125,17 @@ impl<T: Tables + Drop, J: Naming, R: Wait + Drop> KeptDesk<T, J, R> {
         ensures known { Begins (shown_by self.new) session.new }
     {
         configure_on(alloc, &mut self.desk, session, config)
+    }
+
+    /// Raises the floor as a body asks, and tells where it is.
+    pub fn trim(&mut self, alloc: Global, session: &mut Session, floor: Zookie) -> Reply
+        requires { session.old.book ≡ J.book }
+        ensures step { (body : List ℕ) → AsksTrim body floor
+            → TrimStep T.Tables self.old body (told result) self.new }
+        ensures kept { Begins session.old session.new }
+        ensures known { Begins (shown_by self.new) session.new }
+    {
+        trim_on(alloc, &mut self.desk, session, floor)
     }
 
     /// Moves the cursor of a part as a body asks, and tells where it is.

@@ -10,7 +10,7 @@ use Rattle.names.specs.declared.part.Part.{Part}
 use Rattle.tables.specs.declared.tables.Tables.{Ghosts}
 use Rattle.keeper_core.specs.Posts.{Posts, ShowsMore, SameTables}
 use Rattle.published.specs.Receipts.{ReceiptFacts}
-use Rattle.keeper_core.specs.Changes.{CatchUpAccepted, CatchUpJudged, IsNoCommit, IsRefused}
+use Rattle.keeper_core.specs.Changes.{CatchUpAccepted, CatchUpJudged, IsNoChange, IsRefused}
 use Rattle.bodies.specs.Requests.{AsksCatchUp}
 use Rattle.bodies.specs.Replies.{Says, SaysRefusal, cursor_data}
 use Rattle.keeper.proofs.Refreshing.{still_refused}
@@ -30,6 +30,6 @@ catch_up_done g old body part commits cursor receipt shown zookie told new asks 
     catch_up_accepted part commits cursor receipt asks accepted (let s = rw is at says in rw shows at s)
 
 pub catch_up_not_done : {T : Type 0} (g : Ghosts T) (old mid : Posts T) (body : List ℕ) (part : Part) (commits : ℕ) (why : Refusal) (told : Option (ℕ × List ℕ)) (new : Posts T)
-    → AsksCatchUp body part commits → IsRefused g old IsNoCommit (CatchUpJudged commits) why mid
+    → AsksCatchUp body part commits → IsRefused g old IsNoChange (CatchUpJudged commits) why mid
     → ShowsMore mid new → SameTables mid new → SaysRefusal told why → CatchUpStep g old body told new
 catch_up_not_done g old mid body part commits why told new asks refused more same says = catch_up_refused part commits why asks (still_refused g old mid new _ _ why refused more same) says

@@ -10,6 +10,7 @@ use Rattle.rows.specs.Judging.{ConfigRefused as ConfigJudged}
 use Rattle.zookie.specs.Text.{zookie_text}
 use Rattle.zookie.specs.declared.Zookie.{Zookie}
 use Rattle.tables.specs.declared.tables.Tables.{Ghosts}
+use Rattle.keeper_core.specs.TableChanges.{Adds}
 use Rattle.keeper_core.specs.Posts.{Posts, ShowsMore, SameTables, newest_posted}
 use Rattle.published.specs.Receipts.{ReceiptFacts}
 use Rattle.keeper_core.specs.Changes.{ConfigAccepted, IsRefused}
@@ -31,6 +32,6 @@ config_done g old body config receipt shown zookie told new accepts accepted sho
     config_accepted config receipt accepts accepted (let s = rw is at says in rw shows at s)
 
 pub config_not_done : {T : Type 0} (g : Ghosts T) (old mid : Posts T) (body : List ℕ) (config : Configured) (why : Refusal) (told : Option (ℕ × List ℕ)) (new : Posts T)
-    → Accepts body config → IsRefused g old (λ commit. commit ≡ ConfigCommit config) (ConfigJudged (newest_posted old) config) why mid
+    → Accepts body config → IsRefused g old (λ change. change ≡ Adds (ConfigCommit config)) (ConfigJudged (newest_posted old) config) why mid
     → ShowsMore mid new → SameTables mid new → SaysRefusal told why → ConfigStep g old body told new
 config_not_done g old mid body config why told new accepts refused more same says = config_refused config why accepts (still_refused g old mid new _ _ why refused more same) says

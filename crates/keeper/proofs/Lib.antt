@@ -7,5 +7,6 @@ pub mod Reading
 pub mod Expanding
 pub mod Watching
 pub mod CatchingUp
+pub mod Trimming
 pub mod Stating
 pub mod Answering

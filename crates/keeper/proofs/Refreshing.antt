@@ -1,15 +1,14 @@
 -- A desk that shows more, and what was refused before that.
 use Rattle.std.proofs.Common.{List, ◌∷◌, refl, sym, ◌∙◌, subst}
 use mathlib.Core.List.{IsPrefix}
-use Rattle.names.specs.declared.commit.Commit.{Commit}
 use Rattle.names.specs.declared.refusal.Refusal.{Refusal}
 use Rattle.names.specs.declared.refusal.Refusal.TheVariants.{Memory, StoreFault, Reopen}
-use Rattle.meaning.specs.Config.{Configured}
-use Rattle.rows.specs.Retained.{Retained, with_commit}
+use Rattle.rows.specs.Retained.{Retained}
 use Rattle.shown.specs.Standing.{standing}
 use Rattle.tables.specs.Device.{IsOpen, HasFailed, Lasts}
 use Rattle.tables.specs.declared.tables.Tables.{Ghosts}
 use Rattle.published.proofs.Prefixes.{prefix_self, prefix_trans}
+use Rattle.keeper_core.specs.TableChanges.{TableChange, changed}
 use Rattle.keeper_core.specs.Posts.{Posts, ShowsMore, SameTables}
 use Rattle.keeper_core.specs.Changes.{Touches, leaves_alone, adds_one, Refuses, IsRefused}
 use Rattle.keeper.specs.Showing.{OnlyShows}
@@ -24,7 +23,7 @@ shows_itself d beginning =
     }
 
 -- a change that was refused is so still where more was shown since
-module _ {T : Type 0} (g : Ghosts T) (old mid new : Posts T) (made : Commit Configured → Type 0) (judged : Refusal → Type 0) (why : Refusal) where
+module _ {T : Type 0} (g : Ghosts T) (old mid new : Posts T) (made : TableChange → Type 0) (judged : Refusal → Type 0) (why : Refusal) where
   refuses_still : (why : Refusal) → SameTables mid new → Refuses g old judged why mid → Refuses g old judged why new
   refuses_still Reopen same cause = (cause.0, same.1 ∙ cause.1, same.2 ∙ cause.2, same.0 ∙ cause.3)
   refuses_still StoreFault same cause =
@@ -34,10 +33,10 @@ module _ {T : Type 0} (g : Ghosts T) (old mid new : Posts T) (made : Commit Conf
 
   touches_still : SameTables mid new → Touches g old made mid → Touches g old made new
   touches_still same (leaves_alone alone) = leaves_alone (same.0 ∙ alone)
-  touches_still same (adds_one commit asked may) =
-      adds_one commit asked (record {
+  touches_still same (adds_one change asked may) =
+      adds_one change asked (record {
         follows = may.follows;
-        adds = subst (λ (t : T). (rs : List Retained) → g.leaves old.tables rs → g.leaves t (with_commit (standing old.posted).kept commit ∷ rs)) (sym same.0) may.adds;
+        adds = subst (λ (t : T). (rs : List Retained) → g.leaves old.tables rs → g.leaves t (changed (standing old.posted).kept change ∷ rs)) (sym same.0) may.adds;
       })
 
   pub still_refused : IsRefused g old made judged why mid → ShowsMore mid new → SameTables mid new → IsRefused g old made judged why new

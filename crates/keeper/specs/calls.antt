@@ -5,5 +5,6 @@ pub mod Check
 pub mod Read
 pub mod Expand
 pub mod Watch
+pub mod Trim
 pub mod CatchUp
 pub mod State

@@ -10,6 +10,7 @@ use crate::calls::configuring::answer_config;
 use crate::calls::expanding::answer_expand;
 use crate::calls::reading::answer_read;
 use crate::calls::state::answer_state;
+use crate::calls::trim::answer_trim;
 use crate::calls::watching::answer_watch;
 use crate::calls::write::answer_write;
 use bodies::replies::no_route;
@@ -40,6 +41,7 @@ pub fn answer_on<T: Tables + Drop, R: Wait + Drop>(
         Call::Read => answer_read(alloc, desk, session, body),
         Call::Expand => answer_expand(alloc, desk, session, body),
         Call::Watch => answer_watch(alloc, desk, session, body),
+        Call::Trim => answer_trim(alloc, desk, session, body),
         Call::CatchUp => answer_catch_up(alloc, desk, session, body),
         Call::State => answer_state(alloc, desk),
         _ => no_route(alloc),

@@ -7,5 +7,6 @@ pub(crate) mod expanding;
 pub(crate) mod reading;
 pub(crate) mod refusing;
 pub(crate) mod state;
+pub(crate) mod trim;
 pub(crate) mod watching;
 pub(crate) mod write;

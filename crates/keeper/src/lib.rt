@@ -10,4 +10,5 @@ pub use asking::{is_of_the_future, page_is_of_the_future};
 pub use calls::catch_up::catch_up_on;
 pub use calls::configuring::configure_on;
 pub use calls::refusing::refused_question;
+pub use calls::trim::trim_on;
 pub use calls::write::write_on;

@@ -1,35 +1,36 @@
 -- A change, from the readiness for it on.
-use Rattle.std.proofs.Common.{◌≡◌, Bool, true, false, List, [], ◌∷◌, ◌++◌, ◌<◌, ◌≤◌, ℕ, ap, sym, ◌∙◌, subst, true≢false}
+use Rattle.std.proofs.Common.{◌≡◌, Bool, true, false, List, [], ◌∷◌, ◌++◌, ◌<◌, ◌≤◌, ℕ, refl, ap, sym, ◌∙◌, subst, true≢false}
 use Rattle.std.specs.Prelude.{Result, Ok, Err, IfOk, IfErr, IsErrAnd, OnOk, Option, Some, None}
 use Rattle.names.specs.declared.limits.TheConstants.{MAX_CATCH_UP}
 use Rattle.names.specs.declared.tuple.Tuple.{Tuple}
 use Rattle.names.specs.declared.write.Write.{Write}
 use Rattle.names.specs.declared.commit.Event.{Event}
-use Rattle.names.specs.declared.commit.Commit.{Commit as Stored}
 use Rattle.names.specs.declared.commit.Commit.TheVariants.{Tuples, Config}
 use Rattle.names.specs.declared.refusal.Refusal.{Refusal}
 use Rattle.names.specs.declared.refusal.Refusal.TheVariants.{Malformed, Memory, StoreFault, Reopen, Full, TupleInTheWay}
 use Rattle.meaning.specs.Config.{Configured}
 use Rattle.meaning.specs.Verdict.{Newest, config_cause, or_else, in_the_way, refused_if}
 use Rattle.zookie.specs.declared.Zookie.{Zookie}
-use Rattle.rows.specs.Retained.{Retained, newest_of, with_commit}
-use Rattle.rows.specs.Follows.{AreEventsOf, IsNext}
+use Rattle.rows.specs.Retained.{Retained, newest_of}
+use Rattle.rows.specs.Follows.{AreEventsOf}
 use Rattle.rows.specs.Judging.{ConfigRefused}
 use Rattle.verdict.specs.Verdict.{AcceptsWrite, RefusesWrite}
 use Rattle.shown.specs.declared.step.Step.{Step}
 use Rattle.names.specs.declared.part.Part.{Part}
-use Rattle.shown.specs.declared.step.Step.TheVariants.{Commit, Take}
-use Rattle.shown.specs.Standing.{standing, cursor_of}
+use Rattle.shown.specs.declared.step.Step.TheVariants.{Commit, Take, Trim}
+use Rattle.shown.specs.Standing.{Standing, standing, cursor_of}
+use Rattle.shown.specs.Raising.{floor_cause, RefusesFloor}
 use Rattle.tables.specs.Device.{IsOpen, HasFailed, Lasts}
 use Rattle.tables.specs.Storing.{one_more}
 use Rattle.tables.specs.declared.tables.Tables.{Ghosts}
 use Rattle.tables.proofs.Lasting.{lasts_self}
+use Rattle.keeper_core.specs.TableChanges.{TableChange, Adds, Raises, changed, CanChange}
 use Rattle.keeper_core.specs.Posts.{Posts, ShowsMore, SameTables, PostsStep, newest_posted}
 use Rattle.published.specs.Receipts.{ReceiptFacts}
-use Rattle.keeper_core.specs.Changes.{Tells, TellsShown, IsStored, WriteAccepted, ConfigAccepted, CatchUpAccepted, CatchUpJudged, IsCommitOfWrite, IsNoCommit, MayLeave, Touches, leaves_alone, adds_one, Refuses, IsRefused}
+use Rattle.keeper_core.specs.Changes.{Tells, TellsShown, IsStored, WriteAccepted, ConfigAccepted, CatchUpAccepted, TrimAccepted, trim_raises, CatchUpJudged, IsCommitOfWrite, IsRaiseTo, IsNoChange, MayLeave, Touches, leaves_alone, adds_one, Refuses, IsRefused}
 use Rattle.keeper_core.specs.inside.Posting.{IsMemory}
 use Rattle.published.proofs.Prefixes.{prefix_trans}
-use Rattle.keeper_core.proofs.Judged.{write_reopens, write_faults}
+use Rattle.keeper_core.proofs.Judged.{write_reopens, write_faults, floor_reopens, floor_faults}
 
 tuple_or_limit : (o : Option Tuple) (b : Bool) (why : Refusal) → or_else (in_the_way o) (refused_if Full b) ≡ Some why → ((t : Tuple) → ¬ (TupleInTheWay t ≡ why)) → ¬ (Full ≡ why) → ⊥
 tuple_or_limit (Some t) b why is way full = way t (cc is)
@@ -53,11 +54,11 @@ lasts_same {T} g old new same = subst (λ (t : T). Lasts (g.device old) (g.devic
 
 module _ {T : Type 0} (g : Ghosts T) (old mid : Posts T) (more : ShowsMore old mid) (same : SameTables old mid) where
   -- nothing was stored yet
-  pub refused_early : (made : Stored Configured → Type 0) (judged : Refusal → Type 0) (why : Refusal) → Refuses g old judged why mid → IsRefused g old made judged why mid
+  pub refused_early : (made : TableChange → Type 0) (judged : Refusal → Type 0) (why : Refusal) → Refuses g old judged why mid → IsRefused g old made judged why mid
   refused_early made judged why cause = record { shows = more; cause = cause; touches = leaves_alone same.0; lasts = lasts_same g old.tables mid.tables same.0 }
 
   -- the tables failed before
-  pub not_ready : {A : Type 0} (made : Stored Configured → Type 0) (judged : Refusal → Type 0) (r : Result A Refusal) (why : Refusal) → IsErrAnd r (λ e. e ≡ why)
+  pub not_ready : {A : Type 0} (made : TableChange → Type 0) (judged : Refusal → Type 0) (r : Result A Refusal) (why : Refusal) → IsErrAnd r (λ e. e ≡ why)
       → (why ≡ Reopen) × (old.failed ≡ true) → IfErr r (λ e. IsRefused g old made judged e mid)
   not_ready made judged r why was is =
       refused_exit (λ e. IsRefused g old made judged e mid) r why was
@@ -71,16 +72,16 @@ module _ {T : Type 0} (g : Ghosts T) (old mid : Posts T) (more : ShowsMore old m
     judged_cause judged _ asks fails is = (works, same.1 ∙ works, same.2, same.0, is)
 
     -- it was judged, and refused
-    pub refused_judged : (made : Stored Configured → Type 0) (judged : Refusal → Type 0) (why : Refusal) → ¬ (judged Reopen) → ¬ (judged StoreFault) → judged why → IsRefused g old made judged why mid
+    pub refused_judged : (made : TableChange → Type 0) (judged : Refusal → Type 0) (why : Refusal) → ¬ (judged Reopen) → ¬ (judged StoreFault) → judged why → IsRefused g old made judged why mid
     refused_judged made judged why asks fails is = refused_early made judged why (judged_cause judged why asks fails is)
 
     -- a configuration is refused for a tuple in the way, or for a limit
     pub config_refused : {A : Type 0} (r : Result A Refusal) (config : Configured) (why : Refusal) → IsErrAnd r (λ e. e ≡ why)
         → ConfigRefused (newest_posted mid) config why
-        → IfErr r (λ e. IsRefused g old (λ commit. commit ≡ Config config) (ConfigRefused (newest_posted old) config) e mid)
+        → IfErr r (λ e. IsRefused g old (λ change. change ≡ Adds (Config config)) (ConfigRefused (newest_posted old) config) e mid)
     config_refused r config why was is =
-        refused_exit (λ e. IsRefused g old (λ commit. commit ≡ Config config) (ConfigRefused (newest_posted old) config) e mid) r why was
-        (refused_judged (λ commit. commit ≡ Config config) (ConfigRefused (newest_posted old) config) why (config_reopens (newest_posted old) config) (config_faults (newest_posted old) config)
+        refused_exit (λ e. IsRefused g old (λ change. change ≡ Adds (Config config)) (ConfigRefused (newest_posted old) config) e mid) r why was
+        (refused_judged (λ change. change ≡ Adds (Config config)) (ConfigRefused (newest_posted old) config) why (config_reopens (newest_posted old) config) (config_faults (newest_posted old) config)
         (subst (λ (steps : List Step). ConfigRefused (newest_of (standing steps).kept) config why) more.posted is))
 
     -- no more was posted since
@@ -98,9 +99,22 @@ module _ {T : Type 0} (g : Ghosts T) (old mid : Posts T) (more : ShowsMore old m
         (refused_judged made judged why (write_reopens (standing old.posted).kept write) (write_faults (standing old.posted).kept write)
         (subst (λ (steps : List Step). RefusesWrite (standing steps).kept write why) more.posted is))
 
+    refuses_floor : (stood : Standing) (zookie : Zookie) (why : Refusal) → floor_cause stood zookie ≡ Some why → RefusesFloor stood zookie why
+    refuses_floor stood zookie Memory is = tt
+    refuses_floor stood zookie _ is = is
+
+    -- a floor is refused for its zookie, or a cursor
+    pub floor_refused : {A : Type 0} (r : Result A Refusal) (zookie : Zookie) (why : Refusal) → IsErrAnd r (λ e. e ≡ why) → floor_cause (standing mid.posted) zookie ≡ Some why
+        → IfErr r (λ e. IsRefused g old (IsRaiseTo (standing old.posted) zookie) (RefusesFloor (standing old.posted) zookie) e mid)
+    floor_refused r zookie why was is =
+        let stood = standing old.posted in
+        refused_exit (λ e. IsRefused g old (IsRaiseTo stood zookie) (RefusesFloor stood zookie) e mid) r why was
+        (refused_judged (IsRaiseTo stood zookie) (RefusesFloor stood zookie) why (floor_reopens stood zookie) (floor_faults stood zookie)
+        (refuses_floor stood zookie why (subst (λ (steps : List Step). floor_cause (standing steps) zookie ≡ Some why) more.posted is)))
+
     -- too many commits at once
-    pub too_many : (commits : ℕ) → MAX_CATCH_UP < commits → IsRefused g old IsNoCommit (CatchUpJudged commits) Malformed mid
-    too_many commits many = refused_early IsNoCommit (CatchUpJudged commits) Malformed (works, same.1 ∙ works, same.2, same.0, many)
+    pub too_many : (commits : ℕ) → MAX_CATCH_UP < commits → IsRefused g old IsNoChange (CatchUpJudged commits) Malformed mid
+    too_many commits many = refused_early IsNoChange (CatchUpJudged commits) Malformed (works, same.1 ∙ works, same.2, same.0, many)
 
     module _ (new : Posts T) where
       posts_on : (step : Step) → PostsStep mid step new → PostsStep old step new
@@ -169,11 +183,11 @@ module _ {T : Type 0} (g : Ghosts T) (old mid : Posts T) (more : ShowsMore old m
       caught_up value receipt part commits (Err why) few posts tables sound moved tells = tt
 
       -- there was no room for its step
-      pub not_caught_up : {A : Type 0} (commits : ℕ) (r : Result A Refusal) → IfErr r (λ why. (why ≡ Memory) × (new ≡ mid)) → IfErr r (λ why. IsRefused g old IsNoCommit (CatchUpJudged commits) why new)
+      pub not_caught_up : {A : Type 0} (commits : ℕ) (r : Result A Refusal) → IfErr r (λ why. (why ≡ Memory) × (new ≡ mid)) → IfErr r (λ why. IsRefused g old IsNoChange (CatchUpJudged commits) why new)
       not_caught_up commits (Ok p) is = tt
       not_caught_up commits (Err why) is =
-          subst (λ (d : Posts T). IsRefused g old IsNoCommit (CatchUpJudged commits) why d) (sym is.1)
-          (subst (λ (e : Refusal). IsRefused g old IsNoCommit (CatchUpJudged commits) e mid) (sym is.0) (refused_early IsNoCommit (CatchUpJudged commits) Memory (works, same.1 ∙ works, same.2, tt)))
+          subst (λ (d : Posts T). IsRefused g old IsNoChange (CatchUpJudged commits) why d) (sym is.1)
+          (subst (λ (e : Refusal). IsRefused g old IsNoChange (CatchUpJudged commits) e mid) (sym is.0) (refused_early IsNoChange (CatchUpJudged commits) Memory (works, same.1 ∙ works, same.2, tt)))
 
       cause_on : (judged : Refusal → Type 0) (why : Refusal) → judged Memory → Refuses g mid IsMemory why new → Refuses g old judged why new
       cause_on judged Reopen memory cause = absurd (true≢false (sym cause.0 ∙ same.1 ∙ works))
@@ -182,30 +196,53 @@ module _ {T : Type 0} (g : Ghosts T) (old mid : Posts T) (more : ShowsMore old m
       cause_on judged Memory memory cause = (works, cause.1, cause.2 ∙ same.2, memory)
       cause_on judged _ memory cause = absurd (cc (cause.4))
 
-      leaves_on : (commit : Stored Configured) → MayLeave g mid commit new → MayLeave g old commit new
-      leaves_on commit may =
-          let adds = subst (λ (t : T). (rs : List Retained) → g.leaves t rs → g.leaves new.tables (with_commit (standing mid.posted).kept commit ∷ rs)) same.0 may.adds in
+      leaves_on : (change : TableChange) → MayLeave g mid change new → MayLeave g old change new
+      leaves_on change may =
+          let adds = subst (λ (t : T). (rs : List Retained) → g.leaves t rs → g.leaves new.tables (changed (standing mid.posted).kept change ∷ rs)) same.0 may.adds in
           record {
-            follows = subst (λ (steps : List Step). IsNext (standing steps).kept commit) more.posted may.follows;
-            adds = subst (λ (steps : List Step). (rs : List Retained) → g.leaves old.tables rs → g.leaves new.tables (with_commit (standing steps).kept commit ∷ rs)) more.posted adds;
+            follows = subst (λ (steps : List Step). CanChange (standing steps).kept change) more.posted may.follows;
+            adds = subst (λ (steps : List Step). (rs : List Retained) → g.leaves old.tables rs → g.leaves new.tables (changed (standing steps).kept change ∷ rs)) more.posted adds;
           }
 
-      touches_on : (made : Stored Configured → Type 0) (commit : Stored Configured) → made commit → Touches g mid (λ c. c ≡ commit) new → Touches g old made new
-      touches_on made commit asked (leaves_alone alone) = leaves_alone (alone ∙ same.0)
-      touches_on made commit asked (adds_one c is may) = adds_one c (subst made (sym is) asked) (leaves_on c may)
+      touches_on : (made : TableChange → Type 0) (change : TableChange) → made change → Touches g mid (λ c. c ≡ change) new → Touches g old made new
+      touches_on made change asked (leaves_alone alone) = leaves_alone (alone ∙ same.0)
+      touches_on made change asked (adds_one c is may) = adds_one c (subst made (sym is) asked) (leaves_on c may)
 
-      refused_on : (made : Stored Configured → Type 0) (commit : Stored Configured) (judged : Refusal → Type 0) (why : Refusal) → made commit → judged Memory
-          → IsRefused g mid (λ c. c ≡ commit) IsMemory why new → IsRefused g old made judged why new
-      refused_on made commit judged why asked memory refused =
+      refused_on : (made : TableChange → Type 0) (change : TableChange) (judged : Refusal → Type 0) (why : Refusal) → made change → judged Memory
+          → IsRefused g mid (λ c. c ≡ change) IsMemory why new → IsRefused g old made judged why new
+      refused_on made change judged why asked memory refused =
           record {
             shows = shows_on refused.shows;
             cause = cause_on judged why memory refused.cause;
-            touches = touches_on made commit asked refused.touches;
+            touches = touches_on made change asked refused.touches;
             lasts = subst (λ (t : T). Lasts (g.device t) (g.device new.tables)) same.0 refused.lasts;
           }
 
       -- it could not be stored
-      pub refuses_on : (made : Stored Configured → Type 0) (commit : Stored Configured) (judged : Refusal → Type 0) (r : Result ReceiptFacts Refusal) → made commit → judged Memory
-          → IfErr r (λ why. IsRefused g mid (λ c. c ≡ commit) IsMemory why new) → IfErr r (λ why. IsRefused g old made judged why new)
-      refuses_on made commit judged (Ok receipt) asked memory refused = tt
-      refuses_on made commit judged (Err why) asked memory refused = refused_on made commit judged why asked memory refused
+      pub refuses_on : {A : Type 0} (made : TableChange → Type 0) (change : TableChange) (judged : Refusal → Type 0) (r : Result A Refusal) → made change → judged Memory
+          → IfErr r (λ why. IsRefused g mid (λ c. c ≡ change) IsMemory why new) → IfErr r (λ why. IsRefused g old made judged why new)
+      refuses_on made change judged (Ok a) asked memory refused = tt
+      refuses_on made change judged (Err why) asked memory refused = refused_on made change judged why asked memory refused
+
+      module _ (zookie : Zookie) (accepted : floor_cause (standing mid.posted) zookie ≡ Option.None) where
+        still_fits : floor_cause (standing old.posted) zookie ≡ Option.None
+        still_fits = subst (λ (steps : List Step). floor_cause (standing steps) zookie ≡ Option.None) more.posted accepted
+
+        -- the floor was raised
+        pub trim_accepted : {A : Type 0} (value : A → ℕ) (receipt : A → ReceiptFacts) (r : Result A Refusal) → (standing mid.posted).kept.floor < zookie.rev
+            → OnOk r (PostsStep mid (Trim zookie.rev) new) → OnOk r (IsStored g mid new) → IfOk r (λ p. value p ≡ (standing new.posted).kept.floor) → IfOk r (λ p. TellsShown (receipt p) new)
+            → IfOk r (λ p. TrimAccepted g old zookie (value p) (receipt p) new)
+        trim_accepted value receipt (Ok p) above posts stored told tells =
+            record {
+              works = works;
+              accepted = still_fits;
+              done = trim_raises (subst (λ (steps : List Step). (standing steps).kept.floor < zookie.rev) more.posted above) (posts_on (Trim zookie.rev) posts) (stored_on stored);
+              told = told;
+              tells = tells;
+            }
+        trim_accepted value receipt (Err why) above posts stored told tells = tt
+
+        -- it could not be stored
+        pub trim_refused : {A : Type 0} (r : Result A Refusal) → IfErr r (λ why. IsRefused g mid (λ c. c ≡ Raises zookie.rev) IsMemory why new)
+            → IfErr r (λ why. IsRefused g old (IsRaiseTo (standing old.posted) zookie) (RefusesFloor (standing old.posted) zookie) why new)
+        trim_refused r refused = refuses_on (IsRaiseTo (standing old.posted) zookie) (Raises zookie.rev) (RefusesFloor (standing old.posted) zookie) r (still_fits, refl) tt refused

@@ -1,15 +1,17 @@
--- No write is refused for what the tables did.
+-- No write and no floor is refused for what the tables did.
 use Rattle.std.proofs.Common.{◌≡◌, ℕ, Bool, true, false, not, List, map, refl, ap, sym, ◌∙◌, true≢false}
 use Rattle.std.specs.Prelude.{Option, Some, None}
 use Rattle.std.specs.List.{list_any}
 use Rattle.names.specs.declared.write.Condition.{Condition}
 use Rattle.names.specs.declared.write.Write.{Write}
 use Rattle.names.specs.declared.refusal.Refusal.{Refusal}
-use Rattle.names.specs.declared.refusal.Refusal.TheVariants.{Malformed, UnknownRelation, TypeRefused, TwiceInOneWrite, ForeignZookie, Future, Expired, ConditionFailed, AlreadyThere, NotThere, Full, StoreFault, Reopen}
+use Rattle.names.specs.declared.refusal.Refusal.TheVariants.{Malformed, UnknownRelation, TypeRefused, TwiceInOneWrite, ForeignZookie, Future, Expired, ConditionFailed, AlreadyThere, NotThere, Full, InUse, StoreFault, Reopen}
 use Rattle.meaning.specs.Verdict.{or_else, refused_if, at_place, first_from, is_in_range, is_unknown, is_untyped, is_twice, inserts_again, deletes_nothing, is_full, event_of}
 use Rattle.zookie.specs.declared.Zookie.{Zookie}
 use Rattle.rows.specs.Retained.{Retained, newest, newest_of}
 use Rattle.verdict.specs.Verdict.{verdict, condition_cause, are_few, is_foreign, is_future, is_expired, fails, RefusesWrite}
+use Rattle.shown.specs.Standing.{Standing}
+use Rattle.shown.specs.Raising.{floor_cause, RefusesFloor}
 
 abbrev is_of_tables : Refusal → Bool
 is_of_tables StoreFault = true
@@ -53,8 +55,17 @@ module _ (why : Refusal) (tables : is_of_tables why ≡ true) where
       neither _ _ (place_other (λ i. NotThere i) (first_from (deletes_nothing n.held.tuples) 0 ops) (λ i. refl))
       (if_other Full (is_full n (map event_of ops)) refl))))))))
 
+  no_floor_cause : (s : Standing) (zookie : Zookie) → floor_cause s zookie ≡ Some why → ⊥
+  no_floor_cause s zookie = neither _ _ (if_other ForeignZookie _ refl) (neither _ _ (if_other Future _ refl) (if_other InUse _ refl))
+
 pub write_reopens : (r : Retained) (write : Write Zookie) → RefusesWrite r write Reopen → ⊥
 write_reopens r write is = no_verdict Reopen refl r write is
 
 pub write_faults : (r : Retained) (write : Write Zookie) → RefusesWrite r write StoreFault → ⊥
 write_faults r write is = no_verdict StoreFault refl r write is
+
+pub floor_reopens : (s : Standing) (zookie : Zookie) → RefusesFloor s zookie Reopen → ⊥
+floor_reopens s zookie is = no_floor_cause Reopen refl s zookie is
+
+pub floor_faults : (s : Standing) (zookie : Zookie) → RefusesFloor s zookie StoreFault → ⊥
+floor_faults s zookie is = no_floor_cause StoreFault refl s zookie is

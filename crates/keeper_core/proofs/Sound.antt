@@ -5,7 +5,7 @@ use Rattle.names.specs.declared.part.Part.{Part}
 use Rattle.names.specs.declared.part.Part.TheVariants.{Index, Hot}
 use Rattle.tables.specs.declared.tables.Tables.{Ghosts}
 use Rattle.shown.specs.declared.step.Step.{Step}
-use Rattle.shown.specs.declared.step.Step.TheVariants.{Open, Commit, Take}
+use Rattle.shown.specs.declared.step.Step.TheVariants.{Open, Commit, Take, Trim}
 use Rattle.shown.specs.Standing.{Standing, standing, after_step}
 use Rattle.published.specs.Publishing.{Publishing}
 use Rattle.published.specs.Posts.{IsLater}
@@ -37,6 +37,7 @@ number_stays s (Open loaded) later = absurd later
 number_stays s (Commit commit) later = refl
 number_stays s (Take Index n) later = refl
 number_stays s (Take Hot n) later = refl
+number_stays s (Trim floor) later = refl
 
 number_next : (posted : List Step) (step : Step) → IsLater step → (standing (posted ++ step ∷ [])).kept.number ≡ (standing posted).kept.number
 number_next posted step later = ap (λ (s : Standing). s.kept.number) (standing_next posted step) ∙ number_stays (standing posted) step later

@@ -2,12 +2,9 @@
 use Rattle.std.proofs.Common.{◌≡◌, false, List, ◌∷◌, refl, ap, sym, ◌∙◌, subst, ◌⊎◌, inl, inr}
 use Rattle.std.specs.Prelude.{Result, IfErr, IsErrAnd}
 use mathlib.Core.List.{IsPrefix}
-use Rattle.names.specs.declared.commit.Commit.{Commit as Stored}
 use Rattle.names.specs.declared.refusal.Refusal.{Refusal}
 use Rattle.names.specs.declared.refusal.Refusal.TheVariants.{Memory, StoreFault}
-use Rattle.meaning.specs.Config.{Configured}
-use Rattle.rows.specs.Retained.{Retained, with_commit}
-use Rattle.rows.specs.Follows.{IsNext}
+use Rattle.rows.specs.Retained.{Retained}
 use Rattle.shown.specs.declared.step.Step.{Step}
 use Rattle.shown.specs.Standing.{Standing, standing}
 use Rattle.tables.specs.Device.{Lasts}
@@ -15,6 +12,7 @@ use Rattle.tables.specs.declared.tables.Tables.{Ghosts}
 use Rattle.published.specs.Publishing.{Publishing}
 use Rattle.published.proofs.Prefixes.{prefix_self}
 use Rattle.keeper_core.specs.declared.latched_tables.LatchedTables.{LatchedTables}
+use Rattle.keeper_core.specs.TableChanges.{TableChange, changed, CanChange}
 use Rattle.keeper_core.specs.Posts.{Posts, ShowsMore}
 use Rattle.keeper_core.specs.Changes.{Touches, leaves_alone, adds_one, Refuses, IsRefused}
 use Rattle.keeper_core.specs.inside.Latching.{IsLatched, IsUnstored}
@@ -46,26 +44,26 @@ module _ {T : Type 0} (g : Ghosts T) where
     }
 
     -- there was no room
-    pub no_room : {A : Type 0} (r : Result A Refusal) (made : Stored Configured → Type 0) → IsErrAnd r (λ e. e ≡ Memory) → IfErr r (λ e. IsRefused g d made IsMemory e (seen was q))
+    pub no_room : {A : Type 0} (r : Result A Refusal) (made : TableChange → Type 0) → IsErrAnd r (λ e. e ≡ Memory) → IfErr r (λ e. IsRefused g d made IsMemory e (seen was q))
     no_room r made exit =
         refused_exit (λ e. IsRefused g d made IsMemory e (seen was q)) r Memory exit
         (subst (λ (s : Posts T). IsRefused g s made IsMemory Memory (seen was q)) view
         (record { shows = shows was; cause = (here, here, refl, refl); touches = leaves_alone refl; lasts = lasts_same g was.tables was.tables refl }))
 
-    touches : (is : LatchedTables T) (commit kept : Stored Configured) → kept ≡ commit → IsNext own.kept kept
-        → (is.tables ≡ was.tables) ⊎ ((rs : List Retained) → g.leaves was.tables rs → g.leaves is.tables (with_commit own.kept kept ∷ rs))
-        → Touches g (seen was p) (λ made. made ≡ commit) (seen is q)
-    touches is commit kept copied next (inl same) = leaves_alone same
-    touches is commit kept copied next (inr adds) = adds_one kept copied (record {
-      follows = subst (λ (s : Standing). IsNext s.kept kept) stands next;
-      adds = subst (λ (s : Standing). (rs : List Retained) → g.leaves was.tables rs → g.leaves is.tables (with_commit s.kept kept ∷ rs)) stands adds;
+    touches : (is : LatchedTables T) (change kept : TableChange) → kept ≡ change → CanChange own.kept kept
+        → (is.tables ≡ was.tables) ⊎ ((rs : List Retained) → g.leaves was.tables rs → g.leaves is.tables (changed own.kept kept ∷ rs))
+        → Touches g (seen was p) (λ made. made ≡ change) (seen is q)
+    touches is change kept copied can (inl same) = leaves_alone same
+    touches is change kept copied can (inr adds) = adds_one kept copied (record {
+      follows = subst (λ (s : Standing). CanChange s.kept kept) stands can;
+      adds = subst (λ (s : Standing). (rs : List Retained) → g.leaves was.tables rs → g.leaves is.tables (changed s.kept kept ∷ rs)) stands adds;
     })
 
     -- it could not be stored
-    pub not_stored : {A : Type 0} (r : Result A Refusal) (why : Refusal) (is : LatchedTables T) (commit kept : Stored Configured) → IsErrAnd r (λ e. e ≡ why)
-        → kept ≡ commit → IsNext own.kept kept → IsUnstored g own.kept kept was why is → Lasts (g.device was.tables) (g.device is.tables)
-        → IfErr r (λ e. IsRefused g d (λ made. made ≡ commit) IsMemory e (seen is q))
-    not_stored r why is commit kept exit copied next unstored lasts =
-        refused_exit (λ e. IsRefused g d (λ made. made ≡ commit) IsMemory e (seen is q)) r why exit
-        (subst (λ (s : Posts T). IsRefused g s (λ made. made ≡ commit) IsMemory why (seen is q)) view
-        (record { shows = shows is; cause = latched_cause was is p q why here unstored.latched; touches = touches is commit kept copied next unstored.touched; lasts = lasts }))
+    pub not_stored : {A : Type 0} (r : Result A Refusal) (why : Refusal) (is : LatchedTables T) (change kept : TableChange) → IsErrAnd r (λ e. e ≡ why)
+        → kept ≡ change → CanChange own.kept kept → IsUnstored g own.kept kept was why is → Lasts (g.device was.tables) (g.device is.tables)
+        → IfErr r (λ e. IsRefused g d (λ made. made ≡ change) IsMemory e (seen is q))
+    not_stored r why is change kept exit copied can unstored lasts =
+        refused_exit (λ e. IsRefused g d (λ made. made ≡ change) IsMemory e (seen is q)) r why exit
+        (subst (λ (s : Posts T). IsRefused g s (λ made. made ≡ change) IsMemory why (seen is q)) view
+        (record { shows = shows is; cause = latched_cause was is p q why here unstored.latched; touches = touches is change kept copied can unstored.touched; lasts = lasts }))

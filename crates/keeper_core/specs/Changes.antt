@@ -11,17 +11,19 @@ use Rattle.names.specs.declared.refusal.Refusal.TheVariants.{Malformed, Memory, 
 use Rattle.meaning.specs.Config.{Configured}
 use Rattle.meaning.specs.Verdict.{config_cause}
 use Rattle.zookie.specs.declared.Zookie.{Zookie}
-use Rattle.rows.specs.Retained.{Retained, newest, with_commit}
-use Rattle.rows.specs.Follows.{AreEventsOf, IsNext}
+use Rattle.rows.specs.Retained.{Retained, newest}
+use Rattle.rows.specs.Follows.{AreEventsOf}
 use Rattle.verdict.specs.Verdict.{AcceptsWrite}
 use Rattle.tables.specs.Device.{IsOpen, Lasts, HasFailed}
 use Rattle.tables.specs.Storing.{one_more}
 use Rattle.tables.specs.declared.tables.Tables.{Ghosts}
 use Rattle.names.specs.declared.part.Part.{Part}
-use Rattle.shown.specs.declared.step.Step.TheVariants.{Commit as CommitStep, Take}
-use Rattle.shown.specs.Standing.{standing, cursor_of}
+use Rattle.shown.specs.declared.step.Step.TheVariants.{Commit as CommitStep, Take, Trim}
+use Rattle.shown.specs.Standing.{Standing, standing, cursor_of}
+use Rattle.shown.specs.Raising.{floor_cause}
 use Rattle.published.specs.Receipts.{ReceiptFacts}
-use Rattle.keeper_core.specs.Posts.{Posts, ShowsMore, PostsStep, shown_by, newest_posted}
+use Rattle.keeper_core.specs.TableChanges.{TableChange, Adds, Raises, changed, CanChange}
+use Rattle.keeper_core.specs.Posts.{Posts, SameTables, ShowsMore, PostsStep, shown_by, newest_posted}
 
 -- the receipt tells of the desk as it is, and names the newest posted revision
 pub record Tells {T : Type 0} (receipt : ReceiptFacts) (desk : Posts T) : Type 0 where
@@ -87,6 +89,23 @@ pub record CatchUpAccepted {T : Type 0}
   pub moved : cursor ≡ cursor_of part (standing new.posted)
   pub tells : TellsShown receipt new
 
+-- The floor was below the revision, and that it is raised to it is posted and stored; or it was not, and nothing is changed.
+pub data IsTrimmed {T : Type 0} (g : Ghosts T) (old : Posts T) (rev : ℕ) (new : Posts T) : Type 0 where
+  trim_raises : (standing old.posted).kept.floor < rev
+      → PostsStep old (Trim rev) new → IsStored g old new → IsTrimmed g old rev new
+  trim_stays : rev ≤ (standing old.posted).kept.floor
+      → ShowsMore old new → SameTables old new → IsTrimmed g old rev new
+
+-- Nothing speaks against the zookie's revision as the floor, and the floor is no lower now. It is told, and the receipt names
+-- the newest shown revision.
+pub record TrimAccepted {T : Type 0} (g : Ghosts T)
+    (old : Posts T) (zookie : Zookie) (floor : ℕ) (receipt : ReceiptFacts) (new : Posts T) : Type 0 where
+  pub works : old.failed ≡ false
+  pub accepted : floor_cause (standing old.posted) zookie ≡ Option.None
+  pub done : IsTrimmed g old zookie.rev new
+  pub told : floor ≡ (standing new.posted).kept.floor
+  pub tells : TellsShown receipt new
+
 -- too many commits at once, or no memory
 abbrev pub CatchUpJudged : ℕ → Refusal → Type 0
 CatchUpJudged commits Malformed = MAX_CATCH_UP < commits
@@ -97,28 +116,32 @@ CatchUpJudged commits _ = ⊥
 abbrev pub IsCommitOf : List Op → Commit Configured → Type 0
 IsCommitOf ops commit = (events : List Event) × AreEventsOf ops events × (commit ≡ Tuples events)
 
--- it is that of a write which the history accepts
-abbrev pub IsCommitOfWrite : Retained → Write Zookie → Commit Configured → Type 0
-IsCommitOfWrite r write commit = AcceptsWrite r write × IsCommitOf write.ops commit
+-- the commit of a write that the history accepts is added
+abbrev pub IsCommitOfWrite : Retained → Write Zookie → TableChange → Type 0
+IsCommitOfWrite r write (Adds commit) = AcceptsWrite r write × IsCommitOf write.ops commit
+IsCommitOfWrite r write (Raises floor) = ⊥
 
--- no commit at all
-abbrev pub IsNoCommit : Commit Configured → Type 0
-IsNoCommit commit = ⊥
+-- the floor is raised to the zookie's revision, which nothing speaks against
+abbrev pub IsRaiseTo : Standing → Zookie → TableChange → Type 0
+IsRaiseTo s zookie change = (floor_cause s zookie ≡ Option.None) × (change ≡ Raises zookie.rev)
 
--- What is left may hold one history more than before: that of the posted steps with the commit, which can
--- follow them.
+-- no change at all
+abbrev pub IsNoChange : TableChange → Type 0
+IsNoChange change = ⊥
+
+-- What is left may hold one history more than before: that of the posted steps with the change.
 pub record MayLeave {T : Type 0}
-    (g : Ghosts T) (old : Posts T) (commit : Commit Configured) (new : Posts T) : Type 0 where
-  pub follows : IsNext (standing old.posted).kept commit
+    (g : Ghosts T) (old : Posts T) (change : TableChange) (new : Posts T) : Type 0 where
+  pub follows : CanChange (standing old.posted).kept change
   pub adds : (rs : List Retained) → g.leaves old.tables rs
-      → g.leaves new.tables (with_commit (standing old.posted).kept commit ∷ rs)
+      → g.leaves new.tables (changed (standing old.posted).kept change ∷ rs)
 
--- A refused change leaves the tables alone, or adds the one commit that it asked for to what they may leave.
+-- What is refused leaves the tables alone, or adds the one change that was asked for to what they may leave.
 pub data Touches {T : Type 0}
-    (g : Ghosts T) (old : Posts T) (made : Commit Configured → Type 0) (new : Posts T) : Type 0 where
+    (g : Ghosts T) (old : Posts T) (made : TableChange → Type 0) (new : Posts T) : Type 0 where
   leaves_alone : new.tables ≡ old.tables → Touches g old made new
-  adds_one : (commit : Commit Configured)
-      → made commit → MayLeave g old commit new → Touches g old made new
+  adds_one : (change : TableChange)
+      → made change → MayLeave g old change new → Touches g old made new
 
 -- Why a change was refused, where `judged` says why it would be on the posted steps. After a fault every
 -- change asks to open the tables again. A fault is one only where the device failed meanwhile.
@@ -138,7 +161,7 @@ Refuses g old judged why new =
 
 -- nothing is posted, and this is why
 pub record IsRefused {T : Type 0}
-    (g : Ghosts T) (old : Posts T) (made : Commit Configured → Type 0) (judged : Refusal → Type 0)
+    (g : Ghosts T) (old : Posts T) (made : TableChange → Type 0) (judged : Refusal → Type 0)
     (why : Refusal) (new : Posts T) : Type 0 where
   pub shows : ShowsMore old new
   pub cause : Refuses g old judged why new

@@ -1,3 +1,4 @@
+pub mod TableChanges
 pub mod Posts
 pub mod Changes
 pub mod Invariant

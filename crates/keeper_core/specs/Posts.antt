@@ -3,19 +3,17 @@ use Rattle.std.specs.Prelude.{◌≡◌, ◌⊎◌, ℕ, Bool, false, List, [], 
 use Rattle.std.specs.List.{All}
 use mathlib.Core.List.{IsPrefix}
 use Rattle.logbook.specs.Pages.{Book}
-use Rattle.names.specs.declared.commit.Commit.{Commit}
-use Rattle.meaning.specs.Config.{Configured}
 use Rattle.meaning.specs.Verdict.{Newest}
-use Rattle.rows.specs.Retained.{Retained, newest_of, with_commit}
+use Rattle.rows.specs.Retained.{Retained, newest_of}
 use Rattle.rows.specs.Loads.{retained_of}
 use Rattle.rows.specs.declared.loaded.Loaded.{Loaded}
-use Rattle.rows.specs.Follows.{IsNext}
 use Rattle.tables.specs.Device.{IsClean, Lasts, HasFailed}
 use Rattle.tables.specs.declared.tables.Tables.{Ghosts}
 use Rattle.shown.specs.declared.step.Step.{Step}
 use Rattle.shown.specs.declared.step.Step.TheVariants.{Open}
 use Rattle.shown.specs.Standing.{standing}
 use Rattle.published.specs.Known.{Known}
+use Rattle.keeper_core.specs.TableChanges.{TableChange, changed, CanChange}
 
 -- The tables, the book, the posted steps, and those of them that are shown; whether the tables failed, and
 -- how often they did; how many sessions can still be had.
@@ -41,12 +39,12 @@ abbrev pub newest_shown : {T : Type 0} → Posts T → Newest
 newest_shown d = newest_of (standing d.shown).kept
 
 -- The tables hold the history as long as they have not failed. After the end of the process or a crash the
--- tables that are left hold it, or it with one commit that can follow.
+-- tables that are left hold it, or it with one change: a commit that can follow, or a higher floor.
 pub record Agrees {T : Type 0} (g : Ghosts T) (failed : Bool) (tables : T) (r : Retained) : Type 0 where
   pub holds : failed ≡ false → g.holds tables r
-  pub more : List (Commit Configured)
-  pub follow : All (IsNext r) more
-  pub leaves : g.leaves tables (r ∷ map (with_commit r) more)
+  pub more : List TableChange
+  pub follow : All (CanChange r) more
+  pub leaves : g.leaves tables (r ∷ map (changed r) more)
 
 -- The one posted step opens tables with a history that they hold. Where the device has returned what was
 -- written, it is the one that they held before.

@@ -1,15 +1,17 @@
 //! The desk: what lies under a store's lock.
-ghost use Rattle.std.specs.Prelude.{◌≡◌, ◌≤◌, ◌↔◌, ◌⊎◌, ◌+◌, ◌∷◌, [], None, true, false, Err, IsTrue, IfOk, IfErr, OnOk};
+ghost use Rattle.std.specs.Prelude.{◌≡◌, ◌<◌, ◌≤◌, ◌↔◌, ◌⊎◌, ◌+◌, ◌∷◌, [], None, Some, true, false, Err, IsTrue, IfOk, IfErr, OnOk};
 ghost use mathlib.Core.List.{IsPrefix};
 ghost use Rattle.names.specs.declared.commit.Commit.TheVariants.{Config as ConfigCommit};
 ghost use Rattle.names.specs.declared.refusal.Refusal.TheVariants.{Memory, NoSeat, Reopen};
+ghost use Rattle.names.specs.declared.limits.TheConstants.{MAX_REV};
 ghost use Rattle.meaning.specs.Verdict.{config_cause};
 ghost use Rattle.rows.specs.Retained.{newest};
 ghost use Rattle.rows.specs.Follows.{IsAccepted, IsNext};
 ghost use Rattle.rows.specs.Judging.{ConfigRefused};
 ghost use Rattle.verdict.specs.Verdict.{AcceptsWrite, RefusesWrite};
-ghost use Rattle.shown.specs.declared.step.Step.TheVariants.{Commit as CommitStep, Take};
-ghost use Rattle.shown.specs.Standing.{standing, state_of, cursor_of};
+ghost use Rattle.shown.specs.declared.step.Step.TheVariants.{Commit as CommitStep, Take, Trim};
+ghost use Rattle.shown.specs.Standing.{standing, state_of, cursor_of, CanRaise};
+ghost use Rattle.shown.specs.Raising.{floor_cause, RefusesFloor};
 ghost use Rattle.expand.specs.declared.limits.TheConstants.{MAX_DEPTH};
 ghost use Rattle.shown.specs.Answers.{IsAnswer, IsRefusal};
 ghost use Rattle.shown.specs.Expanding.{IsTree, IsTreeRefusal};
@@ -20,13 +22,14 @@ ghost use Rattle.tables.specs.Opening.{CannotOpen};
 ghost use Rattle.tables.specs.Storing.{PutsAbsent};
 ghost use Rattle.published.specs.declared.publication.TheConstants.{MAX_SESSIONS};
 ghost use Rattle.published.specs.Known.{Begins};
+ghost use Rattle.keeper_core.specs.TableChanges.{Adds, Raises};
 ghost use Rattle.keeper_core.specs.Posts.{Agrees, OpensWith, ComesBack, FailsToLoad, SameTables, ShowsMore, PostsStep, newest_posted, shown_by};
-ghost use Rattle.keeper_core.specs.Changes.{Tells, TellsShown, IsStored, WriteAccepted, ConfigAccepted, CatchUpAccepted, IsRefused, IsCommitOfWrite, IsNoCommit, CatchUpJudged, receipt_at};
+ghost use Rattle.keeper_core.specs.Changes.{Tells, TellsShown, IsStored, WriteAccepted, ConfigAccepted, CatchUpAccepted, TrimAccepted, IsRefused, IsCommitOfWrite, IsRaiseTo, IsNoChange, CatchUpJudged, receipt_at};
 ghost use Rattle.keeper_core.specs.inside.Posting.{IsMemory};
 
 use crate::latched_tables::{LatchedTables, load};
 use crate::opening::publish_first;
-use crate::storing::store;
+use crate::storing::{store, store_floor};
 use config::Config;
 use expand::Tree;
 use names::limits::MAX_CATCH_UP;
@@ -42,8 +45,8 @@ use tuple_keys::KeptCommit;
 use watch::{Namespaces, Page};
 use zookie::{Consistency, Zookie};
 
-/// What a caller is told of a part that takes commits: the revision up to which the part has read them, once
-/// all that is posted is shown, and the receipt, which names the newest shown revision.
+/// What a caller is told of a part that takes commits, and of a floor: the revision up to which the part has read them,
+/// once all that is posted is shown, or the floor; and the receipt, which names the newest shown revision.
 #[derive(Drop)]
 pub struct Posted {
     pub value: u64,
@@ -150,7 +153,7 @@ impl<T: Tables + Drop, R: Wait + Drop> Desk<T, R> {
         ensures ok { IfOk result (λ receipt.
             ConfigAccepted T.Tables self.old config receipt self.new) }
         ensures err { IfErr result (λ why.
-            IsRefused T.Tables self.old (λ commit. commit ≡ ConfigCommit config)
+            IsRefused T.Tables self.old (λ change. change ≡ Adds (ConfigCommit config))
             (ConfigRefused (newest_posted self.old) config) why self.new) }
         ensures seats { self.new.seats ≡ self.old.seats }
     {
@@ -165,7 +168,7 @@ impl<T: Tables + Drop, R: Wait + Drop> Desk<T, R> {
         ensures ok { IfOk result (λ posted.
             CatchUpAccepted self.old part commits posted.value posted.receipt self.new) }
         ensures err { IfErr result (λ why.
-            IsRefused T.Tables self.old IsNoCommit (CatchUpJudged commits) why self.new) }
+            IsRefused T.Tables self.old IsNoChange (CatchUpJudged commits) why self.new) }
         ensures seats { self.new.seats ≡ self.old.seats }
     {
         self.make_ready()?;
@@ -173,6 +176,24 @@ impl<T: Tables + Drop, R: Wait + Drop> Desk<T, R> {
             return Err(Refusal::Malformed);
         }
         self.take(part, commits as u32)
+    }
+
+    /// Raises the floor to the zookie's revision, in the tables and then in what is shown. At or below the floor nothing
+    /// changes.
+    pub fn trim(&mut self, floor: Zookie) -> Result<Posted, Refusal>
+        ensures ok { IfOk result (λ posted.
+            TrimAccepted T.Tables self.old floor posted.value posted.receipt self.new) }
+        ensures err { IfErr result (λ why.
+            IsRefused T.Tables self.old (IsRaiseTo (standing self.old.posted) floor)
+            (RefusesFloor (standing self.old.posted) floor) why self.new) }
+        ensures seats { self.new.seats ≡ self.old.seats }
+    {
+        self.make_ready()?;
+        self.judge_floor(&floor)?;
+        if floor.rev <= self.floor() {
+            return Ok(self.tell_floor());
+        }
+        self.raise(floor.rev)
     }
 
     /// A session that knows what is shown now. It is refused exactly where all have been given out; the place of
@@ -340,6 +361,18 @@ impl<T: Tables + Drop, R: Wait + Drop> Desk<T, R> {
         self.own.judge_config(config)
     }
 
+    // Why the floor cannot be raised to a zookie's revision, if it cannot.
+    fn judge_floor(&self, floor: &Zookie) -> Result<(), Refusal>
+        ensures ok { OnOk result (floor_cause (standing self.now.posted) floor.now ≡ None) }
+        ensures err { IfErr result (λ why.
+            floor_cause (standing self.now.posted) floor.now ≡ Some why) }
+        ensures within { OnOk result (floor.now.rev ≤ MAX_REV) }
+        ensures can { OnOk result ((standing self.now.posted).kept.floor < floor.now.rev
+            → CanRaise (standing self.now.posted) floor.now.rev) }
+    {
+        self.own.judge_floor(floor)
+    }
+
     // Stores a commit, posts it, and shows it. All who keep it share it. Room is taken for its step first.
     fn post(&mut self, commit: Commit<Config>, puts: Puts) -> Result<Receipt, Refusal>
         requires open { self.old.failed ≡ false }
@@ -349,7 +382,7 @@ impl<T: Tables + Drop, R: Wait + Drop> Desk<T, R> {
         ensures tells { IfOk result (λ receipt. Tells receipt self.new) }
         ensures stored { OnOk result (IsStored T.Tables self.old self.new) }
         ensures err { IfErr result (λ why.
-            IsRefused T.Tables self.old (λ made. made ≡ commit) IsMemory why self.new) }
+            IsRefused T.Tables self.old (λ made. made ≡ Adds commit) IsMemory why self.new) }
         ensures seats { self.new.seats ≡ self.old.seats }
     {
         let kept = KeptCommit::of(self.alloc, &commit)?;
@@ -379,6 +412,47 @@ impl<T: Tables + Drop, R: Wait + Drop> Desk<T, R> {
         let value = self.cursor(part);
         let receipt = self.shown_receipt(shown);
         Ok(Posted { value, receipt })
+    }
+
+    // Stores a higher floor, posts it, and shows it. Room is taken for its step first.
+    fn raise(&mut self, floor: u64) -> Result<Posted, Refusal>
+        requires open { self.old.failed ≡ false }
+        requires can { CanRaise (standing self.old.posted) floor }
+        requires small { floor ≤ MAX_REV }
+        ensures posts { OnOk result (PostsStep self.old (Trim floor) self.new) }
+        ensures stored { OnOk result (IsStored T.Tables self.old self.new) }
+        ensures value { IfOk result (λ posted.
+            posted.value ≡ (standing self.new.posted).kept.floor) }
+        ensures tells { IfOk result (λ posted. TellsShown posted.receipt self.new) }
+        ensures err { IfErr result (λ why.
+            IsRefused T.Tables self.old (λ made. made ≡ Raises floor) IsMemory why self.new) }
+        ensures seats { self.new.seats ≡ self.old.seats }
+    {
+        self.publication.reserve()?;
+        let step = store_floor(&mut self.tables, &mut self.own, floor)?;
+        self.publication.post(step);
+        Ok(self.tell_floor())
+    }
+
+    // Shows what waits, and tells the floor.
+    fn tell_floor(&mut self) -> Posted
+        ensures more { ShowsMore self.old self.new }
+        ensures same { SameTables self.old self.new }
+        ensures value { result.value ≡ (standing self.new.posted).kept.floor }
+        ensures tells { TellsShown result.receipt self.new }
+        ensures seats { self.new.seats ≡ self.old.seats }
+    {
+        let shown = self.publish();
+        let value = self.floor();
+        let receipt = self.shown_receipt(shown);
+        Posted { value, receipt }
+    }
+
+    // The floor.
+    fn floor(&self) -> u64
+        ensures { result ≡ (standing self.now.posted).kept.floor }
+    {
+        self.own.state().floor
     }
 
     // The cursor of a part.

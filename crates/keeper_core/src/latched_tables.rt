@@ -1,9 +1,9 @@
 //! Tables that are known to have failed.
-ghost use Rattle.std.specs.Prelude.{◌≡◌, ◌∷◌, [], List, false, Err, IfOk, IfErr, OnOk, OnErr};
-ghost use Rattle.rows.specs.Retained.{Retained, with_commit};
+ghost use Rattle.std.specs.Prelude.{◌≡◌, ◌<◌, ◌∷◌, [], List, true, false, Err, IfOk, IfErr, OnOk, OnErr};
+ghost use Rattle.rows.specs.Retained.{Retained, with_commit, after_trim};
 ghost use Rattle.rows.specs.Loads.{retained_of, IsWithin};
 ghost use Rattle.tables.specs.Device.{IsClean, IsOpen, Lasts};
-ghost use Rattle.tables.specs.Storing.{IsNextAt, CanStore};
+ghost use Rattle.tables.specs.Storing.{IsNextAt, CanStore, IsTrimTo, CanTrim};
 ghost use Rattle.tables.specs.Opening.{CannotOpen};
 ghost use Rattle.keeper_core.specs.Posts.{Agrees, ComesBack, FailsToLoad};
 ghost use Rattle.keeper_core.specs.inside.Latching.{IsLatched, AgreeWith};
@@ -46,6 +46,16 @@ impl<T: Tables + Drop> LatchedTables<T> {
         self.tables
     }
 
+    // Notes that the tables failed.
+    fn note_fault(&mut self) -> Refusal
+        ensures refusal { result ≡ Refusal.StoreFault }
+        ensures failed { self.new.failed ≡ true }
+        ensures tables { self.new.tables ≡ self.old.tables }
+    {
+        self.failed = true;
+        Refusal::StoreFault
+    }
+
     /// Stores a commit, and notes a fault.
     pub(crate) fn write(&mut self, rev: u64, commit: &KeptCommit, puts: Puts) -> Result<(), Refusal>
         requires works { self.old.failed ≡ false }
@@ -68,10 +78,33 @@ impl<T: Tables + Drop> LatchedTables<T> {
         match self.tables.write(rev, commit, puts) {
             Ok(()) => Ok(()),
             Err(TablesError::Memory) => Err(Refusal::Memory),
-            Err(TablesError::Fault) => {
-                self.failed = true;
-                Err(Refusal::StoreFault)
-            }
+            Err(TablesError::Fault) => Err(self.note_fault()),
+        }
+    }
+
+    /// Raises the floor, and notes a fault.
+    pub(crate) fn trim(&mut self, floor: u64, first: u64) -> Result<(), Refusal>
+        requires works { self.old.failed ≡ false }
+        requires can { CanTrim (T.holds self.old.tables) floor first }
+        ensures ok { OnOk result (self.new.failed ≡ false) }
+        ensures open { OnOk result (IsOpen (T.device self.new.tables)) }
+        ensures quiet { OnOk result (T.count self.new.tables ≡ T.count self.old.tables) }
+        ensures err { IfErr result (λ why. IsLatched T.Tables self.old why self.new) }
+        ensures stored { (r : Retained) → AgreeWith T.Tables self.old r → IsTrimTo r floor first
+            → OnOk result (AgreeWith T.Tables self.new (after_trim r floor)) }
+        ensures settled { (r : Retained) → AgreeWith T.Tables self.old r → IsTrimTo r floor first
+            → OnOk result (T.leaves self.new.tables (after_trim r floor ∷ [])) }
+        ensures unstored { (r : Retained) → AgreeWith T.Tables self.old r → IsTrimTo r floor first
+            → r.floor < floor → OnErr result (AgreeWith T.Tables self.new r) }
+        ensures left { (r : Retained) (rs : List Retained) → AgreeWith T.Tables self.old r
+            → IsTrimTo r floor first → T.leaves self.old.tables rs
+            → T.leaves self.new.tables (after_trim r floor ∷ rs) }
+        ensures lasts { Lasts (T.device self.old.tables) (T.device self.new.tables) }
+    {
+        match self.tables.trim(floor, first) {
+            Ok(()) => Ok(()),
+            Err(TablesError::Memory) => Err(Refusal::Memory),
+            Err(TablesError::Fault) => Err(self.note_fault()),
         }
     }
 }

@@ -4,13 +4,14 @@ use Rattle.names.specs.declared.commit.Commit.TheVariants.{Tuples, Config}
 use Rattle.names.specs.declared.write.Op.{Op}
 use Rattle.rows.specs.Follows.{is_in_order, touch_of}
 use Rattle.shown.specs.declared.step.Step.{Step}
-use Rattle.shown.specs.declared.step.Step.TheVariants.{Open, Commit, Take}
+use Rattle.shown.specs.declared.step.Step.TheVariants.{Open, Commit, Take, Trim}
 
 -- the step is no opening
 abbrev pub IsLater : Step → Type 0
 IsLater (Open loaded) = ⊥
 IsLater (Commit commit) = Unit {0}
 IsLater (Take part commits) = Unit {0}
+IsLater (Trim floor) = Unit {0}
 
 -- so, and its events are in the order of their tuples, with no tuple twice
 abbrev pub is_postable : Step → Bool
@@ -18,6 +19,7 @@ is_postable (Open loaded) = false
 is_postable (Commit (Tuples events)) = is_in_order events
 is_postable (Commit (Config config)) = true
 is_postable (Take part commits) = true
+is_postable (Trim floor) = true
 
 abbrev pub IsPostable : Step → Type 0
 IsPostable step = is_postable step ≡ true
@@ -28,3 +30,4 @@ touches_in (Open loaded) = []
 touches_in (Commit (Tuples events)) = map touch_of events
 touches_in (Commit (Config config)) = []
 touches_in (Take part commits) = []
+touches_in (Trim floor) = []

@@ -32,6 +32,7 @@ pub(crate) fn can_follow(shown: &Shown, post: &Post) -> bool
             None => shown.judge(post.ops.as_slice()).is_ok(),
         },
         Step::Take(_, _) => true,
+        Step::Trim(floor) => shown.can_raise(*floor),
     }
 }
 

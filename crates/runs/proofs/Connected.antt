@@ -6,13 +6,14 @@ use Rattle.sqlite_wal.specs.Recovery.{Image}
 use Rattle.sqlite.specs.Store.{Ghosts}
 use Rattle.sqlite.specs.State.{HasCleanDisk}
 use Rattle.sqlite.specs.Held.{Held, state}
-use Rattle.rows.specs.Retained.{Retained, with_commit}
+use Rattle.rows.specs.Retained.{Retained}
 use Rattle.rows.specs.Loads.{retained_of}
 use Rattle.rows.specs.declared.loaded.Loaded.{Loaded}
 use Rattle.shown.specs.declared.step.Step.{Step}
 use Rattle.shown.specs.declared.step.Step.TheVariants.{Open}
 use Rattle.shown.specs.Standing.{standing, after_opening}
 use Rattle.tables.specs.Leaving.{IsOneOf}
+use Rattle.keeper_core.specs.TableChanges.{changed}
 use Rattle.keeper_core.specs.Posts.{Posts}
 use Rattle.store.specs.History.{KeepsHistory, LeavesHistory}
 use Rattle.store.specs.StoreParts.{connection}
@@ -36,7 +37,7 @@ ended_over {S} g tables back From left input Did same begins e = record {
   more = e.agrees.more;
   follow = e.agrees.follow;
   asked = e.asked;
-  leaves = subst (λ (c : Held S). LeavesHistory g c (kept_by e.last ∷ map (with_commit (kept_by e.last)) e.agrees.more)) (sym same) e.agrees.leaves;
+  leaves = subst (λ (c : Held S). LeavesHistory g c (kept_by e.last ∷ map (changed (kept_by e.last)) e.agrees.more)) (sym same) e.agrees.leaves;
 }
 
 -- a desk over tables was opened over their connection

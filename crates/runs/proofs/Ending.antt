@@ -2,14 +2,12 @@
 use Rattle.std.proofs.Common.{◌≡◌, ℕ, Bool, false, List, [], ◌∷◌, map, take, refl, sym, ap, subst, ◌∙◌}
 use Rattle.std.specs.Prelude.{Option}
 use Rattle.std.proofs.lemmas.List.Elements.{All-nil}
-use Rattle.names.specs.declared.commit.Commit.{Commit}
-use Rattle.meaning.specs.Config.{Configured}
-use Rattle.rows.specs.Retained.{Retained, with_commit}
+use Rattle.rows.specs.Retained.{Retained}
 use Rattle.rows.specs.Loads.{retained_of}
-use Rattle.rows.specs.Follows.{IsNext}
 use Rattle.tables.specs.Device.{IsClean, Lasts}
 use Rattle.tables.specs.declared.tables.Tables.{Ghosts}
 use Rattle.tables.proofs.Lasting.{lasts_self, lasts_trans, clean_before}
+use Rattle.keeper_core.specs.TableChanges.{TableChange, changed, CanChange}
 use Rattle.keeper_core.specs.Posts.{Posts, Agrees, ComesBack}
 use Rattle.keeper.specs.Rules.{DeskStep}
 use Rattle.http_api.specs.Text.{lines_of}
@@ -26,10 +24,10 @@ pub record Closed {T : Type 0} (g : Ghosts T) (last : Posts T) (left : T) : Type
   pub agrees : Agrees g last.failed left (kept_by last)
 
 module _ {T : Type 0} (g : Ghosts T) (weaker : Weaker g) (tables : T) (first last : Posts T) (left : T) (began : Began g tables first) (closed : Closed g last left) where
-  starts : (P : Commit Configured → Type 0) → HasLeft g P (g.device first.tables) first
-  starts P = record { more = []; follow = All-nil (IsNext (kept_by first)); asked = All-nil P; leaves = began.settled; lasts = lasts_self (g.device first.tables) }
+  starts : (P : TableChange → Type 0) → HasLeft g P (g.device first.tables) first
+  starts P = record { more = []; follow = All-nil (CanChange (kept_by first)); asked = All-nil P; leaves = began.settled; lasts = lasts_self (g.device first.tables) }
 
-  lasts_to : (P : Commit Configured → Type 0) → HasLeft g P (g.device first.tables) last → Lasts (g.device first.tables) (g.device left)
+  lasts_to : (P : TableChange → Type 0) → HasLeft g P (g.device first.tables) last → Lasts (g.device first.tables) (g.device left)
   lasts_to P h = subst (λ (t : T). Lasts (g.device first.tables) (g.device t)) (sym closed.given) h.lasts
 
   pub device_lasts : Answered g first last → Lasts (g.device tables) (g.device left)
@@ -50,12 +48,12 @@ module _ {T : Type 0} (g : Ghosts T) (weaker : Weaker g) (tables : T) (first las
       holds = closed.agrees.holds;
       more = h.more;
       follow = h.follow;
-      leaves = subst (λ (t : T). g.leaves t (kept_by last ∷ map (with_commit (kept_by last)) h.more)) (sym closed.given) h.leaves;
+      leaves = subst (λ (t : T). g.leaves t (kept_by last ∷ map (changed (kept_by last)) h.more)) (sym closed.given) h.leaves;
     };
     asked = h.asked;
   }
 
-  ran : (input : List ℕ) (lines : List (List ℕ)) (text : List ℕ) → ((c : Commit Configured) → IsAskedIn lines c → IsAskedIn (lines_of input) c) → Run (DeskStep g) first lines text last
+  ran : (input : List ℕ) (lines : List (List ℕ)) (text : List ℕ) → ((c : TableChange) → IsAskedIn lines c → IsAskedIn (lines_of input) c) → Run (DeskStep g) first lines text last
       → HasLeft g (IsAskedIn (lines_of input)) (g.device first.tables) last
   ran input lines text asked run = after_run g weaker (IsAskedIn (lines_of input)) (g.device first.tables) lines first text last asked run (starts (IsAskedIn (lines_of input)))
 

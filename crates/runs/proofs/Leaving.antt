@@ -7,13 +7,13 @@ use Rattle.names.specs.Calls.{call_of}
 use Rattle.names.specs.declared.limits.TheConstants.{MAX_BODY_LEN}
 use Rattle.names.specs.declared.call.Call.{Call}
 use Rattle.names.specs.declared.call.Call.TheVariants as call
-use Rattle.names.specs.declared.commit.Commit.{Commit}
 use Rattle.names.specs.declared.refusal.Refusal.{Refusal}
+use Rattle.names.specs.declared.write.Write.{Write}
+use Rattle.zookie.specs.declared.Zookie.{Zookie}
+use Rattle.bodies.specs.Writing.{AsksWrite}
 use Rattle.names.specs.declared.part.Part.{Part}
 use Rattle.names.specs.declared.part.Part.TheVariants.{Index, Hot}
-use Rattle.meaning.specs.Config.{Configured}
-use Rattle.rows.specs.Retained.{Retained, with_commit}
-use Rattle.rows.specs.Follows.{IsNext}
+use Rattle.rows.specs.Retained.{Retained}
 use Rattle.tables.specs.Device.{Device, Lasts}
 use Rattle.tables.specs.Leaving.{IsOneOf, AreAmong}
 use Rattle.tables.specs.declared.tables.Tables.{Ghosts}
@@ -21,8 +21,9 @@ use Rattle.shown.specs.declared.step.Step.{Step}
 use Rattle.shown.specs.declared.step.Step.TheVariants.{Take}
 use Rattle.shown.specs.Standing.{Standing, standing, nothing, after_step, after_take}
 use Rattle.std.proofs.lemmas.List.Sums.{fold-append}
+use Rattle.keeper_core.specs.TableChanges.{TableChange, Adds, Raises, changed, CanChange}
 use Rattle.keeper_core.specs.Posts.{Posts}
-use Rattle.keeper_core.specs.Changes.{IsStored, IsRefused, IsCommitOfWrite, Touches, leaves_alone, adds_one}
+use Rattle.keeper_core.specs.Changes.{IsStored, IsTrimmed, trim_raises, trim_stays, IsCommitOfWrite, IsRaiseTo, IsRefused, Touches, leaves_alone, adds_one}
 use Rattle.keeper.specs.Rules.{DeskStep}
 use Rattle.keeper.specs.Showing.{OnlyShows}
 use Rattle.keeper.specs.calls.Write.{WriteStep, write_malformed, write_bad_zookie, write_accepted, write_refused, write_unread}
@@ -31,10 +32,11 @@ use Rattle.keeper.specs.calls.Check.{CheckStep, check_malformed, check_bad_zooki
 use Rattle.keeper.specs.calls.Read.{ReadStep, read_malformed, read_bad_zookie, read_answered, read_refused, read_unread}
 use Rattle.keeper.specs.calls.Expand.{ExpandStep, expand_malformed, expand_bad_zookie, expand_answered, expand_refused, expand_unread}
 use Rattle.keeper.specs.calls.Watch.{WatchStep, watch_malformed, watch_bad_zookie, watch_answered, watch_refused, watch_unread}
+use Rattle.keeper.specs.calls.Trim.{TrimStep, trim_malformed, trim_bad_zookie, trim_accepted, trim_refused, trim_unread}
 use Rattle.keeper.specs.calls.CatchUp.{CatchUpStep, catch_up_malformed, catch_up_accepted, catch_up_refused, catch_up_unread}
 use Rattle.http_api.specs.Text.{word_of, body_of}
 use Rattle.http_api.specs.Machine.{IsAnswer, Run}
-use Rattle.runs.specs.Runs.{kept_by, AsksCommit, LineAsks, IsAskedIn}
+use Rattle.runs.specs.Runs.{kept_by, AsksChange, LineAsks, IsAskedIn}
 use Rattle.runs.specs.inside.Leaving.{HasLeft}
 use Rattle.tables.proofs.Lasting.{lasts_trans}
 
@@ -47,65 +49,70 @@ swap a b rs x (inl is) = inr (inl is)
 swap a b rs x (inr (inl is)) = inl is
 swap a b rs x (inr (inr more)) = inr (inr more)
 
+-- the commit of the write is what its body asks for
+write_asks : (body : List ℕ) (write : Write Zookie) (r : Retained) (c : TableChange) → AsksWrite body write → IsCommitOfWrite r write c → AsksChange call.Write body c
+write_asks body write r (Adds commit) asks made = (write, asks, made.1)
+write_asks body write r (Raises floor) asks made = absurd made
+
 kept_by_take : (s : Standing) (part : Part) (n : ℕ) → (after_take s part n).kept ≡ s.kept
 kept_by_take s Index n = refl
 kept_by_take s Hot n = refl
 
-module _ {T : Type 0} (g : Ghosts T) (weaker : Weaker g) (P : Commit Configured → Type 0) (start : Device) where
+module _ {T : Type 0} (g : Ghosts T) (weaker : Weaker g) (P : TableChange → Type 0) (start : Device) where
   pub same_desk : (old new : Posts T) → new ≡ old → HasLeft g P start old → HasLeft g P start new
   same_desk old new same h = subst (λ (d : Posts T). HasLeft g P start d) (sym same) h
 
   same_tables : (old new : Posts T) → new.tables ≡ old.tables → kept_by new ≡ kept_by old → HasLeft g P start old → HasLeft g P start new
   same_tables old new tables kept h = record {
     more = h.more;
-    follow = subst (λ (r : Retained). All (IsNext r) h.more) (sym kept) h.follow;
+    follow = subst (λ (r : Retained). All (CanChange r) h.more) (sym kept) h.follow;
     asked = h.asked;
-    leaves = subst (λ (r : Retained). g.leaves new.tables (r ∷ map (with_commit r) h.more)) (sym kept) (subst (λ (t : T). g.leaves t (kept_by old ∷ map (with_commit (kept_by old)) h.more)) (sym tables) h.leaves);
+    leaves = subst (λ (r : Retained). g.leaves new.tables (r ∷ map (changed r) h.more)) (sym kept) (subst (λ (t : T). g.leaves t (kept_by old ∷ map (changed (kept_by old)) h.more)) (sym tables) h.leaves);
     lasts = subst (λ (t : T). Lasts start (g.device t)) (sym tables) h.lasts;
   }
 
   shows_only : (old new : Posts T) → OnlyShows old new → HasLeft g P start old → HasLeft g P start new
   shows_only old new only h = same_tables old new only.tables.0 (ap (λ (steps : List Step). (standing steps).kept) only.shows.posted) h
 
-  one_more : (old new : Posts T) (commit : Commit Configured) → kept_by new ≡ kept_by old → P commit → IsNext (kept_by old) commit
-      → ((rs : List Retained) → g.leaves old.tables rs → g.leaves new.tables (with_commit (kept_by old) commit ∷ rs))
+  one_more : (old new : Posts T) (change : TableChange) → kept_by new ≡ kept_by old → P change → CanChange (kept_by old) change
+      → ((rs : List Retained) → g.leaves old.tables rs → g.leaves new.tables (changed (kept_by old) change ∷ rs))
       → Lasts (g.device old.tables) (g.device new.tables) → HasLeft g P start old → HasLeft g P start new
-  one_more old new commit kept asked next adds lasts h = record {
-    more = commit ∷ h.more;
-    follow = subst (λ (r : Retained). All (IsNext r) (commit ∷ h.more)) (sym kept) (All-cons (IsNext (kept_by old)) commit h.more next h.follow);
-    asked = All-cons P commit h.more asked h.asked;
-    leaves = subst (λ (r : Retained). g.leaves new.tables (r ∷ map (with_commit r) (commit ∷ h.more))) (sym kept)
-        (weaker new.tables _ _ (swap (with_commit (kept_by old) commit) (kept_by old) (map (with_commit (kept_by old)) h.more)) (adds _ h.leaves));
+  one_more old new change kept asked can adds lasts h = record {
+    more = change ∷ h.more;
+    follow = subst (λ (r : Retained). All (CanChange r) (change ∷ h.more)) (sym kept) (All-cons (CanChange (kept_by old)) change h.more can h.follow);
+    asked = All-cons P change h.more asked h.asked;
+    leaves = subst (λ (r : Retained). g.leaves new.tables (r ∷ map (changed r) (change ∷ h.more))) (sym kept)
+        (weaker new.tables _ _ (swap (changed (kept_by old) change) (kept_by old) (map (changed (kept_by old)) h.more)) (adds _ h.leaves));
     lasts = lasts_trans start (g.device old.tables) (g.device new.tables) h.lasts lasts;
   }
 
   stored : (old new : Posts T) → IsStored g old new → HasLeft g P start old → HasLeft g P start new
   stored old new is h = record {
     more = [];
-    follow = All-nil (IsNext (kept_by new));
+    follow = All-nil (CanChange (kept_by new));
     asked = All-nil P;
     leaves = is.settled;
     lasts = lasts_trans start (g.device old.tables) (g.device new.tables) h.lasts is.lasts;
   }
 
-  touched : (old new : Posts T) (made : Commit Configured → Type 0) → ((c : Commit Configured) → made c → P c) → kept_by new ≡ kept_by old → Lasts (g.device old.tables) (g.device new.tables)
+  touched : (old new : Posts T) (made : TableChange → Type 0) → ((c : TableChange) → made c → P c) → kept_by new ≡ kept_by old → Lasts (g.device old.tables) (g.device new.tables)
       → Touches g old made new → HasLeft g P start old → HasLeft g P start new
   touched old new made asked kept lasts (leaves_alone same) h = same_tables old new same kept h
-  touched old new made asked kept lasts (adds_one commit is may) h = one_more old new commit kept (asked commit is) may.follows may.adds lasts h
+  touched old new made asked kept lasts (adds_one change is may) h = one_more old new change kept (asked change is) may.follows may.adds lasts h
 
-  refused : (old new : Posts T) (made : Commit Configured → Type 0) (judged : Refusal → Type 0) (why : Refusal) → ((c : Commit Configured) → made c → P c)
+  refused : (old new : Posts T) (made : TableChange → Type 0) (judged : Refusal → Type 0) (why : Refusal) → ((c : TableChange) → made c → P c)
       → IsRefused g old made judged why new → HasLeft g P start old → HasLeft g P start new
   refused old new made judged why asked is h = touched old new made asked (ap (λ (steps : List Step). (standing steps).kept) is.shows.posted) is.lasts is.touches h
 
-  after_write : (old : Posts T) (body : List ℕ) (told : Option (ℕ × List ℕ)) (new : Posts T) → ((c : Commit Configured) → AsksCommit call.Write body c → P c)
+  after_write : (old : Posts T) (body : List ℕ) (told : Option (ℕ × List ℕ)) (new : Posts T) → ((c : TableChange) → AsksChange call.Write body c → P c)
       → WriteStep g old body told new → HasLeft g P start old → HasLeft g P start new
   after_write old body told new asked (write_malformed asks says same) h = same_desk old new same h
   after_write old body told new asked (write_bad_zookie bad says same) h = same_desk old new same h
   after_write old body told new asked (write_accepted write receipt asks is says) h = stored old new is.stored h
-  after_write old body told new asked (write_refused write why asks is says) h = refused old new (IsCommitOfWrite (kept_by old) write) _ why (λ c made. asked c (write, asks, made.1)) is h
+  after_write old body told new asked (write_refused write why asks is says) h = refused old new (IsCommitOfWrite (kept_by old) write) _ why (λ c made. asked c (write_asks body write (kept_by old) c asks made)) is h
   after_write old body told new asked (write_unread none same) h = same_desk old new same h
 
-  after_config : (old : Posts T) (body : List ℕ) (told : Option (ℕ × List ℕ)) (new : Posts T) → ((c : Commit Configured) → AsksCommit call.Config body c → P c)
+  after_config : (old : Posts T) (body : List ℕ) (told : Option (ℕ × List ℕ)) (new : Posts T) → ((c : TableChange) → AsksChange call.Config body c → P c)
       → ConfigStep g old body told new → HasLeft g P start old → HasLeft g P start new
   after_config old body told new asked (config_invalid cause is says same) h = same_desk old new same h
   after_config old body told new asked (config_accepted config receipt accepts is says) h = stored old new is.stored h
@@ -147,7 +154,19 @@ module _ {T : Type 0} (g : Ghosts T) (weaker : Weaker g) (P : Commit Configured 
   after_catch_up old body told new (catch_up_refused part commits why asks is says) h = refused old new _ _ why (λ c none. absurd none) is h
   after_catch_up old body told new (catch_up_unread none same) h = same_desk old new same h
 
-  pub after_step_of : (old : Posts T) (k : Call) (body : List ℕ) (told : Option (ℕ × List ℕ)) (new : Posts T) → ((c : Commit Configured) → AsksCommit k body c → P c)
+  trimmed : (old new : Posts T) (rev : ℕ) → IsTrimmed g old rev new → HasLeft g P start old → HasLeft g P start new
+  trimmed old new rev (trim_raises above posts is) h = stored old new is h
+  trimmed old new rev (trim_stays below shows same) h = same_tables old new same.0 (ap (λ (steps : List Step). (standing steps).kept) shows.posted) h
+
+  after_trim : (old : Posts T) (body : List ℕ) (told : Option (ℕ × List ℕ)) (new : Posts T) → ((c : TableChange) → AsksChange call.Trim body c → P c)
+      → TrimStep g old body told new → HasLeft g P start old → HasLeft g P start new
+  after_trim old body told new asked (trim_malformed asks says same) h = same_desk old new same h
+  after_trim old body told new asked (trim_bad_zookie bad says same) h = same_desk old new same h
+  after_trim old body told new asked (trim_accepted zookie floor receipt asks is says) h = trimmed old new zookie.rev is.done h
+  after_trim old body told new asked (trim_refused zookie why asks is says) h = refused old new (IsRaiseTo (standing old.posted) zookie) _ why (λ c made. asked c (zookie, asks, made.1)) is h
+  after_trim old body told new asked (trim_unread none same) h = same_desk old new same h
+
+  pub after_step_of : (old : Posts T) (k : Call) (body : List ℕ) (told : Option (ℕ × List ℕ)) (new : Posts T) → ((c : TableChange) → AsksChange k body c → P c)
       → DeskStep g old k body told new → HasLeft g P start old → HasLeft g P start new
   after_step_of old call.Write body told new asked s h = after_write old body told new asked s h
   after_step_of old call.Config body told new asked s h = after_config old body told new asked s h
@@ -159,17 +178,17 @@ module _ {T : Type 0} (g : Ghosts T) (weaker : Weaker g) (P : Commit Configured 
   after_step_of old call.Watch body told new asked s h = after_watch old body told new s h
   after_step_of old call.Leopard body told new asked s h = same_desk old new s.1 h
   after_step_of old call.Hot body told new asked s h = same_desk old new s.1 h
-  after_step_of old call.Trim body told new asked s h = same_desk old new s.1 h
+  after_step_of old call.Trim body told new asked s h = after_trim old body told new asked s h
   after_step_of old call.Rebuild body told new asked s h = same_desk old new s.1 h
 
-  after_answer : (old : Posts T) (fits : Bool) (k : Option Call) (body text : List ℕ) (new : Posts T) → ((it : Call) → k ≡ Some it → (c : Commit Configured) → AsksCommit it body c → P c)
+  after_answer : (old : Posts T) (fits : Bool) (k : Option Call) (body text : List ℕ) (new : Posts T) → ((it : Call) → k ≡ Some it → (c : TableChange) → AsksChange it body c → P c)
       → IsAnswer (DeskStep g) old fits k body text new → HasLeft g P start old → HasLeft g P start new
   after_answer old false k body text new asked s h = same_desk old new s.1 h
   after_answer old true None body text new asked s h = same_desk old new s.1 h
   after_answer old true (Some it) body text new asked s h = after_step_of old it body s.reply new (asked it refl) s.may h
 
   -- the tables of a desk that answered lines leave a commit more only where one of them asked for it
-  pub after_run : (lines : List (List ℕ)) (old : Posts T) (text : List ℕ) (new : Posts T) → ((c : Commit Configured) → IsAskedIn lines c → P c)
+  pub after_run : (lines : List (List ℕ)) (old : Posts T) (text : List ℕ) (new : Posts T) → ((c : TableChange) → IsAskedIn lines c → P c)
       → Run (DeskStep g) old lines text new → HasLeft g P start old → HasLeft g P start new
   after_run [] old text new asked r h = same_desk old new r.1 h
   after_run (line ∷ lines) old text new asked r h =

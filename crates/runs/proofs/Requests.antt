@@ -3,12 +3,10 @@ use Rattle.std.proofs.Common.{◌≡◌, ℕ, Bool, true, false, List, [], ◌�
 use Rattle.std.specs.Prelude.{Option, Some, None}
 use Rattle.std.proofs.lemmas.List.Elements.{All-nil, All-weaker}
 use Rattle.httparse.specs.Grammar.{RequestHead}
-use Rattle.names.specs.declared.commit.Commit.{Commit}
-use Rattle.meaning.specs.Config.{Configured}
-use Rattle.rows.specs.Follows.{IsNext}
 use Rattle.tables.specs.Device.{Device, Lasts}
 use Rattle.tables.specs.declared.tables.Tables.{Ghosts}
 use Rattle.tables.proofs.Lasting.{lasts_self}
+use Rattle.keeper_core.specs.TableChanges.{TableChange, CanChange}
 use Rattle.keeper_core.specs.Posts.{Posts}
 use Rattle.keeper.specs.Rules.{DeskStep}
 use Rattle.http_api.specs.declared.end.End.{End}
@@ -36,16 +34,16 @@ went_on step s number input text t next left goes (answered head body rest call 
 went_on step s number input text t next left goes (no_memory head body rest call has routed may says then) = let e : go_on left ≡ stop Memory = sym goes ∙ then in cc
 
 -- a request behind the first is one of the input
-asked_later : (input left : List ℕ) (c : Commit Configured) → ((head : RequestHead) × (body : List ℕ) × HasRequest input head body left) → IsRequestedIn left c → IsRequestedIn input c
+asked_later : (input left : List ℕ) (c : TableChange) → ((head : RequestHead) × (body : List ℕ) × HasRequest input head body left) → IsRequestedIn left c → IsRequestedIn input c
 asked_later input left c first is = (suc is.0, (first.0, first.1, left, first.2, inr is.1))
 
-asked_behind : {S : Type 0} (step : Step S) (count : ℕ) (s : S) (number : ℕ) (input rest text : List ℕ) (t : S) (c : Commit Configured) → Goes step s number count input rest text t → IsRequestedIn rest c → IsRequestedIn input c
+asked_behind : {S : Type 0} (step : Step S) (count : ℕ) (s : S) (number : ℕ) (input rest text : List ℕ) (t : S) (c : TableChange) → Goes step s number count input rest text t → IsRequestedIn rest c → IsRequestedIn input c
 asked_behind step zero s number input rest text t c goes is = subst (λ (i : List ℕ). IsRequestedIn i c) goes.0 is
 asked_behind step (suc count) s number input rest text t c goes is =
     asked_later input goes.2 c (went_on step s number input goes.0 goes.1 (go_on goes.2) goes.2 refl goes.4) (asked_behind step count goes.1 (suc number) goes.2 rest goes.3 t c goes.5 is)
 
-module _ {T : Type 0} (g : Ghosts T) (weaker : Weaker g) (P : Commit Configured → Type 0) (start : Device) where
-  after_turn : (old : Posts T) (number : ℕ) (input text : List ℕ) (new : Posts T) (next : Next) → ((c : Commit Configured) → IsRequestedIn input c → P c)
+module _ {T : Type 0} (g : Ghosts T) (weaker : Weaker g) (P : TableChange → Type 0) (start : Device) where
+  after_turn : (old : Posts T) (number : ℕ) (input text : List ℕ) (new : Posts T) (next : Next) → ((c : TableChange) → IsRequestedIn input c → P c)
       → Turn (DeskStep g) old number input text new next → HasLeft g P start old → HasLeft g P start new
   after_turn old number input text new next asked (no_request end none same then) h = same_desk g weaker P start old new same h
   after_turn old number input text new next asked (unknown head body rest has unrouted says same then) h = same_desk g weaker P start old new same h
@@ -54,7 +52,7 @@ module _ {T : Type 0} (g : Ghosts T) (weaker : Weaker g) (P : Commit Configured 
   after_turn old number input text new next asked (no_memory head body rest call has routed may says then) h =
       after_step_of g weaker P start old call body None new (λ c asks. asked c (1, (head, body, rest, has, inl (call, routed, asks)))) may h
 
-  after_goes : (count : ℕ) (old : Posts T) (number : ℕ) (input rest text : List ℕ) (new : Posts T) → ((c : Commit Configured) → IsRequestedIn input c → P c)
+  after_goes : (count : ℕ) (old : Posts T) (number : ℕ) (input rest text : List ℕ) (new : Posts T) → ((c : TableChange) → IsRequestedIn input c → P c)
       → Goes (DeskStep g) old number count input rest text new → HasLeft g P start old → HasLeft g P start new
   after_goes zero old number input rest text new asked goes h = same_desk g weaker P start old new goes.2 h
   after_goes (suc count) old number input rest text new asked goes h =
@@ -62,7 +60,7 @@ module _ {T : Type 0} (g : Ghosts T) (weaker : Weaker g) (P : Commit Configured 
       (λ c is. asked c (asked_later input goes.2 c (went_on (DeskStep g) old number input goes.0 goes.1 (go_on goes.2) goes.2 refl goes.4) is)) goes.5
       (after_turn old number input goes.0 goes.1 (go_on goes.2) asked goes.4 h)
 
-  after_text : (old : Posts T) (input text : List ℕ) (new : Posts T) (next : Next) → ((c : Commit Configured) → IsRequestedIn input c → P c)
+  after_text : (old : Posts T) (input text : List ℕ) (new : Posts T) (next : Next) → ((c : TableChange) → IsRequestedIn input c → P c)
       → Text (DeskStep g) old input text new next → HasLeft g P start old → HasLeft g P start new
   after_text old input text new next asked t h =
       after_turn t.mid (suc t.count) t.rest t.last new next (λ c is. asked c (asked_behind (DeskStep g) t.count old 1 input t.rest t.before t.mid c t.goes is)) t.turn
@@ -72,7 +70,7 @@ module _ {T : Type 0} (g : Ghosts T) (weaker : Weaker g) (input text : List ℕ)
   -- a desk that had served connections has served one more
   pub served_more : (first : Posts T) (inputs : List (List ℕ)) → HasServed g first inputs old → HasServed g first (input ∷ inputs) new
   served_more first inputs h =
-      let Asks : Commit Configured → Type 0 = IsRequestedInOne (input ∷ inputs) in
+      let Asks : TableChange → Type 0 = IsRequestedInOne (input ∷ inputs) in
       let before : HasLeft g Asks (g.device first.tables) old = record {
         more = h.more;
         follow = h.follow;
@@ -91,7 +89,7 @@ pub ready : {T : Type 0} (g : Ghosts T) (tables : T) (desk : Posts T) → Began 
 ready g tables desk began = record {
   ran = refl;
   more = [];
-  follow = All-nil (IsNext (kept_by desk));
+  follow = All-nil (CanChange (kept_by desk));
   asked = All-nil (IsRequestedInOne []);
   leaves = began.settled;
   lasts = lasts_self (g.device desk.tables);

@@ -2,13 +2,10 @@
 use Rattle.std.specs.Prelude.{ℕ, ◌≡◌, ◌⊎◌, List, [], ◌∷◌, map, Option, Some, zero, suc}
 use Rattle.std.specs.List.{All}
 use Rattle.names.specs.declared.call.Call.{Call}
-use Rattle.names.specs.declared.commit.Commit.{Commit}
-use Rattle.meaning.specs.Config.{Configured}
 use Rattle.httparse.specs.Grammar.{RequestHead}
-use Rattle.rows.specs.Retained.{with_commit}
-use Rattle.rows.specs.Follows.{IsNext}
 use Rattle.tables.specs.Device.{Lasts}
 use Rattle.tables.specs.declared.tables.Tables.{Ghosts}
+use Rattle.keeper_core.specs.TableChanges.{TableChange, changed, CanChange}
 use Rattle.keeper_core.specs.Posts.{Posts}
 use Rattle.keeper.specs.Rules.{DeskStep}
 use Rattle.http_api.specs.declared.end.End.{End}
@@ -17,28 +14,28 @@ use Rattle.http_api.specs.Routes.{route_of}
 use Rattle.http_api.specs.Connection.{HasRequest, Next, Text}
 use Rattle.http_api.specs.Talks.{Talked, TalkedSoFar, TalkCut}
 use Rattle.tracked_io.specs.Tracking.{TrackedWriting}
-use Rattle.runs.specs.Runs.{AsksCommit, kept_by}
+use Rattle.runs.specs.Runs.{AsksChange, kept_by}
 
 -- ---- what was asked for
 
--- the request asks for the commit
-abbrev pub RequestAsks : RequestHead → List ℕ → Commit Configured → Type 0
-RequestAsks head body commit = (call : Call) × (route_of head.method head.target ≡ Some call) × AsksCommit call body commit
+-- the request asks for the change
+abbrev pub RequestAsks : RequestHead → List ℕ → TableChange → Type 0
+RequestAsks head body change = (call : Call) × (route_of head.method head.target ≡ Some call) × AsksChange call body change
 
--- one of so many requests, from the front of the input on, asks for the commit
-abbrev pub IsAmongRequests : ℕ → List ℕ → Commit Configured → Type 0
-IsAmongRequests zero input commit = ⊥
-IsAmongRequests (suc count) input commit = (head : RequestHead) × (body : List ℕ) × (rest : List ℕ) × HasRequest input head body rest
-    × (RequestAsks head body commit ⊎ IsAmongRequests count rest commit)
+-- one of so many requests, from the front of the input on, asks for the change
+abbrev pub IsAmongRequests : ℕ → List ℕ → TableChange → Type 0
+IsAmongRequests zero input change = ⊥
+IsAmongRequests (suc count) input change = (head : RequestHead) × (body : List ℕ) × (rest : List ℕ) × HasRequest input head body rest
+    × (RequestAsks head body change ⊎ IsAmongRequests count rest change)
 
--- a request in the input of a connection asks for the commit
-abbrev pub IsRequestedIn : List ℕ → Commit Configured → Type 0
-IsRequestedIn input commit = (count : ℕ) × IsAmongRequests count input commit
+-- a request in the input of a connection asks for the change
+abbrev pub IsRequestedIn : List ℕ → TableChange → Type 0
+IsRequestedIn input change = (count : ℕ) × IsAmongRequests count input change
 
 -- a request in one of these inputs does
-abbrev pub IsRequestedInOne : List (List ℕ) → Commit Configured → Type 0
-IsRequestedInOne [] commit = ⊥
-IsRequestedInOne (input ∷ inputs) commit = IsRequestedIn input commit ⊎ IsRequestedInOne inputs commit
+abbrev pub IsRequestedInOne : List (List ℕ) → TableChange → Type 0
+IsRequestedInOne [] change = ⊥
+IsRequestedInOne (input ∷ inputs) change = IsRequestedIn input change ⊎ IsRequestedInOne inputs change
 
 -- ---- what was written
 
@@ -62,13 +59,13 @@ Connections step s [] t = t ≡ s
 Connections {S} step s (input ∷ inputs) t = (mid : S) × (text : List ℕ) × (next : Next) × Connections step s inputs mid × Text step mid input text t next
 
 -- Connections with these inputs, the last one first, took a desk from the first state to this one. What the end of the process
--- or a crash leaves of its tables holds the history of the posted steps, perhaps with one commit more that a request asked for.
+-- or a crash leaves of its tables holds the history of the posted steps, perhaps with one change more that a request asked for.
 pub record HasServed {T : Type 0} (g : Ghosts T) (first : Posts T) (inputs : List (List ℕ)) (desk : Posts T) : Type 0 where
   pub ran : Connections (DeskStep g) first inputs desk
-  pub more : List (Commit Configured)
-  pub follow : All (IsNext (kept_by desk)) more
+  pub more : List TableChange
+  pub follow : All (CanChange (kept_by desk)) more
   pub asked : All (IsRequestedInOne inputs) more
-  pub leaves : g.leaves desk.tables (kept_by desk ∷ map (with_commit (kept_by desk)) more)
+  pub leaves : g.leaves desk.tables (kept_by desk ∷ map (changed (kept_by desk)) more)
   pub lasts : Lasts (g.device first.tables) (g.device desk.tables)
 
 -- a connection with this input did this, and a desk that had served others has served this one more

@@ -11,17 +11,15 @@ use Rattle.sqlite.specs.State.{HasCleanDisk}
 use Rattle.sqlite.specs.Held.{Held, state}
 use Rattle.sqlite.specs.declared.error.Error.{Error}
 use Rattle.sqlite.specs.Files.{file_state, over_files}
-use Rattle.names.specs.declared.commit.Commit.{Commit}
-use Rattle.meaning.specs.Config.{Configured}
-use Rattle.rows.specs.Retained.{Retained, empty_store, with_commit}
+use Rattle.rows.specs.Retained.{Retained, empty_store}
 use Rattle.rows.specs.Loads.{retained_of}
 use Rattle.rows.specs.declared.loaded.Loaded.{Loaded}
-use Rattle.rows.specs.Follows.{IsNext}
 use Rattle.tables.specs.Device.{HasFailed, IsClean, sound_device}
 use Rattle.tables.specs.Leaving.{IsOneOf}
 use Rattle.tables.specs.declared.tables.Tables as tables
 use Rattle.shown.specs.declared.step.Step.{Step}
 use Rattle.shown.specs.Standing.{standing, after_opening}
+use Rattle.keeper_core.specs.TableChanges.{TableChange, changed, CanChange}
 use Rattle.keeper_core.specs.Posts.{Posts}
 use Rattle.http_api.specs.Text.{lines_of}
 use Rattle.store_core.specs.Format.{schema}
@@ -58,7 +56,7 @@ BeginsIn image None r = (held : Retained) → ImageHolds image held → r ≡ he
 BeginsIn image (Some number) r = r ≡ empty_store number
 
 -- A desk was opened on a history from which a run begins, and did this for the input. The connection that is left holds the
--- history of the posted steps; what is left of it holds that, perhaps with one commit more that a line asked for.
+-- history of the posted steps; what is left of it holds that, perhaps with one change more that a line asked for.
 pub record EndedOver {S : Type 0} (g : Ghosts S) (From : Retained → Type 0) (input : List ℕ) (Did : Posts (Store S g) → Posts (Store S g) → Type 0) (left : Held S) : Type 0 where
   pub loaded : Loaded
   pub first : Posts (Store S g)
@@ -67,10 +65,10 @@ pub record EndedOver {S : Type 0} (g : Ghosts S) (From : Retained → Type 0) (i
   pub begins : HasCleanDisk (state g left) → From (retained_of loaded)
   pub did : Did first last
   pub keeps : last.failed ≡ false → KeepsHistory g left (kept_by last)
-  pub more : List (Commit Configured)
-  pub follow : All (IsNext (kept_by last)) more
+  pub more : List TableChange
+  pub follow : All (CanChange (kept_by last)) more
   pub asked : All (IsAskedIn (lines_of input)) more
-  pub leaves : LeavesHistory g left (kept_by last ∷ map (with_commit (kept_by last)) more)
+  pub leaves : LeavesHistory g left (kept_by last ∷ map (changed (kept_by last)) more)
 
 -- A desk was opened on a history from which a run begins, and has served no connection yet.
 pub record OpenedOver {S : Type 0} (g : Ghosts S) (From : Retained → Type 0) (desk : Posts (Store S g)) : Type 0 where

@@ -4,12 +4,12 @@ use Rattle.std.specs.List.{All}
 use Rattle.names.specs.Calls.{call_of}
 use Rattle.names.specs.declared.call.Call.{Call}
 use Rattle.names.specs.declared.call.Call.TheVariants as call
-use Rattle.names.specs.declared.commit.Commit.{Commit}
 use Rattle.names.specs.declared.commit.Commit.TheVariants.{Config}
 use Rattle.names.specs.declared.write.Write.{Write}
 use Rattle.meaning.specs.Config.{Configured}
 use Rattle.config.specs.Causes.{Accepts}
 use Rattle.bodies.specs.Writing.{AsksWrite}
+use Rattle.bodies.specs.Trimming.{AsksTrim}
 use Rattle.zookie.specs.declared.Zookie.{Zookie}
 use Rattle.rows.specs.Retained.{Retained}
 use Rattle.rows.specs.Loads.{retained_of}
@@ -18,6 +18,7 @@ use Rattle.tables.specs.Device.{IsClean}
 use Rattle.tables.specs.declared.tables.Tables.{Ghosts}
 use Rattle.shown.specs.declared.step.Step.TheVariants.{Open}
 use Rattle.shown.specs.Standing.{standing}
+use Rattle.keeper_core.specs.TableChanges.{TableChange, Adds, Raises}
 use Rattle.keeper_core.specs.Posts.{Posts, Agrees, OpensWith, ComesBack}
 use Rattle.keeper_core.specs.Changes.{IsCommitOf}
 use Rattle.keeper.specs.Rules.{DeskStep}
@@ -47,20 +48,32 @@ pub record Began {T : Type 0} (g : Ghosts T) (tables : T) (first : Posts T) : Ty
 
 -- ---- what was asked for
 
--- the call with this body asks for the commit
-abbrev pub AsksCommit : Call → List ℕ → Commit Configured → Type 0
-AsksCommit call.Write body commit = (write : Write Zookie) × AsksWrite body write × IsCommitOf write.ops commit
-AsksCommit call.Config body commit = (config : Configured) × Accepts body config × (commit ≡ Config config)
-AsksCommit _ body commit = ⊥
+-- the body of a `write`, a `config` or a `trim` asks for the change
+abbrev pub AsksInWrite : List ℕ → TableChange → Type 0
+AsksInWrite body (Adds commit) = (write : Write Zookie) × AsksWrite body write × IsCommitOf write.ops commit
+AsksInWrite body (Raises floor) = ⊥
 
--- the line asks for the commit
-abbrev pub LineAsks : List ℕ → Commit Configured → Type 0
-LineAsks line commit = (call : Call) × (call_of (word_of line) ≡ Some call) × AsksCommit call (body_of line) commit
+abbrev pub AsksInConfig : List ℕ → TableChange → Type 0
+AsksInConfig body change = (config : Configured) × Accepts body config × (change ≡ Adds (Config config))
 
--- one of the lines asks for the commit
-abbrev pub IsAskedIn : List (List ℕ) → Commit Configured → Type 0
-IsAskedIn [] commit = ⊥
-IsAskedIn (line ∷ lines) commit = LineAsks line commit ⊎ IsAskedIn lines commit
+abbrev pub AsksInTrim : List ℕ → TableChange → Type 0
+AsksInTrim body change = (floor : Zookie) × AsksTrim body floor × (change ≡ Raises floor.rev)
+
+-- the call with this body asks for the change
+abbrev pub AsksChange : Call → List ℕ → TableChange → Type 0
+AsksChange call.Write body change = AsksInWrite body change
+AsksChange call.Config body change = AsksInConfig body change
+AsksChange call.Trim body change = AsksInTrim body change
+AsksChange _ body change = ⊥
+
+-- the line asks for the change
+abbrev pub LineAsks : List ℕ → TableChange → Type 0
+LineAsks line change = (call : Call) × (call_of (word_of line) ≡ Some call) × AsksChange call (body_of line) change
+
+-- one of the lines asks for the change
+abbrev pub IsAskedIn : List (List ℕ) → TableChange → Type 0
+IsAskedIn [] change = ⊥
+IsAskedIn (line ∷ lines) change = LineAsks line change ⊎ IsAskedIn lines change
 
 -- ---- what was written
 
@@ -79,7 +92,7 @@ CutBy g contents old input new first last = Cut (DeskStep g) first (contents old
 -- ---- what is left
 
 -- A desk was opened on what the tables held, did this for the input, and gave the tables back. They hold the history of the
--- posted steps; what is left of them holds it, perhaps with one commit more that a line asked for.
+-- posted steps; what is left of them holds it, perhaps with one change more that a line asked for.
 pub record Ended {T : Type 0} (g : Ghosts T) (tables : T) (input : List ℕ) (Did : Posts T → Posts T → Type 0) (left : T) : Type 0 where
   pub loaded : Loaded
   pub first : Posts T

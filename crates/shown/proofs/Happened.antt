@@ -6,19 +6,21 @@ use mathlib.Core.Bool.{true≢false}
 use Rattle.names.specs.declared.commit.Commit.{Commit as CommitOf}
 use Rattle.meaning.specs.Config.{Configured}
 use Rattle.meaning.specs.History.{History}
-use Rattle.rows.specs.Retained.{Retained}
+use Rattle.rows.specs.Retained.{Retained, after_trim}
 use Rattle.rows.specs.Loads.{retained_of}
 use Rattle.rows.specs.declared.loaded.Loaded.{Loaded}
 use Rattle.shown.specs.declared.step.Step.{Step}
-use Rattle.shown.specs.declared.step.Step.TheVariants.{Open, Commit}
+use Rattle.shown.specs.declared.step.Step.TheVariants.{Open, Commit, Trim}
 use Rattle.shown.specs.declared.event.Event.{Event}
 use Rattle.shown.specs.declared.event.Event.TheVariants.{Posted}
-use Rattle.shown.specs.declared.event.Posting.TheVariants.{NextCommit, Opening}
+use Rattle.shown.specs.declared.event.Posting.TheVariants.{NextCommit, Opening, Trimming}
 use Rattle.shown.specs.declared.event.Outcome.{Outcome}
 use Rattle.shown.specs.declared.event.Outcome.TheVariants.{Done}
 use Rattle.shown.specs.Standing.{Standing, standing}
-use Rattle.shown.specs.World.{State, has_begun, is_within, waiting_commits, can_come, after_coming, IsComing, Happens}
+use Rattle.shown.specs.World.{State, has_begun, is_within, waiting_commits, can_raise, can_come, after_coming, after_event, IsComing, HasOutcome, Happens}
 use Rattle.shown.specs.WorldParts.{Fit}
+use Rattle.shown.specs.Standing.{CanRaise}
+use Rattle.shown.proofs.Raising.{raises_where}
 use Rattle.shown.proofs.Waiting.{waiting_of}
 
 pub happens : (s : State) (e : Event) (outcome : Outcome) (t : State) → can_come s e ≡ true → IsComing s e outcome → t ≡ after_coming s e → Happens s e outcome t
@@ -52,6 +54,15 @@ post_next posted posted' waits waits' c newest shown published fit first more =
     both_true (has_begun posted) (nat_le 1 (length (waiting_commits s))) (begun posted c waits' (λ empty. sym first ∙ fit.unopened empty)) (ap (λ (h : History). nat_le 1 (length h)) left ∙ some_left c waits') in
     let steps : posted' ≡ posted ++ map (λ d. Commit d) (take 1 (waiting_commits s)) = more ∙ ap (λ (h : History). posted ++ map (λ d. Commit d) (take 1 h)) (sym left) in
     happens s (Posted NextCommit) Done _ can refl (ap (λ (xs : List Step). record { stored = newest; posted = xs; shown = shown }) steps)
+
+-- the floor is raised
+pub raise_next : (posted posted' : List Step) (floor : ℕ) (newest newest' : Retained) (shown : ℕ) → has_begun posted ≡ true → CanRaise (standing posted) floor
+    → posted' ≡ posted ++ Trim floor ∷ [] → newest' ≡ after_trim newest floor
+    → Happens (record { stored = newest; posted = posted; shown = shown }) (Posted (Trimming floor)) Done (record { stored = newest'; posted = posted'; shown = shown })
+raise_next posted posted' floor newest newest' shown begun can more raised =
+    let s : State = record { stored = newest; posted = posted; shown = shown } in
+    happens s (Posted (Trimming floor)) Done _ (both_true (has_begun posted) (can_raise (standing posted) floor) begun ((raises_where (standing posted) floor).1 can)) refl
+    (λ i. record { stored = raised i; posted = more i; shown = shown })
 
 not_both : (a b : Bool) → a ≡ false → b ≡ true → (not a && b) ≡ true
 not_both true b h k = absurd (true≢false h)

@@ -1,4 +1,5 @@
 pub mod Putting
+pub mod Raising
 pub mod Waiting
 pub mod Happened
 pub mod Rising

@@ -8,18 +8,19 @@ use Rattle.std.proofs.lemmas.List.{take-append-drop, take-append-le}
 use Rattle.names.specs.declared.commit.Commit.{Commit as CommitOf}
 use Rattle.meaning.specs.Config.{Configured}
 use Rattle.meaning.specs.History.{History}
-use Rattle.rows.specs.Retained.{Retained, with_commit}
+use Rattle.rows.specs.Retained.{Retained, newest as last, with_commit, after_trim}
 use Rattle.rows.specs.Follows.{IsNext}
 use Rattle.rows.specs.Loads.{IsWithin, retained_of}
 use Rattle.rows.specs.declared.loaded.Loaded.{Loaded}
 use Rattle.names.specs.declared.part.Part.{Part}
 use Rattle.names.specs.declared.part.Part.TheVariants.{Index, Hot}
 use Rattle.shown.specs.declared.step.Step.{Step}
-use Rattle.shown.specs.declared.step.Step.TheVariants.{Open, Commit, Take}
-use Rattle.shown.specs.Standing.{Standing, nothing, after_step, after_take, standing, HasRoom}
+use Rattle.shown.specs.declared.step.Step.TheVariants.{Open, Commit, Take, Trim}
+use Rattle.shown.specs.Standing.{Standing, nothing, after_step, after_take, standing, CanRaise, HasRoom}
 use Rattle.shown.specs.World.{has_begun}
 use Rattle.shown.specs.WorldParts.{HaveRoom, all_steps, Fit}
 use Rattle.shown.specs.Runs.{with_commits}
+use Rattle.shown.proofs.Raising.{trim_commit, trim_more, trim_next}
 
 pub standing_next : (steps : List Step) (step : Step) → standing (steps ++ step ∷ []) ≡ after_step (standing steps) step
 standing_next steps step = fold-append after_step nothing steps (step ∷ [])
@@ -130,6 +131,10 @@ fit_posted posted posted' waiting waiting' c newest shown published fit first mo
       stands = fit.stands ∙ same_shown posted posted' (Commit c) shown more fit.within;
     }
 
+begun_on : (posted : List Step) (step : Step) → has_begun posted ≡ true → has_begun (posted ++ step ∷ []) ≡ true
+begun_on [] step begun = absurd (true≢false (sym begun))
+begun_on (x ∷ posted) step begun = refl
+
 -- after a part takes commits
 pub fit_taken : (posted posted' : List Step) (waiting : History) (part : Part) (n : ℕ) (newest : Retained) (shown : ℕ) (published : Standing)
     → Fit posted waiting newest shown published → posted' ≡ posted ++ Take part n ∷ [] → has_begun posted ≡ true → Fit posted' waiting newest shown published
@@ -141,14 +146,56 @@ fit_taken posted posted' waiting part n newest shown published fit more begun =
     record {
       room = subst (λ (xs : List Step). HaveRoom nothing (all_steps xs waiting)) (sym more) (room_both nothing (posted ++ Take part n ∷ []) rest before later);
       stored = fit.stored ∙ kept_all posted waiting ∙ ap (λ (r : Retained). with_commits r waiting) (sym kept) ∙ sym (kept_all (posted ++ Take part n ∷ []) waiting) ∙ ap (λ (xs : List Step). (standing (all_steps xs waiting)).kept) (sym more);
-      unopened = still_unopened posted' waiting (ap (λ (xs : List Step). has_begun xs) more ∙ begun_on posted begun);
+      unopened = still_unopened posted' waiting (ap (λ (xs : List Step). has_begun xs) more ∙ begun_on posted (Take part n) begun);
       within = no_less posted posted' (Take part n) shown more fit.within;
       stands = fit.stands ∙ same_shown posted posted' (Take part n) shown more fit.within;
     }
-  where
-    begun_on : (posted : List Step) → has_begun posted ≡ true → has_begun (posted ++ Take part n ∷ []) ≡ true
-    begun_on [] begun = absurd (true≢false (sym begun))
-    begun_on (x ∷ posted) begun = refl
+
+-- commits have room where they had it before the floor was raised
+room_above : (s t : Standing) (floor : ℕ) (waiting : History) → s.kept.floor ≤ floor → floor ≤ last s.kept → after_trim s.kept floor ≡ t.kept
+    → HaveRoom s (map (λ c. Commit c) waiting) → HaveRoom t (map (λ c. Commit c) waiting)
+room_above s t floor [] above there same have = tt
+room_above s t floor (c ∷ waiting) above there same have =
+    let one = length-append s.kept.commits (c ∷ []) in
+    let on : after_trim (with_commit s.kept c) floor ≡ with_commit t.kept c = trim_commit s.kept floor c there ∙ ap (λ (r : Retained). with_commit r c) same in (
+      subst (λ (r : Retained). IsNext r c) same (trim_next s.kept floor c above there have.0),
+      room_above (after_step s (Commit c)) (after_step t (Commit c)) floor waiting above (omega (arith, one, there)) on have.1,
+    )
+
+-- what is posted has room
+pub posted_room : (posted steps : List Step) (waiting : History) → steps ≡ posted → HaveRoom nothing (all_steps posted waiting) → HaveRoom nothing steps
+posted_room posted steps waiting same have = subst (λ (xs : List Step). HaveRoom nothing xs) (sym same) (room_before nothing posted (map (λ c. Commit c) waiting) have)
+
+-- where the floor can be raised above what is posted, it can be in what is stored
+pub raise_stored : (posted : List Step) (waiting : History) (stored : Retained) (shown : ℕ) (published : Standing) (floor : ℕ) → Fit posted waiting stored shown published → CanRaise (standing posted) floor
+    → (stored.floor ≤ floor) × (floor ≤ last stored)
+raise_stored posted waiting stored shown published floor fit can =
+    let kept = (standing posted).kept in
+    let above = can.above in
+    let there = can.there in
+    let more = length-append kept.commits waiting in
+    subst (λ (r : Retained). (r.floor ≤ floor) × (floor ≤ last r)) (sym (fit.stored ∙ kept_all posted waiting)) (omega (arith, above), omega (arith, there, more))
+
+-- after the floor is raised
+pub fit_trimmed : (posted posted' : List Step) (waiting : History) (floor : ℕ) (newest newest' : Retained) (shown : ℕ) (published : Standing)
+    → Fit posted waiting newest shown published → posted' ≡ posted ++ Trim floor ∷ [] → has_begun posted ≡ true → CanRaise (standing posted) floor → newest' ≡ after_trim newest floor
+    → Fit posted' waiting newest' shown published
+fit_trimmed posted posted' waiting floor newest newest' shown published fit more begun can raised =
+    let s = standing posted in
+    let rest = map (λ c. Commit c) waiting in
+    let steps = posted ++ Trim floor ∷ [] in
+    let low : s.kept.floor ≤ floor = let above = can.above in omega (arith, above) in
+    let kept : after_trim s.kept floor ≡ (standing steps).kept = ap (λ (t : Standing). t.kept) (sym (standing_next posted (Trim floor))) in
+    let later = room_above s (standing steps) floor waiting low can.there kept (room_later nothing posted rest fit.room) in
+    let before = room_more nothing posted (Trim floor) (room_before nothing posted rest fit.room) can in
+    record {
+      room = subst (λ (xs : List Step). HaveRoom nothing (all_steps xs waiting)) (sym more) (room_both nothing steps rest before later);
+      stored = raised ∙ ap (λ (r : Retained). after_trim r floor) (fit.stored ∙ kept_all posted waiting) ∙ trim_more s.kept floor waiting can.there
+          ∙ ap (λ (r : Retained). with_commits r waiting) kept ∙ sym (kept_all steps waiting) ∙ ap (λ (xs : List Step). (standing (all_steps xs waiting)).kept) (sym more);
+      unopened = still_unopened posted' waiting (ap (λ (xs : List Step). has_begun xs) more ∙ begun_on posted (Trim floor) begun);
+      within = no_less posted posted' (Trim floor) shown more fit.within;
+      stands = fit.stands ∙ same_shown posted posted' (Trim floor) shown more fit.within;
+    }
 
 pub none_posted : (posted : List Step) → has_begun posted ≡ false → posted ≡ []
 none_posted [] h = refl

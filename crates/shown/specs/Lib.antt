@@ -1,4 +1,5 @@
 pub mod Standing
+pub mod Raising
 pub mod Answers
 pub mod Expanding
 pub mod Watching

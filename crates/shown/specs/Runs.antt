@@ -3,15 +3,15 @@ use Rattle.std.specs.Prelude.{◌≡◌, ◌≤◌, ℕ, Bool, List, [], ◌∷�
 use mathlib.Core.List.{IsPrefix}
 use Rattle.std.specs.Prelude.{nat_eq, true, false}
 use Rattle.std.specs.List.{list_any}
-use Rattle.rows.specs.Retained.{Retained}
+use Rattle.rows.specs.Retained.{Retained, IsRetained, after_trim}
 use Rattle.rows.specs.Loads.{retained_of}
-use Rattle.shown.specs.Standing.{nothing_kept}
+use Rattle.shown.specs.Standing.{nothing_kept, standing}
 use Rattle.meaning.specs.History.{History}
 use Rattle.shown.specs.declared.answer.Answer.{Answer}
 use Rattle.shown.specs.declared.answer.Refused.{Refused}
 use Rattle.shown.specs.declared.step.Step.{Step}
 use Rattle.rows.specs.declared.loaded.Loaded.{Loaded}
-use Rattle.shown.specs.declared.step.Step.TheVariants.{Open, Commit, Take}
+use Rattle.shown.specs.declared.step.Step.TheVariants.{Open, Commit, Take, Trim}
 use Rattle.shown.specs.declared.event.Event.{Event}
 use Rattle.shown.specs.declared.event.Event.TheVariants.{Entered, Notified}
 use Rattle.shown.specs.declared.event.Question.{Question}
@@ -57,26 +57,47 @@ commits_of [] = []
 commits_of (Open loaded ∷ steps) = commits_of steps
 commits_of (Commit commit ∷ steps) = commit ∷ commits_of steps
 commits_of (Take part commits ∷ steps) = commits_of steps
+commits_of (Trim floor ∷ steps) = commits_of steps
+
+-- the floor after the steps: the last to which one of them raises it
+abbrev pub floor_after : ℕ → List Step → ℕ
+floor_after floor [] = floor
+floor_after floor (Open loaded ∷ steps) = floor_after floor steps
+floor_after floor (Commit commit ∷ steps) = floor_after floor steps
+floor_after floor (Take part commits ∷ steps) = floor_after floor steps
+floor_after floor (Trim higher ∷ steps) = floor_after higher steps
 
 abbrev pub is_opening : Step → Bool
 is_opening (Open loaded) = true
 is_opening (Commit commit) = false
 is_opening (Take part commits) = false
+is_opening (Trim floor) = false
 
 -- the history with more commits
 abbrev pub with_commits : Retained → History → Retained
 with_commits r h =
     record { number = r.number; floor = r.floor; base = r.base; commits = r.commits ++ h }
 
--- The first step is the opening, and no other is one. What is stored is what was loaded, then the commits
--- among the posted steps, in their order and none left out, and then those that wait.
+-- what was loaded, and then the commits among the steps
+abbrev pub all_after : Loaded → List Step → Retained
+all_after loaded steps = with_commits (retained_of loaded) (commits_of steps)
+
+-- that, from the last floor on to which one of the steps raises it
+abbrev pub kept_after : Loaded → List Step → Retained
+kept_after loaded steps = after_trim (all_after loaded steps) (floor_after loaded.floor steps)
+
+-- The first step is the opening, and no other is one. The posted steps leave what was loaded and the commits among them, in
+-- their order and none left out, from a floor on that is one of their revisions. What is stored is that, and then the commits
+-- that wait.
 pub record ComeInOrder (s : State) : Type 0 where
   pub loaded : Loaded
   pub later : List Step
   pub waits : History
   pub steps : s.posted ≡ Open loaded ∷ later
   pub once : list_any is_opening later ≡ false
-  pub stored : s.stored ≡ with_commits (retained_of loaded) (commits_of later ++ waits)
+  pub floor : IsRetained (all_after loaded later) (floor_after loaded.floor later)
+  pub left : (standing s.posted).kept ≡ kept_after loaded later
+  pub stored : s.stored ≡ with_commits (kept_after loaded later) waits
 
 abbrev pub IsOrdered : List Step → State → Type 0
 IsOrdered [] s = s.stored ≡ nothing_kept

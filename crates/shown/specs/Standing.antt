@@ -2,13 +2,13 @@
 use Rattle.std.specs.Prelude.{◌≤◌, ◌<◌, ◌+◌, ℕ, List, [], fold, min}
 use Rattle.meaning.specs.Snap.{empty_snap}
 use Rattle.meaning.specs.TupleSet as set
-use Rattle.rows.specs.Retained.{Retained, newest, newest_of, spans_of, with_commit, without_newest, commits_between, last_config}
+use Rattle.rows.specs.Retained.{Retained, newest, newest_of, spans_of, with_commit, without_newest, after_trim, commits_between, last_config}
 use Rattle.rows.specs.Loads.{IsWithin, retained_of}
 use Rattle.rows.specs.Follows.{IsNext}
 use Rattle.names.specs.declared.part.Part.{Part}
 use Rattle.names.specs.declared.part.Part.TheVariants.{Index, Hot}
 use Rattle.shown.specs.declared.step.Step.{Step}
-use Rattle.shown.specs.declared.step.Step.TheVariants.{Open, Commit, Take}
+use Rattle.shown.specs.declared.step.Step.TheVariants.{Open, Commit, Take, Trim}
 use Rattle.names.specs.declared.state.State.{State}
 
 -- What is retained of the history, and three of its revisions: that of the group index's base, and those up
@@ -49,6 +49,7 @@ after_step s (Open loaded) = after_opening (retained_of loaded)
 after_step s (Commit commit) =
     record { kept = with_commit s.kept commit; base = s.base; index = s.index; hot = s.hot }
 after_step s (Take part commits) = after_take s part commits
+after_step s (Trim floor) = record { kept = after_trim s.kept floor; base = s.base; index = s.index; hot = s.hot }
 
 -- the standing of the steps, done in order
 abbrev pub standing : List Step → Standing
@@ -59,11 +60,19 @@ abbrev pub cursor_of : Part → Standing → ℕ
 cursor_of Index s = s.index
 cursor_of Hot s = s.hot
 
--- what was opened is within the limits, and a commit is one that can follow
+-- the revision is above the floor, it is there, and no cursor is below it
+pub record CanRaise (s : Standing) (floor : ℕ) : Type 0 where
+  pub above : s.kept.floor < floor
+  pub there : floor ≤ newest s.kept
+  pub index : floor ≤ s.index
+  pub hot : floor ≤ s.hot
+
+-- what was opened is within the limits, a commit is one that can follow, and the floor can be raised so
 abbrev pub HasRoom : Standing → Step → Type 0
 HasRoom s (Open loaded) = IsWithin loaded
 HasRoom s (Commit commit) = IsNext s.kept commit
 HasRoom s (Take part commits) = Unit {0}
+HasRoom s (Trim floor) = CanRaise s floor
 
 -- the cursors are at retained revisions
 pub record IsSteady (s : Standing) : Type 0 where

@@ -1,6 +1,6 @@
 -- The machine of publication: what is stored, what is posted and what is published, and what comes of each
 -- event.
-use Rattle.std.specs.Prelude.{◌≡◌, ◌≢◌, ◌+◌, ℕ, Bool, true, false, List, [], ◌∷◌, ◌++◌, length, take, drop, map, is_some, not, ◌&&◌, Result, Ok, Err, nat_le, if◌then◌else◌}
+use Rattle.std.specs.Prelude.{◌≡◌, ◌≢◌, ◌+◌, ℕ, Bool, true, false, List, [], ◌∷◌, ◌++◌, length, take, drop, map, is_some, not, ◌&&◌, Result, Ok, Err, nat_le, nat_lt, if◌then◌else◌}
 use Rattle.names.specs.declared.refusal.Refusal.TheVariants.{Memory}
 use Rattle.std.specs.List.{list_all}
 use Rattle.std.specs.Ordering.{is_lt}
@@ -11,22 +11,23 @@ use Rattle.meaning.specs.TupleSet as set
 use Rattle.meaning.specs.Snap.{Snap}
 use Rattle.meaning.specs.Admits.{admits}
 use Rattle.meaning.specs.History.{History, after_commit}
-use Rattle.rows.specs.Retained.{Retained, newest, newest_of, spans_of, with_commit}
+use Rattle.rows.specs.Retained.{Retained, newest, newest_of, spans_of, with_commit, after_trim}
 use Rattle.rows.specs.Loads.{retained_of}
 use Rattle.rows.specs.Follows.{commit_cause}
 use Rattle.rows.specs.declared.loaded.Loaded.{Loaded}
 use Rattle.shown.specs.declared.answer.Answer.{Answer}
 use Rattle.shown.specs.declared.answer.Refused.{Refused}
 use Rattle.shown.specs.declared.step.Step.{Step}
-use Rattle.shown.specs.declared.step.Step.TheVariants.{Open, Commit, Take}
+use Rattle.shown.specs.declared.step.Step.TheVariants.{Open, Commit, Take, Trim}
 use Rattle.shown.specs.declared.event.Event.{Event}
 use Rattle.shown.specs.declared.event.Event.TheVariants.{Stored, Posted, Published, Entered, Notified}
-use Rattle.shown.specs.declared.event.Posting.TheVariants.{Opening, NextCommit, Taking}
+use Rattle.shown.specs.declared.event.Posting.TheVariants.{Opening, NextCommit, Taking, Trimming}
 use Rattle.shown.specs.declared.event.Question.{Question}
 use Rattle.shown.specs.declared.event.Question.TheVariants.{Check}
 use Rattle.shown.specs.declared.event.Outcome.{Outcome}
 use Rattle.shown.specs.declared.event.Outcome.TheVariants.{No, Done, Answered}
-use Rattle.shown.specs.Standing.{nothing_kept, standing}
+use Rattle.shown.specs.Standing.{Standing, nothing_kept, standing}
+use Rattle.shown.specs.Raising.{is_in_use}
 use Rattle.shown.specs.Answers.{IsAnswer, IsRefusal}
 
 -- what is stored, the posted steps, and how many of these are published
@@ -83,20 +84,25 @@ are_admitted s (c ∷ cs) = is_admitted s && are_admitted (after_commit s c) cs
 abbrev pub is_within : Loaded → Bool
 is_within l = is_limited l && are_admitted (retained_of l).base l.commits
 
+-- the revision is above the floor, it is there, and no cursor is below it
+abbrev pub can_raise : Standing → ℕ → Bool
+can_raise s floor = nat_lt s.kept.floor floor && (nat_le floor (newest s.kept) && not (is_in_use s floor))
+
 -- The opening comes first, and once. Then a commit that is not refused can be stored, the step of a stored one
--- be posted, a part take commits, what waits be published, a session be told of what is published, and a question
--- be asked where something is published.
+-- be posted, a part take commits, the floor be raised, what waits be published, a session be told of what is published, and
+-- a question be asked where something is published.
 abbrev pub can_come : State → Event → Bool
 can_come s (Stored commit) =
     has_begun s.posted && not (is_some (commit_cause (newest_of s.stored) commit))
 can_come s (Posted (Opening loaded)) = not (has_begun s.posted) && is_within loaded
 can_come s (Posted NextCommit) = has_begun s.posted && nat_le 1 (length (waiting_commits s))
 can_come s (Posted (Taking part commits)) = has_begun s.posted && nat_le commits MAX_CATCH_UP
+can_come s (Posted (Trimming floor)) = has_begun s.posted && can_raise (standing s.posted) floor
 can_come s (Published steps) = nat_le 1 steps && nat_le (s.shown + steps) (length s.posted)
 can_come s (Entered seat question) = nat_le 1 s.shown
 can_come s (Notified seat steps) = has_begun s.posted && nat_le steps s.shown
 
--- the state after an event that can come
+-- the state after an event that can come: where the floor is raised, it is so in what is stored too
 abbrev pub after_coming : State → Event → State
 after_coming s (Stored commit) =
     record { stored = with_commit s.stored commit; posted = s.posted; shown = s.shown }
@@ -106,6 +112,8 @@ after_coming s (Posted NextCommit) =
     record { stored = s.stored; posted = s.posted ++ next_step s; shown = s.shown }
 after_coming s (Posted (Taking part commits)) =
     record { stored = s.stored; posted = s.posted ++ Take part commits ∷ []; shown = s.shown }
+after_coming s (Posted (Trimming floor)) =
+    record { stored = after_trim s.stored floor; posted = s.posted ++ Trim floor ∷ []; shown = s.shown }
 after_coming s (Published steps) =
     record { stored = s.stored; posted = s.posted; shown = s.shown + steps }
 after_coming s (Entered seat question) = s

@@ -31,6 +31,8 @@ pub enum Posting {
     NextCommit,
     /// A part takes so many commits. It can be posted for 65,536 commits at most.
     Taking(Part, u32),
+    /// The floor is raised to a revision above it that no cursor is below, in what is stored too.
+    Trimming(u64),
 }
 
 /// What a session asks.

@@ -1,9 +1,11 @@
 //! What holds after any events.
-ghost use Rattle.std.specs.Prelude.{◌≡◌, ◌↔◌, ℕ, List, true};
+ghost use Rattle.std.specs.Prelude.{◌≡◌, ◌≤◌, ◌↔◌, ℕ, List, true};
 ghost use Rattle.rows.specs.Loads.{IsWithin};
+ghost use Rattle.rows.specs.Retained.{Retained, newest};
 ghost use Rattle.rows.specs.declared.loaded.Loaded.{Loaded};
 ghost use Rattle.shown.specs.declared.event.Event.{Event};
 ghost use Rattle.shown.specs.declared.event.Question.{Question};
+ghost use Rattle.shown.specs.Raising.{KeepsRetained};
 ghost use Rattle.shown.specs.World.{Happening, is_within};
 ghost use Rattle.shown.specs.Runs.{AnswersRise, PostsStored};
 
@@ -23,4 +25,9 @@ pub fn posts_stored()
 /// tuples are admitted.
 pub fn opens_what_is_within()
     ensures { (loaded : Loaded) → (is_within loaded ≡ true) ↔ IsWithin loaded }
+{}
+
+/// A higher floor leaves each revision from it on as it was.
+pub fn trims_keep_what_they_retain()
+    ensures { (r : Retained) (floor : ℕ) → r.floor ≤ floor → floor ≤ newest r → KeepsRetained r floor }
 {}

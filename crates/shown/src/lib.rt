@@ -14,7 +14,7 @@ mod world;
 
 pub use answer::{Answer, Refused};
 pub use event::{Event, Outcome, Posting, Question};
-pub use law::{answers_rise, opens_what_is_within, posts_stored};
+pub use law::{answers_rise, opens_what_is_within, posts_stored, trims_keep_what_they_retain};
 pub use shown::Shown;
 pub use step::Step;
 pub use world::World;

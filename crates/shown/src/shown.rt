@@ -1,5 +1,5 @@
 //! The published state.
-ghost use Rattle.std.specs.Prelude.{◌≡◌, ◌≤◌, ◌↔◌, min, None, true, false, IsTrue, IfOk, IfErr, OnOk, OnErr};
+ghost use Rattle.std.specs.Prelude.{◌≡◌, ◌<◌, ◌≤◌, ◌↔◌, min, None, Some, true, false, IsTrue, IfOk, IfErr, OnOk, OnErr};
 ghost use Rattle.names.specs.declared.limits.TheConstants.{MAX_REV};
 ghost use Rattle.names.specs.declared.part.Part.TheVariants.{Index, Hot};
 ghost use Rattle.meaning.specs.Admits.{has_relation};
@@ -10,8 +10,9 @@ ghost use Rattle.meaning.specs.Verdict.{config_cause};
 ghost use Rattle.rows.specs.Follows.{IsAccepted};
 ghost use Rattle.rows.specs.Judging.{WriteRefused, ConfigRefused};
 ghost use Rattle.verdict.specs.Verdict.{AcceptsWrite, RefusesWrite};
-ghost use Rattle.rows.specs.Retained.{IsRetained, newest, newest_of, snap_at};
-ghost use Rattle.shown.specs.Standing.{nothing, after_step, after_take, before_commit, cursor_after, state_of, CanGoBack, HasRoom, IsSteady};
+ghost use Rattle.rows.specs.Retained.{IsRetained, newest, newest_of, snap_at, commits_between, last_config};
+ghost use Rattle.shown.specs.Standing.{nothing, after_step, after_take, before_commit, cursor_after, state_of, CanGoBack, CanRaise, HasRoom, IsSteady};
+ghost use Rattle.shown.specs.Raising.{is_in_use, floor_cause};
 ghost use Rattle.expand.specs.declared.limits.TheConstants.{MAX_DEPTH};
 ghost use Rattle.expand.specs.Causes.{ExpandCause};
 ghost use Rattle.expand.specs.Viewed.{tree_of};
@@ -84,7 +85,61 @@ impl Shown {
                 self.take(*part, *commits);
                 Ok(())
             }
+            Step::Trim(floor) => {
+                self.raise(*floor);
+                Ok(())
+            }
         }
+    }
+
+    /// Raises the floor. It takes no memory.
+    pub fn raise(&mut self, floor: u64)
+        requires { CanRaise self.old floor }
+        ensures { self.new ≡ after_step self.old (Step.Trim floor) }
+    {
+        self.rows.trim(floor);
+    }
+
+    /// Why the floor cannot be raised to a zookie's revision, if it cannot: the zookie is another store's, its revision
+    /// is above the newest, or above a cursor. One at or below the floor is no cause.
+    pub fn judge_floor(&self, floor: &Zookie) -> Result<(), Refusal>
+        ensures ok { OnOk result (floor_cause self.now floor.now ≡ None) }
+        ensures err { IfErr result (λ why. floor_cause self.now floor.now ≡ Some why) }
+        ensures within { OnOk result (floor.now.rev ≤ MAX_REV) }
+        ensures can { OnOk result (self.now.kept.floor < floor.now.rev → CanRaise self.now floor.now.rev) }
+    {
+        if floor.store != self.rows.number() {
+            return Err(Refusal::ForeignZookie);
+        }
+        if floor.rev > self.rows.newest() {
+            return Err(Refusal::Future);
+        }
+        if self.is_in_use(floor.rev) {
+            return Err(Refusal::InUse);
+        }
+        Ok(())
+    }
+
+    fn is_in_use(&self, rev: u64) -> bool
+        ensures { result ≡ is_in_use self.now rev }
+    {
+        self.index < rev || self.hot < rev
+    }
+
+    /// Whether the floor can be raised to the revision: it is above the floor, and no cursor is below it.
+    pub fn can_raise(&self, floor: u64) -> bool
+        ensures { IsTrue result ↔ CanRaise self.now floor }
+    {
+        self.rows.floor() < floor && floor <= self.index && floor <= self.hot
+    }
+
+    /// The revision of the last configuration that comes to lie at or below a higher floor, or 0.
+    pub fn last_config_below(&self, floor: u64) -> u64
+        requires { CanRaise self.now floor }
+        ensures { result ≡ last_config 0 self.now.kept.floor
+            (commits_between self.now.kept self.now.kept.floor floor) }
+    {
+        self.rows.last_config(0, self.rows.floor(), floor)
     }
 
     /// Takes the newest commit off again, which no part has taken. It takes no memory.

@@ -13,4 +13,6 @@ pub enum Step {
     Commit(KeptCommit),
     /// A part took so many commits more, or as many as there were.
     Take(Part, u32),
+    /// The floor was raised to a revision above it that no cursor is below.
+    Trim(u64),
 }

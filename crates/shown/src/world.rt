@@ -2,7 +2,7 @@
 //! of sessions are answered. It is the plain one, and makes the published state anew at each publication.
 ghost use Rattle.std.specs.Prelude.{◌≡◌, ◌≤◌, IfOk, OnErr};
 ghost use Rattle.shown.specs.declared.event.Event.TheVariants.{Stored, Posted, Published, Entered, Notified};
-ghost use Rattle.shown.specs.declared.event.Posting.TheVariants.{Opening, NextCommit, Taking};
+ghost use Rattle.shown.specs.declared.event.Posting.TheVariants.{Opening, NextCommit, Taking, Trimming};
 ghost use Rattle.shown.specs.Standing.{standing, nothing};
 ghost use Rattle.shown.specs.WorldParts.{HaveRoom};
 
@@ -72,6 +72,7 @@ impl World {
             Event::Posted(Posting::Opening(loaded)) => self.open(loaded),
             Event::Posted(Posting::NextCommit) => self.post(),
             Event::Posted(Posting::Taking(part, commits)) => self.take(part, commits),
+            Event::Posted(Posting::Trimming(floor)) => self.trim(floor),
             Event::Published(steps) => self.publish(steps),
             Event::Entered(seat, question) => self.answer(seat, &question),
             Event::Notified(seat, steps) => Ok(self.notify(seat, steps)),
@@ -133,6 +134,18 @@ impl World {
             return Ok(Outcome::No);
         }
         self.posted.push(Step::Take(part, commits))?;
+        Ok(Outcome::Done)
+    }
+
+    fn trim(&mut self, floor: u64) -> Result<Outcome, AllocError>
+        ensures ok { IfOk result (λ o. Happens self.old (Posted (Trimming floor)) o self.new) }
+        ensures err { OnErr result (self.new ≡ self.old) }
+    {
+        if !self.has_begun() || !standing_of(self.alloc, &self.posted)?.can_raise(floor) {
+            return Ok(Outcome::No);
+        }
+        self.posted.push(Step::Trim(floor))?;
+        self.newest.trim(floor);
         Ok(Outcome::Done)
     }
 

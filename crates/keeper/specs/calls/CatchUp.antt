@@ -7,7 +7,7 @@ use Rattle.names.specs.declared.part.Part.{Part}
 use Rattle.tables.specs.declared.tables.Tables.{Ghosts}
 use Rattle.keeper_core.specs.Posts.{Posts}
 use Rattle.published.specs.Receipts.{ReceiptFacts}
-use Rattle.keeper_core.specs.Changes.{CatchUpAccepted, CatchUpJudged, IsNoCommit, IsRefused}
+use Rattle.keeper_core.specs.Changes.{CatchUpAccepted, CatchUpJudged, IsNoChange, IsRefused}
 use Rattle.bodies.specs.Requests.{AsksCatchUp, AsksNoCatchUp}
 use Rattle.bodies.specs.Replies.{Says, SaysRefusal, cursor_data}
 
@@ -22,6 +22,6 @@ pub data CatchUpStep {T : Type 0} (g : Ghosts T)
       → Says told 200 (cursor_data (zookie_text receipt.number cursor) receipt.shown)
       → CatchUpStep g old body told new
   catch_up_refused : (part : Part) (commits : ℕ) (why : Refusal)
-      → AsksCatchUp body part commits → IsRefused g old IsNoCommit (CatchUpJudged commits) why new
+      → AsksCatchUp body part commits → IsRefused g old IsNoChange (CatchUpJudged commits) why new
       → SaysRefusal told why → CatchUpStep g old body told new
   catch_up_unread : told ≡ None → new ≡ old → CatchUpStep g old body told new

@@ -9,6 +9,7 @@ use Rattle.config.specs.Causes.{Accepts, IsCause}
 use Rattle.zookie.specs.Text.{zookie_text}
 use Rattle.rows.specs.Judging.{ConfigRefused as ConfigJudged}
 use Rattle.tables.specs.declared.tables.Tables.{Ghosts}
+use Rattle.keeper_core.specs.TableChanges.{Adds}
 use Rattle.keeper_core.specs.Posts.{Posts, newest_posted}
 use Rattle.published.specs.Receipts.{ReceiptFacts}
 use Rattle.keeper_core.specs.Changes.{ConfigAccepted, IsRefused}
@@ -26,6 +27,6 @@ pub data ConfigStep {T : Type 0} (g : Ghosts T)
       → Says told 200 (receipt_data receipt.shown (zookie_text receipt.number receipt.rev))
       → ConfigStep g old body told new
   config_refused : (config : Configured) (why : Refusal)
-      → Accepts body config → IsRefused g old (λ commit. commit ≡ ConfigCommit config) (ConfigJudged (newest_posted old) config) why new
+      → Accepts body config → IsRefused g old (λ change. change ≡ Adds (ConfigCommit config)) (ConfigJudged (newest_posted old) config) why new
       → SaysRefusal told why → ConfigStep g old body told new
   config_unread : told ≡ None → new ≡ old → ConfigStep g old body told new

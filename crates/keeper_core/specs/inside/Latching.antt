@@ -1,14 +1,13 @@
--- What is noted of a refused write.
+-- What is noted of a refused change.
 use Rattle.std.specs.Prelude.{◌≡◌, ◌⊎◌, true, false, List, ◌∷◌}
-use Rattle.names.specs.declared.commit.Commit.{Commit}
-use Rattle.meaning.specs.Config.{Configured}
 use Rattle.names.specs.declared.refusal.Refusal.{Refusal}
 use Rattle.names.specs.declared.refusal.Refusal.TheVariants.{Memory, StoreFault}
 use Rattle.tables.specs.Device.{IsOpen, HasFailed}
 use Rattle.tables.specs.Storing.{one_more}
-use Rattle.rows.specs.Retained.{Retained, with_commit}
+use Rattle.rows.specs.Retained.{Retained}
 use Rattle.tables.specs.declared.tables.Tables.{Ghosts}
 use Rattle.keeper_core.specs.declared.latched_tables.LatchedTables.{LatchedTables}
+use Rattle.keeper_core.specs.TableChanges.{TableChange, changed}
 use Rattle.keeper_core.specs.Posts.{Agrees}
 
 -- want of memory is no fault; a fault is noted, and counted, and is one of the device
@@ -24,10 +23,10 @@ IsLatched g old _ new = ⊥
 abbrev pub AgreeWith : {T : Type 0} → Ghosts T → LatchedTables T → Retained → Type 0
 AgreeWith g t r = Agrees g t.failed t.tables r
 
--- the commit was not stored: the tables are as they were, or may leave the history with it too
+-- the change was not stored: the tables are as they were, or may leave the history with it too
 pub record IsUnstored {T : Type 0}
-    (g : Ghosts T) (r : Retained) (commit : Commit Configured)
+    (g : Ghosts T) (r : Retained) (change : TableChange)
     (old : LatchedTables T) (why : Refusal) (new : LatchedTables T) : Type 0 where
   pub latched : IsLatched g old why new
   pub touched : (new.tables ≡ old.tables)
-      ⊎ ((rs : List Retained) → g.leaves old.tables rs → g.leaves new.tables (with_commit r commit ∷ rs))
+      ⊎ ((rs : List Retained) → g.leaves old.tables rs → g.leaves new.tables (changed r change ∷ rs))

@@ -1,23 +1,20 @@
 -- What the tables of a desk leave while it answers.
 use Rattle.std.specs.Prelude.{ℕ, List, ◌∷◌, map}
 use Rattle.std.specs.List.{All}
-use Rattle.names.specs.declared.commit.Commit.{Commit}
-use Rattle.meaning.specs.Config.{Configured}
-use Rattle.rows.specs.Retained.{with_commit}
-use Rattle.rows.specs.Follows.{IsNext}
 use Rattle.tables.specs.Device.{Device, Lasts}
 use Rattle.tables.specs.declared.tables.Tables.{Ghosts}
+use Rattle.keeper_core.specs.TableChanges.{TableChange, changed, CanChange}
 use Rattle.keeper_core.specs.Posts.{Posts}
 use Rattle.keeper.specs.Rules.{DeskStep}
 use Rattle.http_api.specs.Machine.{Run}
 use Rattle.runs.specs.Runs.{kept_by}
 
--- what is left holds the history of the posted steps, perhaps with one commit more of which P is true; and the device has gone on
-pub record HasLeft {T : Type 0} (g : Ghosts T) (P : Commit Configured → Type 0) (start : Device) (desk : Posts T) : Type 0 where
-  pub more : List (Commit Configured)
-  pub follow : All (IsNext (kept_by desk)) more
+-- what is left holds the history of the posted steps, perhaps with one change more of which P is true; and the device has gone on
+pub record HasLeft {T : Type 0} (g : Ghosts T) (P : TableChange → Type 0) (start : Device) (desk : Posts T) : Type 0 where
+  pub more : List TableChange
+  pub follow : All (CanChange (kept_by desk)) more
   pub asked : All P more
-  pub leaves : g.leaves desk.tables (kept_by desk ∷ map (with_commit (kept_by desk)) more)
+  pub leaves : g.leaves desk.tables (kept_by desk ∷ map (changed (kept_by desk)) more)
   pub lasts : Lasts start (g.device desk.tables)
 
 -- some lines were answered

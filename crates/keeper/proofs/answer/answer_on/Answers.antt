@@ -1,4 +1,4 @@
-use Rattle.names.specs.declared.call.Call.TheVariants.{Write, Config, Check, Read, Expand, Watch, CatchUp, State}
+use Rattle.names.specs.declared.call.Call.TheVariants.{Write, Config, Check, Read, Expand, Watch, Trim, CatchUp, State}
 use Rattle.keeper.proofs.Answering.{step_of}
 use Rattle.keeper.proofs.answer.answer_on.Goals as goal
 
@@ -19,6 +19,9 @@ returns-in-Expand-clause-step g c = step_of g.T.Tables c.args.desk.now _ Expand 
 
 pub returns-in-Watch-clause-step : goal.returns-in-Watch-clause-step
 returns-in-Watch-clause-step g c = step_of g.T.Tables c.args.desk.now _ Watch _ _ _ c.in-Watch.is c.answer_watch.ensures.step
+
+pub returns-in-Trim-clause-step : goal.returns-in-Trim-clause-step
+returns-in-Trim-clause-step g c = step_of g.T.Tables c.args.desk.now _ Trim _ _ _ c.in-Trim.is c.answer_trim.ensures.step
 
 pub returns-in-CatchUp-clause-step : goal.returns-in-CatchUp-clause-step
 returns-in-CatchUp-clause-step g c = step_of g.T.Tables c.args.desk.now _ CatchUp _ _ _ c.in-CatchUp.is c.answer_catch_up.ensures.step

@@ -1,4 +1,4 @@
-use Rattle.names.specs.declared.call.Call.TheVariants.{Write, Config, Check, Read, Expand, Watch, CatchUp}
+use Rattle.names.specs.declared.call.Call.TheVariants.{Write, Config, Check, Read, Expand, Watch, Trim, CatchUp}
 use Rattle.front.proofs.Changed.{step_of}
 use Rattle.front.proofs.front.Front.answer.Goals as goal
 
@@ -19,6 +19,9 @@ returns-in-Expand g c = step_of g.T.Tables c.args.self.now c.args.call Expand c.
 
 pub returns-in-Watch : goal.returns-in-Watch
 returns-in-Watch g c = step_of g.T.Tables c.args.self.now c.args.call Watch c.args.body.now _ c.watch.new.self c.in-Watch.is c.watch.ensures
+
+pub returns-in-Trim : goal.returns-in-Trim
+returns-in-Trim g c = step_of g.T.Tables c.args.self.now c.args.call Trim c.args.body.now _ c.trim.new.self c.in-Trim.is c.trim.ensures
 
 pub returns-in-CatchUp : goal.returns-in-CatchUp
 returns-in-CatchUp g c = step_of g.T.Tables c.args.self.now c.args.call CatchUp c.args.body.now _ c.catch_up.new.self c.in-CatchUp.is c.catch_up.ensures

@@ -2,6 +2,7 @@ use Rattle.std.proofs.Common.{◌≡◌, ap, sym, ◌∙◌, subst}
 use Rattle.rows.specs.Follows.{IsNext}
 use Rattle.shown.specs.Standing.{Standing, after_step, standing}
 use Rattle.published.specs.Posts.{IsLater}
+use Rattle.keeper_core.specs.TableChanges.{Adds}
 use Rattle.keeper_core.proofs.Sound.{sound_same, sound_next}
 use Rattle.keeper_core.proofs.Unposted.{no_room, not_stored}
 use Rattle.keeper_core.proofs.desk.Desk.post.Goals as goal
@@ -20,8 +21,8 @@ returns-in_err-step-clause-err g c =
     let next : IsNext inside.own.kept c.in_ok-kept.kept = subst (IsNext inside.own.kept) (sym c.in_ok-kept.ensures) (subst (λ (s : Standing). IsNext s.kept c.args.commit) (sym stands) c.requires.next) in
     let room = c.reserve.ensures.same in
     not_stored g.T.Tables c.args.self.now inside.tables inside.own inside.publication c.reserve.new.self c.self.view_is c.requires.open c.self.invariant.stands c.self.invariant.beginning
-    room.0 room.1 room.2 c.from_residual-in_err-step.result c.in_err-step.field-0.0 c.store.new.tables c.args.commit c.in_ok-kept.kept c.from_residual-in_err-step.ensures.1
-    c.in_ok-kept.ensures next c.in_err-step.ensures.err c.store.ensures.lasts
+    room.0 room.1 room.2 c.from_residual-in_err-step.result c.in_err-step.field-0.0 c.store.new.tables (Adds c.args.commit) (Adds c.in_ok-kept.kept) c.from_residual-in_err-step.ensures.1
+    (ap Adds c.in_ok-kept.ensures) next c.in_err-step.ensures.err c.store.ensures.lasts
 
 pub invariant_of-self-2 : goal.invariant_of-self-2
 invariant_of-self-2 g c =

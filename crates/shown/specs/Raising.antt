@@ -1,0 +1,31 @@
+-- Raising the floor: why it is refused, and what it keeps.
+use Rattle.std.specs.Prelude.{◌≡◌, ◌≤◌, ℕ, Bool, not, ◌||◌, Option, Some, nat_eq, nat_lt}
+use Rattle.names.specs.declared.refusal.Refusal.{Refusal}
+use Rattle.names.specs.declared.refusal.Refusal.TheVariants.{ForeignZookie, Future, InUse, Memory}
+use Rattle.meaning.specs.Verdict.{or_else, refused_if}
+use Rattle.rows.specs.Retained.{Retained, newest, snap_at, after_trim, commits_between}
+use Rattle.zookie.specs.declared.Zookie.{Zookie}
+use Rattle.shown.specs.Standing.{Standing}
+
+-- the revision is above a cursor
+abbrev pub is_in_use : Standing → ℕ → Bool
+is_in_use s rev = nat_lt s.index rev || nat_lt s.hot rev
+
+-- Why the floor cannot be raised to the zookie's revision, or nothing: the zookie is another store's, its revision is above
+-- the newest, or above a cursor.
+abbrev pub floor_cause : Standing → Zookie → Option Refusal
+floor_cause s zookie =
+    or_else (refused_if ForeignZookie (not (nat_eq zookie.store s.kept.number))) (
+    or_else (refused_if Future (nat_lt (newest s.kept) zookie.rev)) (
+    refused_if InUse (is_in_use s zookie.rev)))
+
+-- the first cause; or there was no memory
+abbrev pub RefusesFloor : Standing → Zookie → Refusal → Type 0
+RefusesFloor s zookie Memory = Unit {0}
+RefusesFloor s zookie why = floor_cause s zookie ≡ Some why
+
+-- From the higher floor on, each revision holds what it held, and its commits are the same.
+pub record KeepsRetained (r : Retained) (floor : ℕ) : Type 0 where
+  pub snaps : (rev : ℕ) → floor ≤ rev → snap_at (after_trim r floor) rev ≡ snap_at r rev
+  pub commits : (from to : ℕ) → floor ≤ from → commits_between (after_trim r floor) from to ≡ commits_between r from to
+  pub newest_there : newest (after_trim r floor) ≡ newest r
