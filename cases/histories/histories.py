@@ -24,6 +24,7 @@ LIMIT = int(os.environ.get("CASE_SECONDS", "60"))
 USERS = ["user:ann", "user:bob"]
 THINGS = {"user": ["ann", "bob"], "group": ["a", "b", "c"], "folder": ["f", "g"], "doc": ["1"]}
 RELATIONS = {"group": ["member", "guest"], "folder": ["viewer", "parent"], "doc": ["viewer", "owner", "banned", "parent"]}
+KINDS = ["insert", "touch", "delete"]
 WHOLE = 0.7
 
 
@@ -158,7 +159,7 @@ class Script:
         kind = "delete" if text in self.history.snapshots[-1].tuples else "insert"
         if some(self.choose, 0.05):
             kind = self.choose.choice(KINDS)
-        elif "touch" in KINDS and some(self.choose, 0.1):
+        elif some(self.choose, 0.1):
             kind = "touch"
         return kind, text
 
@@ -179,7 +180,7 @@ class Script:
             operations = [(kind, text) for text, kind in {text: kind for kind, text in operations}.items()]
         body = {"ops": [{"op": kind, "tuple": text} for kind, text in operations]}
         conditions = []
-        if CONDITIONS and some(self.choose, 0.4):
+        if some(self.choose, 0.4):
             conditions = body["conditions"] = [self.condition() for _ in range(self.choose.randrange(4))]
         self.add("write", body, lambda: self.history.write(operations, conditions))
 
@@ -260,10 +261,6 @@ class Script:
         kinds = [self.configure] + [self.write] * 8 + [self.check] * 8 + [self.expand] * 4 + [self.read] * 4 + [self.watch] * 3 + [self.catch_up] * 2 + [self.state]
         for _ in range(calls):
             self.choose.choice(kinds)()
-
-
-KINDS = ["insert", "delete"]
-CONDITIONS = False
 
 
 # -- the program

@@ -23,7 +23,7 @@ use Rattle.shown.specs.Standing.{Standing, standing, nothing, after_step, after_
 use Rattle.std.proofs.lemmas.List.Sums.{fold-append}
 use Rattle.keeper_core.specs.TableChanges.{TableChange, Adds, Raises, changed, CanChange}
 use Rattle.keeper_core.specs.Posts.{Posts}
-use Rattle.keeper_core.specs.Changes.{IsStored, IsTrimmed, trim_raises, trim_stays, IsCommitOfWrite, IsRefused, Touches, leaves_alone, adds_one}
+use Rattle.keeper_core.specs.Changes.{IsStored, IsTrimmed, trim_raises, trim_stays, IsCommitOfWrite, IsRaiseTo, IsRefused, Touches, leaves_alone, adds_one}
 use Rattle.keeper.specs.Rules.{DeskStep}
 use Rattle.keeper.specs.Showing.{OnlyShows}
 use Rattle.keeper.specs.calls.Write.{WriteStep, write_malformed, write_bad_zookie, write_accepted, write_refused, write_unread}
@@ -109,7 +109,7 @@ module _ {T : Type 0} (g : Ghosts T) (weaker : Weaker g) (P : TableChange → Ty
   after_write old body told new asked (write_malformed asks says same) h = same_desk old new same h
   after_write old body told new asked (write_bad_zookie bad says same) h = same_desk old new same h
   after_write old body told new asked (write_accepted write receipt asks is says) h = stored old new is.stored h
-  after_write old body told new asked (write_refused write why asks is says) h = refused old new _ _ why (λ c made. asked c (write_asks body write _ c asks made)) is h
+  after_write old body told new asked (write_refused write why asks is says) h = refused old new (IsCommitOfWrite (kept_by old) write) _ why (λ c made. asked c (write_asks body write (kept_by old) c asks made)) is h
   after_write old body told new asked (write_unread none same) h = same_desk old new same h
 
   after_config : (old : Posts T) (body : List ℕ) (told : Option (ℕ × List ℕ)) (new : Posts T) → ((c : TableChange) → AsksChange call.Config body c → P c)
@@ -163,7 +163,7 @@ module _ {T : Type 0} (g : Ghosts T) (weaker : Weaker g) (P : TableChange → Ty
   after_trim old body told new asked (trim_malformed asks says same) h = same_desk old new same h
   after_trim old body told new asked (trim_bad_zookie bad says same) h = same_desk old new same h
   after_trim old body told new asked (trim_accepted zookie floor receipt asks is says) h = trimmed old new zookie.rev is.done h
-  after_trim old body told new asked (trim_refused zookie why asks is says) h = refused old new _ _ why (λ c made. asked c (zookie, asks, made.1)) is h
+  after_trim old body told new asked (trim_refused zookie why asks is says) h = refused old new (IsRaiseTo (standing old.posted) zookie) _ why (λ c made. asked c (zookie, asks, made.1)) is h
   after_trim old body told new asked (trim_unread none same) h = same_desk old new same h
 
   pub after_step_of : (old : Posts T) (k : Call) (body : List ℕ) (told : Option (ℕ × List ℕ)) (new : Posts T) → ((c : TableChange) → AsksChange k body c → P c)
