@@ -145,8 +145,11 @@ fn write_until<J: Naming, H: Wait + Drop, W: Wait + CpuClock>(
             break;
         }
         let body = visit(alloc, number)?;
-        refused = !is_accepted(&front.write(rt, body.as_bytes()));
-        accepted = number;
+        if is_accepted(&front.write(rt, body.as_bytes())) {
+            accepted = accepted.saturating_add(1);
+        } else {
+            refused = true;
+        }
     }
     Ok(Writes {
         accepted,
@@ -232,13 +235,14 @@ fn ask_beside<J: Naming, H: Wait + Drop, W: Threads + Wait + Clock + CpuClock + 
     })
 }
 
-/// Fills a store by the lines that are changes, and asks it the others.
+/// Fills a store by the lines that are changes, and asks it the others. It owns the lines, since a call that picks the name of a
+/// book is passed no `&str`.
 pub(crate) fn run<J: Naming, H: Wait + Drop, W: Threads + Wait + Clock + CpuClock + Sync>(
     rt: &W,
     handle: H,
     alloc: Global,
     opened: Opened,
-    lines: &str,
+    lines: String,
     asked: Asked,
 ) -> Result<Told, Refusal>
     requires { opened.book ≡ J.book }
@@ -247,5 +251,5 @@ pub(crate) fn run<J: Naming, H: Wait + Drop, W: Threads + Wait + Clock + CpuCloc
     let Ok(keeper) = Keeper::<Listed, J, H>::open(alloc, handle, opened, tables) else {
         return Err(Refusal::Memory);
     };
-    ask_beside(rt, alloc, &keeper, lines, asked)
+    ask_beside(rt, alloc, &keeper, lines.as_str(), asked)
 }

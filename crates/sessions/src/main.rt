@@ -48,14 +48,7 @@ fn start<H: Wait + Drop, W: Threads + Wait + Clock + CpuClock + Sync>(
     let Ok(lines) = io::read_to_string(rt.alloc(), rt.reader()) else {
         return Err(Refusal::Memory);
     };
-    let told = run::<Brand, _, _>(
-        threads,
-        wait,
-        rt.alloc(),
-        Opened::new(),
-        lines.as_str(),
-        asked,
-    )?;
+    let told = run::<Brand, _, _>(threads, wait, rt.alloc(), Opened::new(), lines, asked)?;
     let printed = tell(rt, asked, &told, time).is_ok();
     Ok(printed && told.count.refused == 0 && !told.count.went_back && !told.writes.refused)
 }
