@@ -2,9 +2,11 @@
 //! for while an answer is held back.
 //!
 //! Whatever is written by these functions is known also where the writer fails: it holds a beginning of the text.
-//! `specs/Tracking.antt` has what is known of a reader and a writer, `specs/Wrote.antt` what a write leaves.
+//! `specs/Tracking.antt` has what is known of a reader and a writer, `specs/Wrote.antt` what a write leaves,
+//! `specs/Waiting.antt` what is known of each read.
 #![tactic(auto)]
 
+mod read_log;
 mod tracked_reader;
 mod tracked_writer;
 mod writing;

@@ -1,21 +1,25 @@
-//! A reader of which it is known whether it failed.
-ghost use Rattle.std.specs.Prelude.{◌≡◌, ◌≢◌, ◌^◌, ◌<◌, false, true, IfErr, OnOk};
+//! A reader of which it is known whether it failed, and what had been handed on at each read.
+ghost use Rattle.std.specs.Prelude.{◌≡◌, ◌≢◌, ◌^◌, ◌<◌, [], false, true, IfErr, OnOk};
 ghost use Rattle.std.specs.IoError.{error_kind};
 ghost use Rattle.std.specs.Io.{ReadsAtMost};
 ghost use Rattle.std.specs.Io.KnownBytes.{ReadConsumes};
 ghost use Rattle.tracked_io.specs.Tracking.{FailsWith};
+ghost use Rattle.tracked_io.specs.Waiting.{with_read, given_by};
 
+use crate::read_log::ReadLog;
 use crate::tracked_writer::TrackedWriter;
 use std::io;
-use std::io::{ErrorKind, Read};
+use std::io::{ErrorKind, Read, Write};
 use std::marker::Model;
 
-/// A reader that remembers whether a read failed.
+/// A reader that remembers whether a read failed. In proofs alone it has each read of it so far, with what the writer
+/// that it was lent had in it: only [`read`](TrackedReader::read) adds to these.
 #[derive(Drop)]
 pub struct TrackedReader<R> {
     inner: R,
     failed: bool,
     turns: u64,
+    log: ReadLog,
 }
 
 impl<R> Model for TrackedReader<R> {
@@ -23,7 +27,7 @@ impl<R> Model for TrackedReader<R> {
 
     ghost Value = { TrackedReading R };
 
-    ghost view = { λ w. record { inner = w.inner; failed = w.failed; turns = w.turns } };
+    ghost view = { λ w. record { inner = w.inner; failed = w.failed; turns = w.turns; reads = w.log.reads } };
 }
 
 impl<R> TrackedReader<R> {
@@ -31,11 +35,13 @@ impl<R> TrackedReader<R> {
     pub fn new(inner: R) -> TrackedReader<R>
         ensures inner { result.inner ≡ inner }
         ensures failed { result.failed ≡ false }
+        ensures reads { result.reads ≡ [] }
     {
         TrackedReader {
             inner,
             failed: false,
             turns: 0,
+            log: ReadLog::new(),
         }
     }
 
@@ -48,12 +54,40 @@ impl<R> TrackedReader<R> {
 }
 
 impl<R: Read> TrackedReader<R> {
-    /// One read, while no answer is held back. A read that is interrupted is tried again; after 2^64 - 1
-    /// tries in all it fails.
-    pub fn read<W>(&mut self, answered: &TrackedWriter<W>, buf: &mut [u8]) -> io::Result<usize>
+    /// One read, while no answer is held back: what was written to the writer that it is lent was handed on. A read
+    /// that is interrupted is tried again; after 2^64 - 1 tries in all it fails.
+    pub fn read<W: Write>(
+        &mut self,
+        answered: &TrackedWriter<W>,
+        buf: &mut [u8],
+    ) -> io::Result<usize>
         requires { answered.now.flushed ≡ true }
         ensures bound { ReadsAtMost result buf.new }
         ensures bytes { ReadConsumes (R.remaining self.old.inner) (R.remaining self.new.inner) result buf.new }
+        ensures reads { self.new.reads
+            ≡ with_read self.old.reads (W.contents answered.now.inner) (given_by result buf.new) }
+        ensures failed { FailsWith result self.old.failed self.new.failed }
+        ensures retried { IfErr result (λ e. error_kind e ≢ ErrorKind.Interrupted) }
+        ensures turns { OnOk result (self.old.turns < self.new.turns) }
+        ensures room { OnOk result (self.new.turns < 2 ^ 64) }
+    {
+        match self.try_to_read(buf) {
+            Ok(n) => {
+                self.log = self.log.with(answered, &buf[..n]);
+                Ok(n)
+            }
+            Err(e) => {
+                self.log = self.log.with(answered, &[]);
+                Err(e)
+            }
+        }
+    }
+
+    // The same, of which nothing is noted.
+    fn try_to_read(&mut self, buf: &mut [u8]) -> io::Result<usize>
+        ensures bound { ReadsAtMost result buf.new }
+        ensures bytes { ReadConsumes (R.remaining self.old.inner) (R.remaining self.new.inner) result buf.new }
+        ensures reads { self.new.reads ≡ self.old.reads }
         ensures failed { FailsWith result self.old.failed self.new.failed }
         ensures retried { IfErr result (λ e. error_kind e ≢ ErrorKind.Interrupted) }
         ensures turns { OnOk result (self.old.turns < self.new.turns) }
