@@ -2,11 +2,12 @@
 use Rattle.std.proofs.Common.{◌≡◌, ℕ, suc, ◌+◌, ◌-◌, ◌≤◌, ◌++◌, false, List, [], length, take, drop, refl, sym, ap, ◌∙◌, subst, arith, inl, inr, slice_range}
 use Rattle.std.specs.Prelude.{Option, Ok, Err}
 use Rattle.std.specs.Io.KnownBytes.{Appends, IsAtEnd}
-use Rattle.std.proofs.KnownBytes.{Consumes-nil, Consumes-trans}
 use Rattle.std.proofs.lemmas.List.{append-nil, take-append-drop, drop-drop, length-take-le, length-drop}
 use Rattle.httparse.specs.Grammar.{RequestHead}
 use Rattle.tracked_io.specs.Tracking.{TrackedReading, TrackedWriting, Reads}
+use Rattle.tracked_io.specs.Waiting.{Waited}
 use Rattle.tracked_io.specs.Wrote.{WroteSome}
+use Rattle.tracked_io.proofs.Waiting.{reads_none, reads_both, waited_none, waited_both, waited_as}
 use Rattle.tracked_io.proofs.Appending.{appends_none, appends_both, appends_kept, some_after}
 use Rattle.http_api.specs.declared.end.End.{End}
 use Rattle.http_api.specs.declared.end.End.TheVariants.{Closed, Asked, Broken, ReadFault, WriteFault, Memory}
@@ -17,10 +18,11 @@ use Rattle.http_api.specs.Machine.{Step}
 use Rattle.http_api.specs.Connection.{Next, stop, NoRequest, HasRequest, IsFew, Turn, Goes, Text, no_request}
 use Rattle.http_api.specs.Talks.{Talked, TalkCut}
 use Rattle.http_api.specs.inside.Looking.{HasHeading}
-use Rattle.http_api.specs.inside.Receiving.{IsPause, EndsSo, ReadOn, Ended}
+use Rattle.http_api.specs.inside.Receiving.{IsPause, EndsSo, WaitsBehind, ReadOn, Ended}
 use Rattle.http_api.specs.inside.Settling.{IsSettled}
-use Rattle.http_api.specs.inside.Going.{State, Going, Finished}
+use Rattle.http_api.specs.inside.Going.{State, IsTalked, Going, Finished}
 use Rattle.http_api.proofs.Lasting.{goes_more, goes_next}
+use Rattle.http_api.proofs.Pausing.{appends_nothing}
 
 -- the request that has come whole
 pub whole_request : (input : List ℕ) (h : RequestHead) (heading : Heading) → HasHeading input h heading → heading.head + heading.body ≤ length input
@@ -44,19 +46,59 @@ module _ {S R W : Type 0} (step : Step S) (remaining : R → Option (List ℕ)) 
   going_none first waiting none r w = record {
     input = [];
     text = [];
-    reads = Consumes-nil _;
+    reads = reads_none remaining first.1;
+    waited = waited_none _ first.1.reads;
     goes = (none, refl, refl);
     wrote = appends_none _;
     reader_works = r;
     writer_works = w;
   }
 
+  text_ends : (first : State S R W) (count : ℕ) (waits : List ℕ) (now : State S R W) (g : Going step remaining contents first count waits now) (more text : List ℕ) (t : S) (next : Next)
+      → Turn step now.0 (suc count) (waits ++ more) text t next → Text step first.0 (g.input ++ more) (g.text ++ text) t next
+  text_ends first count waits now g more text t next turn = record {
+    count = count;
+    rest = waits ++ more;
+    before = g.text;
+    mid = now.0;
+    last = text;
+    goes = goes_more step first.0 1 count g.input more waits g.text now.0 g.goes;
+    turn = turn;
+    says = refl;
+  }
+
+  talked : (first : State S R W) (count : ℕ) (waits : List ℕ) (now : State S R W) (g : Going step remaining contents first count waits now) (more text : List ℕ) (t : S) (holds : Option (List ℕ)) (end : End)
+      → IsFew (waits ++ more) → Turn step now.0 (suc count) (waits ++ more) text t (stop end) → Appends (contents now.2.inner) holds text
+      → Talked step first.0 (contents first.2.inner) (g.input ++ more) t holds end
+  unfolding text_ends
+  talked first count waits now g more text t holds end few turn wrote = record {
+    text = g.text ++ text;
+    is_text = text_ends first count waits now g more text t (stop end) turn;
+    few = few;
+    wrote = appends_both _ _ _ _ _ g.wrote wrote;
+  }
+
+  -- where no whole request waits, the text is that of all that was read
+  unfinished_talked : (first : State S R W) (count : ℕ) (waits : List ℕ) (s : S) (r : TrackedReading R) (w : TrackedWriting W) (g : Going step remaining contents first count waits (s, r, w)) (more : List ℕ) (holds : Option (List ℕ))
+      → WaitsBehind waits (contents w.inner) more holds → IsTalked step contents first.0 first.2 (g.input ++ more) holds
+  unfinished_talked first count waits s r w g more holds ((end, inl p, n, few), keeps) =
+      let none : NoRequest (waits ++ more) [] Closed = subst (NoRequest (waits ++ more) []) p n in
+      (s, inl (talked first count waits (s, r, w) g more [] s holds Closed few (no_request Closed none refl refl) (appends_nothing _ _ keeps)))
+  unfinished_talked first count waits s r w g more holds ((end, inr p, n, few), keeps) =
+      let none : NoRequest (waits ++ more) [] Broken = subst (NoRequest (waits ++ more) []) p n in
+      (s, inr (talked first count waits (s, r, w) g more [] s holds Broken few (no_request Broken none refl refl) (appends_nothing _ _ keeps)))
+
+  pub waited_later : (first : State S R W) (count : ℕ) (waits : List ℕ) (s : S) (r : TrackedReading R) (w : TrackedWriting W) (g : Going step remaining contents first count waits (s, r, w)) (r1 : TrackedReading R) (more : List ℕ)
+      → Waited (WaitsBehind waits (contents w.inner)) r.reads r1.reads more → Waited (IsTalked step contents first.0 first.2) first.1.reads r1.reads (g.input ++ more)
+  waited_later first count waits s r w g r1 more v = waited_both _ first.1.reads r.reads r1.reads g.input more g.waited (waited_as _ _ (unfinished_talked first count waits s r w g) r.reads r1.reads more v)
+
   pub going_reads : (first : State S R W) (count : ℕ) (waits waiting : List ℕ) (s : S) (r0 r1 : TrackedReading R) (w0 w1 : TrackedWriting W)
       → Going step remaining contents first count waits (s, r0, w0) → ReadOn remaining contents (waits, r0, w0) (waiting, r1, w1) → Going step remaining contents first count waiting (s, r1, w1)
   going_reads first count waits waiting s r0 r1 w0 w1 g p = record {
     input = g.input ++ p.more;
     text = g.text;
-    reads = Consumes-trans _ _ _ _ _ g.reads p.reads;
+    reads = reads_both remaining first.1 r0 r1 g.input p.more g.reads p.reads;
+    waited = waited_later first count waits s r0 w0 g r1 p.more p.waited;
     goes = subst (λ (x : List ℕ). Goes step first.0 1 count (g.input ++ p.more) x g.text s) (sym p.holds) (goes_more step first.0 1 count g.input p.more waits g.text s g.goes);
     wrote = appends_kept _ _ _ _ g.wrote p.keeps;
     reader_works = p.reader_works;
@@ -73,35 +115,12 @@ module _ {S R W : Type 0} (step : Step S) (remaining : R → Option (List ℕ)) 
         input = g.input;
         text = g.text ++ more;
         reads = g.reads;
+        waited = g.waited;
         goes = subst (λ (n : ℕ). Goes step first.0 1 n g.input rest (g.text ++ more) t) (sym next) goes;
         wrote = appends_both _ _ _ _ _ g.wrote wrote;
         reader_works = g.reader_works;
         writer_works = works;
       }
-
-  text_ends : (first : State S R W) (count : ℕ) (waits : List ℕ) (now : State S R W) (g : Going step remaining contents first count waits now) (more text : List ℕ) (t : S) (next : Next)
-      → Turn step now.0 (suc count) (waits ++ more) text t next → Text step first.0 (g.input ++ more) (g.text ++ text) t next
-  text_ends first count waits now g more text t next turn = record {
-    count = count;
-    rest = waits ++ more;
-    before = g.text;
-    mid = now.0;
-    last = text;
-    goes = goes_more step first.0 1 count g.input more waits g.text now.0 g.goes;
-    turn = turn;
-    says = refl;
-  }
-
-  talked : (first : State S R W) (count : ℕ) (waits : List ℕ) (now : State S R W) (g : Going step remaining contents first count waits now) (more text : List ℕ) (t : S) (w : TrackedWriting W) (end : End)
-      → IsFew (waits ++ more) → Turn step now.0 (suc count) (waits ++ more) text t (stop end) → Appends (contents now.2.inner) (contents w.inner) text
-      → Talked step first.0 (contents first.2.inner) (g.input ++ more) t (contents w.inner) end
-  unfolding text_ends
-  talked first count waits now g more text t w end few turn wrote = record {
-    text = g.text ++ text;
-    is_text = text_ends first count waits now g more text t (stop end) turn;
-    few = few;
-    wrote = appends_both _ _ _ _ _ g.wrote wrote;
-  }
 
   cut : (first : State S R W) (count : ℕ) (waits : List ℕ) (now : State S R W) (g : Going step remaining contents first count waits now) (more text : List ℕ) (t : S) (w : TrackedWriting W) (next : Next)
       → IsFew (waits ++ more) → Turn step now.0 (suc count) (waits ++ more) text t next → WroteSome (contents now.2.inner) (contents w.inner) text
@@ -121,14 +140,14 @@ module _ {S R W : Type 0} (step : Step S) (remaining : R → Option (List ℕ)) 
   ended_finished first count waits s r0 r1 w0 w1 end g e = by_end end e.all e.ends
     where
       reads : Reads remaining first.1 r1 (g.input ++ e.more)
-      reads = Consumes-trans _ _ _ _ _ g.reads e.reads
+      reads = reads_both remaining first.1 r0 r1 g.input e.more g.reads e.reads
 
       by_end : (x : End) → (IsPause x → IsAtEnd (remaining r1.inner)) → EndsSo (waits ++ e.more) (contents w0.inner) (contents w1.inner) x → Finished step remaining contents first (s, r1, w1) x
-      by_end Closed all h = (g.input ++ e.more, (reads, all (inl refl)), talked first count waits (s, r0, w0) g e.more [] s w1 Closed e.few (no_request Closed h.0 refl refl) h.1)
-      by_end Broken all h = (g.input ++ e.more, (reads, all (inr refl)), talked first count waits (s, r0, w0) g e.more [] s w1 Broken e.few (no_request Broken h.0 refl refl) h.1)
-      by_end Asked all h = (g.input ++ e.more, reads, talked first count waits (s, r0, w0) g e.more h.0 s w1 Asked e.few (no_request Asked h.1 refl refl) h.2)
-      by_end ReadFault all (x, inl p, n, wrote) = (g.input ++ e.more, reads, inl (talked first count waits (s, r0, w0) g e.more [] s w1 Closed e.few (no_request Closed (subst (NoRequest (waits ++ e.more) []) p n) refl refl) wrote))
-      by_end ReadFault all (x, inr p, n, wrote) = (g.input ++ e.more, reads, inr (talked first count waits (s, r0, w0) g e.more [] s w1 Broken e.few (no_request Broken (subst (NoRequest (waits ++ e.more) []) p n) refl refl) wrote))
+      by_end Closed all h = (g.input ++ e.more, (reads, all (inl refl)), talked first count waits (s, r0, w0) g e.more [] s (contents w1.inner) Closed e.few (no_request Closed h.0 refl refl) h.1)
+      by_end Broken all h = (g.input ++ e.more, (reads, all (inr refl)), talked first count waits (s, r0, w0) g e.more [] s (contents w1.inner) Broken e.few (no_request Broken h.0 refl refl) h.1)
+      by_end Asked all h = (g.input ++ e.more, reads, talked first count waits (s, r0, w0) g e.more h.0 s (contents w1.inner) Asked e.few (no_request Asked h.1 refl refl) h.2)
+      by_end ReadFault all (x, inl p, n, wrote) = (g.input ++ e.more, reads, inl (talked first count waits (s, r0, w0) g e.more [] s (contents w1.inner) Closed e.few (no_request Closed (subst (NoRequest (waits ++ e.more) []) p n) refl refl) wrote))
+      by_end ReadFault all (x, inr p, n, wrote) = (g.input ++ e.more, reads, inr (talked first count waits (s, r0, w0) g e.more [] s (contents w1.inner) Broken e.few (no_request Broken (subst (NoRequest (waits ++ e.more) []) p n) refl refl) wrote))
       by_end WriteFault all (x, text, n, some) = (g.input ++ e.more, reads, cut first count waits (s, r0, w0) g e.more text s w1 (stop x) e.few (no_request x n refl refl) some)
       by_end Memory all h = absurd h
 
@@ -154,8 +173,8 @@ module _ {S R W : Type 0} (step : Step S) (remaining : R → Option (List ℕ)) 
           subst P (sym (append-nil waits)) (subst Q next turn)
 
       by_end : (x : End) → IsSettled step s (count + 1) waits rest (contents w0.inner) t (contents w1.inner) (Err x) → Finished step remaining contents first (t, r, w1) x × (false ≡ is_read_fault x)
-      by_end Asked (text, turn, wrote) = ((g.input ++ [], subst (Reads remaining first.1 r) (sym input) g.reads, talked first count waits (s, r, w0) g [] text t w1 Asked still (here (stop Asked) text turn) wrote), refl)
-      by_end Memory (text, turn, wrote) = ((g.input ++ [], subst (Reads remaining first.1 r) (sym input) g.reads, talked first count waits (s, r, w0) g [] text t w1 Memory still (here (stop Memory) text turn) wrote), refl)
+      by_end Asked (text, turn, wrote) = ((g.input ++ [], subst (Reads remaining first.1 r) (sym input) g.reads, talked first count waits (s, r, w0) g [] text t (contents w1.inner) Asked still (here (stop Asked) text turn) wrote), refl)
+      by_end Memory (text, turn, wrote) = ((g.input ++ [], subst (Reads remaining first.1 r) (sym input) g.reads, talked first count waits (s, r, w0) g [] text t (contents w1.inner) Memory still (here (stop Memory) text turn) wrote), refl)
       by_end WriteFault (text, n, turn, some) = ((g.input ++ [], subst (Reads remaining first.1 r) (sym input) g.reads, cut first count waits (s, r, w0) g [] text t w1 n still (here n text turn) some), refl)
       by_end Closed h = absurd h
       by_end Broken h = absurd h

@@ -3,9 +3,11 @@ use Rattle.std.proofs.Common.{◌≡◌, ℕ, ◌++◌, Bool, true, false, List,
 use Rattle.std.specs.Prelude.{Option, Some, None, Result, Ok, Err, MatchResult, is_err}
 use Rattle.std.specs.Io.KnownBytes.{Appends, Consumes, Keeps, IsAtEnd}
 use Rattle.std.proofs.lemmas.List.{append-nil, length-append, length-drop, drop-append-le}
-use Rattle.std.proofs.KnownBytes.{Keeps-refl, Keeps-trans, Consumes-trans}
-use Rattle.tracked_io.specs.Tracking.{TrackedReading, TrackedWriting, Reads}
+use Rattle.std.proofs.KnownBytes.{Keeps-refl, Keeps-trans}
+use Rattle.tracked_io.specs.Tracking.{TrackedReading, TrackedWriting}
+use Rattle.tracked_io.specs.Waiting.{OneRead, with_read, Waited}
 use Rattle.tracked_io.specs.Wrote.{WroteSome}
+use Rattle.tracked_io.proofs.Waiting.{gave_waited, reads_none, reads_both, waited_none, waited_more, waited_both, waited_as}
 use Rattle.tracked_io.proofs.Appending.{appends_none, appends_kept, appends_both, some_after}
 use Rattle.http_api.specs.declared.end.End.{End}
 use Rattle.http_api.specs.declared.end.End.TheVariants.{Closed, Asked, Broken, ReadFault, WriteFault, Memory}
@@ -16,7 +18,7 @@ use Rattle.http_api.specs.Heads.{Begins, max_head}
 use Rattle.http_api.specs.Connection.{NoRequest, at_end, cut_in_head, cut_in_body, IsFew}
 use Rattle.http_api.specs.inside.Looking.{HasHeading, Waits}
 use Rattle.http_api.proofs.Lasting.{begins_more}
-use Rattle.http_api.specs.inside.Receiving.{IsPause, EndsSo, EndsAfter, HandedOn, Place, ReadOn, Ended, IsFewFor}
+use Rattle.http_api.specs.inside.Receiving.{IsPause, EndsSo, EndsAfter, HandedOn, Place, IsUnfinished, WaitsBehind, ReadOn, Ended, IsFewFor}
 
 pub at_ok : {T E : Type 0} (P : T → Type 0) (Q : E → Type 0) (r : Result T E) → is_err r ≡ false → MatchResult r P Q → (t : T) × P t
 at_ok P Q (Ok t) fine m = (t, m)
@@ -50,13 +52,21 @@ pub no_fault : (end : End) → IsPause end → (false ≡ is_read_fault end) × 
 no_fault end (inl e) = (sym (ap is_read_fault e), sym (ap is_write_fault e))
 no_fault end (inr e) = (sym (ap is_read_fault e), sym (ap is_write_fault e))
 
+-- one read, while no whole request waits
+pub waited_once : (waiting : List ℕ) (held holds : Option (List ℕ)) (end : End) (old new : List OneRead) (more : List ℕ) → IsPause end → NoRequest waiting [] end → IsFew waiting → Keeps held holds
+    → new ≡ with_read old holds more → Waited (WaitsBehind waiting held) old new more
+waited_once waiting held holds end old new more pause none few keeps e =
+    let here : IsUnfinished (waiting ++ []) = subst IsUnfinished (sym (append-nil waiting)) (end, pause, none, few) in
+    waited_more (WaitsBehind waiting held) old old new [] holds more (waited_none (WaitsBehind waiting held) old) e (here, keeps)
+
 -- nothing more was read before the end
 pub ended_now : {R W : Type 0} (remaining : R → Option (List ℕ)) (contents : W → Option (List ℕ)) (old : Place R W) (reader : TrackedReading R) (writer : TrackedWriting W) (end : End)
-    (more : List ℕ) → Reads remaining old.1 reader more → more ≡ [] → (IsPause end → IsAtEnd (remaining reader.inner))
+    (more : List ℕ) → Consumes (remaining old.1.inner) (remaining reader.inner) more → Waited (WaitsBehind old.0 (contents old.2.inner)) old.1.reads reader.reads more → more ≡ [] → (IsPause end → IsAtEnd (remaining reader.inner))
     → EndsSo old.0 (contents old.2.inner) (contents writer.inner) end → IsFew old.0 → reader.failed ≡ is_read_fault end → HandedOn writer end → Ended remaining contents old reader writer end
-ended_now remaining contents old reader writer end more reads none all ends few failed handed = record {
+ended_now remaining contents old reader writer end more consumes waited none all ends few failed handed = record {
   more = more;
-  reads = reads;
+  reads = (consumes, gave_waited _ _ _ more waited);
+  waited = waited;
   all = all;
   ends = subst (λ (i : List ℕ). EndsSo i (contents old.2.inner) (contents writer.inner) end) (sym (ap (λ m. old.0 ++ m) none ∙ append-nil old.0)) ends;
   few = subst IsFew (sym (ap (λ m. old.0 ++ m) none ∙ append-nil old.0)) few;
@@ -93,18 +103,18 @@ broken_is_not_asked : Broken ≡ Asked → ⊥
 broken_is_not_asked e = true≢false (sym (ap is_asked e))
 
 -- after a refusal
-pub ended_refused : {R W : Type 0} (remaining : R → Option (List ℕ)) (contents : W → Option (List ℕ)) (old : Place R W) (reader : TrackedReading R) (writer : TrackedWriting W) (end : End)
-    (text : List ℕ) → Reads remaining old.1 reader [] → reader.failed ≡ false → NoRequest old.0 text Asked → IsFew old.0 → EndsAfter contents text old.2 writer end → Ended remaining contents old reader writer end
-ended_refused remaining contents old reader writer end text reads works n few (handed, inl (e, h)) =
+pub ended_refused : {R W : Type 0} (remaining : R → Option (List ℕ)) (contents : W → Option (List ℕ)) (old : Place R W) (writer : TrackedWriting W) (end : End)
+    (text : List ℕ) → old.1.failed ≡ false → NoRequest old.0 text Asked → IsFew old.0 → EndsAfter contents text old.2 writer end → Ended remaining contents old old.1 writer end
+ended_refused remaining contents old writer end text works n few (handed, inl (e, h)) =
     let ends : EndsSo old.0 (contents old.2.inner) (contents writer.inner) end = subst (EndsSo old.0 (contents old.2.inner) (contents writer.inner)) (sym e) (text, n, h) in
-    ended_now remaining contents old reader writer end [] reads refl (λ p. absurd (not_asked p)) ends few (works ∙ sym (ap is_read_fault e)) handed
+    ended_now remaining contents old old.1 writer end [] (reads_none remaining old.1).0 (waited_none _ _) refl (λ p. absurd (not_asked p)) ends few (works ∙ sym (ap is_read_fault e)) handed
   where
     not_asked : IsPause end → ⊥
     not_asked (inl p) = closed_is_not_asked (sym p ∙ e)
     not_asked (inr p) = broken_is_not_asked (sym p ∙ e)
-ended_refused remaining contents old reader writer end text reads works n few (handed, inr (e, h)) =
+ended_refused remaining contents old writer end text works n few (handed, inr (e, h)) =
     let ends : EndsSo old.0 (contents old.2.inner) (contents writer.inner) end = subst (EndsSo old.0 (contents old.2.inner) (contents writer.inner)) (sym e) (Asked, text, n, h) in
-    ended_now remaining contents old reader writer end [] reads refl (λ p. absurd (true≢false (sym (ap is_write_fault e) ∙ sym (no_fault end p).1))) ends few (works ∙ sym (ap is_read_fault e)) handed
+    ended_now remaining contents old old.1 writer end [] (reads_none remaining old.1).0 (waited_none _ _) refl (λ p. absurd (true≢false (sym (ap is_write_fault e) ∙ sym (no_fault end p).1))) ends few (works ∙ sym (ap is_read_fault e)) handed
 
 -- what waits, where no more comes
 pub waits_none : (input : List ℕ) → input ≡ [] → NoRequest input [] Closed
@@ -149,18 +159,28 @@ module _ {R W : Type 0} (remaining : R → Option (List ℕ)) (contents : W → 
   pub read_on_none : (at : Place R W) → at.1.failed ≡ false → at.2.failed ≡ false → ReadOn remaining contents at at
   read_on_none at r w = record {
     more = [];
-    reads = consumes_none _ _ (Keeps-refl _);
+    reads = reads_none remaining at.1;
+    waited = waited_none _ at.1.reads;
     holds = sym (append-nil at.0);
     keeps = Keeps-refl _;
     reader_works = r;
     writer_works = w;
   }
 
+  -- what waits behind more, waits behind all
+  behind_more : (a b : Place R W) (p : ReadOn remaining contents a b) (input : List ℕ) (holds : Option (List ℕ)) → WaitsBehind b.0 (contents b.2.inner) input holds → WaitsBehind a.0 (contents a.2.inner) (p.more ++ input) holds
+  behind_more a b p input holds w = (subst IsUnfinished (ap (λ m. m ++ input) p.holds ∙ append_assoc a.0 p.more input) w.0, Keeps-trans _ _ _ p.keeps w.1)
+
+  waited_later : (a b : Place R W) (p : ReadOn remaining contents a b) (reads : List OneRead) (more : List ℕ) → Waited (WaitsBehind b.0 (contents b.2.inner)) b.1.reads reads more
+      → Waited (WaitsBehind a.0 (contents a.2.inner)) a.1.reads reads (p.more ++ more)
+  waited_later a b p reads more w = waited_both _ a.1.reads b.1.reads reads p.more more p.waited (waited_as _ _ (behind_more a b p) b.1.reads reads more w)
+
   -- and then more
   pub read_on_more : (a b c : Place R W) → ReadOn remaining contents a b → ReadOn remaining contents b c → ReadOn remaining contents a c
   read_on_more a b c p q = record {
     more = p.more ++ q.more;
-    reads = Consumes-trans _ _ _ _ _ p.reads q.reads;
+    reads = reads_both remaining a.1 b.1 c.1 p.more q.more p.reads q.reads;
+    waited = waited_later a b p c.1.reads q.more q.waited;
     holds = q.holds ∙ ap (λ m. m ++ q.more) p.holds ∙ append_assoc a.0 p.more q.more;
     keeps = Keeps-trans _ _ _ p.keeps q.keeps;
     reader_works = q.reader_works;
@@ -172,7 +192,8 @@ module _ {R W : Type 0} (remaining : R → Option (List ℕ)) (contents : W → 
       → Ended remaining contents b reader writer end → Ended remaining contents a reader writer end
   ended_later a b reader writer end p e = record {
     more = p.more ++ e.more;
-    reads = Consumes-trans _ _ _ _ _ p.reads e.reads;
+    reads = reads_both remaining a.1 b.1 reader p.more e.more p.reads e.reads;
+    waited = waited_later a b p reader.reads e.more e.waited;
     all = e.all;
     ends = ends_kept _ _ _ (contents writer.inner) end (ap (λ m. m ++ e.more) p.holds ∙ append_assoc a.0 p.more e.more) p.keeps e.ends;
     few = subst IsFew (ap (λ m. m ++ e.more) p.holds ∙ append_assoc a.0 p.more e.more) e.few;

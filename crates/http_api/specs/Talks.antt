@@ -5,6 +5,7 @@ use Rattle.http_api.specs.declared.end.End.{End}
 use Rattle.http_api.specs.declared.end.End.TheVariants.{Closed, Broken}
 use Rattle.http_api.specs.Machine.{Step}
 use Rattle.tracked_io.specs.Wrote.{WroteSome}
+use Rattle.tracked_io.specs.Tracking.{TrackedReading, AtEachRead}
 use Rattle.http_api.specs.Connection.{Next, stop, Text, IsFew}
 
 -- the text of the connection over this input was written, and it ends so; no more was read for its last turn than that may want
@@ -25,3 +26,7 @@ pub record TalkCut {S : Type 0} (step : Step S) (s : S) (held : Option (List ℕ
   pub is_text : Text step s input text t next
   pub few : IsFew is_text.rest
   pub wrote : WroteSome held holds text
+
+-- at each read, the text of the connection over what was read before had been written, as if the input had ended there, and handed on
+abbrev pub TalkedAtEachRead : {S R : Type 0} → Step S → S → Option (List ℕ) → TrackedReading R → TrackedReading R → Type 0
+TalkedAtEachRead {S} step s held old new = AtEachRead (λ input holds. (t : S) × TalkedSoFar step s held input t holds) old new

@@ -3,7 +3,7 @@ ghost use Rattle.std.specs.Prelude.{ℕ, ◌≡◌, ◌⊎◌, List, [], true, f
 ghost use Rattle.tracked_io.specs.Tracking.{Reads, ReadsAll};
 ghost use Rattle.http_api.specs.Ends.{is_read_fault, is_write_fault};
 ghost use Rattle.http_api.specs.Routes.{table};
-ghost use Rattle.http_api.specs.Talks.{Talked, TalkedSoFar, TalkCut};
+ghost use Rattle.http_api.specs.Talks.{Talked, TalkedSoFar, TalkCut, TalkedAtEachRead};
 ghost use Rattle.http_api.specs.inside.Held.{held};
 ghost use Rattle.http_api.specs.inside.Receiving.{HandedOn};
 ghost use Rattle.http_api.specs.inside.Going.{Finished};
@@ -52,6 +52,9 @@ pub fn serve<R: Read, W: Write, A: Answers>(
     // Some first requests of what was read were answered, and a beginning of the text was written.
     ensures write_fault { result ≡ End.WriteFault → (input : List ℕ) × Reads R.remaining reader.old reader.new input
         × TalkCut A.step answers.old (W.contents writer.old.inner) input answers.new (W.contents writer.new.inner) }
+
+    // At each read, also of one that failed, each whole request of what was read before had its reply, handed on.
+    ensures handed_on { TalkedAtEachRead A.step answers.old (W.contents writer.old.inner) reader.old reader.new }
 
     // A fault is told exactly where the reader or the writer failed in the call.
     ensures read_failed { reader.new.failed ≡ is_read_fault result }
@@ -103,6 +106,9 @@ pub fn serve_by<R: Read, W: Write, A: Answers>(
     ensures write_fault { result ≡ End.WriteFault → (input : List ℕ) × Reads R.remaining reader.old reader.new input
         × TalkCut A.step answers.old (W.contents writer.old.inner) input answers.new (W.contents writer.new.inner) }
 
+    // At each read, also of one that failed, each whole request of what was read before had its reply, handed on.
+    ensures handed_on { TalkedAtEachRead A.step answers.old (W.contents writer.old.inner) reader.old reader.new }
+
     // A fault is told exactly where the reader or the writer failed in the call.
     ensures read_failed { reader.new.failed ≡ is_read_fault result }
     ensures write_failed { writer.new.failed ≡ is_write_fault result }
@@ -127,6 +133,7 @@ fn serve_on<R: Read, W: Write, A: Answers>(
     requires unbroken_reader { reader.old.failed ≡ false }
     requires unbroken_writer { writer.old.failed ≡ false }
     ensures finished { Finished A.step R.remaining W.contents (answers.old, reader.old, writer.old) (answers.new, reader.new, writer.new) result }
+    ensures each_read { TalkedAtEachRead A.step answers.old (W.contents writer.old.inner) reader.old reader.new }
     ensures read_failed { reader.new.failed ≡ is_read_fault result }
     ensures handed_on { HandedOn writer.new result }
 {

@@ -1,11 +1,12 @@
 //! The bytes that were read and not used yet.
 ghost use Rattle.std.specs.Prelude.{ℕ, ◌≡◌, ◌≤◌, ◌<◌, ◌^◌, List, [], ◌++◌, length, drop, true, IfOk, OnOk, OnErr};
-ghost use Rattle.std.specs.Io.KnownBytes.{IsAtEnd, Keeps};
-ghost use Rattle.tracked_io.specs.Tracking.{FailsWith, Reads};
+ghost use Rattle.std.specs.Io.KnownBytes.{Consumes, IsAtEnd, Keeps};
+ghost use Rattle.tracked_io.specs.Tracking.{FailsWith};
+ghost use Rattle.tracked_io.specs.Waiting.{with_read};
 
 use std::alloc::{AllocError, Global};
 use std::io;
-use std::io::Read;
+use std::io::{Read, Write};
 use tracked_io::{TrackedReader, TrackedWriter};
 
 // A head and a body.
@@ -63,7 +64,7 @@ impl Inbox {
     }
 
     /// One read, so that so many bytes wait then at most, while no reply is held back.
-    pub fn read_to<R: Read, W>(
+    pub fn read_to<R: Read, W: Write>(
         &mut self,
         reader: &mut TrackedReader<R>,
         answered: &TrackedWriter<W>,
@@ -73,10 +74,12 @@ impl Inbox {
         requires more { length (held self.old) < most }
         requires room { most ≤ 73728 }
         ensures ok { IfOk result (λ n. (more : List ℕ) × (length more ≡ n) × (held self.new ≡ held self.old ++ more)
-            × Reads R.remaining reader.old reader.new more) }
+            × Consumes (R.remaining reader.old.inner) (R.remaining reader.new.inner) more
+            × (reader.new.reads ≡ with_read reader.old.reads (W.contents answered.now.inner) more)) }
         ensures end { IfOk result (λ n. n ≡ 0 → IsAtEnd (R.remaining reader.new.inner)) }
         ensures err { OnErr result ((held self.new ≡ held self.old)
-            × Keeps (R.remaining reader.old.inner) (R.remaining reader.new.inner)) }
+            × Keeps (R.remaining reader.old.inner) (R.remaining reader.new.inner)
+            × (reader.new.reads ≡ with_read reader.old.reads (W.contents answered.now.inner) [])) }
         ensures most { length (held self.new) ≤ most }
         ensures failed { FailsWith result reader.old.failed reader.new.failed }
         ensures turns { OnOk result (reader.old.turns < reader.new.turns) }

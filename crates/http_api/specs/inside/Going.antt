@@ -2,6 +2,7 @@
 use Rattle.std.specs.Prelude.{ℕ, ◌≡◌, List, false, Option}
 use Rattle.std.specs.Io.KnownBytes.{Appends}
 use Rattle.tracked_io.specs.Tracking.{TrackedReading, TrackedWriting, Reads, ReadsAll}
+use Rattle.tracked_io.specs.Waiting.{Waited}
 use Rattle.http_api.specs.declared.end.End.{End}
 use Rattle.http_api.specs.declared.end.End.TheVariants.{Closed, Asked, Broken, ReadFault, WriteFault, Memory}
 use Rattle.http_api.specs.Machine.{Step}
@@ -12,11 +13,16 @@ use Rattle.http_api.specs.Talks.{Talked, TalkedSoFar, TalkCut}
 abbrev pub State : Type 0 → Type 0 → Type 0 → Type 0
 State S R W = S × TrackedReading R × TrackedWriting W
 
+-- the text of the connection over this input is held, as if the input had ended here
+abbrev pub IsTalked : {S W : Type 0} → Step S → (W → Option (List ℕ)) → S → TrackedWriting W → List ℕ → Option (List ℕ) → Type 0
+IsTalked {S} step contents s writer input holds = (t : S) × TalkedSoFar step s (contents writer.inner) input t holds
+
 -- so many requests were answered and their replies written, and these bytes wait
 pub record Going {S R W : Type 0} (step : Step S) (remaining : R → Option (List ℕ)) (contents : W → Option (List ℕ)) (first : State S R W) (count : ℕ) (waiting : List ℕ) (now : State S R W) : Type 0 where
   pub input : List ℕ
   pub text : List ℕ
   pub reads : Reads remaining first.1 now.1 input
+  pub waited : Waited (IsTalked step contents first.0 first.2) first.1.reads now.1.reads input
   pub goes : Goes step first.0 1 count input waiting text now.0
   pub wrote : Appends (contents first.2.inner) (contents now.2.inner) text
   pub reader_works : now.1.failed ≡ false

@@ -2,6 +2,7 @@
 use Rattle.std.specs.Prelude.{ℕ, ◌≡◌, ◌⊎◌, ◌≤◌, ◌+◌, ◌++◌, List, [], length, true, false, Option}
 use Rattle.std.specs.Io.KnownBytes.{Appends, Keeps, IsAtEnd}
 use Rattle.tracked_io.specs.Tracking.{TrackedReading, TrackedWriting, Reads}
+use Rattle.tracked_io.specs.Waiting.{Waited}
 use Rattle.tracked_io.specs.Wrote.{WroteSome}
 use Rattle.http_api.specs.declared.end.End.{End}
 use Rattle.http_api.specs.declared.end.End.TheVariants.{Closed, Asked, Broken, ReadFault, WriteFault, Memory}
@@ -37,10 +38,19 @@ EndsAfter contents text old new end = HandedOn new end
 abbrev pub Place : Type 0 → Type 0 → Type 0
 Place R W = List ℕ × TrackedReading R × TrackedWriting W
 
+-- these bytes are no whole request, and nothing is to be written for them yet
+abbrev pub IsUnfinished : List ℕ → Type 0
+IsUnfinished waiting = (end : End) × IsPause end × NoRequest waiting [] end × IsFew waiting
+
+-- behind what waited, this input makes no whole request, and the writer still holds what it held
+abbrev pub WaitsBehind : List ℕ → Option (List ℕ) → List ℕ → Option (List ℕ) → Type 0
+WaitsBehind waiting held input holds = IsUnfinished (waiting ++ input) × Keeps held holds
+
 -- more was read, which waits behind what waited, and nothing was written
 pub record ReadOn {R W : Type 0} (remaining : R → Option (List ℕ)) (contents : W → Option (List ℕ)) (old new : Place R W) : Type 0 where
   pub more : List ℕ
   pub reads : Reads remaining old.1 new.1 more
+  pub waited : Waited (WaitsBehind old.0 (contents old.2.inner)) old.1.reads new.1.reads more
   pub holds : new.0 ≡ old.0 ++ more
   pub keeps : Keeps (contents old.2.inner) (contents new.2.inner)
   pub reader_works : new.1.failed ≡ false
@@ -51,6 +61,7 @@ pub record Ended {R W : Type 0} (remaining : R → Option (List ℕ)) (contents 
     (reader : TrackedReading R) (writer : TrackedWriting W) (end : End) : Type 0 where
   pub more : List ℕ
   pub reads : Reads remaining old.1 reader more
+  pub waited : Waited (WaitsBehind old.0 (contents old.2.inner)) old.1.reads reader.reads more
   pub all : IsPause end → IsAtEnd (remaining reader.inner)
   pub ends : EndsSo (old.0 ++ more) (contents old.2.inner) (contents writer.inner) end
   pub few : IsFew (old.0 ++ more)

@@ -1,8 +1,9 @@
-use Rattle.std.proofs.Common.{◌+◌, ℕ, List, sym, ap, ◌∙◌, subst, length, drop, slice_range, arith}
+use Rattle.std.proofs.Common.{◌+◌, ◌++◌, ℕ, List, sym, ap, ◌∙◌, subst, length, drop, slice_range, arith}
+use Rattle.tracked_io.proofs.Waiting.{at_each_waited}
 use Rattle.http_api.specs.inside.Held.{held}
 use Rattle.http_api.specs.Connection.{HasRequest}
 use Rattle.http_api.specs.inside.Going.{Going}
-use Rattle.http_api.proofs.Going.{going_none, going_reads, going_settled, whole_request, ended_finished, settled_finished}
+use Rattle.http_api.proofs.Going.{going_none, waited_later, going_reads, going_settled, whole_request, ended_finished, settled_finished}
 use Rattle.http_api.proofs.Pausing.{few_for_body, few_behind}
 use Rattle.http_api.proofs.connection.serve_on.Goals as goal
 
@@ -55,3 +56,17 @@ returns-in-Err-settle-clause-read_failed g c =
     let here = going_reads g.A.Answers.step g.R.Read.remaining g.W.Write.contents (c.args.answers.now, c.args.reader.now, c.args.writer.now) at.number (held at.inbox) bytes at.answers at.reader c.receive.new.reader at.writer c.receive.new.writer at.invariant.0 c.in-Ok.ensures.ok in
     here.reader_works ∙ (settled_finished g.A.Answers.step g.R.Read.remaining g.W.Write.contents (c.args.answers.now, c.args.reader.now, c.args.writer.now) at.number bytes rest at.answers c.settle.new.answers c.receive.new.reader c.receive.new.writer c.settle.new.writer c.in-Err-settle.end here (few_for_body bytes head.0 heading head.1 c.in-Ok.ensures.few)
     (c.in-Err-settle.ensures.settles bytes rest head.0 request head.1.heads)).1
+
+pub returns-in-Err-clause-each_read : goal.returns-in-Err-clause-each_read
+returns-in-Err-clause-each_read g c =
+    let at = c.loop-heading in
+    let e = c.in-Err.ensures.err in
+    at_each_waited _ c.args.reader.now c.receive.new.reader (at.invariant.0.input ++ e.more)
+    (waited_later g.A.Answers.step g.R.Read.remaining g.W.Write.contents (c.args.answers.now, c.args.reader.now, c.args.writer.now) at.number (held at.inbox) at.answers at.reader at.writer at.invariant.0 c.receive.new.reader e.more e.waited)
+
+pub returns-in-Err-settle-clause-each_read : goal.returns-in-Err-settle-clause-each_read
+returns-in-Err-settle-clause-each_read g c =
+    let at = c.loop-heading in
+    let p = c.in-Ok.ensures.ok in
+    at_each_waited _ c.args.reader.now c.receive.new.reader (at.invariant.0.input ++ p.more)
+    (waited_later g.A.Answers.step g.R.Read.remaining g.W.Write.contents (c.args.answers.now, c.args.reader.now, c.args.writer.now) at.number (held at.inbox) at.answers at.reader at.writer at.invariant.0 c.receive.new.reader p.more p.waited)

@@ -18,7 +18,7 @@ returns-in_err-count-clause-err g c =
     let sized : length c.read.new.buf ≡ length (mid_of b.end k xs) = c.read.auto.buf in
     let whole = with_items_is b.bytes (put_mid b.end k xs c.read.new.buf) (same_len_mid b.end k xs c.read.new.buf sized ∙ c.deref_mut.ensures.len) in
     let p = err_from_is_err_and c.from_residual.result c.from_residual.ensures.1 in
-    rw p.1 (ap (λ ys. slice_range ys b.start b.end) whole ∙ kept xs c.read.new.buf b.start b.end k b.ordered within ∙ ap (λ ys. slice_range ys b.start b.end) items ∙ packed, c.in_err-count.ensures.bytes)
+    rw p.1 (ap (λ ys. slice_range ys b.start b.end) whole ∙ kept xs c.read.new.buf b.start b.end k b.ordered within ∙ ap (λ ys. slice_range ys b.start b.end) items ∙ packed, c.in_err-count.ensures.bytes, c.in_err-count.ensures.reads)
 
 pub returns-clause-ok : goal.returns-clause-ok
 returns-clause-ok g c =
@@ -33,4 +33,4 @@ returns-clause-ok g c =
     let sized : length c.read.new.buf ≡ length (mid_of b.end k xs) = c.read.auto.buf in
     let whole = with_items_is b.bytes (put_mid b.end k xs c.read.new.buf) (same_len_mid b.end k xs c.read.new.buf sized ∙ c.deref_mut.ensures.len) in
     let grew = grown xs c.read.new.buf b.start b.end k n b.ordered within bound.0 in
-    (take n c.read.new.buf, sym bound.1, ap (λ ys. slice_range ys b.start (b.end + n)) whole ∙ grew ∙ ap (λ ys. ys ++ take n c.read.new.buf) (ap (λ ys. slice_range ys b.start b.end) items ∙ packed), c.in_ok-count.ensures.bytes.0)
+    (take n c.read.new.buf, sym bound.1, ap (λ ys. slice_range ys b.start (b.end + n)) whole ∙ grew ∙ ap (λ ys. ys ++ take n c.read.new.buf) (ap (λ ys. slice_range ys b.start b.end) items ∙ packed), c.in_ok-count.ensures.bytes.0, c.in_ok-count.ensures.reads)
