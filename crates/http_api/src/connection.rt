@@ -54,7 +54,7 @@ pub fn serve<R: Read, W: Write, A: Answers>(
         × TalkCut A.step answers.old (W.contents writer.old.inner) input answers.new (W.contents writer.new.inner) }
 
     // At each read, also of one that failed, each whole request of what was read before had its reply, handed on.
-    ensures handed_on { TalkedAtEachRead A.step answers.old (W.contents writer.old.inner) reader.old reader.new }
+    ensures each_read { TalkedAtEachRead A.step answers.old (W.contents writer.old.inner) reader.old reader.new }
 
     // A fault is told exactly where the reader or the writer failed in the call.
     ensures read_failed { reader.new.failed ≡ is_read_fault result }
@@ -107,7 +107,7 @@ pub fn serve_by<R: Read, W: Write, A: Answers>(
         × TalkCut A.step answers.old (W.contents writer.old.inner) input answers.new (W.contents writer.new.inner) }
 
     // At each read, also of one that failed, each whole request of what was read before had its reply, handed on.
-    ensures handed_on { TalkedAtEachRead A.step answers.old (W.contents writer.old.inner) reader.old reader.new }
+    ensures each_read { TalkedAtEachRead A.step answers.old (W.contents writer.old.inner) reader.old reader.new }
 
     // A fault is told exactly where the reader or the writer failed in the call.
     ensures read_failed { reader.new.failed ≡ is_read_fault result }
