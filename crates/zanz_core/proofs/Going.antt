@@ -207,3 +207,6 @@ consumes_end a b c xs buf n h k e =
     let P : ℕ → Type 0 = λ m. Consumes b c (take m buf) in
     let Q : List ℕ → Type 0 = λ z. Consumes a c z in
     subst Q (append-nil xs) (consumes_more a b c xs [] h (subst P e k))
+
+pub none_taken : (n : ℕ) (buf : List ℕ) → n ≡ 0 → take n buf ≡ []
+none_taken n buf e = ap (λ m. take m buf) e

@@ -1,6 +1,6 @@
 //! The loop.
 ghost use Rattle.std.specs.Prelude.{ℕ, ◌≡◌, ◌≢◌, List, true, false};
-ghost use Rattle.http_api.specs.Served.{Served, Paused, Cut};
+ghost use Rattle.http_api.specs.Served.{Served, Paused, Cut, PausedAtEachRead};
 ghost use Rattle.http_api.specs.Ends.{is_read_fault, is_write_fault};
 ghost use Rattle.tracked_io.specs.Tracking.{Reads, ReadsAll};
 
@@ -37,6 +37,10 @@ pub fn lines<R: Read, W: Write, A: Answers>(
     // Some first lines of what was read were answered, and a beginning of the answers was written.
     ensures write_fault { result ≡ End.WriteFault → (input : List ℕ) × Reads R.remaining reader.old reader.new input
         × Cut A.step answers.old (W.contents writer.old.inner) input answers.new (W.contents writer.new.inner) }
+
+    // At each read, also of one that failed, each whole line of what was read before was answered, and the answers
+    // handed on.
+    ensures each_read { PausedAtEachRead A.step answers.old (W.contents writer.old.inner) reader.old reader.new }
 
     // A fault is told exactly where the reader or the writer failed in the call.
     ensures read_failed { reader.new.failed ≡ is_read_fault result }
