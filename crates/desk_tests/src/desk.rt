@@ -76,14 +76,20 @@ fn number_of<A: Drop>(answer: &Result<A, Refusal>) -> u8 {
     }
 }
 
-// Before the fault a catch-up of too many commits is malformed, and after it every change is refused with 23.
+// A floor of another store.
+const OTHER: Zookie = Zookie { store: 9, rev: 0 };
+
+// Before the fault a catch-up of too many commits is malformed, and a floor of another store is foreign; after it every
+// change is refused with 23.
 fn is_closed_by_fault<H: Wait + Drop>(alloc: Global, desk: &mut Desk<Broken, H>) -> bool {
     let many = number_of(&desk.catch_up(Part::Hot, 65_537));
-    let worked = !desk.has_failed();
+    let foreign = number_of(&desk.trim(OTHER));
+    let worked = !desk.has_failed() && foreign == 12;
     let fault = number_of(&configure(alloc, desk));
     let next = number_of(&configure(alloc, desk));
     let closed = number_of(&desk.catch_up(Part::Hot, 65_537));
-    worked && desk.has_failed() && many == 1 && fault == 22 && next == 23 && closed == 23
+    let kept = number_of(&desk.trim(OTHER)) == 23 && closed == 23;
+    worked && desk.has_failed() && many == 1 && fault == 22 && next == 23 && kept
 }
 
 fn is_at_zero(session: &mut Session) -> bool {

@@ -13,7 +13,7 @@ use std::test::*;
 use tables::Listed;
 
 // The calls of the stored script, and calls that are refused.
-const CALLS: [(Call, &str); 23] = [
+const CALLS: [(Call, &str); 27] = [
     (
         Call::Config,
         r#"{"namespaces":{"group":{"member":{"types":["user","group#member"]}},"user":{}}}"#,
@@ -76,6 +76,10 @@ const CALLS: [(Call, &str); 23] = [
         r#"{"commits":1,"cursor":"AQAAAAAAAAABAAAAAAAAAAk","namespaces":["group"]}"#,
     ),
     (Call::Trim, "{}"),
+    (Call::Trim, r#"{"floor":"AQAAAAAAAAABAAAAAAAAAAI"}"#),
+    (Call::CatchUp, r#"{"part":"hot","commits":2}"#),
+    (Call::Trim, r#"{"floor":"AQAAAAAAAAABAAAAAAAAAAI"}"#),
+    (Call::Hot, "{}"),
 ];
 
 // What the program answers to the stored script.

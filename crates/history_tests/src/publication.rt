@@ -88,3 +88,27 @@ fn a_write_is_seen_once_the_index_takes_it(rt: HostRuntime) -> Result<(), Fail> 
     assert!(rt; is_seen(rt.alloc())?);
     Ok(())
 }
+
+fn trims(world: &mut World, floor: u64) -> Result<bool, Refusal> {
+    comes(world, Event::Posted(Posting::Trimming(floor)))
+}
+
+fn takes(world: &mut World, part: Part) -> Result<bool, Refusal> {
+    comes(world, Event::Posted(Posting::Taking(part, 1)))
+}
+
+fn is_raised(alloc: Global) -> Result<bool, Refusal> {
+    let mut world = World::new(alloc);
+    let once = opens(alloc, &mut world)? && trims(&mut world, 1)? && !trims(&mut world, 1)?;
+    let below = once && puts_ann(alloc, &mut world)? && !trims(&mut world, 2)?;
+    let half = below && takes(&mut world, Part::Index)? && !trims(&mut world, 2)?;
+    let raised = half && takes(&mut world, Part::Hot)? && trims(&mut world, 2)?;
+    let published = raised && comes(&mut world, Event::Published(5))?;
+    Ok(published && asked(alloc, &mut world)? == Some((6, 2, true)))
+}
+
+#[test]
+fn the_floor_is_raised_to_where_no_cursor_is_below(rt: HostRuntime) -> Result<(), Fail> {
+    assert!(rt; is_raised(rt.alloc())?);
+    Ok(())
+}
