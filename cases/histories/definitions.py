@@ -13,6 +13,7 @@ STATUSES = {400: (1, 2, 3, 4, 9, 11, 12, 16), 409: (5, 6, 7, 10, 13, 17, 18, 19)
 MALFORMED, BAD_ZOOKIE = Refusal(1, "Malformed"), Refusal(11, "BadZookie")
 UNKNOWN, UNTYPED, TWICE = Refusal(2, "UnknownRelation"), Refusal(3, "TypeRefused"), Refusal(4, "TwiceInOneWrite")
 FOREIGN, FUTURE, EXPIRED, TOO_LARGE = Refusal(12, "ForeignZookie"), Refusal(13, "Future"), Refusal(14, "Expired"), Refusal(15, "TooLarge")
+IN_USE = Refusal(17, "InUse")
 MOST_TREE_NODES = 4096
 
 
@@ -385,10 +386,18 @@ class History:
             self.base = max([self.base, *taken])
         return {"cursor": zookie_of(cursor), "shown": True}
 
+    def trim(self, zookie):
+        """Raises the floor to the zookie's revision, which no cursor may be below, or leaves it where it is."""
+        revision = self.within(zookie, False)
+        if revision > min(self.index, self.hot):
+            raise Refused(IN_USE)
+        self.floor = max(self.floor, revision)
+        return {"floor": zookie_of(self.floor), "shown": True}
+
     def state(self):
-        puts = sum(is_put for it in self.commits if not isinstance(it, Config) for _, is_put in it)
+        puts = sum(is_put for it in self.commits[self.floor :] if not isinstance(it, Config) for _, is_put in it)
         revisions = {name: zookie_of(getattr(self, name)) for name in ("base", "floor", "hot", "index", "newest")}
-        return {**revisions, "marked": 0, "rows": puts, "tuples": len(self.snapshots[-1].tuples)}
+        return {**revisions, "marked": 0, "rows": len(self.snapshots[self.floor].tuples) + puts, "tuples": len(self.snapshots[-1].tuples)}
 
     # -- changes
 

@@ -18,7 +18,7 @@ import tempfile
 
 sys.dont_write_bytecode = True
 sys.path.insert(0, os.path.dirname(os.path.realpath(__file__)))
-from definitions import BAD_ZOOKIE, MALFORMED, Config, History, Refused, compact, said, told, zookie_of
+from definitions import BAD_ZOOKIE, MALFORMED, Config, History, Refused, compact, read_zookie, said, told, zookie_of
 
 LIMIT = int(os.environ.get("CASE_SECONDS", "60"))
 USERS = ["user:ann", "user:bob"]
@@ -254,11 +254,17 @@ class Script:
 
         self.add("catchup", {"commits": commits, "part": part}, answer)
 
+    def trim(self):
+        """A floor, often one that both cursors have come to."""
+        reached = min(self.history.index, self.history.hot)
+        text = zookie_of(self.choose.randrange(reached + 1)) if some(self.choose, 0.6) else a_zookie(self.choose, self.history.newest)
+        self.add("trim", {"floor": text}, lambda: self.history.trim(read_zookie(text)))
+
     def state(self):
         self.add("state", {}, self.history.state)
 
     def go_on(self, calls):
-        kinds = [self.configure] + [self.write] * 8 + [self.check] * 8 + [self.expand] * 4 + [self.read] * 4 + [self.watch] * 3 + [self.catch_up] * 2 + [self.state]
+        kinds = [self.configure] + [self.write] * 8 + [self.check] * 8 + [self.expand] * 4 + [self.read] * 4 + [self.watch] * 3 + [self.catch_up] * 2 + [self.trim, self.state]
         for _ in range(calls):
             self.choose.choice(kinds)()
 
