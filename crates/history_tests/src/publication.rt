@@ -97,18 +97,29 @@ fn takes(world: &mut World, part: Part) -> Result<bool, Refusal> {
     comes(world, Event::Posted(Posting::Taking(part, 1)))
 }
 
-fn is_raised(alloc: Global) -> Result<bool, Refusal> {
+fn is_in_use(alloc: Global, world: &mut World) -> Result<bool, Refusal> {
+    let once = opens(alloc, world)? && trims(world, 1)? && !trims(world, 1)?;
+    Ok(once && puts_ann(alloc, world)? && !trims(world, 2)?)
+}
+
+fn is_free_then(world: &mut World) -> Result<bool, Refusal> {
+    let half = takes(world, Part::Index)? && !trims(world, 2)?;
+    Ok(half && takes(world, Part::Hot)? && trims(world, 2)?)
+}
+
+fn is_seen_above(alloc: Global, world: &mut World) -> Result<bool, Refusal> {
+    let published = comes(world, Event::Published(5))?;
+    Ok(published && asked(alloc, world)? == Some((6, 2, true)))
+}
+
+fn is_raised(alloc: Global) -> bool {
     let mut world = World::new(alloc);
-    let once = opens(alloc, &mut world)? && trims(&mut world, 1)? && !trims(&mut world, 1)?;
-    let below = once && puts_ann(alloc, &mut world)? && !trims(&mut world, 2)?;
-    let half = below && takes(&mut world, Part::Index)? && !trims(&mut world, 2)?;
-    let raised = half && takes(&mut world, Part::Hot)? && trims(&mut world, 2)?;
-    let published = raised && comes(&mut world, Event::Published(5))?;
-    Ok(published && asked(alloc, &mut world)? == Some((6, 2, true)))
+    let held = is_in_use(alloc, &mut world).unwrap_or(false);
+    let raised = held && is_free_then(&mut world).unwrap_or(false);
+    raised && is_seen_above(alloc, &mut world).unwrap_or(false)
 }
 
 #[test]
-fn the_floor_is_raised_to_where_no_cursor_is_below(rt: HostRuntime) -> Result<(), Fail> {
-    assert!(rt; is_raised(rt.alloc())?);
-    Ok(())
+fn the_floor_is_raised_to_where_no_cursor_is_below(rt: HostRuntime) {
+    assert!(rt; is_raised(rt.alloc()));
 }
