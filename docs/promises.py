@@ -1,10 +1,12 @@
 #!/usr/bin/env python3
-"""Sees that each function, clause and definition that PROMISES.md and the README's table name is there, and each wrong body that WRONG.md names.
+"""Sees that each function, clause and definition that PROMISES.md and the README's table name is there, each wrong body that WRONG.md names, and each file that a document names or links to.
 
 usage: docs/promises.py
 
 In the last column of a line of the table, a group is functions and types, then a colon and clauses of one of them: `Desk::open`: `posted`, `kept` (`Agrees`). A function must stand in src/ of a
-crate of that line, a clause in a contract of one of the group's functions, and a definition, which begins with a capital, there or in the crate's specs/. In WRONG.md a group is a crate, a colon, and wrong bodies: files of its wrong/ or must-fail/. Ends with status 1 where a name is missing.
+crate of that line, a clause in a contract of one of the group's functions, and a definition, which begins with a capital, there or in the crate's specs/. In WRONG.md a group is a crate, a colon, and wrong bodies: files of its wrong/ or must-fail/.
+In every document a link leads to a file, and to a heading of it where it says so; a name in code quotes that has the form of a file of a crate (`crates/zanz/stdin`, `zanz/specs/Ran.antt`) or of this
+repository (`docs/promises.py`, `.ci/run`) is one. After a file of a crate further ones may stand with their names alone. Ends with status 1 where a name is missing.
 """
 import os
 import re
@@ -86,8 +88,67 @@ def bodies_missing():
                 yield f"{crate} has no wrong body `{body}`"
 
 
+def documents():
+    """The documents of the repository, from its top."""
+    for folder, folders, files in os.walk(ROOT):
+        folders[:] = sorted(it for it in folders if it not in (".git", "out"))
+        for file in sorted(files):
+            if file.endswith(".md"):
+                yield os.path.relpath(f"{folder}/{file}", ROOT)
+
+
+def headings_of(path):
+    """The anchors of a document's headings."""
+    with open(path, encoding="utf-8") as it:
+        titles = re.findall(r"(?m)^#+ +(.*?) *$", re.sub(r"(?ms)^```.*?^```", "", it.read()))
+    return {re.sub(r"[^\w\- ]", "", title.lower()).replace(" ", "-") for title in titles}
+
+
+def links_missing(file, text):
+    """The links of a document that lead nowhere."""
+    folder = os.path.dirname(f"{ROOT}/{file}")
+    for link in re.findall(r"\]\(([^)\s]+)\)", text):
+        if re.match(r"[a-z]+:", link):
+            continue
+        path, _, heading = link.partition("#")
+        path = os.path.normpath(f"{folder}/{path}") if path else f"{ROOT}/{file}"
+        if not os.path.exists(path):
+            yield f"no file at ({link})"
+        elif heading and os.path.isfile(path) and heading not in headings_of(path):
+            yield f"no heading at ({link})"
+
+
+def files_missing(file, text):
+    """The files that a document names and that are not there."""
+    crates = set(os.listdir(f"{ROOT}/crates"))
+    top = set(os.listdir(ROOT))
+    folder = None
+    for name in NAME.findall(text):
+        if not re.fullmatch(r"[\w.\-/]+", name) or re.search(r"\b[A-Z]+\b/", name):
+            folder = None if " " in name else folder
+            continue
+        first, slash, rest = name.partition("/")
+        if slash and first in crates and rest.partition("/")[0].strip() in ("src", "specs", "proofs", "wrong", "must-fail"):
+            path = f"crates/{name}"
+        elif slash and first in top and not name.endswith("/out/zanz") and "/out/" not in name:
+            path = name
+        elif folder and re.fullmatch(r"\w+\.(antt|rt)", name):
+            path = f"{folder}/{name}"
+        else:
+            continue
+        if not os.path.exists(f"{ROOT}/{path}"):
+            yield f"no file `{name}`"
+        folder = os.path.dirname(path) if path.endswith((".antt", ".rt")) else folder
+
+
 def main():
     wrong = 0
+    for file in documents():
+        with open(f"{ROOT}/{file}", encoding="utf-8") as it:
+            text = re.sub(r"(?ms)^```.*?^```", "", it.read())
+        for why in [*links_missing(file, text), *files_missing(file, text)]:
+            print(f"{file}: {why}")
+            wrong += 1
     for why in bodies_missing():
         print(f"docs/WRONG.md: {why}")
         wrong += 1

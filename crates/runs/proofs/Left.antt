@@ -32,3 +32,7 @@ pub holds_alone : (image : Image) (now committed : Database) (r : Retained) → 
     → HoldsOneOf image (r ∷ []) × HoldsOneOf (record image { log = [] }) (r ∷ [])
 holds_alone image now committed r same holds found =
     (one_of image now committed r same holds found.both, one_of (record image { log = [] }) now committed r same holds found.alone)
+
+-- the committed trees hold one of these histories, and so does an image that holds them
+pub holds_committed : (image : Image) (committed : Trees) (rs : List Retained) → HoldsAmong committed rs → HoldsAlone image committed → HoldsOneOf image rs
+holds_committed image committed rs among found = ∥∥₁_map found.both (λ is. (among.0, among.1, (committed, is, among.2)))

@@ -1,11 +1,16 @@
 -- What a run does over a connection, and over two files.
-use Rattle.std.specs.Prelude.{ℕ, ◌≡◌, ◌≢◌, ◌⊎◌, false, List, [], ◌∷◌, map, Option, Some, None}
+use Rattle.std.specs.Prelude.{ℕ, ◌≡◌, ◌≢◌, ◌⊎◌, false, List, [], ◌∷◌, map, length, Option, Some, None, Ok, Err, ⊤}
 use Rattle.std.specs.List.{All}
+use Rattle.sqlite_disk.specs.declared.Disk as disk
 use Rattle.sqlite_wal.specs.Recovery.{Image}
+use Rattle.sqlite_store.specs.declared.store.FileStore.{FileStore}
 use Rattle.sqlite.specs.Store.{Ghosts}
 use Rattle.sqlite.specs.Tree.{Trees}
+use Rattle.sqlite.specs.Effect.{Database}
 use Rattle.sqlite.specs.State.{HasCleanDisk}
 use Rattle.sqlite.specs.Held.{Held, state}
+use Rattle.sqlite.specs.declared.error.Error.{Error}
+use Rattle.sqlite.specs.Files.{file_state, over_files}
 use Rattle.names.specs.declared.commit.Commit.{Commit}
 use Rattle.meaning.specs.Config.{Configured}
 use Rattle.rows.specs.Retained.{Retained, empty_store, with_commit}
@@ -21,10 +26,11 @@ use Rattle.keeper_core.specs.Posts.{Posts}
 use Rattle.http_api.specs.Text.{lines_of}
 use Rattle.store_core.specs.Format.{schema}
 use Rattle.store_core.specs.Leaves.{IsBlank}
+use Rattle.store_core.specs.Steps.{HasNone}
 use Rattle.store.specs.History.{TreesHold, KeepsHistory, LeavesHistory, device_below}
 use Rattle.store.specs.StoreParts.{connection, faults}
 use Rattle.store.specs.declared.store.Store.{Store}
-use Rattle.runs.specs.Files.{ImageHolds, HoldsOneOf}
+use Rattle.runs.specs.Files.{ImageHolds, HoldsOneOf, HoldsBase, AreTheirs, Remains, IsUnopened, IsRefusedFor}
 use Rattle.runs.specs.Runs.{IsOpened, IsAskedIn, kept_by}
 use Rattle.runs.specs.Connections.{HasServed}
 
@@ -91,6 +97,42 @@ CannotBegin g conn (Some number) = ¬ (IsBlank g conn)
 abbrev pub IsDeserved : {S : Type 0} → Ghosts S → Held S → Option ℕ → Held S → Type 0
 IsDeserved g conn None left = HasFailed (device_below g conn) (device_below g left) ⊎ ((r : Retained) → IsClean (device_below g conn) → ¬ (KeepsHistory g conn r))
 IsDeserved g conn (Some number) left = IsBlank g conn → HasFailed (device_below g conn) (device_below g left)
+
+-- ---- over two files
+
+-- the two files hold a database with no table, or the database file is empty
+abbrev pub AreBlank : Image → Type 0
+AreBlank image = (length image.db ≡ 0) ⊎ ((db : Database) × HoldsBase image db × HasNone db)
+
+-- Where a run cannot begin: the files hold a table already in which a new store is to be made, or their tables are not those of
+-- the format, or there are none.
+abbrev pub CannotBeginIn : Image → Option ℕ → Type 0
+CannotBeginIn image None = (length image.db ≡ 0) ⊎ ((db : Database) × HoldsBase image db × (db.schema ≢ schema))
+CannotBeginIn image (Some number) = (db : Database) × HoldsBase image db × (¬ HasNone db)
+
+-- What a refusal leaves of a connection over two files. The history that they held is held, and left; of new tables a crash
+-- leaves what was there, or a new store.
+abbrev pub LeavesConnection : {D : Type 0} {g : disk.Ghosts D} → Image → Option ℕ → Held (FileStore D g) → Type 0
+LeavesConnection image None conn = (r : Retained) → ImageHolds image r → KeepsHistory over_files conn r × LeavesHistory over_files conn (r ∷ [])
+LeavesConnection image (Some number) conn = HasCleanDisk (file_state conn) → (trees : Trees) → (file_state conn).may_leave trees → AreTheirs image trees ⊎ TreesHold trees (empty_store number)
+
+-- What a refusal leaves of two files: a connection; else, where they could not be opened, what `sqlite` says; else the system
+-- did not give them.
+abbrev pub LeavesRefusedIn : {D : Type 0} {g : disk.Ghosts D} → Image → Option ℕ → Remains g → Type 0
+LeavesRefusedIn image store (Ok conn) = LeavesConnection image store conn
+LeavesRefusedIn image store (Err (Some left)) = (error : Error) × IsUnopened image left error
+LeavesRefusedIn image store (Err None) = ⊤
+
+-- why a fault is told over a connection: the device failed, or the files hold no history
+abbrev pub HasFailedOver : {D : Type 0} {g : disk.Ghosts D} → Image → Option ℕ → Held (FileStore D g) → Type 0
+HasFailedOver image None conn = HasFailed sound_device (device_below over_files conn) ⊎ ((r : Retained) → IsClean (device_below over_files conn) → ¬ (ImageHolds image r))
+HasFailedOver image (Some number) conn = AreBlank image → HasFailed sound_device (device_below over_files conn)
+
+-- why it is told over two files; where the system does not give them, no contract knows why
+abbrev pub IsDeservedIn : {D : Type 0} {g : disk.Ghosts D} → Image → Option ℕ → Remains g → Type 0
+IsDeservedIn image store (Ok conn) = HasFailedOver image store conn
+IsDeservedIn image store (Err (Some left)) = IsRefusedFor image left
+IsDeservedIn image store (Err None) = ⊤
 
 -- ---- two runs
 

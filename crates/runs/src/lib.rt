@@ -11,7 +11,7 @@ mod running;
 mod talking;
 
 pub use answering::Answering;
-pub use files::{close, find, leave};
+pub use files::{Left, close, find, leave};
 pub use in_files::{open_in, run_in, tables_in};
 pub use law::next_run_goes_on;
 pub use over::{open_over, run_over};

@@ -99,6 +99,8 @@ pub fn open_over<S: Alter + Drop, H: Wait + Drop>(
     ensures caused { IfErr result (λ e. e.0 ≡ Refused StoreFault → IsOpen (device_below S.Store conn)
         → IsDeserved S.Store conn store e.1) }
     ensures cause { IfErr result (λ e. IsRunFault e.0) }
+    ensures lasts { IfOk result (λ answering. Lasts (device_below S.Store conn) (device_below S.Store (connection answering.tables))) }
+    ensures back { IfErr result (λ e. Lasts (device_below S.Store conn) (device_below S.Store e.1)) }
 {
     match start(alloc, conn, store) {
         Ok(tables) => match Answering::open(alloc, rt, tables) {

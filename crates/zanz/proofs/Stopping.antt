@@ -1,44 +1,83 @@
--- Why a run stopped.
-use Rattle.std.proofs.Common.{◌≡◌, ◌≢◌, ◌⊎◌, ℕ, Bool, true, false, List, refl, inl, inr, arith}
-use Rattle.std.specs.Prelude.{Option, Result, Err}
+-- Why a task was not done, or that it was.
+use Rattle.std.proofs.Common.{◌≡◌, ◌≢◌, ◌⊎◌, ℕ, List, Global, String, Option, true, refl, sym, ap, subst, ◌∙◌, arith}
+use Rattle.std.specs.Prelude.{Result, Err, IfErr}
 use Rattle.sqlite_disk.specs.declared.Disk as disk
 use Rattle.sqlite_wal.specs.Recovery.{Image}
-use Rattle.sqlite_store.specs.declared.store.FileStore.{FileStore}
-use Rattle.sqlite.specs.Held.{Held}
 use Rattle.names.specs.declared.refusal.Refusal.{Refusal}
 use Rattle.tracked_io.specs.Tracking.{TrackedReading, TrackedWriting}
 use Rattle.tasks.specs.Faults.{IsRunFault, fault_status}
 use Rattle.tasks.specs.declared.fault.Fault.{Fault}
 use Rattle.tasks.specs.declared.fault.Fault.TheVariants.{CommandLine, Refused, CannotRead, CannotWrite, CannotListen}
+use Rattle.tasks.specs.declared.words.Place.{Place}
+use Rattle.tasks.specs.declared.words.Task.{Task}
+use Rattle.tasks.specs.declared.words.Task.TheVariants.{Run, Serve, Config}
+use Rattle.runs.specs.Files.{Remains}
 use Rattle.runs.specs.Runs.{is_read_fault, is_write_fault}
-use Rattle.zanz.specs.Ran.{Extent, all_lines, whole_lines, first_lines, Ran, BeganReport, Stopped, input_failed, output_failed, is_no_configuration, report_failed, announcing_failed, workers_refused, nothing_done}
-use Rattle.zanz.specs.Listening.{Announced, BeganAnnounced}
+use Rattle.zanz.specs.Listening.{Announced, StoppedServing}
+use Rattle.zanz.specs.Ran.{all_lines, whole_lines, first_lines, RanAt, RefusedAt, RunStopped, input_failed, output_failed, run_refused, Reported, BeganReport, IsReport, DoneOf, StoppedOf}
+use Rattle.zanz.proofs.Results.{err_at}
 
-module _ {R W D : Type 0} {g : disk.Ghosts D} (image : Image) (is_service : Bool) (remaining : R → Option (List ℕ)) (contents : W → Option (List ℕ)) (reader reader_after : TrackedReading R) (writer writer_after : TrackedWriting W) (left : Option (Held (FileStore D g))) where
-  pub stopped_run : (A : Type 0) (fault : Fault) → IsRunFault fault → reader_after.failed ≡ is_read_fault {A = A} (Err fault) → writer_after.failed ≡ is_write_fault {A = A} (Err fault)
-      → (fault ≡ CannotRead → Ran image whole_lines remaining contents (reader, writer) (reader_after, writer_after) left)
-      → (fault ≡ CannotWrite → Ran image first_lines remaining contents (reader, writer) (reader_after, writer_after) left)
-      → ((why : Refusal) → fault ≡ Refused why → (reader_after ≡ reader) × (writer_after ≡ writer)) → Stopped image is_service remaining contents (reader, writer) (reader_after, writer_after) left
-  stopped_run A CommandLine run unread unwritten paused cut refused = absurd run
-  stopped_run A (Refused why) run unread unwritten paused cut refused = let k = refused why refl in nothing_done k.0 k.1
-  stopped_run A CannotRead run unread unwritten paused cut refused = input_failed unread (paused refl)
-  stopped_run A CannotWrite run unread unwritten paused cut refused = output_failed unwritten (cut refl)
-  stopped_run A CannotListen run unread unwritten paused cut refused = absurd run
+module _ {R W D : Type 0} {g : disk.Ghosts D} (image : Image) (remaining : R → Option (List ℕ)) (contents : W → Option (List ℕ)) (reader reader_after : TrackedReading R) (writer writer_after : TrackedWriting W) (left : Remains g) where
+  abbrev Done : Task → Type 0
+  Done task = DoneOf image task remaining contents (reader, writer) (reader_after, writer_after) left
 
-  pub stopped_report : reader_after ≡ reader → ((writer_after.failed ≡ true) × BeganReport contents writer writer_after) ⊎ (writer_after ≡ writer) → Stopped image is_service remaining contents (reader, writer) (reader_after, writer_after) left
-  stopped_report same (inl began) = report_failed same began.0 began.1
-  stopped_report same (inr unwritten) = nothing_done same unwritten
+  abbrev StoppedBy : Fault → Task → Type 0
+  StoppedBy fault task = StoppedOf image task fault remaining contents (reader, writer) (reader_after, writer_after) left
 
-  pub stopped_service : is_service ≡ true → reader_after ≡ reader
-      → Announced contents writer writer_after ⊎ (((writer_after.failed ≡ true) × BeganAnnounced contents writer writer_after) ⊎ (writer_after ≡ writer))
-      → Stopped image is_service remaining contents (reader, writer) (reader_after, writer_after) left
-  stopped_service asked same (inl announced) = workers_refused asked same announced
-  stopped_service asked same (inr (inl began)) = announcing_failed asked same began.0 began.1
-  stopped_service asked same (inr (inr unwritten)) = nothing_done same unwritten
+  pub done_report : (task : Task) (file : String Global) → task ≡ Config file → reader_after ≡ reader → Reported contents true writer writer_after → Done task
+  done_report task file is same reported = subst Done (sym is) (same, reported)
 
-pub is_no_line : (fault : Fault) → fault_status fault ≡ 1 → fault ≢ CommandLine
-is_no_line CommandLine one is = let e : 2 ≡ 1 = one in absurd (omega arith)
-is_no_line (Refused why) one is = let e : Refused why ≡ CommandLine = is in cc
-is_no_line CannotRead one is = let e : CannotRead ≡ CommandLine = is in cc
-is_no_line CannotWrite one is = let e : CannotWrite ≡ CommandLine = is in cc
-is_no_line CannotListen one is = let e : CannotListen ≡ CommandLine = is in cc
+  pub report_stops : (task : Task) (file : String Global) (fault : Fault) → task ≡ Config file → reader_after ≡ reader → ((writer_after.failed ≡ true) × BeganReport contents writer writer_after) ⊎ (writer_after ≡ writer) → StoppedBy fault task
+  report_stops task file fault is same began = subst (StoppedBy fault) (sym is) (same, began)
+
+  module _ (place : Place) where
+    pub done_service : (task : Task) (port : ℕ) (workers : Option ℕ) → task ≡ Serve place port workers → reader_after ≡ reader → Announced contents writer writer_after → Done task
+    done_service task port workers is same announced = subst Done (sym is) (same, announced)
+
+    pub service_stops : (task : Task) (port : ℕ) (workers : Option ℕ) (fault : Fault) → task ≡ Serve place port workers → reader_after ≡ reader → StoppedServing contents writer writer_after → StoppedBy fault task
+    service_stops task port workers fault is same stopped = subst (StoppedBy fault) (sym is) (same, stopped)
+
+    pub done_run : (task : Task) → task ≡ Run place → RanAt image all_lines place remaining contents (reader, writer) (reader_after, writer_after) left → Done task
+    done_run task is ran = subst Done (sym is) ran
+
+    abbrev CannotReadOn : Fault → Type 0
+    CannotReadOn fault = fault ≡ CannotRead → RanAt image whole_lines place remaining contents (reader, writer) (reader_after, writer_after) left
+
+    abbrev CannotWriteOn : Fault → Type 0
+    CannotWriteOn fault = fault ≡ CannotWrite → RanAt image first_lines place remaining contents (reader, writer) (reader_after, writer_after) left
+
+    abbrev IsRefused : Fault → Type 0
+    IsRefused fault = (why : Refusal) → fault ≡ Refused why → (reader_after ≡ reader) × (writer_after ≡ writer) × RefusedAt image place fault left
+
+    stopped_run : (A : Type 0) (fault : Fault) → IsRunFault fault → reader_after.failed ≡ is_read_fault {A = A} (Err fault) → writer_after.failed ≡ is_write_fault {A = A} (Err fault)
+        → CannotReadOn fault → CannotWriteOn fault → IsRefused fault → RunStopped image place fault remaining contents (reader, writer) (reader_after, writer_after) left
+    stopped_run A CommandLine run unread unwritten paused cut refused = absurd run
+    stopped_run A (Refused why) run unread unwritten paused cut refused = let k = refused why refl in run_refused k.0 k.1 k.2
+    stopped_run A CannotRead run unread unwritten paused cut refused = input_failed refl unread (paused refl)
+    stopped_run A CannotWrite run unread unwritten paused cut refused = output_failed refl unwritten (cut refl)
+    stopped_run A CannotListen run unread unwritten paused cut refused = absurd run
+
+    pub run_stops : {A : Type 0} (task : Task) (r : Result A Fault) (fault : Fault) → task ≡ Run place → r ≡ Err fault → IfErr r IsRunFault → reader_after.failed ≡ is_read_fault r → writer_after.failed ≡ is_write_fault r
+        → IfErr r CannotReadOn → IfErr r CannotWriteOn → IfErr r IsRefused → StoppedBy fault task
+    run_stops {A} task r fault is told run unread unwritten paused cut refused = subst (StoppedBy fault) (sym is)
+        (stopped_run A fault (err_at IsRunFault r fault told run) (unread ∙ ap (λ (s : Result A Fault). is_read_fault s) told) (unwritten ∙ ap (λ (s : Result A Fault). is_write_fault s) told)
+        (err_at CannotReadOn r fault told paused) (err_at CannotWriteOn r fault told cut) (err_at IsRefused r fault told refused))
+
+pub is_report : (task : Task) (file : String Global) → task ≡ Config file → IsReport task
+is_report task file is = subst IsReport (sym is) tt
+
+-- a fault ends with another status than 0
+pub never_0 : (fault : Fault) → ¬ (fault_status fault ≡ 0)
+never_0 CommandLine is = let e : 2 ≡ 0 = is in absurd (omega arith)
+never_0 (Refused why) is = let e : 1 ≡ 0 = is in absurd (omega arith)
+never_0 CannotRead is = let e : 1 ≡ 0 = is in absurd (omega arith)
+never_0 CannotWrite is = let e : 1 ≡ 0 = is in absurd (omega arith)
+never_0 CannotListen is = let e : 1 ≡ 0 = is in absurd (omega arith)
+
+-- any but that of a command line ends with 1
+pub ends_with_1 : (fault : Fault) → fault ≢ CommandLine → fault_status fault ≡ 1
+ends_with_1 CommandLine other = absurd (other refl)
+ends_with_1 (Refused why) other = refl
+ends_with_1 CannotRead other = refl
+ends_with_1 CannotWrite other = refl
+ends_with_1 CannotListen other = refl

@@ -1,22 +1,33 @@
--- What a run of the program writes for its input, and what it leaves.
-use Rattle.std.specs.Prelude.{ℕ, ◌≡◌, Bool, true, false, List, Option, Some, None, IsSomeAnd}
+-- What the program does of a task, and what it leaves.
+use Rattle.std.specs.Prelude.{ℕ, ◌≡◌, ◌⊎◌, Bool, true, false, List, Option, Some, None, Err, IsOkAnd, IfOk, IsTrue, ⊤}
 use Rattle.std.specs.Io.KnownBytes.{Appends}
 use Rattle.sqlite_disk.specs.declared.Disk as disk
 use Rattle.sqlite_wal.specs.Recovery.{Image}
-use Rattle.sqlite_store.specs.declared.store.FileStore.{FileStore}
-use Rattle.sqlite.specs.Files.{over_files}
-use Rattle.sqlite.specs.Held.{Held}
+use Rattle.sqlite.specs.State.{HasCleanDisk}
+use Rattle.sqlite.specs.Files.{file_state, over_files}
+use Rattle.names.specs.declared.refusal.Refusal.TheVariants.{StoreFault}
 use Rattle.rows.specs.Retained.{Retained, empty_store}
+use Rattle.tables.specs.Device.{Lasts, sound_device}
 use Rattle.tables.specs.declared.tables.Tables as tables
 use Rattle.keeper_core.specs.Posts.{Posts}
+use Rattle.store.specs.History.{device_below}
 use Rattle.tracked_io.specs.Tracking.{TrackedReading, TrackedWriting, Reads, ReadsAll}
 use Rattle.tracked_io.specs.Wrote.{WroteSome}
+use Rattle.tasks.specs.Faults.{fault_status}
 use Rattle.tasks.specs.Report.{Reports}
+use Rattle.tasks.specs.Words.{OnServe}
+use Rattle.tasks.specs.declared.fault.Fault.{Fault}
+use Rattle.tasks.specs.declared.fault.Fault.TheVariants.{Refused, CannotRead, CannotWrite}
 use Rattle.tasks.specs.declared.words.Place.{Place}
 use Rattle.tasks.specs.declared.words.Place.TheVariants.{Memory, New, There}
+use Rattle.tasks.specs.declared.words.Task.{Task}
+use Rattle.tasks.specs.declared.words.Task.TheVariants.{Run, Config}
+use Rattle.runs.specs.Files.{Remains, IsFoundIn}
 use Rattle.runs.specs.Runs.{ServedBy, PausedBy, CutBy, Ended}
-use Rattle.runs.specs.Over.{over, listed, BeginsIn, EndedOver}
-use Rattle.zanz.specs.Listening.{Announced, BeganAnnounced}
+use Rattle.runs.specs.Over.{over, listed, BeginsIn, EndedOver, CannotBeginIn, LeavesRefusedIn, IsDeservedIn}
+use Rattle.zanz.specs.Listening.{Announced, StoppedServing}
+
+-- ---- a run at a place
 
 -- which lines of the input were answered
 pub data Extent : Type 0 where
@@ -38,20 +49,60 @@ ReadBy all_lines remaining old new input = ReadsAll remaining old new input
 ReadBy whole_lines remaining old new input = Reads remaining old new input
 ReadBy first_lines remaining old new input = Reads remaining old new input
 
+-- where a run cannot begin: its file holds another thing than is asked for
+abbrev pub CannotBeginAt : Image → Place → Type 0
+CannotBeginAt image (Memory number) = ⊥
+CannotBeginAt image (New file number) = CannotBeginIn image (Some number)
+CannotBeginAt image (There file) = CannotBeginIn image None
+
 -- Answered were lines of the input, by a desk over the tables of the place: in memory those of an empty store; in a file
 -- those of a new store, or of the history that the file held. A file's connection is left, with the history that was posted.
-abbrev pub EndedAt : {W D : Type 0} {g : disk.Ghosts D} → Image → Extent → Place → (W → Option (List ℕ)) → TrackedWriting W → List ℕ → TrackedWriting W → Option (Held (FileStore D g)) → Type 0
-EndedAt image extent (Memory number) contents old input new left = (left ≡ None) × (back : Retained) × Ended listed (empty_store number) input (AnsweredBy extent listed contents old input new) back
-EndedAt image extent (New file number) contents old input new left = IsSomeAnd left (EndedOver over_files (BeginsIn image (Some number)) input (AnsweredBy extent (over over_files) contents old input new))
-EndedAt image extent (There file) contents old input new left = IsSomeAnd left (EndedOver over_files (BeginsIn image None) input (AnsweredBy extent (over over_files) contents old input new))
+abbrev pub EndedAt : {W D : Type 0} {g : disk.Ghosts D} → Image → Extent → Place → (W → Option (List ℕ)) → TrackedWriting W → List ℕ → TrackedWriting W → Remains g → Type 0
+EndedAt image extent (Memory number) contents old input new left = (left ≡ Err None) × (back : Retained) × Ended listed (empty_store number) input (AnsweredBy extent listed contents old input new) back
+EndedAt image extent (New file number) contents old input new left = IsOkAnd left (EndedOver over_files (BeginsIn image (Some number)) input (AnsweredBy extent (over over_files) contents old input new))
+EndedAt image extent (There file) contents old input new left = IsOkAnd left (EndedOver over_files (BeginsIn image None) input (AnsweredBy extent (over over_files) contents old input new))
 
--- so it was at this place, for what was read
-abbrev pub RanAt : {R W D : Type 0} {g : disk.Ghosts D} → Image → Extent → Place → (R → Option (List ℕ)) → (W → Option (List ℕ)) → TrackedReading R × TrackedWriting W → TrackedReading R × TrackedWriting W → Option (Held (FileStore D g)) → Type 0
-RanAt image extent place remaining contents (reader, writer) (reader_after, writer_after) left =
-    (input : List ℕ) × ReadBy extent remaining reader reader_after input × EndedAt image extent place contents writer input writer_after left
+-- So it was at this place, for what was read. The file did not hold another thing than was asked for, as far as the device has
+-- returned what was written.
+pub record RanAt {R W D : Type 0} {g : disk.Ghosts D} (image : Image) (extent : Extent) (place : Place) (remaining : R → Option (List ℕ)) (contents : W → Option (List ℕ))
+    (old new : TrackedReading R × TrackedWriting W) (left : Remains g) : Type 0 where
+  pub input : List ℕ
+  pub read : ReadBy extent remaining old.0 new.0 input
+  pub ended : EndedAt image extent place contents old.1 input new.1 left
+  pub began : IfOk left (λ conn. HasCleanDisk (file_state conn) → ¬ (CannotBeginAt image place))
+  pub lasts : IfOk left (λ conn. Lasts sound_device (device_below over_files conn))
 
-abbrev pub Ran : {R W D : Type 0} {g : disk.Ghosts D} → Image → Extent → (R → Option (List ℕ)) → (W → Option (List ℕ)) → TrackedReading R × TrackedWriting W → TrackedReading R × TrackedWriting W → Option (Held (FileStore D g)) → Type 0
-Ran image extent remaining contents old new left = (place : Place) × RanAt image extent place remaining contents old new left
+-- ---- a run that was refused
+
+-- what it leaves of its place
+abbrev pub LeavesAt : {D : Type 0} {g : disk.Ghosts D} → Image → Place → Remains g → Type 0
+LeavesAt image (Memory number) left = left ≡ Err None
+LeavesAt image (New file number) left = LeavesRefusedIn image (Some number) left
+LeavesAt image (There file) left = LeavesRefusedIn image None left
+
+-- why it is told as a fault of the store; tables in memory have none
+abbrev pub IsDeservedAt : {D : Type 0} {g : disk.Ghosts D} → Image → Place → Remains g → Type 0
+IsDeservedAt image (Memory number) left = ⊥
+IsDeservedAt image (New file number) left = IsDeservedIn image (Some number) left
+IsDeservedAt image (There file) left = IsDeservedIn image None left
+
+-- A run at this place was refused. A file that holds another thing than is asked for is left as it was, as far as the device
+-- has returned what was written.
+pub record RefusedAt {D : Type 0} {g : disk.Ghosts D} (image : Image) (place : Place) (fault : Fault) (left : Remains g) : Type 0 where
+  pub leaves : LeavesAt image place left
+  pub deserved : fault ≡ Refused StoreFault → IsDeservedAt image place left
+  pub taken : CannotBeginAt image place → IfOk left (λ conn. HasCleanDisk (file_state conn) → (fault ≡ Refused StoreFault) × IsFoundIn image (file_state conn))
+  pub lasts : IfOk left (λ conn. Lasts sound_device (device_below over_files conn))
+
+-- Why a run ended early: the input could not be read on; the output could not be written on; or nothing was read or written,
+-- since it was refused.
+pub data RunStopped {R W D : Type 0} {g : disk.Ghosts D} (image : Image) (place : Place) (fault : Fault) (remaining : R → Option (List ℕ)) (contents : W → Option (List ℕ))
+    (old new : TrackedReading R × TrackedWriting W) (left : Remains g) : Type 0 where
+  input_failed : fault ≡ CannotRead → new.0.failed ≡ true → RanAt image whole_lines place remaining contents old new left → RunStopped image place fault remaining contents old new left
+  output_failed : fault ≡ CannotWrite → new.1.failed ≡ true → RanAt image first_lines place remaining contents old new left → RunStopped image place fault remaining contents old new left
+  run_refused : new.0 ≡ old.0 → new.1 ≡ old.1 → RefusedAt image place fault left → RunStopped image place fault remaining contents old new left
+
+-- ---- a report
 
 -- a report of some bytes was written
 abbrev pub Reported : {W : Type 0} → (W → Option (List ℕ)) → Bool → TrackedWriting W → TrackedWriting W → Type 0
@@ -61,19 +112,41 @@ Reported contents accepted old new = (bytes : List ℕ) × (text : List ℕ) × 
 abbrev pub BeganReport : {W : Type 0} → (W → Option (List ℕ)) → TrackedWriting W → TrackedWriting W → Type 0
 BeganReport contents old new = (bytes : List ℕ) × (accepted : Bool) × (text : List ℕ) × Reports bytes accepted text × WroteSome (contents old.inner) (contents new.inner) text
 
+-- ---- any task
+
 -- neither failed, and all that was written was handed on
 abbrev pub AreWhole : {R W : Type 0} → TrackedReading R → TrackedWriting W → Type 0
 AreWhole reader writer = (reader.failed ≡ false) × (writer.failed ≡ false) × (writer.flushed ≡ true)
 
--- Why the work ended early: the input could not be read on; the output could not be written on; a configuration is no valid
--- one, which was reported; or nothing was read or written, since something was refused. Only a service says where it listens,
--- and it may find after that that it has no worker.
-pub data Stopped {R W D : Type 0} {g : disk.Ghosts D} (image : Image) (is_service : Bool) (remaining : R → Option (List ℕ)) (contents : W → Option (List ℕ))
-    (old new : TrackedReading R × TrackedWriting W) (left : Option (Held (FileStore D g))) : Type 0 where
-  input_failed : new.0.failed ≡ true → Ran image whole_lines remaining contents old new left → Stopped image is_service remaining contents old new left
-  output_failed : new.1.failed ≡ true → Ran image first_lines remaining contents old new left → Stopped image is_service remaining contents old new left
-  is_no_configuration : new.0 ≡ old.0 → Reported contents false old.1 new.1 → Stopped image is_service remaining contents old new left
-  report_failed : new.0 ≡ old.0 → new.1.failed ≡ true → BeganReport contents old.1 new.1 → Stopped image is_service remaining contents old new left
-  announcing_failed : is_service ≡ true → new.0 ≡ old.0 → new.1.failed ≡ true → BeganAnnounced contents old.1 new.1 → Stopped image is_service remaining contents old new left
-  workers_refused : is_service ≡ true → new.0 ≡ old.0 → Announced contents old.1 new.1 → Stopped image is_service remaining contents old new left
-  nothing_done : new.0 ≡ old.0 → new.1 ≡ old.1 → Stopped image is_service remaining contents old new left
+-- the task is a report
+abbrev pub IsReport : Task → Type 0
+IsReport (Config file) = ⊤
+IsReport _ = ⊥
+
+-- The task was done: all that was there was read, each line answered, and the answers handed on; or the levels of a valid
+-- configuration were printed; or the program listened, and said where.
+abbrev pub DoneOf : {R W D : Type 0} {g : disk.Ghosts D} → Image → Task → (R → Option (List ℕ)) → (W → Option (List ℕ)) → TrackedReading R × TrackedWriting W → TrackedReading R × TrackedWriting W → Remains g → Type 0
+DoneOf image (Run place) remaining contents old new left = RanAt image all_lines place remaining contents old new left
+DoneOf image (Config file) remaining contents (reader, writer) (reader_after, writer_after) left = (reader_after ≡ reader) × Reported contents true writer writer_after
+DoneOf image _ remaining contents (reader, writer) (reader_after, writer_after) left = (reader_after ≡ reader) × Announced contents writer writer_after
+
+-- For this fault it was not done, or not to its end. Of a report, or of the line that says where the program listens, a beginning
+-- was written where the writer failed, and else nothing; or it listened, and could make no worker.
+abbrev pub StoppedOf : {R W D : Type 0} {g : disk.Ghosts D} → Image → Task → Fault → (R → Option (List ℕ)) → (W → Option (List ℕ)) → TrackedReading R × TrackedWriting W → TrackedReading R × TrackedWriting W → Remains g → Type 0
+StoppedOf image (Run place) fault remaining contents old new left = RunStopped image place fault remaining contents old new left
+StoppedOf image (Config file) fault remaining contents (reader, writer) (reader_after, writer_after) left = (reader_after ≡ reader) × (((writer_after.failed ≡ true) × BeganReport contents writer writer_after) ⊎ (writer_after ≡ writer))
+StoppedOf image _ fault remaining contents (reader, writer) (reader_after, writer_after) left = (reader_after ≡ reader) × StoppedServing contents writer writer_after
+
+-- ---- any words
+
+-- a task was done of words that say so, whether they ask to serve or not
+abbrev pub Obeyed : {R W D : Type 0} {g : disk.Ghosts D} → Image → Bool → (R → Option (List ℕ)) → (W → Option (List ℕ)) → TrackedReading R × TrackedWriting W → TrackedReading R × TrackedWriting W → Remains g → Type 0
+Obeyed image serves remaining contents old new left = (task : Task) × OnServe task (IsTrue serves) × DoneOf image task remaining contents old new left
+
+-- Why the program ends with 1: a task was stopped by a fault; a configuration is no valid one, which was reported; or there was
+-- no memory to read the words, and nothing was done.
+pub data Stopped {R W D : Type 0} {g : disk.Ghosts D} (image : Image) (serves : Bool) (remaining : R → Option (List ℕ)) (contents : W → Option (List ℕ))
+    (old new : TrackedReading R × TrackedWriting W) (left : Remains g) : Type 0 where
+  task_stopped : (task : Task) (fault : Fault) → OnServe task (IsTrue serves) → fault_status fault ≡ 1 → StoppedOf image task fault remaining contents old new left → Stopped image serves remaining contents old new left
+  is_no_configuration : new.0 ≡ old.0 → Reported contents false old.1 new.1 → Stopped image serves remaining contents old new left
+  words_unread : new.0 ≡ old.0 → new.1 ≡ old.1 → left ≡ Err None → Stopped image serves remaining contents old new left

@@ -1,19 +1,19 @@
 //! The program, but for its process.
-ghost use Rattle.std.specs.Prelude.{◌≡◌, ◌≢◌, ◌≤◌, ◌<◌, ◌^◌, ◌⊎◌, true, false, None, IsTrue, IfOk, IfErr, IfSome, OnOk, map, string_bytes};
+ghost use Rattle.std.specs.Prelude.{◌≡◌, ◌≢◌, ◌≤◌, ◌<◌, ◌^◌, ◌⊎◌, true, false, None, Err, IfOk, IfErr, IfSome, OnOk, map, string_bytes};
 ghost use Rattle.sqlite_wal.specs.Files.{image_at};
 ghost use Rattle.tasks.specs.declared.fault.Fault.TheVariants.{Refused};
 ghost use Rattle.tasks.specs.Faults.{fault_status, IsRunFault};
 ghost use Rattle.tasks.specs.Words.{asks_to_serve};
 ghost use Rattle.runs.specs.Runs.{is_read_fault, is_write_fault};
 ghost use Rattle.zanz.specs.Listening.{Announced, BeganAnnounced, StoppedServing};
-ghost use Rattle.zanz.specs.Ran.{AreWhole, Ran, RanAt, Reported, BeganReport, Stopped, all_lines, whole_lines, first_lines};
+ghost use Rattle.zanz.specs.Ran.{AreWhole, RanAt, RefusedAt, Reported, BeganReport, IsReport, DoneOf, StoppedOf, Obeyed, Stopped, all_lines, whole_lines, first_lines};
 
 use crate::listening::serve;
 use crate::place::{is_number, is_there};
 use crate::sharing::{share, share_over, workers_of_machine};
 use names::Refusal;
-use runs::{Answering, open_in, run, run_in, tables_in};
-use sqlite::{Connection, FileFrom, FileStore, Start};
+use runs::{Answering, Left, open_in, run, run_in, tables_in};
+use sqlite::Start;
 use std::alloc::Global;
 use std::io::{Read, Write};
 use std::net::{Net, TcpListener, TcpStream};
@@ -24,9 +24,6 @@ use std::time::Clock;
 use tables::Listed;
 use tasks::{Fault, Place, Task, read_file, report_of, task_of};
 use tracked_io::{TrackedReader, TrackedWriter, say};
-
-/// What is left of the file that a run was over.
-pub type Left<P> = Option<Connection<FileStore<FileFrom<P>>>>;
 
 // Prints what there is to say of a file's configuration, and answers the status that the process ends with.
 fn report<F: Files, W: Write>(
@@ -74,24 +71,24 @@ fn run_at<P: Start, H: Wait + Drop, R: Read, W: Write>(
     ensures read_failed { reader.new.failed ≡ is_read_fault result.0 }
     ensures write_failed { writer.new.failed ≡ is_write_fault result.0 }
     ensures refused { IfErr result.0 (λ fault. (why : Refusal) → fault ≡ Refused why
-        → (reader.new ≡ reader.old) × (writer.new ≡ writer.old)) }
+        → (reader.new ≡ reader.old) × (writer.new ≡ writer.old) × RefusedAt (image_at P.Start) place.now fault result.1) }
     ensures cause { IfErr result.0 IsRunFault }
 {
     match place {
         Place::Memory { store } => {
             let alloc = rt.alloc();
             let ended = run(alloc, wait, Listed::new(alloc, *store), reader, writer);
-            (ended.0, None)
+            (ended.0, Err(None))
         }
         Place::New { file, store } => {
             if !is_number(*store) {
-                return (Err(Fault::Refused(Refusal::StoreFault)), None);
+                return (Err(Fault::Refused(Refusal::StoreFault)), Err(None));
             }
             run_in(rt, wait, file.as_str(), Some(*store), start, reader, writer)
         }
         Place::There { file } => {
             if let Err(fault) = is_there(rt, file.as_str()) {
-                return (Err(fault), None);
+                return (Err(fault), Err(None));
             }
             run_in(rt, wait, file.as_str(), None, start, reader, writer)
         }
@@ -133,12 +130,18 @@ fn serve_alone_at<
             if !is_number(*store) {
                 return Err(Fault::Refused(Refusal::StoreFault));
             }
-            let mut answering = open_in(rt, wait, file.as_str(), Some(*store), start)?;
+            let mut answering = match open_in(rt, wait, file.as_str(), Some(*store), start) {
+                Ok(answering) => answering,
+                Err((fault, _)) => return Err(fault),
+            };
             serve(rt, net, port, &mut answering, writer)
         }
         Place::There { file } => {
             is_there(rt, file.as_str())?;
-            let mut answering = open_in(rt, wait, file.as_str(), None, start)?;
+            let mut answering = match open_in(rt, wait, file.as_str(), None, start) {
+                Ok(answering) => answering,
+                Err((fault, _)) => return Err(fault),
+            };
             serve(rt, net, port, &mut answering, writer)
         }
     }
@@ -170,7 +173,7 @@ fn share_in<
 {
     match tables_in(rt, file, store, start) {
         Ok(tables) => share_over(rt.alloc(), net, wait, tables, port, workers, writer),
-        Err(fault) => Err(fault),
+        Err((fault, _)) => Err(fault),
     }
 }
 
@@ -271,8 +274,9 @@ fn serve_at<
     }
 }
 
-// Does what the words say, and answers the status that the process ends with.
-fn obey<
+/// Does a task, and answers the status that the process ends with, and what is left of the file of a run, of which
+/// `start` says what it held.
+pub fn obey<
     P: Start + Send,
     H: Wait + Drop + Send,
     N: Net<Listener = TcpListener, Stream = TcpStream> + Threads + Wait + Clock + Sync,
@@ -282,49 +286,44 @@ fn obey<
     rt: &HostRuntime,
     wait: H,
     net: &N,
-    words: &[String],
+    task: Task,
     start: P,
     reader: &mut TrackedReader<R>,
     writer: &mut TrackedWriter<W>,
 ) -> (Result<u8, Fault>, Left<P>)
     requires unbroken_reader { reader.old.failed ≡ false }
     requires unbroken_writer { writer.old.failed ≡ false }
+
+    // A run is over the place that the task names.
     ensures done { IfOk result.0 (λ status. status ≡ 0
-        → Ran (image_at P.Start) all_lines R.remaining W.contents (reader.old, writer.old) (reader.new, writer.new) result.1
-        ⊎ ((reader.new ≡ reader.old) × Reported W.contents true writer.old writer.new)
-        ⊎ (IsTrue (asks_to_serve (map string_bytes words.now)) × (reader.new ≡ reader.old) × Announced W.contents writer.old writer.new)) }
+        → DoneOf (image_at P.Start) task R.remaining W.contents (reader.old, writer.old) (reader.new, writer.new) result.1) }
     ensures told { IfOk result.0 (λ status. status ≡ 1
-        → (reader.new ≡ reader.old) × Reported W.contents false writer.old writer.new) }
+        → IsReport task × (reader.new ≡ reader.old) × Reported W.contents false writer.old writer.new) }
     ensures whole { IfOk result.0 (λ _. AreWhole reader.new writer.new) }
     ensures status { IfOk result.0 (λ status. status ≤ 1) }
-    ensures stopped { IfErr result.0 (λ fault. fault ≢ Fault.CommandLine
-        → Stopped (image_at P.Start) (asks_to_serve (map string_bytes words.now)) R.remaining W.contents (reader.old, writer.old) (reader.new, writer.new) result.1) }
-    ensures refused { IfErr result.0 (λ fault. fault ≡ Fault.CommandLine
-        → (reader.new ≡ reader.old) × (writer.new ≡ writer.old)) }
+    ensures stopped { IfErr result.0 (λ fault.
+        StoppedOf (image_at P.Start) task fault R.remaining W.contents (reader.old, writer.old) (reader.new, writer.new) result.1) }
+    ensures line { IfErr result.0 (λ fault. fault ≢ Fault.CommandLine) }
 {
-    let alloc = rt.alloc();
-    match task_of(alloc, words) {
-        Ok(Task::Run { place }) => {
+    match task {
+        Task::Run { place } => {
             let (ended, left) = run_at(rt, wait, &place, start, reader, writer);
             match ended {
                 Ok(()) => (Ok(0), left),
                 Err(fault) => (Err(fault), left),
             }
         }
-        Ok(
-            Task::Serve {
-                place,
-                port,
-                workers,
-            },
-        ) => {
+        Task::Serve {
+            place,
+            port,
+            workers,
+        } => {
             match serve_at(rt, wait, net, &place, port, workers, start, writer) {
-                Ok(()) => (Ok(0), None),
-                Err(fault) => (Err(fault), None),
+                Ok(()) => (Ok(0), Err(None)),
+                Err(fault) => (Err(fault), Err(None)),
             }
         }
-        Ok(Task::Config { file }) => (report(alloc, rt, file.as_str(), writer), None),
-        Err(fault) => (Err(fault), None),
+        Task::Config { file } => (report(rt.alloc(), rt, file.as_str(), writer), Err(None)),
     }
 }
 
@@ -350,27 +349,27 @@ pub fn command<
     requires unbroken_reader { reader.old.failed ≡ false }
     requires unbroken_writer { writer.old.failed ≡ false }
 
-    // All that was there was read, each line answered, and the answers handed on; or the levels of a valid
-    // configuration were printed, and nothing was read; or the words asked for it, and the program listened.
-    ensures done { result.0 ≡ 0
-        → Ran (image_at P.Start) all_lines R.remaining W.contents (reader.old, writer.old) (reader.new, writer.new) result.1
-        ⊎ ((reader.new ≡ reader.old) × Reported W.contents true writer.old writer.new)
-        ⊎ (IsTrue (asks_to_serve (map string_bytes words.now)) × (reader.new ≡ reader.old) × Announced W.contents writer.old writer.new) }
+    // A task was done; which one, the words say, and of that a contract knows whether it is to serve.
+    ensures done { result.0 ≡ 0 → Obeyed (image_at P.Start) (asks_to_serve (map string_bytes words.now))
+        R.remaining W.contents (reader.old, writer.old) (reader.new, writer.new) result.1 }
     ensures whole { result.0 ≡ 0 → AreWhole reader.new writer.new }
     ensures quiet { result.0 ≡ 0 → errors.new ≡ errors.old }
+    ensures stopped { result.0 ≡ 1 → Stopped (image_at P.Start) (asks_to_serve (map string_bytes words.now))
+        R.remaining W.contents (reader.old, writer.old) (reader.new, writer.new) result.1 }
 
-    // What was written is a beginning of the text, of a report, or of the line that says where the program listens.
-    ensures stopped { result.0 ≡ 1
-        → Stopped (image_at P.Start) (asks_to_serve (map string_bytes words.now)) R.remaining W.contents (reader.old, writer.old) (reader.new, writer.new) result.1 }
-
-    // Nothing was read or written.
-    ensures refused { result.0 ≡ 2 → (reader.new ≡ reader.old) × (writer.new ≡ writer.old) }
+    // Nothing was read or written, and no file was opened.
+    ensures refused { result.0 ≡ 2 → (reader.new ≡ reader.old) × (writer.new ≡ writer.old) × (result.1 ≡ Err None) }
     ensures status { result.0 ≤ 2 }
 {
-    let (obeyed, left) = obey(rt, wait, net, words, start, reader, writer);
-    match obeyed {
-        Ok(status) => (status, left),
-        Err(fault) => (tell(errors, &fault), left),
+    match task_of(rt.alloc(), words) {
+        Ok(task) => {
+            let (obeyed, left) = obey(rt, wait, net, task, start, reader, writer);
+            match obeyed {
+                Ok(status) => (status, left),
+                Err(fault) => (tell(errors, &fault), left),
+            }
+        }
+        Err(fault) => (tell(errors, &fault), Err(None)),
     }
 }
 

@@ -55,7 +55,7 @@ fn start<
     );
     // A file whose store was refused is left as it is. A refusal to close loses nothing.
     if status == 0
-        && let Some(conn) = left
+        && let Ok(conn) = left
     {
         let _ = close(conn);
     }

@@ -1,10 +1,12 @@
-use Rattle.std.proofs.Common.{refl, sym, ◌∙◌}
+use Rattle.std.proofs.Common.{Err, refl, sym, ap, subst, ◌∙◌}
 use Rattle.sqlite_wal.specs.Files.{image_at}
-use Rattle.sqlite.specs.Files.{over_files}
+use Rattle.sqlite.specs.Files.{file_state, over_files}
+use Rattle.runs.specs.Files.{IsFoundIn}
 use Rattle.runs.specs.Runs.{ServedBy, PausedBy, CutBy}
 use Rattle.runs.specs.Over.{over}
 use Rattle.runs.proofs.Results.{on_ok, on_err}
 use Rattle.runs.proofs.Carried.{ended_in, is_unread, is_unwritten, is_no_read_fault, is_no_write_fault}
+use Rattle.runs.proofs.Imaged.{cannot_begin, deserved_in, deserved_unopened, is_whole, lasted, leaves_in, left_unopened, was_clean}
 use Rattle.runs.proofs.in_files.run_in.Goals as goal
 
 pub returns-in-Ok-clause-ok : goal.returns-in-Ok-clause-ok
@@ -32,7 +34,25 @@ returns-in-Ok-clause-cannot_write g c = on_err c.run_over-ended.result.0 (λ e h
 )) c.run_over-ended.ensures.cannot_write
 
 pub returns-in-Ok-clause-refused : goal.returns-in-Ok-clause-refused
-returns-in-Ok-clause-refused g c = on_err c.run_over-ended.result.0 (λ e h why is. let k = h why is in (k.0, k.1)) c.run_over-ended.ensures.refused
+returns-in-Ok-clause-refused g c = on_err c.run_over-ended.result.0 (λ e h why is. let k = h why is in (
+  k.0,
+  k.1,
+  leaves_in (image_at g.P.Start) c.in-Ok.conn c.in-Ok.ensures.sees c.in-Ok.ensures.found c.run_over-ended.result.1 c.run_over-ended.ensures.lasts c.args.store k.2,
+)) c.run_over-ended.ensures.refused
+
+pub returns-in-Ok-clause-taken : goal.returns-in-Ok-clause-taken
+returns-in-Ok-clause-taken g c = λ cannot clean.
+    let before = was_clean (image_at g.P.Start) c.in-Ok.conn c.in-Ok.ensures.sees c.in-Ok.ensures.found c.run_over-ended.result.1 c.run_over-ended.ensures.lasts clean in
+    let k = c.run_over-ended.ensures.taken (cannot_begin (image_at g.P.Start) c.in-Ok.conn c.in-Ok.ensures.sees c.in-Ok.ensures.found c.args.store before cannot) in
+    (k.0, subst (λ d. IsFoundIn (image_at g.P.Start) (file_state d)) (sym k.1) (c.in-Ok.ensures.sees before))
+
+pub returns-in-Ok-clause-caused : goal.returns-in-Ok-clause-caused
+returns-in-Ok-clause-caused g c = on_err c.run_over-ended.result.0 (λ e h is.
+    deserved_in (image_at g.P.Start) c.in-Ok.conn c.in-Ok.ensures.sees c.in-Ok.ensures.found c.run_over-ended.result.1 c.run_over-ended.ensures.lasts c.args.store
+    (h is (is_whole (image_at g.P.Start) c.in-Ok.conn c.in-Ok.ensures.sees c.in-Ok.ensures.found))) c.run_over-ended.ensures.caused
+
+pub returns-in-Ok-clause-lasts : goal.returns-in-Ok-clause-lasts
+returns-in-Ok-clause-lasts g c = lasted (image_at g.P.Start) c.in-Ok.conn c.in-Ok.ensures.sees c.in-Ok.ensures.found c.run_over-ended.result.1 c.run_over-ended.ensures.lasts
 
 pub returns-in-Err-clause-cannot_read : goal.returns-in-Err-clause-cannot_read
 returns-in-Err-clause-cannot_read g c = λ is. absurd (is_no_read_fault c.in-Err.fault c.in-Err.ensures.refused.0 c.in-Err.ensures.refused.1 is)
@@ -45,3 +65,12 @@ returns-in-Err-clause-read_failed g c = c.requires.unbroken_reader ∙ sym (is_u
 
 pub returns-in-Err-clause-write_failed : goal.returns-in-Err-clause-write_failed
 returns-in-Err-clause-write_failed g c = c.requires.unbroken_writer ∙ sym (is_unwritten (Unit {0}) c.in-Err.fault c.in-Err.ensures.refused.0 c.in-Err.ensures.refused.1)
+
+pub returns-in-Err-clause-refused : goal.returns-in-Err-clause-refused
+returns-in-Err-clause-refused g c = λ why is. (refl, refl, left_unopened (image_at g.P.Start) c.args.store c.in-Err.left c.in-Err.ensures.left)
+
+pub returns-in-Err-clause-unopened : goal.returns-in-Err-clause-unopened
+returns-in-Err-clause-unopened g c = (c.in-Err.ensures.refused.0, ap Err c.in-Err.ensures.refused.1)
+
+pub returns-in-Err-clause-caused : goal.returns-in-Err-clause-caused
+returns-in-Err-clause-caused g c = λ is. deserved_unopened (image_at g.P.Start) c.args.store c.in-Err.left (c.in-Err.ensures.caused is)

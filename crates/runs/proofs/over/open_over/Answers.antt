@@ -3,7 +3,10 @@ use Rattle.rows.specs.Loads.{retained_of}
 use Rattle.store.specs.StoreParts.{connection}
 use Rattle.runs.specs.Over.{Begins, LeavesRefused, IsDeserved}
 use Rattle.runs.proofs.Connected.{opened_over}
-use Rattle.runs.proofs.Starting.{begins, failed_leaves, back_leaves, unopened_deserved}
+use Rattle.tables.specs.Device.{Lasts}
+use Rattle.tables.proofs.Lasting.{lasts_trans}
+use Rattle.store.specs.History.{device_below}
+use Rattle.runs.proofs.Starting.{begins, failed_lasts, failed_leaves, back_leaves, started_lasts, unopened_deserved}
 use Rattle.runs.proofs.over.open_over.Goals as goal
 
 pub returns-in-Ok-open-clause-ok : goal.returns-in-Ok-open-clause-ok
@@ -21,3 +24,16 @@ returns-in-Err-open-clause-caused g c = λ is whole. subst (λ d. IsDeserved g.S
 
 pub returns-in-Err-clause-left : goal.returns-in-Err-clause-left
 returns-in-Err-clause-left g c = failed_leaves g.S.Store c.args.conn c.args.store c.in-Err.why c.in-Err.conn c.in-Err.ensures.err
+
+pub returns-in-Ok-open-clause-lasts : goal.returns-in-Ok-open-clause-lasts
+returns-in-Ok-open-clause-lasts g c =
+    lasts_trans (device_below g.S.Store c.args.conn) (device_below g.S.Store (connection c.in-Ok.tables)) (device_below g.S.Store (connection c.in-Ok-open.answering.tables))
+    (started_lasts g.S.Store c.args.conn c.args.store (connection c.in-Ok.tables) c.in-Ok.ensures.ok) c.in-Ok-open.ensures.ok.back.lasts
+
+pub returns-in-Err-open-clause-back : goal.returns-in-Err-open-clause-back
+returns-in-Err-open-clause-back g c = subst (λ d. Lasts (device_below g.S.Store c.args.conn) (device_below g.S.Store d)) (sym c.into_connection.ensures.same)
+    (lasts_trans (device_below g.S.Store c.args.conn) (device_below g.S.Store (connection c.in-Ok.tables)) (device_below g.S.Store (connection c.in-Err-open.tables))
+    (started_lasts g.S.Store c.args.conn c.args.store (connection c.in-Ok.tables) c.in-Ok.ensures.ok) c.in-Err-open.ensures.kept.lasts)
+
+pub returns-in-Err-clause-back : goal.returns-in-Err-clause-back
+returns-in-Err-clause-back g c = failed_lasts g.S.Store c.args.conn c.args.store c.in-Err.why c.in-Err.conn c.in-Err.ensures.err

@@ -1,7 +1,23 @@
-use Rattle.std.proofs.Common.{sym, ◌∙◌}
-use Rattle.zanz.proofs.Stopping.{is_no_line}
+use Rattle.std.proofs.Common.{refl, sym, ◌∙◌, arith}
+use Rattle.zanz.specs.Ran.{task_stopped, is_no_configuration, words_unread}
+use Rattle.zanz.proofs.Results.{ok_value, err_at}
+use Rattle.zanz.proofs.Stopping.{never_0, ends_with_1}
 use Rattle.zanz.proofs.command.command.Goals as goal
 
+pub returns-in-Ok-obeyed-clause-done : goal.returns-in-Ok-obeyed-clause-done
+returns-in-Ok-obeyed-clause-done g c = λ zero. (c.in-Ok.task, c.in-Ok.ensures.serves, (ok_value _ c.obey-obeyed.result.0 c.in-Ok-obeyed.status c.in-Ok-obeyed.is c.obey-obeyed.ensures.done) zero)
+
+pub returns-in-Ok-obeyed-clause-stopped : goal.returns-in-Ok-obeyed-clause-stopped
+returns-in-Ok-obeyed-clause-stopped g c = λ one.
+    let k = (ok_value _ c.obey-obeyed.result.0 c.in-Ok-obeyed.status c.in-Ok-obeyed.is c.obey-obeyed.ensures.told) one in is_no_configuration k.1 k.2
+
+pub returns-in-Err-obeyed-clause-done : goal.returns-in-Err-obeyed-clause-done
+returns-in-Err-obeyed-clause-done g c = λ zero. absurd (never_0 c.in-Err-obeyed.fault (sym c.tell.ensures ∙ zero))
+
+pub returns-in-Err-obeyed-clause-stopped : goal.returns-in-Err-obeyed-clause-stopped
+returns-in-Err-obeyed-clause-stopped g c = λ one.
+    task_stopped c.in-Ok.task c.in-Err-obeyed.fault c.in-Ok.ensures.serves (sym c.tell.ensures ∙ one)
+    (err_at _ c.obey-obeyed.result.0 c.in-Err-obeyed.fault c.in-Err-obeyed.is c.obey-obeyed.ensures.stopped)
+
 pub returns-in-Err-clause-stopped : goal.returns-in-Err-clause-stopped
-returns-in-Err-clause-stopped g c one =
-    (rw c.in-Err.is at c.obey-obeyed.ensures.stopped) (is_no_line c.in-Err.fault (sym c.tell.ensures ∙ one))
+returns-in-Err-clause-stopped g c = λ one. words_unread refl refl refl
