@@ -1,47 +1,195 @@
-//! Sessions in threads of their own, while a worker writes.
+//! Sessions in threads of their own, while a worker writes, and while the keeper is closed.
 ghost use Rattle.std.specs.Prelude.{◌≡◌};
 
+use crate::workers::{keeper_of, status_of};
 use front::{Front, Keeper};
-use names::{Refusal, Reply};
-use published::{Naming, Opened, Session};
-use std::alloc::Global;
-use std::marker::Brand;
-use std::sync::Wait;
+use names::{Node, Object, Refusal};
+use published::{Naming, Opened, Receipt, Session};
+use std::alloc::{AllocError, Global};
+use std::marker::{Brand, PhantomData};
+use std::sync::{Mutex, Wait};
 use std::test::*;
-use std::thread::{Threads, join};
+use std::thread::{Threads, join, map_vec};
 use tables::Listed;
+use zookie::Consistency;
 
 const GROUPS: &[u8] = br#"{"namespaces":{"group":{"member":{"types":["user"]}},"user":{}}}"#;
 
-const WRITES: u64 = 1_000;
+const INSERT: &[u8] = br#"{"ops":[{"op":"insert","tuple":"group:a#member@user:ann"}]}"#;
 
-// Whether what the session knows never goes back, over thousands of questions.
-fn rises(session: &mut Session) -> bool {
-    let mut last = 0;
-    for _ in 0..10_000 {
-        let Ok(state) = session.state() else {
-            return false;
-        };
-        if state.newest < last || state.newest > WRITES {
-            return false;
-        }
-        last = state.newest;
-    }
-    true
+const DELETE: &[u8] = br#"{"ops":[{"op":"delete","tuple":"group:a#member@user:ann"}]}"#;
+
+/// After the configuration, which is revision 1, Ann is inserted at each even revision, and deleted at each odd one.
+const WRITES: u64 = 4_000;
+
+const QUESTIONS: u64 = 10_000;
+
+/// A session of the book that `J` names.
+#[derive(Drop)]
+struct Reader<J: Naming> {
+    session: Session,
+    of: PhantomData<J>,
+    ghost of_book: { session.book ≡ J.book },
 }
 
-// Whether every write was answered with 200.
-fn writes<J: Naming, H: Wait + Drop, W: Wait>(rt: &W, front: &mut Front<'_, Listed, J, H>) -> bool {
-    for _ in 0..WRITES {
-        match front.configure(rt, GROUPS) {
-            Reply::Said { status, .. } if status == 200 => {}
+/// A receipt that a worker hands on to a reader of the same book.
+#[derive(Drop)]
+struct Handed<J: Naming> {
+    receipt: Receipt,
+    of: PhantomData<J>,
+    ghost of_book: { receipt.published.book ≡ J.book },
+}
+
+/// Where a receipt lies until a reader takes it, or the next one comes.
+type Desktop<J> = Mutex<Option<Handed<J>>>;
+
+impl<J: Naming> Reader<J> {
+    // The revision that is answered at, where Ann is a member exactly if it is even.
+    fn ask(&mut self, at: &Consistency) -> Option<u64> {
+        let node = Node::parse("group:a#member").ok()?;
+        let user = Object::parse("user:ann").ok()?;
+        let answer = self.session.check(at, &node, &user).ok()?;
+        if answer.value == (answer.rev % 2 == 0) {
+            Some(answer.rev)
+        } else {
+            None
+        }
+    }
+
+    // What is shown now, to hand on to other readers.
+    fn refresh<H: Wait + Drop, W: Wait>(
+        &mut self,
+        rt: &W,
+        keeper: &Keeper<Listed, J, H>,
+    ) -> Handed<J> {
+        refreshed(rt, keeper, &mut self.session)
+    }
+
+    // How fresh an answer must be that reflects all that the receipt tells of.
+    fn learn(&mut self, handed: &Handed<J>) -> Consistency {
+        self.session.learn(&handed.receipt);
+        Consistency::AtLeast(handed.receipt.zookie())
+    }
+}
+
+// What lies on the desktop, at one question in sixteen. For the others no lock is taken.
+fn taken<J: Naming, W: Wait>(rt: &W, desktop: &Desktop<J>, number: u64) -> Option<Handed<J>> {
+    if number % 16 == 0 {
+        desktop.lock(rt).take()
+    } else {
+        None
+    }
+}
+
+// Whether each answer is right, none is older than the one before it, and none than a receipt that was handed on.
+fn reads<J: Naming, W: Wait>(rt: &W, reader: Reader<J>, desktop: &Desktop<J>) -> bool {
+    let mut reader = reader;
+    let mut least = 1;
+    for number in 0..QUESTIONS {
+        let at = match taken(rt, desktop, number) {
+            Some(handed) => {
+                least = least.max(handed.receipt.zookie().rev);
+                reader.learn(&handed)
+            }
+            None => Consistency::Latest,
+        };
+        match reader.ask(&at) {
+            Some(rev) if rev >= least => least = rev,
             _ => return false,
         }
     }
     true
 }
 
-fn beside<J: Naming, H: Wait + Drop, W: Threads + Wait + Sync>(
+fn all_read<J: Naming + Send + Sync, W: Threads + Wait + Sync>(
+    rt: &W,
+    readers: Vec<Reader<J>>,
+    desktop: &Desktop<J>,
+) -> Result<bool, AllocError> {
+    let right = map_vec(rt, readers, &|reader| reads(rt, reader, desktop))?;
+    Ok(right.iter().all(|right| *right))
+}
+
+// Whether every write was answered with 200. The receipt of each is handed on.
+fn writes<J: Naming, H: Wait + Drop, W: Wait>(
+    rt: &W,
+    front: &mut Front<'_, Listed, J, H>,
+    keeper: &Keeper<Listed, J, H>,
+    own: &mut Reader<J>,
+    desktop: &Desktop<J>,
+) -> bool {
+    for number in 0..WRITES {
+        let body = if number % 2 == 0 { INSERT } else { DELETE };
+        if status_of(&front.write(rt, body)) != 200 {
+            return false;
+        }
+        let handed = own.refresh(rt, keeper);
+        *desktop.lock(rt) = Some(handed);
+    }
+    true
+}
+
+fn refreshed<J: Naming, H: Wait + Drop, W: Wait>(
+    rt: &W,
+    keeper: &Keeper<Listed, J, H>,
+    session: &mut Session,
+) -> Handed<J>
+    requires { session.old.book ≡ J.book }
+    ensures { session.new.book ≡ J.book }
+{
+    let receipt = keeper.hold(rt).refresh(session);
+    handed_of(receipt)
+}
+
+fn handed_of<J: Naming>(receipt: Receipt) -> Handed<J>
+    requires { receipt.published.book ≡ J.book }
+{
+    Handed {
+        receipt,
+        of: PhantomData,
+    }
+}
+
+fn readers_of<J: Naming, H: Wait + Drop, W: Wait>(
+    rt: &W,
+    alloc: Global,
+    keeper: &Keeper<Listed, J, H>,
+) -> Result<Vec<Reader<J>>, Refusal> {
+    let mut readers = Vec::new(alloc);
+    for _ in 0..3 {
+        readers.push(reader_of(keeper.hold(rt).session()?))?;
+    }
+    Ok(readers)
+}
+
+fn reader_of<J: Naming>(session: Session) -> Reader<J>
+    requires { session.book ≡ J.book }
+{
+    Reader {
+        session,
+        of: PhantomData,
+    }
+}
+
+fn read_beside<J: Naming + Send + Sync, H: Wait + Drop, W: Threads + Wait + Sync>(
+    rt: &W,
+    alloc: Global,
+    keeper: &Keeper<Listed, J, H>,
+) -> Result<bool, Refusal> {
+    let mut front = Front::new(alloc, rt, keeper)?;
+    let taken = status_of(&front.configure(rt, GROUPS));
+    let readers = readers_of(rt, alloc, keeper)?;
+    let mut own = reader_of(keeper.hold(rt).session()?);
+    let desktop = Mutex::new(None);
+    let (right, written) = join(
+        rt,
+        || all_read(rt, readers, &desktop),
+        || writes(rt, &mut front, keeper, &mut own, &desktop),
+    );
+    Ok(taken == 200 && right? && written)
+}
+
+fn beside<J: Naming + Send + Sync, H: Wait + Drop, W: Threads + Wait + Sync>(
     rt: &W,
     handle: H,
     alloc: Global,
@@ -49,20 +197,51 @@ fn beside<J: Naming, H: Wait + Drop, W: Threads + Wait + Sync>(
 ) -> Result<bool, Refusal>
     requires { opened.book ≡ J.book }
 {
-    let tables = Listed::new(alloc, 1);
-    let Ok(keeper) = Keeper::<Listed, J, H>::open(alloc, handle, opened, tables) else {
-        return Err(Refusal::Memory);
-    };
-    let mut session = keeper.hold(rt).session()?;
-    let mut front = Front::new(alloc, rt, &keeper)?;
-    let (rose, written) = join(rt, || rises(&mut session), || writes(rt, &mut front));
-    front.refresh(rt);
-    let last = session.state()?;
-    Ok(rose && written && last.newest == WRITES)
+    let keeper = keeper_of::<J, H>(handle, alloc, opened)?;
+    read_beside(rt, alloc, &keeper)
 }
 
 #[test]
-fn a_session_beside_a_worker_that_writes(rt: HostRuntime) {
-    let seen = beside::<Brand, _, _>(&rt, &rt, rt.alloc(), Opened::new());
-    assert!(rt; seen.unwrap_or(false));
+fn sessions_beside_a_worker_that_writes(rt: HostRuntime) {
+    let right = beside::<Brand, _, _>(&rt, &rt, rt.alloc(), Opened::new());
+    assert!(rt; right.unwrap_or(false));
+}
+
+// Whether a session that was refused once is refused ever after.
+fn stays_shut(session: &mut Session) -> bool {
+    let mut shut = false;
+    for _ in 0..QUESTIONS {
+        match session.state() {
+            Ok(_) if shut => return false,
+            Ok(_) => {}
+            Err(why) => {
+                if why.number() != 23 {
+                    return false;
+                }
+                shut = true;
+            }
+        }
+    }
+    true
+}
+
+fn closed<J: Naming, H: Wait + Drop, W: Threads + Wait + Sync>(
+    rt: &W,
+    handle: H,
+    alloc: Global,
+    opened: Opened,
+) -> Result<bool, Refusal>
+    requires { opened.book ≡ J.book }
+{
+    let keeper = keeper_of::<J, H>(handle, alloc, opened)?;
+    let mut session = keeper.hold(rt).session()?;
+    let (stays, tables) = join(rt, || stays_shut(&mut session), || keeper.close());
+    drop(tables);
+    Ok(stays && session.state().is_err())
+}
+
+#[test]
+fn a_session_beside_a_keeper_that_is_closed(rt: HostRuntime) {
+    let shut = closed::<Brand, _, _>(&rt, &rt, rt.alloc(), Opened::new());
+    assert!(rt; shut.unwrap_or(false));
 }

@@ -1,7 +1,7 @@
 //! Two workers of one keeper, and a session whose keeper is gone.
 ghost use Rattle.std.specs.Prelude.{◌≡◌};
 
-use front::{Asked, Front, Keeper, state_from};
+use front::{Asked, Front, Keeper, check_again, check_from, state_from};
 use names::{Call, Refusal, Reply};
 use published::{Naming, Opened};
 use std::alloc::Global;
@@ -18,14 +18,14 @@ const NEXT: &[u8] =
     br#"{"at":{"at_least":"AQAAAAAAAAABAAAAAAAAAAI"},"node":"group:a#member","user":"user:ann"}"#;
 
 // The status of a reply, or 0.
-fn status_of(reply: &Reply) -> u16 {
+pub(crate) fn status_of(reply: &Reply) -> u16 {
     match reply {
         Reply::Said { status, .. } => *status,
         Reply::NoMemory => 0,
     }
 }
 
-fn keeper_of<J: Naming, H: Wait + Drop>(
+pub(crate) fn keeper_of<J: Naming, H: Wait + Drop>(
     handle: H,
     alloc: Global,
     opened: Opened,
@@ -76,6 +76,42 @@ fn beside<J: Naming, H: Wait + Drop, W: Wait>(
 fn what_one_worker_writes_the_other_sees(rt: HostRuntime) {
     let seen = beside::<Brand, _, _>(&rt, &rt, rt.alloc(), Opened::new());
     assert!(rt; seen.unwrap_or(false));
+}
+
+// A question of a revision that is not there yet comes back, and is answered once that is written and the session refreshed.
+fn is_answered_later<J: Naming, H: Wait + Drop, W: Wait>(
+    rt: &W,
+    alloc: Global,
+    keeper: &Keeper<Listed, J, H>,
+) -> Result<bool, Refusal> {
+    let mut front = Front::new(alloc, rt, keeper)?;
+    let mut session = keeper.hold(rt).session()?;
+    let taken = status_of(&front.configure(rt, GROUPS));
+    let Asked::NotYet(question) = check_from(alloc, &mut session, NEXT) else {
+        return Ok(false);
+    };
+    let written = status_of(&front.write(rt, INSERT));
+    keeper.hold(rt).refresh(&mut session);
+    let answered = status_of(&check_again(alloc, &mut session, &question));
+    Ok(taken == 200 && written == 200 && answered == 200)
+}
+
+fn later<J: Naming, H: Wait + Drop, W: Wait>(
+    rt: &W,
+    handle: H,
+    alloc: Global,
+    opened: Opened,
+) -> Result<bool, Refusal>
+    requires { opened.book ≡ J.book }
+{
+    let keeper = keeper_of::<J, H>(handle, alloc, opened)?;
+    is_answered_later(rt, alloc, &keeper)
+}
+
+#[test]
+fn a_question_that_came_back_is_answered_after_a_refresh(rt: HostRuntime) {
+    let answered = later::<Brand, _, _>(&rt, &rt, rt.alloc(), Opened::new());
+    assert!(rt; answered.unwrap_or(false));
 }
 
 // Where the keeper is gone, a session is answered 23, and the tables hold what was written.

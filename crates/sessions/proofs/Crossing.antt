@@ -1,0 +1,33 @@
+-- What sessions take with them to another thread.
+use mathlib.Core.List.{[], ◌∷◌}
+use denote.Builtin.{u32}
+use denote.Param.Send.{IsSend, IsSync, sendable, recorded_send, struct_send}
+use denote.Param.SendFields.{declared_send}
+use denote.RattleType.{RattleType}
+use denote.Struct.Declared as S
+use denote.Struct.Tuple.{TupleAt, type_at}
+use Rattle.std.specs.Prelude.{ℕ, List}
+use Rattle.std.specs.contracts.sync.atomic.AtomicBool as AtomicBool
+use Rattle.std.proofs.Crossing.{crosses}
+use Rattle.front.proofs.Crossing.{Session-send}
+use Rattle.front.proofs.questions.Question.TheSendSync as Question
+use Rattle.front.specs.contracts.questions.Question as Questions
+use Rattle.sessions.specs.contracts.asking.Asker as Asker
+
+pub Asker-send : IsSend Asker.the_row
+Asker-send = declared_send Asker.the_type (Session-send, ((search sendable), tt))
+
+pub Question-sync : IsSync Questions.the_row
+Question-sync = Question.the_sync
+
+pub u32-sync : IsSync u32
+u32-sync = search sendable
+
+pub AtomicBool-sync : IsSync AtomicBool.the_row
+AtomicBool-sync = search (crosses, sendable) depth 20
+
+-- a closure over five values
+pub five_send : (name : List ℕ) (A B C D E : RattleType) → IsSend A → IsSend B → IsSend C → IsSend D → IsSend E → IsSend (TupleAt name (A ∷ B ∷ C ∷ D ∷ E ∷ []))
+five_send name A B C D E a b c d e =
+    let T = type_at name (A ∷ B ∷ C ∷ D ∷ E ∷ []) in
+    recorded_send _ _ T.to T.to_one (struct_send (S.shape T) (a, (b, (c, (d, (e, tt))))))

@@ -1,0 +1,7 @@
+use denote.Exit.{no}
+use denote.Param.Send.{arg_send, param_send}
+use Rattle.sessions.proofs.Crossing.{Asker-send}
+use Rattle.sessions.proofs.asking.ask_all.Goals as goal
+
+pub map_vec-counts-requires-send-J : goal.map_vec-counts-requires-send-J
+map_vec-counts-requires-send-J g c κs within = param_send 1 _ (arg_send _ no _ Asker-send)
