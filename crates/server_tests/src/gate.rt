@@ -1,0 +1,122 @@
+//! Two connections, of which the call of one waits in the gate for the call of the other.
+ghost use Rattle.std.specs.Prelude.{◌≡◌};
+
+use front::Keeper;
+use names::Refusal;
+use published::{Naming, Opened};
+use server::{Gate, run};
+use std::alloc::Global;
+use std::io::{Read, Write};
+use std::marker::Brand;
+use std::net::{Ipv4Addr, Net, SocketAddr, TcpListener, TcpStream};
+use std::sync::Wait;
+use std::sync::atomic::{AtomicBool, Ordering};
+use std::test::*;
+use std::thread;
+use std::thread::{Threads, join};
+use std::time::{Clock, Duration};
+use tables::Listed;
+
+const STATE: &[u8] = b"GET /v1/state HTTP/1.1\r\nConnection: close\r\n\r\n";
+
+// Takes two connections. Call 1 waits until call 2 is answered, for so many milliseconds at most.
+#[derive(Drop)]
+struct InTurn<'a, R: Clock> {
+    rt: &'a R,
+    second_left: AtomicBool,
+    gave_up: AtomicBool,
+}
+
+impl<'a, R: Clock> Gate for InTurn<'a, R> {
+    fn more(&self, accepted: u64) -> bool {
+        accepted < 2
+    }
+
+    fn enter(&self, call: u64) {
+        if call != 1 {
+            return;
+        }
+        for _ in 0..10_000 {
+            if self.second_left.load(Ordering::SeqCst) {
+                return;
+            }
+            thread::sleep(self.rt, Duration::from_millis(1));
+        }
+        self.gave_up.store(true, Ordering::SeqCst);
+    }
+
+    fn leave(&self, call: u64) {
+        if call == 2 {
+            self.second_left.store(true, Ordering::SeqCst);
+        }
+    }
+}
+
+// A connection that has asked for the state.
+fn asks<R: Net<Stream = TcpStream>>(rt: &R, address: SocketAddr) -> Option<TcpStream> {
+    let stream = TcpStream::connect(rt, address).ok()?;
+    stream.set_read_timeout(Some(Duration::from_secs(30))).ok()?;
+    let mut to = &stream;
+    to.write_all(STATE).ok()?;
+    Some(stream)
+}
+
+// Whether the connection is answered with 200.
+fn is_answered(alloc: Global, stream: &TcpStream) -> bool {
+    let mut from = stream;
+    let mut text = Vec::new(alloc);
+    if from.read_to_end(&mut text).is_err() {
+        return false;
+    }
+    text.as_slice().starts_with(b"HTTP/1.1 200 OK\r\n")
+}
+
+fn two_are_answered<R: Net<Stream = TcpStream>>(
+    rt: &R,
+    alloc: Global,
+    address: SocketAddr,
+) -> bool {
+    let one = asks(rt, address);
+    let two = asks(rt, address);
+    match (one, two) {
+        (Some(one), Some(two)) => is_answered(alloc, &one) && is_answered(alloc, &two),
+        _ => false,
+    }
+}
+
+fn serve_both<
+    J: Naming + Send,
+    H: Wait + Drop + Send,
+    W: Threads + Wait + Clock + Net<Listener = TcpListener, Stream = TcpStream> + Sync,
+>(rt: &W, handle: H, alloc: Global, opened: Opened) -> Result<bool, Refusal>
+    requires { opened.book ≡ J.book }
+{
+    let tables = Listed::new(alloc, 1);
+    let Ok(keeper) = Keeper::<Listed, J, H>::open(alloc, handle, opened, tables) else {
+        return Err(Refusal::Memory);
+    };
+    let Ok(listener) = TcpListener::bind(rt, (Ipv4Addr::LOCALHOST, 0)) else {
+        return Err(Refusal::StoreFault);
+    };
+    let Ok(address) = listener.local_addr() else {
+        return Err(Refusal::StoreFault);
+    };
+    let gate = InTurn {
+        rt,
+        second_left: AtomicBool::new(false),
+        gave_up: AtomicBool::new(false),
+    };
+    let (answered, ended) = join(
+        rt,
+        || two_are_answered(rt, alloc, address),
+        || run(rt, alloc, &listener, &keeper, 2, &gate),
+    );
+    ended?;
+    Ok(answered && !gate.gave_up.load(Ordering::SeqCst))
+}
+
+#[test]
+fn a_call_may_wait_for_one_of_another_worker(rt: HostRuntime) {
+    let both = serve_both::<Brand, _, _>(&rt, &rt, rt.alloc(), Opened::new());
+    assert!(rt; both.unwrap_or(false));
+}
