@@ -1,0 +1,123 @@
+#!/usr/bin/env python3
+"""What makes a wrong body one that must be tried, or that is due, on two small crates of which nothing is proved; and which crates are drawn."""
+import os
+import sys
+import tempfile
+import unittest
+
+sys.dont_write_bytecode = True
+from known import PARTS, Basis, Key, Known, Standing, drawn
+from sources import rtlib
+from trials import Wrong
+
+MUST, DUE, HELD = Standing
+KIT = "kit-1 logic a"
+FILES = {
+    "crates.txt": "low:\nhigh: low\n",
+    "crates/low/src/lib.rt": "// low\npub const MOST: u8 = 3;\npub fn one() -> u8\nensures it { result == 1 }\n{\n    1\n}\n",
+    "crates/low/specs/Lib.antt": "-- a word\nword : ℕ\nword = 1\n",
+    "crates/low/proofs/Lemmas.antt": "lemma : ℕ\nlemma = 1\n",
+    "crates/low/proofs/one/Answers.antt": "answer = 1\n",
+    "crates/high/src/lib.rt": "pub const LAST: u8 = 9;\npub fn two() -> u8 {\n    // as it is\n    one() + 1\n}\npub fn three() -> u8 {\n    3\n}\n"
+    "#[cycle(turns)]\nfn there() -> u8 {\n    back() + 5\n}\n#[cycle(turns)]\nfn back() -> u8 {\n    there() + 6\n}\n",
+    "crates/high/specs/Lib.antt": "two : ℕ\ntwo = 2\n",
+    "crates/high/proofs/Lemmas.antt": "-- a lemma\nlemma : ℕ\nlemma = 2\n",
+    "crates/high/proofs/two/Answers.antt": "answer = 2\n",
+    "crates/high/proofs/three/Answers.antt": "answer = 3\n",
+    "crates/high/proofs/+turns/Answers.antt": "answer = 4\n",
+    "crates/high/wrong/one_more.edit": "file: src/lib.rt\nold: one() + 1\nnew: one() + 2\n",
+    "crates/high/wrong/turned.edit": "file: src/lib.rt\nold: back() + 5\nnew: back() + 6\n",
+    "crates/high/wrong/another_last.edit": "file: src/lib.rt\nold: LAST: u8 = 9\nnew: LAST: u8 = 8\n",
+}
+BODY, CYCLE, CONSTANT = "high/one_more", "high/turned", "high/another_last"
+
+
+def keys(files, identity=KIT):
+    """The keys of the wrong bodies in a repository of these files, under a kit."""
+    with tempfile.TemporaryDirectory(prefix="known-") as top:
+        for path, text in files.items():
+            os.makedirs(os.path.dirname(f"{top}/{path}"), exist_ok=True)
+            with open(f"{top}/{path}", "w", encoding="utf-8") as it:
+                it.write(text)
+        basis = Basis(identity)
+        wrongs = [Wrong(it, [f"{it.folder}/wrong/{name}" for name in os.listdir(f"{it.folder}/wrong")]) for it in rtlib.crates_below(top) if it.name == "high"]
+        return {it.label: basis.key(wrong.crate, it) for wrong in wrongs for it in wrong.edits}
+
+
+class Keys(unittest.TestCase):
+    def setUp(self):
+        self.known = Known()
+        for label, key in keys(FILES).items():
+            self.known.note(label, key)
+
+    def standings(self, found):
+        return [self.known.standing(it, found.get(it)) for it in (BODY, CYCLE, CONSTANT)]
+
+    def changed(self, path, old, new):
+        """The standings of the three after a change of one file."""
+        self.assertEqual(FILES[path].count(old), 1)
+        return self.standings(keys({**FILES, path: FILES[path].replace(old, new)}))
+
+    def test_in_the_crate(self):
+        code = "crates/high/src/lib.rt"
+        self.assertEqual(self.changed(code, "\n    3", "\n    4"), [HELD, HELD, MUST])
+        self.assertEqual(self.changed(code, "// as it is", "// as it was"), [HELD, HELD, MUST])
+        self.assertEqual(self.changed(code, "    // as", "    let a = 0;\n    // as"), [MUST, HELD, MUST])
+        self.assertEqual(self.changed(code, "there() + 6", "there() + 7"), [HELD, MUST, MUST])
+        self.assertEqual(self.changed(code, "three()", "three(a: u8)"), [MUST, MUST, MUST])
+        self.assertEqual(self.changed("crates/high/specs/Lib.antt", "= 2", "= 3"), [MUST, MUST, MUST])
+        self.assertEqual(self.changed("crates/high/proofs/Lemmas.antt", "= 2", "= 3"), [MUST, MUST, MUST])
+        self.assertEqual(self.changed("crates/high/proofs/Lemmas.antt", "-- a", "-- another"), [HELD, HELD, MUST])
+        self.assertEqual(self.changed("crates/high/proofs/three/Answers.antt", "3", "4"), [HELD, HELD, MUST])
+        self.assertEqual(self.changed("crates/high/proofs/two/Answers.antt", "2", "4"), [MUST, HELD, MUST])
+        self.assertEqual(self.changed("crates/high/proofs/+turns/Answers.antt", "4", "5"), [HELD, MUST, MUST])
+        self.assertEqual(self.changed("crates/high/wrong/one_more.edit", "+ 2", "+ 3"), [MUST, HELD, HELD])
+        self.assertEqual(self.changed("crates.txt", "high: low", "high: low base64"), [MUST, MUST, MUST])
+
+    def test_below_it(self):
+        self.assertEqual(self.changed("crates/low/specs/Lib.antt", "= 1", "= 2"), [MUST] * 3)
+        self.assertEqual(self.changed("crates/low/specs/Lib.antt", "-- a", "-- one"), [HELD] * 3)
+        self.assertEqual(self.changed("crates/low/src/lib.rt", "result == 1", "result == 2"), [DUE] * 3)
+        self.assertEqual(self.changed("crates/low/src/lib.rt", "MOST: u8 = 3", "MOST: u8 = 4"), [DUE] * 3)
+        self.assertEqual(self.changed("crates/low/src/lib.rt", "\n    1\n", "\n    2\n"), [HELD] * 3)
+        self.assertEqual(self.changed("crates/low/src/lib.rt", "// low", "// lower"), [HELD] * 3)
+        self.assertEqual(self.changed("crates/low/proofs/Lemmas.antt", "= 1", "= 2"), [DUE] * 3)
+        self.assertEqual(self.changed("crates/low/proofs/one/Answers.antt", "1", "2"), [HELD] * 3)
+
+    def test_under_another_kit(self):
+        self.assertEqual(self.standings(keys(FILES, "kit-1 logic a")), [HELD] * 3)
+        self.assertEqual(self.standings(keys(FILES, "kit-2 logic a")), [DUE] * 3)
+        self.assertEqual(self.standings(keys(FILES, "kit-1 logic b")), [MUST] * 3)
+        self.assertEqual(self.standings(keys(FILES, "a kit that says it otherwise")), [MUST] * 3)
+
+
+class Refused(unittest.TestCase):
+    def test_it_is_read_back(self):
+        known = Known()
+        known.note("a/x", Key("1" * 16, "2" * 16, "kit-1"))
+        again = Known(known.text() + "# Seen elsewhere.\na/y 12\na/z\n\n")
+        self.assertEqual(again.keys, known.keys)
+        self.assertEqual(again.comments, [*known.comments, "# Seen elsewhere."])
+        self.assertEqual(Known(again.text()).text(), again.text())
+
+    def test_what_was_not_refused_must_be_tried(self):
+        known, key = Known(), Key("1" * 16, "2" * 16, "kit-1")
+        self.assertEqual(known.standing("a/x", key), MUST)
+        known.note("a/x", key)
+        self.assertEqual([known.standing("a/x", key), known.standing("a/x", None)], [HELD, MUST])
+        known.note("a/x", None)
+        self.assertEqual(known.standing("a/x", key), MUST)
+
+
+class Drawn(unittest.TestCase):
+    def test_a_part_is_drawn_and_each_crate_by_some_lot(self):
+        numbers = {f"crate_{it}": 5 for it in range(32)}
+        each = [drawn(f"lot {it}", numbers) for it in range(60)]
+        self.assertEqual({len(it) for it in each}, {len(numbers) // PARTS})
+        self.assertEqual(set().union(*each), {*numbers})
+        self.assertEqual(drawn("lot 1", numbers), each[1])
+        self.assertEqual(drawn("lot 1", {}), set())
+
+
+if __name__ == "__main__":
+    unittest.main()
