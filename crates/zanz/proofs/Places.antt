@@ -24,18 +24,18 @@ use Rattle.zanz.specs.Ran.{Extent, ReadBy, AnsweredBy, RanAt, RefusedAt}
 abbrev pub Takes : {D : Type 0} {g : disk.Ghosts D} → Image → Option ℕ → Result (Unit {0}) Fault → Remains g → Type 0
 Takes image store told left = CannotBeginIn image store → IfOk left (λ conn. HasCleanDisk (file_state conn) → (told ≡ Err (Refused StoreFault)) × IsFoundIn image (file_state conn))
 
+same_fault : {A : Type 0} (told : Result A Fault) (fault : Fault) → told ≡ Err fault → told ≡ Err (Refused StoreFault) → fault ≡ Refused StoreFault
+same_fault told fault is told_so = cc
+
 module _ {D : Type 0} {g : disk.Ghosts D} (image : Image) (store : Option ℕ) (told : Result (Unit {0}) Fault) where
   -- where it is not told as a fault of the store, it could begin
   pub began : (left : Remains g) → Takes image store told left → ¬ (told ≡ Err (Refused StoreFault)) → IfOk left (λ conn. HasCleanDisk (file_state conn) → ¬ (CannotBeginIn image store))
   began (Ok conn) takes other = λ clean cannot. other (takes cannot clean).0
   began (Err left) takes other = tt
 
-  same_fault : (fault : Fault) → told ≡ Err fault → told ≡ Err (Refused StoreFault) → fault ≡ Refused StoreFault
-  same_fault fault is told_so = let e : Err fault ≡ Err (Refused StoreFault) = sym is ∙ told_so in cc
-
   pub taken : (left : Remains g) → Takes image store told left → (fault : Fault) → told ≡ Err fault → CannotBeginIn image store
       → IfOk left (λ conn. HasCleanDisk (file_state conn) → (fault ≡ Refused StoreFault) × IsFoundIn image (file_state conn))
-  taken (Ok conn) takes fault is cannot = λ clean. let k = takes cannot clean in (same_fault fault is k.0, k.1)
+  taken (Ok conn) takes fault is cannot = λ clean. let k = takes cannot clean in (same_fault told fault is k.0, k.1)
   taken (Err left) takes fault is cannot = tt
 
 -- tables in memory are never at fault
@@ -46,13 +46,13 @@ never_fails tables back (inr none) = none tables refl refl
 -- ---- told apart
 
 pub ok_is_no_fault : {A : Type 0} (told : Result A Fault) (a : A) → told ≡ Ok a → ¬ (told ≡ Err (Refused StoreFault))
-ok_is_no_fault told a is other = let e : Ok a ≡ Err (Refused StoreFault) = sym is ∙ other in cc
+ok_is_no_fault told a is other = cc
 
 pub unread_is_no_fault : {A : Type 0} (told : Result A Fault) (fault : Fault) → told ≡ Err fault → fault ≡ CannotRead → ¬ (told ≡ Err (Refused StoreFault))
-unread_is_no_fault {A} told fault is why other = let e : Err {A} fault ≡ Err (Refused StoreFault) = sym is ∙ other in let n : CannotRead ≡ Refused StoreFault = cc in cc
+unread_is_no_fault told fault is why other = cc
 
 pub unwritten_is_no_fault : {A : Type 0} (told : Result A Fault) (fault : Fault) → told ≡ Err fault → fault ≡ CannotWrite → ¬ (told ≡ Err (Refused StoreFault))
-unwritten_is_no_fault {A} told fault is why other = let e : Err {A} fault ≡ Err (Refused StoreFault) = sym is ∙ other in let n : CannotWrite ≡ Refused StoreFault = cc in cc
+unwritten_is_no_fault told fault is why other = cc
 
 -- ---- at each place
 

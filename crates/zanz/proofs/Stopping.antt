@@ -68,11 +68,11 @@ is_report task file is = subst IsReport (sym is) tt
 
 -- a fault ends with another status than 0
 pub never_0 : (fault : Fault) → ¬ (fault_status fault ≡ 0)
-never_0 CommandLine is = let e : 2 ≡ 0 = is in absurd (omega arith)
-never_0 (Refused why) is = let e : 1 ≡ 0 = is in absurd (omega arith)
-never_0 CannotRead is = let e : 1 ≡ 0 = is in absurd (omega arith)
-never_0 CannotWrite is = let e : 1 ≡ 0 = is in absurd (omega arith)
-never_0 CannotListen is = let e : 1 ≡ 0 = is in absurd (omega arith)
+never_0 CommandLine is = absurd (omega arith)
+never_0 (Refused why) is = absurd (omega arith)
+never_0 CannotRead is = absurd (omega arith)
+never_0 CannotWrite is = absurd (omega arith)
+never_0 CannotListen is = absurd (omega arith)
 
 -- any but that of a command line ends with 1
 pub ends_with_1 : (fault : Fault) → fault ≢ CommandLine → fault_status fault ≡ 1
