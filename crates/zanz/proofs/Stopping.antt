@@ -24,12 +24,6 @@ module _ {R W D : Type 0} {g : disk.Ghosts D} (image : Image) (remaining : R →
   abbrev StoppedBy : Fault → Task → Type 0
   StoppedBy fault task = StoppedOf image task fault remaining contents (reader, writer) (reader_after, writer_after) left
 
-  pub done_report : (task : Task) (file : String Global) → task ≡ Config file → reader_after ≡ reader → Reported contents true writer writer_after → Done task
-  done_report task file is same reported = subst Done (sym is) (same, reported)
-
-  pub report_stops : (task : Task) (file : String Global) (fault : Fault) → task ≡ Config file → reader_after ≡ reader → ((writer_after.failed ≡ true) × BeganReport contents writer writer_after) ⊎ (writer_after ≡ writer) → StoppedBy fault task
-  report_stops task file fault is same began = subst (StoppedBy fault) (sym is) (same, began)
-
   module _ (place : Place) where
     pub done_service : (task : Task) (port : ℕ) (workers : Option ℕ) → task ≡ Serve place port workers → reader_after ≡ reader → Announced contents writer writer_after → Done task
     done_service task port workers is same announced = subst Done (sym is) (same, announced)
@@ -63,9 +57,6 @@ module _ {R W D : Type 0} {g : disk.Ghosts D} (image : Image) (remaining : R →
         (stopped_run A fault (err_at IsRunFault r fault told run) (unread ∙ ap (λ (s : Result A Fault). is_read_fault s) told) (unwritten ∙ ap (λ (s : Result A Fault). is_write_fault s) told)
         (err_at CannotReadOn r fault told paused) (err_at CannotWriteOn r fault told cut) (err_at IsRefused r fault told refused))
 
-pub is_report : (task : Task) (file : String Global) → task ≡ Config file → IsReport task
-is_report task file is = subst IsReport (sym is) tt
-
 -- a fault ends with another status than 0
 pub never_0 : (fault : Fault) → ¬ (fault_status fault ≡ 0)
 never_0 CommandLine is = absurd (omega arith)
@@ -73,11 +64,3 @@ never_0 (Refused why) is = absurd (omega arith)
 never_0 CannotRead is = absurd (omega arith)
 never_0 CannotWrite is = absurd (omega arith)
 never_0 CannotListen is = absurd (omega arith)
-
--- any but that of a command line ends with 1
-pub ends_with_1 : (fault : Fault) → fault ≢ CommandLine → fault_status fault ≡ 1
-ends_with_1 CommandLine other = absurd (other refl)
-ends_with_1 (Refused why) other = refl
-ends_with_1 CannotRead other = refl
-ends_with_1 CannotWrite other = refl
-ends_with_1 CannotListen other = refl

@@ -1,7 +1,7 @@
 use Rattle.std.proofs.Common.{refl, sym, ◌∙◌, arith}
 use Rattle.zanz.specs.Ran.{task_stopped, is_no_configuration, words_unread}
 use Rattle.zanz.proofs.Results.{ok_value, err_at}
-use Rattle.zanz.proofs.Stopping.{never_0, ends_with_1}
+use Rattle.zanz.proofs.Stopping.{never_0}
 use Rattle.zanz.proofs.command.command.Goals as goal
 
 pub returns-in-Ok-obeyed-clause-done : goal.returns-in-Ok-obeyed-clause-done

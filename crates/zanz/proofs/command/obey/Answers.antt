@@ -2,7 +2,7 @@ use Rattle.std.proofs.Common.{None, refl}
 use Rattle.std.specs.Prelude.{Err}
 use Rattle.sqlite_wal.specs.Files.{image_at}
 use Rattle.zanz.proofs.Results.{ok_at}
-use Rattle.zanz.proofs.Stopping.{done_run, run_stops, done_service, service_stops, done_report, report_stops, is_report}
+use Rattle.zanz.proofs.Stopping.{done_run, run_stops, done_service, service_stops}
 use Rattle.zanz.proofs.command.obey.Goals as goal
 
 pub returns-in-Ok-clause-done : goal.returns-in-Ok-clause-done
