@@ -59,19 +59,40 @@ def missing_in(crates, cell):
 
 
 def rows_of(file):
-    """The lines of a file's tables of crates: the crates and the last column."""
+    """What a file's table of crates, or its headings of crates, name: the crates, and the last column or what stands after `By`."""
     crates = []
     with open(f"{ROOT}/{file}", encoding="utf-8") as it:
-        for line in it:
-            cells = [cell.strip() for cell in line.strip().strip("|").split("|")]
-            if len(cells) != 3 or not line.startswith("|"):
-                continue
-            named = NAME.findall(cells[0])
-            if cells[0] and not named:
-                crates = []
-            crates = named or crates
-            if crates and all(os.path.isdir(f"{ROOT}/crates/{name}") for name in crates):
-                yield crates, cells[2]
+        text = it.read()
+    for line in [*table_rows(text), *promises_by(text)]:
+        named = NAME.findall(line[0])
+        if line[0] and not named:
+            crates = []
+        crates = named or crates
+        if crates and all(os.path.isdir(f"{ROOT}/crates/{name}") for name in crates):
+            yield crates, line[1]
+
+
+def table_rows(text):
+    """The first and the last cell of each line of three cells."""
+    for line in re.findall(r"(?m)^\|.*$", text):
+        cells = [cell.strip() for cell in line.strip().strip("|").split("|")]
+        if len(cells) == 3:
+            yield cells[0], cells[2]
+
+
+def promises_by(text):
+    """For each heading of third rank, the heading and what stands after `- By` below it."""
+    for part in re.split(r"(?m)^(?=#+ )", text):
+        heading, _, rest = part.partition("\n")
+        if heading.startswith("### "):
+            for item in items_of(rest, "  - By "):
+                yield heading[4:], item
+
+
+def items_of(text, mark):
+    """The items of a list that begin with the mark, each on one line."""
+    for item in re.findall(rf"(?m)^{re.escape(mark)}(.*(?:\n {{4}}.*)*)", text):
+        yield re.sub(r"\s+", " ", item)
 
 
 def bodies_missing():
