@@ -1,12 +1,14 @@
 #!/usr/bin/env python3
-"""Sees that each function, clause and definition that PROMISES.md and the README's table name is there, each wrong body that WRONG.md names, and each file that a document names or links to.
+"""Sees that each function, clause and definition that PROMISES.md and README's table name is there, each wrong body that WRONG.md names, and each file that a document names or links to.
 
 usage: docs/promises.py
 
-In the last column of a line of the table, a group is functions and types, then a colon and clauses of one of them: `Desk::open`: `posted`, `kept` (`Agrees`). A function must stand in src/ of a
-crate of that line, a clause in a contract of one of the group's functions, and a definition, which begins with a capital, there or in the crate's specs/. In WRONG.md a group is a crate, a colon, and wrong bodies: files of its wrong/ or must-fail/.
-In every document a link leads to a file, and to a heading of it where it says so; a name in code quotes that has the form of a file of a crate (`crates/zanz/stdin`, `zanz/specs/Ran.antt`) or of this
-repository (`docs/promises.py`, `.ci/run`) is one. After a file of a crate further ones may stand with their names alone. Ends with status 1 where a name is missing.
+What carries a promise stands in the last column of a line of README's table, or after `By` below a heading of PROMISES.md. There a group is functions and types, then a colon and clauses of one of
+them: `Desk::open`: `posted`, `kept` (`Agrees`). A function must stand in src/ of a crate of that line or heading, a clause in a contract of one of the group's functions, and a definition, which begins
+with a capital, there or in the crate's specs/. After `Wrong body` and `Test` in WRONG.md a group is crates, a colon, and wrong bodies of one of them: files of its wrong/ or must-fail/; of a crate of
+tests it is their functions.
+In every document a link leads to a file, and to a heading of it where it says so; a name in code quotes that has the form of a file of a crate (`crates/zanz/stdin`, `zanz/specs/Ran.antt`) or of
+this repository (`docs/promises.py`, `.ci/run`) is one. After a file of a crate further ones may stand with their names alone. Ends with status 1 where a name is missing.
 """
 import os
 import re
@@ -96,17 +98,25 @@ def items_of(text, mark):
 
 
 def bodies_missing():
-    """The wrong bodies that WRONG.md names and no crate has."""
+    """The wrong bodies, and the tests of crates, that WRONG.md names and no crate has."""
     with open(f"{ROOT}/docs/WRONG.md", encoding="utf-8") as it:
-        cells = [line.strip().strip("|").split("|")[-1] for line in it if line.startswith("|")]
-    for group in (group for cell in cells for group in cell.split(";")):
-        crate, _, bodies = group.partition(": ")
-        crate = crate.strip().strip("`")
-        if not os.path.isdir(f"{ROOT}/crates/{crate}") or crate.endswith("_tests"):
-            continue
-        for body in NAME.findall(bodies):
-            if not any(os.path.isfile(f"{ROOT}/crates/{crate}/{folder}/{body}.edit") for folder in ("wrong", "must-fail")):
-                yield f"{crate} has no wrong body `{body}`"
+        text = it.read()
+    marks = ("  - Wrong body: ", "  - Wrong body and test: ", "  - Test: ")
+    for item in (item for mark in marks for item in items_of(text, mark)):
+        crates = []
+        for group in item.split(";"):
+            head, colon, names = group.partition(": ")
+            crates, names = (NAME.findall(head), names) if colon else (crates, group)
+            for name in NAME.findall(names):
+                if crates and not os.path.exists(f"{ROOT}/{name}") and not any(has_body(crate, name) for crate in crates):
+                    yield f"{', '.join(crates)} has no wrong body or test `{name}`"
+
+
+def has_body(crate, name):
+    """Whether the crate has a wrong body of that name, or a crate of tests a function."""
+    if crate.endswith("_tests"):
+        return bool(re.search(rf"\bfn {re.escape(name)}\b", text_of(crate, "src", ".rt")))
+    return any(os.path.isfile(f"{ROOT}/crates/{crate}/{folder}/{name}.edit") for folder in ("wrong", "must-fail"))
 
 
 def documents():
