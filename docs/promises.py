@@ -3,10 +3,10 @@
 
 usage: docs/promises.py
 
-What carries a promise stands in the last column of a line of README's table, or after `By` below a heading of PROMISES.md. There a group is functions and types, then a colon and clauses of one of
-them: `Desk::open`: `posted`, `kept` (`Agrees`). A function must stand in src/ of a crate of that line or heading, a clause in a contract of one of the group's functions, and a definition, which begins
-with a capital, there or in the crate's specs/. After `Wrong body` and `Test` in WRONG.md a group is crates, a colon, and wrong bodies of one of them: files of its wrong/ or must-fail/; of a crate of
-tests it is their functions.
+What carries a promise stands in the last column of a line of README's table, or after `By` below a heading of PROMISES.md. There a group is functions and types, then a colon and
+clauses of one of them: `Desk::open`: `posted`, `kept` (`Agrees`). A function must stand in src/ of a crate of that line or heading, a clause in a contract of one of the group's
+functions, and a definition, which begins with a capital, there or in the crate's specs/. After `Wrong body` and `Test` in WRONG.md a group is crates, a colon, and wrong bodies of one
+of them: files of its wrong/ or must-fail/; of a crate of tests it is their functions.
 In every document a link leads to a file, and to a heading of it where it says so; a name in code quotes that has the form of a file of a crate (`crates/zanz/stdin`, `zanz/specs/Ran.antt`) or of
 this repository (`docs/promises.py`, `.ci/run`) is one. After a file of a crate further ones may stand with their names alone. Ends with status 1 where a name is missing.
 """
