@@ -40,7 +40,8 @@ pub fn run_in<P: Start, H: Wait + Drop, R: Read, W: Write>(
     requires unbroken_reader { reader.old.failed ≡ false }
     requires unbroken_writer { writer.old.failed ≡ false }
 
-    // All that was there was read, each line answered, and the answers handed on, each before more was read for.
+    // All that was there was read, each line answered, and the answers handed on. Here and below none was held back: at
+    // each read, also of one that failed, each whole line of what was read before had its answer, handed on.
     ensures ok { OnOk result.0 ((input : List ℕ) × ReadsAll R.remaining reader.old reader.new input × IsOkAnd result.1
         (EndedOver over_files (BeginsIn (image_at P.Start) store) input
             (ServedBy (over over_files) W.contents (reader.old, writer.old) input (reader.new, writer.new)))) }

@@ -31,7 +31,8 @@ pub fn run<T: Tables + Drop, H: Wait + Drop, R: Read, W: Write>(
     requires unbroken_reader { reader.old.failed ≡ false }
     requires unbroken_writer { writer.old.failed ≡ false }
 
-    // All that was there was read, each line answered, and the answers handed on, each before more was read for.
+    // All that was there was read, each line answered, and the answers handed on. Here and below none was held back: at
+    // each read, also of one that failed, each whole line of what was read before had its answer, handed on.
     ensures ok { OnOk result.0 ((input : List ℕ) × ReadsAll R.remaining reader.old reader.new input
         × Ended T.Tables tables input (ServedBy T.Tables W.contents (reader.old, writer.old) input (reader.new, writer.new)) result.1) }
     ensures flushed { OnOk result.0 (writer.new.flushed ≡ true) }
@@ -78,7 +79,8 @@ fn serve<T: Tables + Drop, H: Wait + Drop, R: Read, W: Write>(
     requires unbroken_reader { reader.old.failed ≡ false }
     requires unbroken_writer { writer.old.failed ≡ false }
 
-    // All that was there was read, each line answered, and the answers handed on, each before more was read for.
+    // All that was there was read, each line answered, and the answers handed on. Here and below none was held back: at
+    // each read, also of one that failed, each whole line of what was read before had its answer, handed on.
     ensures ok { OnOk result ((input : List ℕ) × ReadsAll R.remaining reader.old reader.new input
         × ServedBy T.Tables W.contents (reader.old, writer.old) input (reader.new, writer.new) answering.old answering.new) }
     ensures flushed { OnOk result (writer.new.flushed ≡ true) }
