@@ -12,7 +12,7 @@ use Rattle.keeper_core.specs.Posts.{Posts, Agrees, ComesBack}
 use Rattle.keeper.specs.Rules.{DeskStep}
 use Rattle.http_api.specs.Text.{lines_of}
 use Rattle.http_api.specs.Machine.{Run}
-use Rattle.tracked_io.specs.Tracking.{TrackedWriting}
+use Rattle.tracked_io.specs.Tracking.{TrackedReading, TrackedWriting}
 use Rattle.runs.specs.Runs.{Began, Ended, ServedBy, PausedBy, CutBy, IsAskedIn, kept_by}
 use Rattle.runs.specs.inside.Leaving.{HasLeft, Answered}
 use Rattle.runs.proofs.Leaving.{Weaker, after_run}
@@ -57,17 +57,17 @@ module _ {T : Type 0} (g : Ghosts T) (weaker : Weaker g) (tables : T) (first las
       → HasLeft g (IsAskedIn (lines_of input)) (g.device first.tables) last
   ran input lines text asked run = after_run g weaker (IsAskedIn (lines_of input)) (g.device first.tables) lines first text last asked run (starts (IsAskedIn (lines_of input)))
 
-  pub ended_served : {W : Type 0} (contents : W → Option (List ℕ)) (old new : TrackedWriting W) (input : List ℕ) → ServedBy g contents old input new first last
-      → Ended g tables input (ServedBy g contents old input new) left
-  ended_served contents old new input v = ended input _ (ran input (lines_of input) v.text (λ c is. is) v.run) v
+  module _ {R W : Type 0} (contents : W → Option (List ℕ)) (old new : TrackedReading R × TrackedWriting W) (input : List ℕ) where
+    pub ended_served : ServedBy g contents old input new first last → Ended g tables input (ServedBy g contents old input new) left
+    ended_served v = ended input _ (ran input (lines_of input) v.served.text (λ c is. is) v.served.run) v
 
-  pub ended_paused : {W : Type 0} (contents : W → Option (List ℕ)) (old new : TrackedWriting W) (input : List ℕ) → PausedBy g contents old input new first last
-      → Ended g tables input (PausedBy g contents old input new) left
-  ended_paused contents old new input v = ended input _ (ran input v.fed.lines v.text (asked_fed (DeskStep g) first input v.rest v.text last v.fed) v.fed.run) v
+    pub ended_paused : PausedBy g contents old input new first last → Ended g tables input (PausedBy g contents old input new) left
+    ended_paused v =
+        let fed = v.paused.fed in
+        ended input _ (ran input fed.lines v.paused.text (asked_fed (DeskStep g) first input v.paused.rest v.paused.text last fed) fed.run) v
 
-  pub ended_cut : {W : Type 0} (contents : W → Option (List ℕ)) (old new : TrackedWriting W) (input : List ℕ) → CutBy g contents old input new first last
-      → Ended g tables input (CutBy g contents old input new) left
-  ended_cut contents old new input v = ended input _ (ran input (take v.count (lines_of input)) v.text (asked_first v.count (lines_of input)) v.run) v
+    pub ended_cut : CutBy g contents old input new first last → Ended g tables input (CutBy g contents old input new) left
+    ended_cut v = ended input _ (ran input (take v.cut.count (lines_of input)) v.cut.text (asked_first v.cut.count (lines_of input)) v.cut.run) v
 
 -- nothing was done, and the tables are given back
 pub comes_back : {T : Type 0} (g : Ghosts T) (tables : T) (first last : Posts T) (left : T) → ComesBack g tables first.tables → last ≡ first → left ≡ last.tables → ComesBack g tables left

@@ -2,7 +2,6 @@ pub mod Found
 pub mod Given
 pub mod Imaged
 pub mod Left
-pub mod Seen
 pub mod Asked
 pub mod Leaving
 pub mod Results

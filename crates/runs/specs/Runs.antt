@@ -23,8 +23,8 @@ use Rattle.keeper_core.specs.Posts.{Posts, Agrees, OpensWith, ComesBack}
 use Rattle.keeper_core.specs.Changes.{IsCommitOf}
 use Rattle.keeper.specs.Rules.{DeskStep}
 use Rattle.http_api.specs.Text.{lines_of, word_of, body_of}
-use Rattle.http_api.specs.Served.{Served, Paused, Cut}
-use Rattle.tracked_io.specs.Tracking.{TrackedWriting}
+use Rattle.http_api.specs.Served.{Served, Paused, Cut, PausedAtEachRead}
+use Rattle.tracked_io.specs.Tracking.{TrackedReading, TrackedWriting}
 use Rattle.tasks.specs.declared.fault.Fault.{Fault}
 use Rattle.tasks.specs.declared.fault.Fault.TheVariants.{CannotRead, CannotWrite}
 
@@ -77,17 +77,21 @@ IsAskedIn (line ∷ lines) change = LineAsks line change ⊎ IsAskedIn lines cha
 
 -- ---- what was written
 
--- each line of the input was answered, and the answers written
-abbrev pub ServedBy : {T W : Type 0} → Ghosts T → (W → Option (List ℕ)) → TrackedWriting W → List ℕ → TrackedWriting W → Posts T → Posts T → Type 0
-ServedBy g contents old input new first last = Served (DeskStep g) first (contents old.inner) input last (contents new.inner)
+-- Each line of the input was answered, and the answers written. None was held back: at each read, the lines that had ended in what
+-- was read before were answered, and the answers handed on.
+pub record ServedBy {T R W : Type 0} (g : Ghosts T) (contents : W → Option (List ℕ)) (old : TrackedReading R × TrackedWriting W) (input : List ℕ) (new : TrackedReading R × TrackedWriting W) (first last : Posts T) : Type 0 where
+  pub served : Served (DeskStep g) first (contents old.1.inner) input last (contents new.1.inner)
+  pub each_read : PausedAtEachRead (DeskStep g) first (contents old.1.inner) old.0 new.0
 
 -- the same of the lines that end in the input
-abbrev pub PausedBy : {T W : Type 0} → Ghosts T → (W → Option (List ℕ)) → TrackedWriting W → List ℕ → TrackedWriting W → Posts T → Posts T → Type 0
-PausedBy g contents old input new first last = Paused (DeskStep g) first (contents old.inner) input last (contents new.inner)
+pub record PausedBy {T R W : Type 0} (g : Ghosts T) (contents : W → Option (List ℕ)) (old : TrackedReading R × TrackedWriting W) (input : List ℕ) (new : TrackedReading R × TrackedWriting W) (first last : Posts T) : Type 0 where
+  pub paused : Paused (DeskStep g) first (contents old.1.inner) input last (contents new.1.inner)
+  pub each_read : PausedAtEachRead (DeskStep g) first (contents old.1.inner) old.0 new.0
 
 -- the same of some first lines, of whose answers a beginning was written
-abbrev pub CutBy : {T W : Type 0} → Ghosts T → (W → Option (List ℕ)) → TrackedWriting W → List ℕ → TrackedWriting W → Posts T → Posts T → Type 0
-CutBy g contents old input new first last = Cut (DeskStep g) first (contents old.inner) input last (contents new.inner)
+pub record CutBy {T R W : Type 0} (g : Ghosts T) (contents : W → Option (List ℕ)) (old : TrackedReading R × TrackedWriting W) (input : List ℕ) (new : TrackedReading R × TrackedWriting W) (first last : Posts T) : Type 0 where
+  pub cut : Cut (DeskStep g) first (contents old.1.inner) input last (contents new.1.inner)
+  pub each_read : PausedAtEachRead (DeskStep g) first (contents old.1.inner) old.0 new.0
 
 -- ---- what is left
 

@@ -1,8 +1,10 @@
 //! A desk that serves a connection over HTTP.
 ghost use Rattle.std.specs.Prelude.{ℕ, ◌≡◌, ◌⊎◌, List, true, false};
 ghost use Rattle.tracked_io.specs.Tracking.{Reads, ReadsAll};
+ghost use Rattle.keeper.specs.Rules.{DeskStep};
 ghost use Rattle.http_api.specs.Ends.{is_read_fault, is_write_fault};
 ghost use Rattle.http_api.specs.Routes.{table};
+ghost use Rattle.http_api.specs.Talks.{TalkedAtEachRead};
 ghost use Rattle.runs.specs.Connections.{Serves, TalkedBy, TalkedSoFarBy, TalkCutBy, StaysServing};
 
 use crate::answering::Answering;
@@ -52,6 +54,9 @@ pub fn talk<T: Tables + Drop, H: Wait + Drop, R: Read, W: Write>(
     // Some first requests of what was read were answered, and a beginning of the text was written.
     ensures write_fault { result ≡ End.WriteFault → (input : List ℕ) × Reads R.remaining reader.old reader.new input
         × Serves T.Tables input (TalkCutBy T.Tables W.contents writer.old input writer.new) answering.old answering.new }
+
+    // At each read, also of one that failed, each whole request of what was read before had its reply, handed on.
+    ensures each_read { TalkedAtEachRead (DeskStep T.Tables) answering.old (W.contents writer.old.inner) reader.old reader.new }
 
     // A fault is told exactly where the reader or the writer failed in the call.
     ensures read_failed { reader.new.failed ≡ is_read_fault result }

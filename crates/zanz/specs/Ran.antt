@@ -38,7 +38,8 @@ pub data Extent : Type 0 where
   -- some first ones, and a beginning of the answers was written
   first_lines : Extent
 
-abbrev pub AnsweredBy : {T W : Type 0} → Extent → tables.Ghosts T → (W → Option (List ℕ)) → TrackedWriting W → List ℕ → TrackedWriting W → Posts T → Posts T → Type 0
+-- so many were, by a desk, and none was held back while more was read for
+abbrev pub AnsweredBy : {T R W : Type 0} → Extent → tables.Ghosts T → (W → Option (List ℕ)) → TrackedReading R × TrackedWriting W → List ℕ → TrackedReading R × TrackedWriting W → Posts T → Posts T → Type 0
 AnsweredBy all_lines g contents old input new = ServedBy g contents old input new
 AnsweredBy whole_lines g contents old input new = PausedBy g contents old input new
 AnsweredBy first_lines g contents old input new = CutBy g contents old input new
@@ -57,7 +58,7 @@ CannotBeginAt image (There file) = CannotBeginIn image None
 
 -- Answered were lines of the input, by a desk over the tables of the place: in memory those of an empty store; in a file
 -- those of a new store, or of the history that the file held. A file's connection is left, with the history that was posted.
-abbrev pub EndedAt : {W D : Type 0} {g : disk.Ghosts D} → Image → Extent → Place → (W → Option (List ℕ)) → TrackedWriting W → List ℕ → TrackedWriting W → Remains g → Type 0
+abbrev pub EndedAt : {R W D : Type 0} {g : disk.Ghosts D} → Image → Extent → Place → (W → Option (List ℕ)) → TrackedReading R × TrackedWriting W → List ℕ → TrackedReading R × TrackedWriting W → Remains g → Type 0
 EndedAt image extent (Memory number) contents old input new left = (left ≡ Err None) × (back : Retained) × Ended listed (empty_store number) input (AnsweredBy extent listed contents old input new) back
 EndedAt image extent (New file number) contents old input new left = IsOkAnd left (EndedOver over_files (BeginsIn image (Some number)) input (AnsweredBy extent (over over_files) contents old input new))
 EndedAt image extent (There file) contents old input new left = IsOkAnd left (EndedOver over_files (BeginsIn image None) input (AnsweredBy extent (over over_files) contents old input new))
@@ -68,7 +69,7 @@ pub record RanAt {R W D : Type 0} {g : disk.Ghosts D} (image : Image) (extent : 
     (old new : TrackedReading R × TrackedWriting W) (left : Remains g) : Type 0 where
   pub input : List ℕ
   pub read : ReadBy extent remaining old.0 new.0 input
-  pub ended : EndedAt image extent place contents old.1 input new.1 left
+  pub ended : EndedAt image extent place contents old input new left
   pub began : IfOk left (λ conn. HasCleanDisk (file_state conn) → ¬ (CannotBeginAt image place))
   pub lasts : IfOk left (λ conn. Lasts sound_device (device_below over_files conn))
 

@@ -28,6 +28,9 @@ pub returns-clause-write_fault : goal.returns-clause-write_fault
 returns-clause-write_fault g c = λ is. let h = c.serve_by.ensures.write_fault is in
     (h.0, h.1, serves_cut g.T.Tables g.met.T.Tables.weaker h.0 _ _ _ _ _ h.2 h.2)
 
+pub returns-clause-each_read : goal.returns-clause-each_read
+returns-clause-each_read g c = c.serve_by.ensures.each_read
+
 pub returns-clause-goes_on : goal.returns-clause-goes_on
 returns-clause-goes_on g c =
     let w = g.met.T.Tables.weaker in
