@@ -1,8 +1,9 @@
 //! Calls of a history that the program does not make yet.
 
+use crate::histories::{history, written};
 use config::Config;
-use names::{Commit, Event, EventKind, Items, Node, Object, Op, OpKind, Refusal, Tuple};
-use rows::{Rows, events_of};
+use names::{Commit, EventKind, Node, Object, Refusal, Tuple};
+use rows::Rows;
 use std::alloc::{AllocError, Global};
 use std::test::Fail;
 use tuple_keys::TupleRef;
@@ -12,53 +13,27 @@ const CONFIG: &str =
 
 const ANN: &str = "doc:a#viewer@u:ann";
 
-fn event(alloc: Global, kind: EventKind) -> Result<Commit<Config>, Refusal> {
-    let tuple = Tuple::parse(ANN)?;
-    let mut events = Vec::new(alloc);
-    events.push(Event { tuple, kind })?;
-    Ok(Commit::Tuples(Items::of(events)))
-}
-
-fn configuration(alloc: Global) -> Result<Commit<Config>, Refusal> {
-    Ok(Commit::Config(Config::from_json(alloc, CONFIG.as_bytes())?))
-}
-
-// A commit that touches the tuples.
-fn touches(alloc: Global, words: &str) -> Result<Commit<Config>, Refusal> {
-    let mut ops = Vec::new(alloc);
-    for word in words.split_ascii_whitespace() {
-        let tuple = Tuple::parse(word)?;
-        ops.push(Op {
-            kind: OpKind::Touch,
-            tuple,
-        })?;
-    }
-    Ok(Commit::Tuples(events_of(Items::of(ops))?))
-}
-
-fn is_committed(rows: &mut Rows, commit: &Commit<Config>) -> Result<bool, AllocError> {
-    if rows.refuses(commit)? {
-        return Ok(false);
-    }
-    rows.admits_its_tuples();
-    rows.commit(commit)?;
-    Ok(true)
-}
+const NO_ANN: &str = "-doc:a#viewer@u:ann";
 
 // The configuration, a put of ann, and a delete.
-fn three_commits(alloc: Global) -> Result<Rows, Refusal> {
-    let mut rows = Rows::empty(alloc);
-    let _ = is_committed(&mut rows, &configuration(alloc)?)?;
-    let _ = is_committed(&mut rows, &event(alloc, EventKind::Put)?)?;
-    let _ = is_committed(&mut rows, &event(alloc, EventKind::Del)?)?;
-    Ok(rows)
+const THREE: [&str; 3] = [CONFIG, ANN, NO_ANN];
+
+// And a write.
+const FOUR: [&str; 4] = [CONFIG, ANN, NO_ANN, PLACES];
+
+fn refuses(alloc: Global, rows: &Rows, words: &str) -> Result<bool, Refusal> {
+    Ok(rows.refuses(&written(alloc, words)?)?)
+}
+
+fn refuses_two(alloc: Global, rows: &Rows) -> Result<bool, Refusal> {
+    let gone = refuses(alloc, rows, NO_ANN)?;
+    let twice = refuses(alloc, rows, "doc:b#viewer@u:b doc:b#viewer@u:b")?;
+    Ok(gone && twice && !refuses(alloc, rows, ANN)?)
 }
 
 fn refuses_both(alloc: Global) -> Result<bool, Refusal> {
-    let rows = three_commits(alloc)?;
-    let gone = rows.refuses(&event(alloc, EventKind::Del)?)?;
-    let twice = rows.refuses(&touches(alloc, "doc:b#viewer@u:b doc:b#viewer@u:b")?)?;
-    Ok(gone && twice && !rows.refuses(&event(alloc, EventKind::Put)?)?)
+    let rows = history(alloc, &THREE)?;
+    refuses_two(alloc, &rows)
 }
 
 #[test]
@@ -94,18 +69,25 @@ fn lists_of(alloc: Global, rows: &Rows, node: &str, words: &str) -> Result<bool,
     Ok(found == tuples_in(alloc, words)?)
 }
 
-fn lists_nodes(alloc: Global) -> Result<bool, Refusal> {
-    let mut rows = three_commits(alloc)?;
-    let none = lists(alloc, &rows, "")? && lists_of(alloc, &rows, "doc:b#viewer", "")?;
-    let came = is_committed(&mut rows, &touches(alloc, PLACES)?)?;
-    let all = lists(alloc, &rows, IN_ORDER)?;
-    let of_b = lists_of(alloc, &rows, "doc:b#viewer", OF_B)?;
-    Ok(none && came && all && of_b && lists_of(alloc, &rows, "doc:b#owner", "")?)
+// Whether all of them, and those of two nodes, are listed so.
+fn lists_both(alloc: Global, rows: &Rows, all: &str, of_b: &str) -> Result<bool, Refusal> {
+    let found = lists(alloc, rows, all)? && lists_of(alloc, rows, "doc:b#viewer", of_b)?;
+    Ok(found && lists_of(alloc, rows, "doc:b#owner", "")?)
+}
+
+fn lists_none(alloc: Global) -> Result<bool, Refusal> {
+    let rows = history(alloc, &THREE)?;
+    lists_both(alloc, &rows, "", "")
+}
+
+fn lists_places(alloc: Global) -> Result<bool, Refusal> {
+    let rows = history(alloc, &FOUR)?;
+    lists_both(alloc, &rows, IN_ORDER, OF_B)
 }
 
 #[test]
 fn tuples_are_listed_in_order(rt: HostRuntime) -> Result<(), Fail> {
-    assert!(rt; lists_nodes(rt.alloc())?);
+    assert!(rt; lists_none(rt.alloc())? && lists_places(rt.alloc())?);
     Ok(())
 }
 
@@ -137,30 +119,33 @@ fn few_are(
     })
 }
 
-fn lists_few(alloc: Global) -> Result<bool, Refusal> {
-    let mut rows = three_commits(alloc)?;
-    let came = is_committed(&mut rows, &touches(alloc, PLACES)?)?;
-    let five = few_are(alloc, &rows, "doc:b", 5, Some(AT_B))?;
-    let four = few_are(alloc, &rows, "doc:b", 4, None)?;
-    let next = few_are(alloc, &rows, "doc:b-", 1, Some("doc:b-#viewer@u:a"))?;
-    let last = few_are(alloc, &rows, "doc:c", 1, Some("doc:c#viewer@u:a"))?;
-    let none = few_are(alloc, &rows, "doc:d", 0, Some(""))?;
-    Ok(came && five && four && next && last && none)
+fn lists_few(alloc: Global, rows: &Rows) -> Result<bool, Refusal> {
+    let five = few_are(alloc, rows, "doc:b", 5, Some(AT_B))?;
+    let four = few_are(alloc, rows, "doc:b", 4, None)?;
+    let next = few_are(alloc, rows, "doc:b-", 1, Some("doc:b-#viewer@u:a"))?;
+    let last = few_are(alloc, rows, "doc:c", 1, Some("doc:c#viewer@u:a"))?;
+    Ok(five && four && next && last && few_are(alloc, rows, "doc:d", 0, Some(""))?)
 }
 
 // The tuple of ann was deleted, and is gone over with the other.
-fn goes_over_deleted(alloc: Global) -> Result<bool, Refusal> {
-    let mut rows = three_commits(alloc)?;
-    let alone = few_are(alloc, &rows, "doc:a", 1, Some(""))?;
-    let came = is_committed(&mut rows, &touches(alloc, PLACES)?)?;
-    let two = few_are(alloc, &rows, "doc:a", 2, Some("doc:a#viewer@u:a"))?;
-    Ok(alone && came && two && few_are(alloc, &rows, "doc:a", 1, None)?)
+fn goes_over_deleted(alloc: Global, rows: &Rows) -> Result<bool, Refusal> {
+    let two = few_are(alloc, rows, "doc:a", 2, Some("doc:a#viewer@u:a"))?;
+    Ok(two && few_are(alloc, rows, "doc:a", 1, None)?)
+}
+
+fn goes_over_none(alloc: Global) -> Result<bool, Refusal> {
+    let rows = history(alloc, &THREE)?;
+    few_are(alloc, &rows, "doc:a", 1, Some(""))
+}
+
+fn goes_over_few(alloc: Global) -> Result<bool, Refusal> {
+    let rows = history(alloc, &FOUR)?;
+    Ok(lists_few(alloc, &rows)? && goes_over_deleted(alloc, &rows)?)
 }
 
 #[test]
 fn the_tuples_of_an_object_are_listed_where_they_are_few(rt: HostRuntime) -> Result<(), Fail> {
-    assert!(rt; lists_few(rt.alloc())?);
-    assert!(rt; goes_over_deleted(rt.alloc())?);
+    assert!(rt; goes_over_none(rt.alloc())? && goes_over_few(rt.alloc())?);
     Ok(())
 }
 
@@ -172,15 +157,15 @@ fn is_unchanged(rows: &Rows, tuple: &Tuple, rev: u64) -> bool {
     rev >= rows.floor() && rows.is_unchanged(tuple, rev)
 }
 
-fn changes_last_at(alloc: Global, word: &str, rev: u64) -> Result<bool, Refusal> {
-    let rows = three_commits(alloc)?;
+fn changes_last_at(rows: &Rows, word: &str, rev: u64) -> Result<bool, Refusal> {
     let tuple = Tuple::parse(word)?;
-    let before = rev > 0 && is_unchanged(&rows, &tuple, rev - 1);
-    Ok(!before && is_unchanged(&rows, &tuple, rev))
+    let before = rev > 0 && is_unchanged(rows, &tuple, rev - 1);
+    Ok(!before && is_unchanged(rows, &tuple, rev))
 }
 
 fn change_last(alloc: Global) -> Result<bool, Refusal> {
-    Ok(changes_last_at(alloc, ANN, 3)? && changes_last_at(alloc, "doc:a#viewer@u:bob", 0)?)
+    let rows = history(alloc, &THREE)?;
+    Ok(changes_last_at(&rows, ANN, 3)? && changes_last_at(&rows, "doc:a#viewer@u:bob", 0)?)
 }
 
 #[test]
@@ -205,7 +190,7 @@ fn has(rows: &Rows, floor: u64, newest: u64, spans: u64, tuples: u64) -> bool {
 
 fn is_trimmed(alloc: Global) -> Result<bool, Refusal> {
     let ann = Tuple::parse(ANN)?;
-    let mut rows = three_commits(alloc)?;
+    let mut rows = history(alloc, &THREE)?;
     let whole = has(&rows, 0, 3, 1, 0);
     trims(&mut rows, 2);
     let kept = has(&rows, 2, 3, 1, 0) && holds_at(&rows, 2, &ann) && !holds_at(&rows, 3, &ann);
@@ -227,7 +212,7 @@ fn goes_back(rows: &mut Rows) {
 
 fn is_taken_back(alloc: Global) -> Result<bool, Refusal> {
     let ann = Tuple::parse(ANN)?;
-    let mut rows = three_commits(alloc)?;
+    let mut rows = history(alloc, &THREE)?;
     goes_back(&mut rows);
     let there = has(&rows, 0, 2, 1, 1) && holds_at(&rows, 2, &ann);
     goes_back(&mut rows);
@@ -271,16 +256,26 @@ fn brought(
     rows.events(alloc, from, to)
 }
 
+fn brings_all(alloc: Global, rows: &Rows, ann: &Tuple) -> Result<bool, AllocError> {
+    let all = brought(alloc, rows, 0, 3)?;
+    Ok(match all.as_slice() {
+        [config, put, _] => is_configuration(config) && is_on_ann(put, ann, EventKind::Put),
+        _ => false,
+    })
+}
+
+fn brings_last(alloc: Global, rows: &Rows, ann: &Tuple) -> Result<bool, AllocError> {
+    let last = brought(alloc, rows, 2, 3)?;
+    Ok(match last.as_slice() {
+        [del] => is_on_ann(del, ann, EventKind::Del),
+        _ => false,
+    })
+}
+
 fn brings_back(alloc: Global) -> Result<bool, Refusal> {
     let ann = Tuple::parse(ANN)?;
-    let rows = three_commits(alloc)?;
-    let all = brought(alloc, &rows, 0, 3)?;
-    let last = brought(alloc, &rows, 2, 3)?;
-    let first = match all.as_slice() {
-        [config, put, _] => is_configuration(config) && is_on_ann(put, &ann, EventKind::Put),
-        _ => false,
-    };
-    Ok(first && last.iter().all(|c| is_on_ann(c, &ann, EventKind::Del)) && last.len() == 1)
+    let rows = history(alloc, &THREE)?;
+    Ok(brings_all(alloc, &rows, &ann)? && brings_last(alloc, &rows, &ann)?)
 }
 
 #[test]
@@ -297,16 +292,18 @@ fn last_between(rows: &Rows, from: u64, to: u64) -> u64 {
     rows.last_config(99, from, to)
 }
 
+fn finds_the_first(alloc: Global) -> Result<bool, Refusal> {
+    let rows = history(alloc, &THREE)?;
+    Ok(last_between(&rows, 0, 3) == 1 && last_between(&rows, 1, 3) == 99)
+}
+
 fn finds_the_last(alloc: Global) -> Result<bool, Refusal> {
-    let mut rows = three_commits(alloc)?;
-    let first = last_between(&rows, 0, 3) == 1 && last_between(&rows, 1, 3) == 99;
-    let came = is_committed(&mut rows, &configuration(alloc)?)?;
-    let second = last_between(&rows, 0, 4) == 4 && last_between(&rows, 2, 3) == 99;
-    Ok(first && came && second)
+    let rows = history(alloc, &[CONFIG, ANN, NO_ANN, CONFIG])?;
+    Ok(last_between(&rows, 0, 4) == 4 && last_between(&rows, 2, 3) == 99)
 }
 
 #[test]
 fn the_last_configuration_is_found(rt: HostRuntime) -> Result<(), Fail> {
-    assert!(rt; finds_the_last(rt.alloc())?);
+    assert!(rt; finds_the_first(rt.alloc())? && finds_the_last(rt.alloc())?);
     Ok(())
 }

@@ -2,7 +2,7 @@
 
 use crate::choices::{Policy, nodes_of, users};
 use crate::dice::Dice;
-use crate::histories::{follow, grow};
+use crate::growth::{follow, grow};
 use config::Config;
 use decide::{Nothing, check_at};
 use names::{Commit, Node, Object, Refusal};

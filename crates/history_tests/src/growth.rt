@@ -2,6 +2,7 @@
 
 use crate::choices::any_tuple;
 use crate::dice::Dice;
+use crate::histories::is_committed;
 use config::Config;
 use names::{Commit, EventKind, Items, Op, OpKind, Refusal};
 use rows::{Rows, events_of};
@@ -10,16 +11,6 @@ use std::alloc::{AllocError, Global};
 
 /// How many commits a history has, the configuration among them.
 pub(crate) const COMMITS: u64 = 10;
-
-// Whether the commit can follow, and did.
-fn is_committed(rows: &mut Rows, commit: &Commit<Config>) -> Result<bool, AllocError> {
-    if rows.refuses(commit)? {
-        return Ok(false);
-    }
-    rows.admits_its_tuples();
-    rows.commit(commit)?;
-    Ok(true)
-}
 
 /// Makes the commit's changes.
 pub(crate) fn follow(
