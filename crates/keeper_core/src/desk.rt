@@ -25,7 +25,7 @@ ghost use Rattle.published.specs.Known.{Begins};
 ghost use Rattle.keeper_core.specs.TableChanges.{Adds, Raises};
 ghost use Rattle.keeper_core.specs.Posts.{Agrees, OpensWith, ComesBack, FailsToLoad, SameTables, ShowsMore, PostsStep, newest_posted, shown_by};
 ghost use Rattle.keeper_core.specs.Changes.{Tells, TellsShown, IsStored, WriteAccepted, ConfigAccepted, CatchUpAccepted, TrimAccepted, IsRefused, IsCommitOfWrite, IsRaiseTo, IsNoChange, CatchUpJudged, receipt_at};
-ghost use Rattle.keeper_core.specs.inside.Posting.{IsMemory};
+ghost use Rattle.keeper_core.specs.inside.Posting.{NoCause};
 
 use crate::latched_tables::{LatchedTables, load};
 use crate::opening::publish_first;
@@ -382,7 +382,7 @@ impl<T: Tables + Drop, R: Wait + Drop> Desk<T, R> {
         ensures tells { IfOk result (λ receipt. Tells receipt self.new) }
         ensures stored { OnOk result (IsStored T.Tables self.old self.new) }
         ensures err { IfErr result (λ why.
-            IsRefused T.Tables self.old (λ made. made ≡ Adds commit) IsMemory why self.new) }
+            IsRefused T.Tables self.old (λ made. made ≡ Adds commit) NoCause why self.new) }
         ensures seats { self.new.seats ≡ self.old.seats }
     {
         let kept = KeptCommit::of(self.alloc, &commit)?;
@@ -425,7 +425,7 @@ impl<T: Tables + Drop, R: Wait + Drop> Desk<T, R> {
             posted.value ≡ (standing self.new.posted).kept.floor) }
         ensures tells { IfOk result (λ posted. TellsShown posted.receipt self.new) }
         ensures err { IfErr result (λ why.
-            IsRefused T.Tables self.old (λ made. made ≡ Raises floor) IsMemory why self.new) }
+            IsRefused T.Tables self.old (λ made. made ≡ Raises floor) NoCause why self.new) }
         ensures seats { self.new.seats ≡ self.old.seats }
     {
         self.publication.reserve()?;

@@ -1,7 +1,7 @@
 -- Raising the floor: why it is refused, and what it keeps.
 use Rattle.std.specs.Prelude.{◌≡◌, ◌≤◌, ℕ, Bool, not, ◌||◌, Option, Some, nat_eq, nat_lt}
 use Rattle.names.specs.declared.refusal.Refusal.{Refusal}
-use Rattle.names.specs.declared.refusal.Refusal.TheVariants.{ForeignZookie, Future, InUse, Memory}
+use Rattle.names.specs.declared.refusal.Refusal.TheVariants.{ForeignZookie, Future, InUse}
 use Rattle.meaning.specs.Verdict.{or_else, refused_if}
 use Rattle.rows.specs.Retained.{Retained, newest, snap_at, after_trim, commits_between}
 use Rattle.zookie.specs.declared.Zookie.{Zookie}
@@ -19,9 +19,8 @@ floor_cause s zookie =
     or_else (refused_if Future (nat_lt (newest s.kept) zookie.rev)) (
     refused_if InUse (is_in_use s zookie.rev)))
 
--- the first cause; or there was no memory
+-- this is the first cause
 abbrev pub RefusesFloor : Standing → Zookie → Refusal → Type 0
-RefusesFloor s zookie Memory = Unit {0}
 RefusesFloor s zookie why = floor_cause s zookie ≡ Some why
 
 -- From the higher floor on, each revision holds what it held, and its commits are the same.

@@ -101,7 +101,7 @@ impl Shown {
     }
 
     /// Why the floor cannot be raised to a zookie's revision, if it cannot: the zookie is another store's, its revision
-    /// is above the newest, or above a cursor. One at or below the floor is no cause.
+    /// is above the newest, or above a cursor. One at or below the floor is no cause. It takes no memory.
     pub fn judge_floor(&self, floor: &Zookie) -> Result<(), Refusal>
         ensures ok { OnOk result (floor_cause self.now floor.now ≡ None) }
         ensures err { IfErr result (λ why. floor_cause self.now floor.now ≡ Some why) }
@@ -309,7 +309,7 @@ impl Shown {
         }
     }
 
-    /// Why a write is refused at the newest revision, if it is.
+    /// Why a write is refused at the newest revision, if it is. It takes no memory.
     pub fn judge_write(&self, write: &Write<Zookie>) -> Result<(), Refusal>
         ensures ok { OnOk result (AcceptsWrite self.now.kept write.now) }
         ensures accepted { OnOk result (IsAccepted (newest_of self.now.kept) write.now.ops) }
@@ -318,7 +318,7 @@ impl Shown {
         verdict::judge(&self.rows, write)
     }
 
-    /// Why operations are refused at the newest revision, if they are.
+    /// Why operations are refused at the newest revision, if they are. It takes no memory.
     pub fn judge(&self, ops: &[Op]) -> Result<(), Refusal>
         ensures ok { OnOk result (IsAccepted (newest_of self.now.kept) ops.now) }
         ensures err { IfErr result (WriteRefused (newest_of self.now.kept) ops.now) }
@@ -326,7 +326,7 @@ impl Shown {
         self.rows.verdict(ops)
     }
 
-    /// Why a configuration is refused, if it is.
+    /// Why a configuration is refused, if it is. It takes no memory.
     pub fn judge_config(&self, config: &Config) -> Result<(), Refusal>
         ensures ok { OnOk result (config_cause (newest_of self.now.kept) config.now ≡ None) }
         ensures err { IfErr result (ConfigRefused (newest_of self.now.kept) config.now) }
