@@ -1,7 +1,8 @@
 -- What stands at an index of a list, after a push and after a store.
-use Rattle.std.proofs.Common.{◌≡◌, ℕ, ◌<◌, List, [], ◌∷◌, ◌++◌, length, get_or, set, ap, ◌∙◌, sym, subst, inl, inr, ⊎_elim, arith, length-append}
-use Rattle.std.specs.Prelude.{◌⊎◌, Contains}
-use Rattle.std.proofs.lemmas.Bool.{cases_eq, cases_lt}
+use Rattle.std.proofs.Common.{◌≡◌, ℕ, ◌<◌, List, [], ◌∷◌, ◌++◌, true, length, get_or, set, ap, ◌∙◌, sym, subst, inl, inr, ⊎_elim, arith, length-append}
+use Rattle.std.specs.Prelude.{◌⊎◌, Contains, nat_eq}
+use Rattle.std.specs.List.{list_any}
+use Rattle.std.proofs.lemmas.Bool.{cases_eq, cases_lt, or_cases, eqb-true, false≢true}
 use Rattle.std.proofs.lemmas.List.{length-set, get_or-set_same, get_or-set_other, get_or_append_left, get_or_default}
 use Rattle.std.proofs.lemmas.List.Elements.{Contains-get_or}
 use Rattle.std.proofs.Math.Seq.{get_or-append_seam}
@@ -70,6 +71,14 @@ contains_or_not (x ∷ xs) n =
     (λ no. inr (λ c. ⊎_elim other no (contains_cases x n xs c)))
     (contains_or_not xs n))
     (cases_eq x n)
+
+pub contains_any : (xs : List ℕ) (n : ℕ) → list_any (λ y. nat_eq y n) xs ≡ true → Contains xs n
+contains_any [] n is = absurd (false≢true is)
+contains_any (x ∷ xs) n is =
+    ⊎_elim
+    (λ here. subst (Contains (x ∷ xs)) (eqb-true x n here) (contains_here x xs))
+    (λ rest. contains_there x n xs (contains_any xs n rest))
+    (or_cases (nat_eq x n) (list_any (λ y. nat_eq y n) xs) is)
 
 pub holds_some : {A : Type 0} (xs : List A) (i : ℕ) → i < length xs → (x : A) × Holds xs i x
 holds_some [] i lt = absurd (omega (arith, lt))
