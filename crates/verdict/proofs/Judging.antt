@@ -34,6 +34,14 @@ unlike cause why other is = by (comes_after why) (sym (let same : cause ≡ why 
     by true h = true≢false h
     by false h = true≢false (sym h)
 
+not_true : (b : Bool) → not b ≡ true → b ≡ false
+not_true true is = absurd (true≢false (sym is))
+not_true false is = refl
+
+not_false : (b : Bool) → not b ≡ false → b ≡ true
+not_false true is = refl
+not_false false is = absurd (true≢false is)
+
 none : {A : Type 0} (x : A) → Some x ≡ None → ⊥
 none x is = absurd (cc is)
 
@@ -126,7 +134,7 @@ module _ (r : Retained) (write : Write Zookie) where
     early_cause why early was =
         let n = newest_of r in let ops = write.ops in
         stays (not (is_in_range ops)) (not (are_few write.conditions)) (list_any (is_unknown n.held.config) ops) (list_any (is_untyped n.held.config) ops) (is_twice ops)
-        presence (or_else (condition_cause r write.conditions) presence) why not_many (presence_after _ _ _ why (cc early)) was
+        presence (or_else (condition_cause r write.conditions) presence) why not_many (presence_after _ _ _ why (not_true (comes_after why) early)) was
 
     pub before : (j : Result (Unit {0}) Refusal) → comes_before j ≡ true → IfErr j (WriteRefused (newest_of r) write.ops) → IfErr j (RefusesWrite r write)
     before (Ok u) early was = tt
@@ -152,7 +160,7 @@ module _ (r : Retained) (write : Write Zookie) where
         presence (or_else (condition_cause r write.conditions) presence) why not_many later is
 
     none_before : (why : Refusal) → not (comes_after why) ≡ false → WriteRefused (newest_of r) write.ops why → Whole (Some why)
-    none_before why late was = later_cause why (cc late) was
+    none_before why late was = later_cause why (not_false (comes_after why) late) was
 
     by_conditions : {found : Option Refusal} → Whole found → (cause : Option Refusal) → condition_cause r write.conditions ≡ cause → verdict r write ≡ or_else cause presence
     by_conditions d cause is = d.whole ∙ ap (λ (o : Option Refusal). or_else o presence) is
