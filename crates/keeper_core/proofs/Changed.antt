@@ -38,7 +38,7 @@ unlike none why is = absurd (cc (sym none ∙ is))
 
 few_unopposed : (commits : ℕ) → commits ≤ MAX_CATCH_UP → IsUnopposed (CatchUpJudged commits)
 few_unopposed commits few Malformed many = absurd (omega (arith, few, many))
-few_unopposed commits few _ no = absurd no
+few_unopposed commits few _ judged = absurd judged
 
 tuple_or_limit : (o : Option Tuple) (b : Bool) (why : Refusal) → or_else (in_the_way o) (refused_if Full b) ≡ Some why → ((t : Tuple) → ¬ (TupleInTheWay t ≡ why)) → ¬ (Full ≡ why) → ⊥
 tuple_or_limit (Some t) b why is way full = way t (cc is)
@@ -85,6 +85,13 @@ module _ {T : Type 0} (g : Ghosts T) (old mid : Posts T) (more : ShowsMore old m
     -- it was judged, and refused
     pub refused_judged : (made : TableChange → Type 0) (judged : Refusal → Type 0) (why : Refusal) → ¬ (judged Reopen) → ¬ (judged StoreFault) → ¬ (judged Memory) → judged why → IsRefused g old made judged why mid
     refused_judged made judged why asks fails wants is = refused_early made judged why (judged_cause judged why asks fails wants is)
+
+    -- there was no memory, and nothing speaks against it
+    pub early_memory : {A : Type 0} (made : TableChange → Type 0) (judged : Refusal → Type 0) (r : Result A Refusal) (why : Refusal) → IsErrAnd r (λ e. e ≡ why) → why ≡ Memory → IsUnopposed judged
+        → IfErr r (λ e. IsRefused g old made judged e mid)
+    early_memory made judged r why was is unopposed =
+        refused_exit (λ e. IsRefused g old made judged e mid) r why was
+        (subst (λ (e : Refusal). IsRefused g old made judged e mid) (sym is) (refused_early made judged Memory (works, same.1 ∙ works, same.2, unopposed)))
 
     -- a configuration is refused for a tuple in the way, or for a limit
     pub config_refused : {A : Type 0} (r : Result A Refusal) (config : Configured) (why : Refusal) → IsErrAnd r (λ e. e ≡ why)
