@@ -35,9 +35,3 @@ rounds-preserved g c = (
   c.in_ok-round.ensures.tells,
   c.in_ok-round.ensures.facts ∙ c.rounds.invariant.3,
 )
-
-pub rounds-decreases : goal.rounds-decreases
-rounds-decreases g c =
-    let more = subst (λ o. IfNone o (progress c.rounds.search < progress c.round.new.search)) c.in-None.is c.in_ok-round.ensures.more in
-    let small = c.in_ok-round.ensures.small in
-    omega (arith, more, small)

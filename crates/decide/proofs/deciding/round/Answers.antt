@@ -47,25 +47,6 @@ returns-then-gave-clause-numbers g c i k n number = c.in_ok-gave-in-Some.ensures
 known_of : (s t : Search) → t.opened.items ≡ s.opened.items → sures t ≡ sures s
 known_of s t same = ap (λ (xs : List Opened). count_by (λ e. e.sure) xs) same
 
-pub returns-then-gave-clause-more : goal.returns-then-gave-clause-more
-returns-then-gave-clause-more g c =
-    let s = c.next.new.self in
-    let t = c.look.new.search in
-    let same = ap length c.in-Some.ensures.opened in
-    let long = c.turns.invariant.long in
-    let kept = known_of c.turns.search s c.in-Some.ensures.opened in
-    let known = c.turns.invariant.known in
-    let started = c.len-opened.ensures in
-    let further : progress s < progress t = turned_more s t c.in_ok-gave-in-Some.gave c.in_ok-gave-in-Some.ensures.turned
-    (elim c.then-gave.branch [
-      | then-gave-via-then-gave w ↦ inl w.if-gave.true
-      | then-gave-via-else-gave+then-len-opened w ↦ inr (omega (arith, w.if-len-opened.true, w.len.ensures, same, long, started))
-    ]) in
-    omega (arith, further, same, long, kept, known)
-
-pub returns-then-gave-clause-small : goal.returns-then-gave-clause-small
-returns-then-gave-clause-small g c = progress_small c.args.search.now (omega (arith, c.len-opened.ensures))
-
 pub turns-preserved : goal.turns-preserved
 turns-preserved g c =
     let s = c.next.new.self in
@@ -81,13 +62,3 @@ turns-preserved g c =
       long = on.long ∙ same ∙ long;
       known = on.known ∙ known_of c.turns.search s c.in-Some.ensures.opened ∙ c.turns.invariant.known;
     }
-
-pub turns-decreases : goal.turns-decreases
-turns-decreases g c =
-    let s = c.next.new.self in
-    let t = c.look.new.search in
-    let same = ap length c.in-Some.ensures.opened in
-    let long = c.turns.invariant.long in
-    let on = turned_on s t c.in_ok-gave-in-Some.gave c.in_ok-gave-in-Some.ensures.turned c.if-gave.false (omega (arith, c.if-len-opened.false, c.len.ensures, c.len-opened.ensures, same, long)) in
-    let less = on.ends in
-    omega (arith, less, c.in-Some.ensures.ends)
