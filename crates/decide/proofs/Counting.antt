@@ -168,6 +168,9 @@ last_lowest fs i f g falls at last = ⊎_elim
 
 -- ---- how many pass a test
 
+abbrev bit : Bool → ℕ
+bit b = cond b 1 0
+
 bit_le : (a b : Bool) → (a ≡ true → b ≡ true) → cond a 1 0 ≤ cond b 1 0
 bit_le true true so = omega arith
 bit_le true false so = absurd (true≢false (sym (so refl)))
@@ -184,8 +187,8 @@ pub count_lt : (q p : ℕ → Bool) (n k : ℕ) → ((l : ℕ) → q l ≡ true 
 count_lt q p zero k so less passes fails = absurd (omega (arith, less))
 count_lt q p (suc n) k so less passes fails = ⊎_elim
     (λ here.
-    let none : cond (q n) 1 0 ≡ 0 = ap (λ b. cond b 1 0) (subst (λ j. q j ≡ false) here fails) in
-    let one : cond (p n) 1 0 ≡ 1 = ap (λ b. cond b 1 0) (subst (λ j. p j ≡ true) here passes) in
+    let none : bit (q n) ≡ 0 = ap bit (subst (λ j. q j ≡ false) here fails) in
+    let one : bit (p n) ≡ 1 = ap bit (subst (λ j. p j ≡ true) here passes) in
     let rest = count_le q p n so in
     omega (arith, none, one, rest))
     (λ other.

@@ -25,13 +25,13 @@ pub returns-in-Some : goal.returns-in-Some
 returns-in-Some g c =
     let S = c.args.source.now.view.now in
     let u = c.args.source.now.user.now in
-    (subst (λ o. IfSome o (λ b. (n : Node) (k : ℕ) → IsNumberOf c.rounds.search c.in_ok-root.root n k → IsAnswer S u n b)) c.in-Some.is c.in_ok-round.ensures.answer)
+    (subst (λ o. IfSome o (λ b. (n : Node) (k : ℕ) → IsNumberOf c.rounds.search c.in_ok-root.root n k → IsAnswer S u n b)) c.in-Some.is c.in_ok-answer.ensures.answer)
     c.args.node.now c.level_at-level.result c.rounds.invariant.1
 
 pub rounds-preserved : goal.rounds-preserved
 rounds-preserved g c = (
-  subst (λ o. IfNone o (IsRunning c.args.source.now.view.now c.args.source.now.user.now c.round.new.search None)) c.in-None.is c.in_ok-round.ensures.running,
-  c.in_ok-round.ensures.numbers c.in_ok-root.root c.level_at-level.result c.args.node.now c.rounds.invariant.1,
-  c.in_ok-round.ensures.tells,
-  c.in_ok-round.ensures.facts ∙ c.rounds.invariant.3,
+  subst (λ o. IfNone o (IsRunning c.args.source.now.view.now c.args.source.now.user.now c.round.new.search None)) c.in-None.is c.in_ok-answer.ensures.running,
+  c.in_ok-answer.ensures.numbers c.in_ok-root.root c.level_at-level.result c.args.node.now c.rounds.invariant.1,
+  c.in_ok-answer.ensures.tells,
+  c.in_ok-answer.ensures.facts ∙ c.rounds.invariant.3,
 )
