@@ -10,7 +10,7 @@ use Rattle.rows.specs.Retained.{newest}
 use Rattle.store_core.specs.Numbered.{AreNumberedTo}
 use Rattle.store_core.specs.Tables.{Holds}
 use Rattle.store.specs.Refused.{IsHistoryOf}
-use Rattle.tables.specs.Device.{IsClean}
+use Rattle.tables.specs.Device.{IsClean, IsOpen}
 use Rattle.store.specs.History.{KeepsHistory, device_below}
 use Rattle.store.proofs.Deserving.{if_both, on_ok}
 use Rattle.store.proofs.Leading.{can_load}
@@ -54,7 +54,7 @@ returns-clause-only g c = kept_same g.S.Store c.args.conn.now c.load.new.conn (�
 pub returns-clause-found : goal.returns-clause-found
 returns-clause-found g c =
     let new = c.load.new.conn in
-    let stands = λ clean. (let f = c.in-Ok.ensures.found clean in (c.in-Ok.ensures.same clean f.1.schema_is).0.is_open) in
+    let stands : IsOpen (device_below g.S.Store new) = λ clean. let f = c.in-Ok.ensures.found clean in (c.in-Ok.ensures.same clean f.1.schema_is).0.is_open in
     IfOk-weaker c.read.result (λ l. KeepsHistory g.S.Store new (retained_of l)) (λ l. IsClean (device_below g.S.Store new) → KeepsHistory g.S.Store c.args.conn.now (retained_of l))
     (λ l keeps clean. returns-clause-only g c (retained_of l) keeps clean stands) (returns-clause-held g c)
 
