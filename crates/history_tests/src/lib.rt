@@ -4,4 +4,4 @@
 #[cfg(test)]
 mod history;
 #[cfg(test)]
-mod publication;
+mod machine;
