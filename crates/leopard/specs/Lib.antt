@@ -4,4 +4,3 @@ pub mod Answers
 pub mod Causes
 pub mod Exprs
 pub mod Law
-pub mod Known

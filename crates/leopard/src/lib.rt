@@ -1,12 +1,10 @@
-//! The group index of one revision (Zanzibar, section 3.2.4): which groups each group leads to, and which groups
-//! name a user by a tuple of their own, kept as sorted sets of ids; and set expressions over them.
+//! Questions about groups (Zanzibar, section 3.2.4): set expressions over which groups each group leads to, and
+//! over which groups name a user by a tuple of their own.
 #![tactic(auto)]
 
-mod arcs;
 mod expr;
 mod law;
 pub mod limits;
-mod naming;
 mod refusing;
 
 pub use expr::Expr;
