@@ -1,7 +1,6 @@
 -- Groups, and where their arcs lead, under a valid configuration.
-use Rattle.std.proofs.Common.{◌≡◌, ℕ, List, [], ◌∷◌, Bool, true, false, cond, refl, sym, subst, ap, ◌∙◌, inl, inr, ⊎_elim, arith}
-use Rattle.std.specs.Prelude.{◌⊎◌, ◌&&◌, ◌||◌, not, Contains, nat_eq, nat_lt, length, Some}
-use Rattle.std.specs.List.{list_any, list_all}
+use Rattle.std.proofs.Common.{◌≡◌, ℕ, List, [], ◌∷◌, true, false, cond, refl, sym, subst, ap, ◌∙◌, inl, inr, ⊎_elim, arith}
+use Rattle.std.specs.Prelude.{◌⊎◌, ◌&&◌, not, Contains, nat_lt, length}
 use Rattle.std.proofs.lemmas.Bool.{and_parts, or_cases, false≢true, cases_Bool, lt-ltb, false_from_ne_true}
 use Rattle.std.proofs.lemmas.List.Folds.{Any-from_list_any, list_any-from_Any}
 use Rattle.names.specs.declared.object.Object.{Object}
@@ -15,7 +14,7 @@ use Rattle.meaning.specs.Membership.{HasOne, HasSet, Gives, SomeGives}
 use Rattle.meaning.specs.Admits.{is_relation, type_of}
 use Rattle.meaning.specs.Reads as reads
 use Rattle.meaning.proofs.KnownRelations.{relation_is, is_itself}
-use Rattle.meaning.proofs.Lists.{contains_cases, contains_none}
+use Rattle.meaning.proofs.Lists.{contains_none}
 use Rattle.config.specs.Valid as valid
 use Rattle.config.specs.Valid.{is_indexed, is_indexed_relation, form_indexable, forms_indexable, type_indexed, types_indexed, is_indexable, uses_this, some_use_this, has_types, types_used}
 use Rattle.config.specs.Places.{StandsAt}

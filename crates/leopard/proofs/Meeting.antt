@@ -1,12 +1,12 @@
 -- A group's closure and a user's direct groups meet exactly where the user is a member.
-use Rattle.std.proofs.Common.{◌≡◌, ℕ, zero, suc, List, true, refl, sym, subst, inl, inr, ⊎_elim}
-use Rattle.std.specs.Prelude.{◌⊎◌, ◌↔◌, Contains}
+use Rattle.std.proofs.Common.{◌≡◌, ℕ, zero, suc, true, subst, inl, inr, ⊎_elim}
+use Rattle.std.specs.Prelude.{◌↔◌, Contains}
 use Rattle.names.specs.declared.object.Object.{Object}
 use Rattle.names.specs.declared.node.Node.{Node}
-use Rattle.meaning.specs.Config.{Defined, Defines, IsAt, rel_of}
+use Rattle.meaning.specs.Config.{IsAt, rel_of}
 use Rattle.meaning.specs.Snap.{Snap, one, set_of}
-use Rattle.meaning.specs.Least.{Below, LevelRule}
-use Rattle.meaning.specs.Membership.{HasOne, HasSet, Gives, RelationGives, IsMember}
+use Rattle.meaning.specs.Least.{Below}
+use Rattle.meaning.specs.Membership.{HasOne, Gives, RelationGives, IsMember}
 use Rattle.meaning.specs.Admits.{type_of}
 use Rattle.meaning.specs.Reads as reads
 use Rattle.meaning.proofs.LeastLemmas.{gained_ind}

@@ -1,5 +1,5 @@
 -- Groups, and the two sets of them that the index keeps (Zanzibar, section 3.2.4).
-use Rattle.std.specs.Prelude.{◌≡◌, true, ◌⊎◌, ◌↔◌, Contains}
+use Rattle.std.specs.Prelude.{◌≡◌, true, ◌⊎◌}
 use Rattle.names.specs.declared.object.Object.{Object}
 use Rattle.names.specs.declared.node.Node.{Node}
 use Rattle.meaning.specs.Config.{Configured, rel_of}

@@ -1,4 +1,4 @@
-use Rattle.std.proofs.Common.{◌≡◌, sym}
+use Rattle.std.proofs.Common.{sym}
 use Rattle.meaning.specs.Config.{rel_of}
 use Rattle.meaning.proofs.KnownRelations.{has_known, not_known}
 use Rattle.leopard.proofs.refusing.has_relation.Goals as goal

@@ -1,4 +1,4 @@
-use Rattle.std.proofs.Common.{◌≡◌, sym, ap, ◌∙◌}
+use Rattle.std.proofs.Common.{sym, ap, ◌∙◌}
 use Rattle.meaning.specs.Config.{Defined, rel_of}
 use Rattle.config_core.specs.declared.relation.Relation.{Relation}
 use Rattle.config.proofs.Searching.{read_there}
