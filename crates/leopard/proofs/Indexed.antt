@@ -1,15 +1,15 @@
 -- Groups, and where their arcs lead, under a valid configuration.
-use Rattle.std.proofs.Common.{◌≡◌, ℕ, List, [], ◌∷◌, Bool, true, false, cond, refl, sym, subst, ap, ◌∙◌, inl, inr, ⊎_elim}
+use Rattle.std.proofs.Common.{◌≡◌, ℕ, List, [], ◌∷◌, Bool, true, false, cond, refl, sym, subst, ap, ◌∙◌, inl, inr, ⊎_elim, arith}
 use Rattle.std.specs.Prelude.{◌⊎◌, ◌&&◌, ◌||◌, not, Contains, nat_eq, nat_lt, length, Some}
 use Rattle.std.specs.List.{list_any, list_all}
-use Rattle.std.proofs.lemmas.Bool.{and_parts, or_cases, false≢true, cases_Bool}
+use Rattle.std.proofs.lemmas.Bool.{and_parts, or_cases, false≢true, cases_Bool, lt-ltb, false_from_ne_true}
 use Rattle.std.proofs.lemmas.List.Folds.{Any-from_list_any, list_any-from_Any}
 use Rattle.names.specs.declared.object.Object.{Object}
 use Rattle.names.specs.declared.node.Node.{Node}
 use Rattle.names.specs.declared.relation.RelationName.{RelationName}
 use Rattle.names.specs.declared.relation.SubjectType.{SubjectType}
 use Rattle.meaning.specs.Form.{Form, Forms, This, Computed, TupleTo, Union, Intersection, Exclusion, none, more}
-use Rattle.meaning.specs.Config.{Configured, Defined, Defines, relation_in, rel_of}
+use Rattle.meaning.specs.Config.{Configured, Defined, Defines, Has, relation_in, rel_of}
 use Rattle.meaning.specs.Snap.{Snap, set_of}
 use Rattle.meaning.specs.Membership.{HasOne, HasSet, Gives, SomeGives}
 use Rattle.meaning.specs.Admits.{is_relation, type_of}
@@ -18,7 +18,9 @@ use Rattle.meaning.proofs.KnownRelations.{relation_is, is_itself}
 use Rattle.meaning.proofs.Lists.{contains_cases, contains_none}
 use Rattle.config.specs.Valid as valid
 use Rattle.config.specs.Valid.{is_indexed, is_indexed_relation, form_indexable, forms_indexable, type_indexed, types_indexed, is_indexable, uses_this, some_use_this, has_types, types_used}
+use Rattle.config.specs.Places.{StandsAt}
 use Rattle.config.proofs.Tested.{all_test}
+use Rattle.idsets.proofs.Having.{same_tests}
 use Rattle.graphs.specs.Groups.{Computes, SomeComputes, IsGroupArc}
 use Rattle.leopard.specs.Groups.{IsGroup}
 
@@ -43,7 +45,16 @@ rule_of c d v at i = ⊎_elim
 
 some_types : (ts : List SubjectType) (t : SubjectType) → Contains ts t → nat_lt 0 (length ts) ≡ true
 some_types [] t h = absurd (contains_none t h)
-some_types (x ∷ xs) t h = refl
+some_types (x ∷ xs) t h = lt-ltb 0 (length (x ∷ xs)) (omega arith)
+
+-- whether the relation at a place is indexed
+pub indexed_at : (c : Configured) (r : RelationName) (i : ℕ) (s : StandsAt c r i) → is_indexed c r ≡ s.defined.indexed
+indexed_at c r i s = same_tests (is_indexed c r) s.defined.indexed
+    (λ h. let (d, defines, indexed) = indexed_has c r h in subst (λ (k : Defined). k.indexed ≡ true) (s.only d defines) indexed)
+    (λ h. has_indexed c r s.defined ((i, s.within, s.there), s.rel) h)
+
+pub not_indexed : (c : Configured) (r : RelationName) → (Has c r → ⊥) → is_indexed c r ≡ false
+not_indexed c r none = false_from_ne_true (is_indexed c r) (λ h. let (d, defines, indexed) = indexed_has c r h in none (d, defines))
 
 -- a definition that declares a type has `this`
 pub declares_uses : (c : Configured) (d : Defined) (t : SubjectType) → valid.IsValid c → Contains c.relations d → Contains d.types t → uses_this d.form ≡ true

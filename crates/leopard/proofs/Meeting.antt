@@ -20,12 +20,12 @@ use Rattle.leopard.proofs.Indexed.{indexed_has, rule_of, declares_uses, arc_inde
 
 -- an arc before a walk
 pub before : (S : Snap) (g b n : Node) → IsGroupArc S g b → GroupWalk S b n → GroupWalk S g n
-before S g b b arc here = on here arc
+before S g b n arc here = on here arc
 before S g b n arc (on {g = m} w a) = on (before S g b m arc w) a
 
 module _ (S : Snap) (v : valid.IsValid S.config) (rv : reads.IsValid S) where
   pub walk_indexed : (g n : Node) → IsGroup S.config g → GroupWalk S g n → IsGroup S.config n
-  walk_indexed g g i here = i
+  walk_indexed g n i here = i
   walk_indexed g n i (on {g = m} w a) = arc_indexed S m n v rv (walk_indexed g m i w) a
 
   module _ (u : Object) where
@@ -50,7 +50,7 @@ module _ (S : Snap) (v : valid.IsValid S.config) (rv : reads.IsValid S) where
         (member_unfolds S rv u g).1 (d, defines, computed_gives S u g d.form (IsMember S u) (IsMember S u) d.rel.namespace r (rule_of S.config d v defines.0 indexed).0 (subst (λ k. Computes k.form r) same computes) (subst (IsMember S u) is m))
 
     walk_member : (g n : Node) → IsGroup S.config g → GroupWalk S g n → IsMember S u n → IsMember S u g
-    walk_member g g i here m = m
+    walk_member g n i here m = m
     walk_member g n i (on {g = b} w a) m = walk_member g b i w (arc_member b n (walk_indexed g b i w) a m)
 
     abbrev Meets : Node → Type 0

@@ -1,19 +1,12 @@
 -- That the index answers Check for groups (Zanzibar, section 3.2.4).
-use Rattle.std.specs.Prelude.{◌≡◌, true, ◌↔◌}
+use Rattle.std.specs.Prelude.{◌↔◌}
 use Rattle.names.specs.declared.object.Object.{Object}
 use Rattle.names.specs.declared.node.Node.{Node}
-use Rattle.names.specs.declared.tuple.Tuple.{Tuple}
-use Rattle.meaning.specs.TupleSet as set
 use Rattle.meaning.specs.Snap.{Snap}
-use Rattle.meaning.specs.Admits.{admits}
 use Rattle.meaning.specs.Membership.{IsMember}
 use Rattle.meaning.specs.Reads as reads
 use Rattle.config.specs.Valid as valid
 use Rattle.leopard.specs.Groups.{IsGroup, GroupToGroup, MemberToGroup}
-
--- the configuration admits each tuple
-abbrev pub AreAdmitted : Snap → Type 0
-AreAdmitted S = (t : Tuple) → set.contains S.tuples t ≡ true → admits S.config t ≡ true
 
 -- For a group the closure and a user's direct groups meet exactly where the user is a member of it.
 abbrev pub MeetWhereMember : Type 0

@@ -5,3 +5,4 @@ pub mod Causes
 pub mod Exprs
 pub mod Law
 pub mod Known
+pub mod inside

@@ -1,7 +1,7 @@
 //! Set expressions over groups.
 ghost use Rattle.std.specs.Prelude.{◌≡◌, ◌+◌, ◌<◌, ◌≤◌, ◌↔◌, IsTrue, IfSome, IfNone, nat_le};
 ghost use Rattle.leopard.specs.Exprs.{query_of, part_queries};
-ghost use Rattle.leopard.specs.Query.{query_nodes, queries_nodes, query_depth, queries_depth, has_parts, all_have_parts, is_allowed};
+ghost use Rattle.leopard.specs.Query.{query_nodes, queries_nodes, query_depth, queries_depth, is_some, has_parts, all_have_parts, is_allowed};
 
 use crate::limits::{MAX_EXPR_DEPTH, MAX_EXPR_NODES, MAX_GROUPS};
 use names::{Node, Object};
@@ -31,6 +31,12 @@ impl Expr {
     }
 }
 
+fn are_some(parts: &[Expr]) -> bool
+    ensures { result ≡ is_some (part_queries parts.now) }
+{
+    parts.len() > 0
+}
+
 #[cycle(parts)]
 fn has_parts(expr: &Expr) -> bool
     ensures { result ≡ has_parts (query_of expr.now) }
@@ -38,8 +44,8 @@ fn has_parts(expr: &Expr) -> bool
     match expr {
         Expr::Member2Group(_) => true,
         Expr::Group2Group(_) => true,
-        Expr::Union(parts) => parts.len() > 0 && all_have_parts(parts),
-        Expr::Intersection(parts) => parts.len() > 0 && all_have_parts(parts),
+        Expr::Union(parts) => are_some(parts) && all_have_parts(parts),
+        Expr::Intersection(parts) => are_some(parts) && all_have_parts(parts),
         Expr::Exclusion(base, less) => has_parts(base) && has_parts(less),
     }
 }

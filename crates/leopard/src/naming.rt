@@ -28,15 +28,16 @@ fn group_of(object: &Object, relation: &Relation) -> Result<Node, AllocError>
     })
 }
 
-// Adds the groups of an object.
-fn add_groups(
+/// Adds the groups of an object.
+pub(crate) fn add_groups(
     nodes: &mut BTreeSet<Node>,
     config: &Config,
     object: &Object,
 ) -> Result<(), AllocError>
     ensures { OnOk result ((n : Node) → Contains nodes.new.keys n ↔ (Contains nodes.old.keys n ⊎ IsGroupOf config.now object.now n)) }
 {
-    for relation in config.relations() {
+    let relations = config.relations();
+    for relation in relations {
         if relation.indexed && relation.name.namespace == object.namespace {
             add_node(nodes, group_of(object, relation)?)?;
         }
@@ -53,7 +54,8 @@ fn add_named(
     ensures { OnOk result ((n : Node) → Contains nodes.new.keys n ↔ (Contains nodes.old.keys n ⊎ IsGroupAt config.now n tuple.now)) }
 {
     add_groups(nodes, config, &tuple.node.object)?;
-    add_groups(nodes, config, &tuple.subject.object)
+    add_groups(nodes, config, &tuple.subject.object)?;
+    Ok(())
 }
 
 /// The groups of all objects that tuples name.

@@ -32,7 +32,10 @@ pub fn refusal_of(config: &Config, expr: &Expr, limit: u32) -> Option<Refusal>
 fn has_relation(config: &Config, node: &Node) -> bool
     ensures { result ≡ has_relation config.now (rel_of node.now) }
 {
-    config.place_of(node).is_some()
+    match config.place_of(node) {
+        Some(_place) => true,
+        None => false,
+    }
 }
 
 /// Whether the node's relation is there and indexed.
