@@ -54,7 +54,7 @@ indexed_at c r i s = same_tests (is_indexed c r) s.defined.indexed
     (λ h. has_indexed c r s.defined ((i, s.within, s.there), s.rel) h)
 
 pub not_indexed : (c : Configured) (r : RelationName) → (Has c r → ⊥) → is_indexed c r ≡ false
-not_indexed c r none = false_from_ne_true (is_indexed c r) (λ h. let (d, defines, indexed) = indexed_has c r h in none (d, defines))
+not_indexed c r lacks = false_from_ne_true (is_indexed c r) (λ h. let (d, defines, indexed) = indexed_has c r h in lacks (d, defines))
 
 -- a definition that declares a type has `this`
 pub declares_uses : (c : Configured) (d : Defined) (t : SubjectType) → valid.IsValid c → Contains c.relations d → Contains d.types t → uses_this d.form ≡ true

@@ -73,7 +73,7 @@ fn common<'a>(alloc: Global, index: &'a Index, parts: &[Expr]) -> Result<Part<'a
 
 // The ids of both. The smaller one is gone over, and the other is searched.
 fn meet(alloc: Global, a: &IdSet, b: &IdSet) -> Result<IdSet, AllocError>
-    ensures { IfOk result (λ both. (id : ℕ) → has both id ≡ (has a.now id && has b.now id)) }
+    ensures members { IfOk result (λ both. (id : ℕ) → has both id ≡ (has a.now id && has b.now id)) }
     ensures ascending { IfOk result (λ both. IsStrictlyIncreasing both) }
 {
     if a.len() <= b.len() {

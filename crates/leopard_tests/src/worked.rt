@@ -9,7 +9,7 @@ use std::test::Fail;
 const CONFIG: &str = r#"{"namespaces":{"doc":{"owner":{"types":["user"]}},"group":{"admin":{"indexed":true,"rewrite":{"computed":"member"}},"member":{"indexed":true,"types":["user","group#member"]}},"user":{}}}"#;
 
 fn node(text: &str) -> Result<Node, Fail> {
-    Node::parse(text).map_err(|_| "no node")
+    Ok(Node::parse(text).map_err(|_| "no node")?)
 }
 
 fn member_of(user: &str) -> Result<Expr, Fail> {

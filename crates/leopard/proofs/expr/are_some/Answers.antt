@@ -1,4 +1,4 @@
-use Rattle.std.proofs.Common.{◌≡◌, List, [], ◌∷◌, length, refl, ap, ◌∙◌, arith}
+use Rattle.std.proofs.Common.{◌≡◌, List, [], ◌∷◌, length, refl, arith}
 use Rattle.std.specs.Prelude.{nat_lt}
 use Rattle.std.proofs.lemmas.Bool.{lt-ltb}
 use Rattle.leopard.specs.declared.expr.Expr.{Expr}
@@ -11,4 +11,4 @@ some_parts [] = refl
 some_parts (x ∷ xs) = lt-ltb 0 (length (x ∷ xs)) (omega arith)
 
 pub returns : goal.returns
-returns c = ap (nat_lt 0) c.len.ensures ∙ some_parts c.args.parts.now
+returns c = some_parts c.args.parts.now
