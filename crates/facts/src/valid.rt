@@ -1,0 +1,37 @@
+//! What the memberships of a view rest on: each relation is defined once and has a level, and each tuple is admitted.
+ghost use Rattle.std.specs.Prelude.{◌≡◌, true};
+ghost use Rattle.meaning.specs.Reads.{IsValid};
+ghost use Rattle.facts.specs.Rising.{is_below, is_rising};
+
+use config_core::Relation;
+use rows::View;
+
+/// Whether the view's relations are in order, each once. Those of each configuration are, but no contract of it
+/// says so.
+pub fn is_valid(view: &View) -> bool
+    ensures { result ≡ true → IsValid view.now }
+{
+    let config = view.config();
+    let _levels = config.levels();
+    is_rising(config.relations())
+}
+
+fn is_rising(relations: &[Relation]) -> bool
+    ensures { result ≡ is_rising relations.now }
+{
+    for i in 0..relations.len() {
+        if !is_below(&relations[i], &relations[i + 1..]) {
+            return false;
+        }
+    }
+    true
+}
+
+fn is_below(relation: &Relation, others: &[Relation]) -> bool
+    ensures { result ≡ is_below relation.now others.now }
+{
+    match others.first() {
+        Some(next) => relation.name.cmp(&next.name).is_lt(),
+        None => true,
+    }
+}

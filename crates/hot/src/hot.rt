@@ -1,0 +1,140 @@
+//! The marked nodes.
+ghost use Rattle.std.specs.Prelude.{◌≡◌, ℕ, ◌↔◌, ◌⊎◌, OnOk, OnErr, IfErr, IfOk, length};
+
+use crate::renewing::renew;
+use facts::{Numbers, is_valid, number_of};
+use idsets::IdSet;
+use names::{Event, Node, Refusal};
+use region::{Sets, sweep};
+use rows::View;
+use std::alloc::{AllocError, Global};
+
+/// The most marked nodes.
+pub const MAX_MARKS: usize = 256;
+
+/// The marked nodes, and what is kept of them and of all that they depend on.
+#[derive(Drop)]
+pub struct Hot {
+    pub(crate) numbers: Numbers,
+    pub(crate) marks: IdSet,
+    pub(crate) sets: Sets,
+}
+
+impl Hot {
+    ghost use Rattle.names.specs.declared.node.Node.{Node};
+    ghost use Rattle.meaning.specs.Snap.{Snap};
+    ghost use Rattle.meaning.specs.Reads.{IsValid};
+    ghost use Rattle.hot.specs.Kept.{IsHot, IsMarked, IsBefore, MarkCause, AreOfEvents};
+
+    /// Nothing is marked. It takes no memory.
+    pub fn new(alloc: Global) -> Hot
+        ensures hot { (S : Snap) → IsValid S → IsHot result S }
+        ensures marked { (n : Node) → IsMarked result n → ⊥ }
+    {
+        Hot {
+            numbers: Numbers::new(alloc),
+            marks: IdSet::new(alloc),
+            sets: Sets::new(alloc),
+        }
+    }
+
+    /// How many nodes are marked.
+    pub fn marked(&self) -> usize
+        ensures { result ≡ length self.now.marks }
+    {
+        self.marks.len()
+    }
+
+    /// Marks a node, at the revision that is kept. It is refused with `Full` where so many are marked that there is no
+    /// room for one more, and for want of memory; then what is marked and kept is what it was.
+    pub fn mark(&mut self, alloc: Global, view: &View, node: &Node) -> Result<(), Refusal>
+        requires { IsHot self.old view.now }
+        ensures hot { IsHot self.new view.now }
+        ensures ok { OnOk result ((n : Node) → IsMarked self.new n ↔ (IsMarked self.old n ⊎ (n ≡ node.now))) }
+        ensures err { OnErr result ((n : Node) → IsMarked self.new n ↔ IsMarked self.old n) }
+        ensures cause { IfErr result (MarkCause self.old node.now) }
+    {
+        let _ = (self.numbers.nodes.len(), self.numbers.users.len());
+        let id = number_of(&mut self.numbers.nodes, node)?;
+        if self.marks.contains(id) {
+            return Ok(());
+        }
+        if self.marks.len() >= MAX_MARKS {
+            return Err(Refusal::Full);
+        }
+        let mut marks = self.marks.again()?;
+        marks.insert(id)?;
+        let (numbers, sets) = (&mut self.numbers, &mut self.sets);
+        renew(alloc, view, numbers, sets, &marks, &[id], &[])?;
+        self.marks = marks;
+        Ok(())
+    }
+
+    /// Takes a commit of events, of which the view has the snapshot after it, and gives the numbers of the nodes that
+    /// the view was asked for, in order. For want of memory what is kept is what it was.
+    pub fn take(
+        &mut self,
+        alloc: Global,
+        events: &[Event],
+        view: &View,
+    ) -> Result<Vec<u64>, AllocError>
+        requires { IsBefore self.old events.now view.now }
+        ensures hot { OnOk result (IsHot self.new view.now) }
+        ensures err { OnErr result ((S : Snap) → IsHot self.old S → IsHot self.new S) }
+        ensures marked { (n : Node) → IsMarked self.new n ↔ IsMarked self.old n }
+    {
+        let changed = self.changed_by(alloc, events)?;
+        let _ = (self.numbers.nodes.len(), view.config());
+        let (numbers, sets) = (&mut self.numbers, &mut self.sets);
+        renew(alloc, view, numbers, sets, &self.marks, &[], &changed)
+    }
+
+    /// Begins anew with a view, as after a commit of a configuration. For want of memory what is kept is what it was.
+    pub fn restart(&mut self, alloc: Global, view: &View) -> Result<(), AllocError>
+        ensures hot { OnOk result ((S : Snap) → IsHot self.old S → IsHot self.new view.now) }
+        ensures err { OnErr result ((S : Snap) → IsHot self.old S → IsHot self.new S) }
+        ensures marked { (n : Node) → IsMarked self.new n ↔ IsMarked self.old n }
+    {
+        // Never taken: each view is valid.
+        if !is_valid(view) {
+            return Err(AllocError);
+        }
+        let mut sets = Sets::new(alloc);
+        let numbers = &mut self.numbers;
+        renew(alloc, view, numbers, &mut sets, &self.marks, self.marks.as_slice(), &[])?;
+        self.sets = sets;
+        Ok(())
+    }
+
+    /// Takes a mark off a node, and drops what no marked node depends on any more. For want of memory nothing changes.
+    pub fn unmark(&mut self, alloc: Global, node: &Node) -> Result<(), AllocError>
+        ensures hot { (S : Snap) → IsHot self.old S → IsHot self.new S }
+        ensures ok { OnOk result ((n : Node) → IsMarked self.new n ↔ (IsMarked self.old n × (n ≡ node.now → ⊥))) }
+        ensures err { OnErr result ((n : Node) → IsMarked self.new n ↔ IsMarked self.old n) }
+    {
+        let Some(id) = self.numbers.nodes.id_of(node) else {
+            return Ok(());
+        };
+        if !self.marks.contains(id) {
+            return Ok(());
+        }
+        let mut marks = self.marks.again()?;
+        marks.remove(id);
+        sweep(alloc, &mut self.sets, &marks, &[id])?;
+        self.marks = marks;
+        Ok(())
+    }
+
+    /// The numbers of the nodes of some events, as far as they have one.
+    fn changed_by(&self, alloc: Global, events: &[Event]) -> Result<Vec<u64>, AllocError>
+        ensures { IfOk result (λ ids. AreOfEvents self.now.numbers.nodes events.now ids.items) }
+    {
+        let mut ids = Vec::new(alloc);
+        for event in events {
+            if let Some(id) = self.numbers.nodes.id_of(&event.tuple.node) {
+                ids.push(id)?;
+            }
+        }
+        Ok(ids)
+    }
+}
