@@ -25,8 +25,8 @@ use Rattle.region_core.specs.World.{Fact, has, arcs_of}
 use Rattle.graphs.specs.Graph.{IsShapeOf}
 use Rattle.facts.specs.Numbers.{user_at, node_at}
 use Rattle.facts.specs.Telling.{MayTell}
-use Rattle.facts.proofs.Numbering.{node_got}
-use Rattle.facts.proofs.Shapes.{shape_same}
+use Rattle.facts.specs.inside.Tables.{node_got}
+use Rattle.facts.specs.inside.Shapes.{shape_same}
 
 module _ (n : Node) where
   -- no event is on a tuple of the node
@@ -67,11 +67,15 @@ pub may_after : (S T : Snap) (events : List Event) (nodes : List Node) (users : 
 may_after S T events nodes users i fact config tuples quiet named may = record {
   named = may.named;
   fact_is = ⊎_elim
-      (λ d. inl (d.0, subst (λ (c : Configured). Defines c (rel_of n) d.0) config d.1, subst (λ (c : Configured). IsAt c n fact.level) config d.2,
-      shape_same S T (node_at nodes) (node_at nodes) (user_at users) (user_at users) n fact.own config
-      (λ u both. let same = here (one (user_at users u)) in (λ h. same.0 (both.0 h), λ h. both.1 (same.1 h)))
-      (λ m. here (set_of m)) d.0.form fact.shape (λ m h. refl)
-      (λ m h t e p. tuple_same (record { object = n.object; relation = t }) S T events tuples (there m h t e) (one p)) d.3))
+      (λ d. inl (
+        d.0,
+        subst (λ (c : Configured). Defines c (rel_of n) d.0) config d.1,
+        subst (λ (c : Configured). IsAt c n fact.level) config d.2,
+        shape_same S T (node_at nodes) (node_at nodes) (user_at users) (user_at users) n fact.own config
+            (λ u both. let same = here (one (user_at users u)) in (λ h. same.0 (both.0 h), λ h. both.1 (same.1 h)))
+            (λ m. here (set_of m)) d.0.form fact.shape (λ m h. refl)
+            (λ m h t e p. tuple_same (record { object = n.object; relation = t }) S T events tuples (there m h t e) (one p)) d.3,
+      ))
       (λ d. inr ((λ h. d.0 (subst (λ (c : Configured). Has c (rel_of n)) (sym config) h)), d.1))
       may.fact_is;
   own = λ u. let same = here (one (user_at users u)) in (λ h. same.0 ((may.own u).0 h), λ h. (may.own u).1 (same.1 h));

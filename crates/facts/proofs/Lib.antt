@@ -1,8 +1,6 @@
-pub mod Numbering
-pub mod Shapes
-pub mod Growing
-pub mod Reading
+pub mod Naming
 pub mod Shaping
 pub mod Looking
+pub mod Depends
 pub mod Changing
 pub mod Once

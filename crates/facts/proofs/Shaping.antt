@@ -18,8 +18,8 @@ use Rattle.region_core.proofs.Gives.{has_cases}
 use Rattle.graphs.specs.Graph.{IsTupleTo, IsShapeOf, IsAnyOf, IsEachOf}
 use Rattle.facts.specs.Numbers.{AreNumbersOf, Grew, node_at}
 use Rattle.facts.specs.Telling.{AreOwn, IsShapeIn, AreShapesIn, any_before, each_before, each_shape}
-use Rattle.facts.proofs.Numbering.{ids_of, numbers_within, numbers_keep}
-use Rattle.facts.proofs.Growing.{shapes_more}
+use Rattle.facts.specs.inside.Tables.{ids_of, numbers_within, numbers_keep}
+use Rattle.facts.specs.inside.Growing.{shapes_more}
 
 module _ (S : Snap) (nodes : List Node) (n : Node) where
   pub this_in : (sets : List ℕ) (shape : Shape) → shape ≡ Either Own (AnyOf sets) → AreNumbersOf nodes sets (HasSet S n) → IsShapeIn S nodes n This shape

@@ -1,3 +1,5 @@
 pub mod Numbers
 pub mod Telling
 pub mod Rising
+pub mod Depending
+pub mod inside

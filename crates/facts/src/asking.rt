@@ -42,7 +42,7 @@ impl<'a> Facts for ViewFacts<'a> {
     ghost use Rattle.std.proofs.Common.{◌∙◌, refl, sym, subst};
     ghost use Rattle.meaning.specs.Snap.{Snap};
     ghost use Rattle.facts.specs.Telling.{MayTell, IsLater};
-    ghost use Rattle.facts.proofs.Growing.{may_more, later_stays, later_further};
+    ghost use Rattle.facts.specs.inside.Growing.{may_more, later_stays, later_further};
 
     ghost tells = { λ f n fact. MayTell f.view.now f.numbers.nodes f.numbers.users n fact };
 

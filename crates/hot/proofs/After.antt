@@ -19,7 +19,7 @@ use Rattle.region.specs.Sets.{IsHeld}
 use Rattle.region.specs.Refreshed.{IsRefreshed}
 use Rattle.facts.specs.Numbers.{node_at}
 use Rattle.facts.specs.Telling.{MayTell, IsLater}
-use Rattle.facts.proofs.Growing.{may_more}
+use Rattle.facts.specs.inside.Growing.{may_more}
 use Rattle.facts.proofs.Looking.{HasLevel, told_level, told_plain, told_taken}
 use Rattle.hot.specs.Kept.{AreKept}
 

@@ -1,2 +1,4 @@
 pub mod After
 pub mod Members
+pub mod Walks
+pub mod Marks

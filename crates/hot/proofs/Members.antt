@@ -21,8 +21,8 @@ use Rattle.graphs.specs.Graph.{IsShapeOf, IsFactOf, IsGraphOf}
 use Rattle.graphs.proofs.Memberships.{membership}
 use Rattle.facts.specs.Numbers.{user_at, node_at}
 use Rattle.facts.specs.Telling.{MayTell}
-use Rattle.facts.proofs.Numbering.{past_none}
-use Rattle.facts.proofs.Shapes.{shape_same}
+use Rattle.facts.specs.inside.Tables.{past_none}
+use Rattle.facts.specs.inside.Shapes.{shape_same}
 use Rattle.hot.specs.Kept.{AreKept}
 
 none_of : (from : ℕ → Bool) (xs : List ℕ) → ((m : ℕ) → from m ≡ true → ⊥) → list_any from xs ≡ true → ⊥
@@ -101,8 +101,13 @@ module _ (S : Snap) (nodes : List Node) (users : List Object) (marks : List ℕ)
 
     graph_other : IsGraphOf S others (node_at nodes) (kept rows) k.world
     graph_other n h = ⊎_elim
-        (λ d. inl (d.0, d.1, d.2, shape_same S S (node_at nodes) (node_at nodes) (user_at users) others (node_at nodes n) (k.world n).own refl (λ i both. ones n i h both)
-        (λ m. (λ q. q, λ q. q)) d.0.form (k.world n).shape (λ m q. refl) (λ m q t e p. (λ o. o, λ o. o)) d.3))
+        (λ d. inl (
+          d.0,
+          d.1,
+          d.2,
+          shape_same S S (node_at nodes) (node_at nodes) (user_at users) others (node_at nodes n) (k.world n).own refl (λ i both. ones n i h both)
+              (λ m. (λ q. q, λ q. q)) d.0.form (k.world n).shape (λ m q. refl) (λ m q t e p. (λ o. o, λ o. o)) d.3,
+        ))
         (λ d. inr d)
         (graph n h)
 
@@ -110,5 +115,5 @@ module _ (S : Snap) (nodes : List Node) (users : List Object) (marks : List ℕ)
     pub stranger : (n : ℕ) → kept rows n ≡ true → IsMember S u (node_at nodes n) → ⊥
     stranger n h member =
         let held = (membership S others (node_at nodes) (kept rows) k.world (length users) (holds rows (length users)) valid graph_other k.levelled closed (k.held.least (length users)) n h).1
-            (subst (λ x. IsMember S x (node_at nodes n)) (sym others_there) member) in
+        (subst (λ x. IsMember S x (node_at nodes n)) (sym others_there) member) in
         nobody_derived n h ((k.held.least (length users)).derived n h held)

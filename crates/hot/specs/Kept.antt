@@ -1,21 +1,20 @@
 -- What is kept of marked nodes, for a snapshot.
-use Rattle.std.specs.Prelude.{ℕ, ◌≡◌, ◌≤◌, true, List, Some, Contains, length}
-use Rattle.std.specs.List.{slice_get}
+use Rattle.std.specs.Prelude.{ℕ, ◌≡◌, ◌≤◌, true, List, Some, Contains, length, nat_eq}
+use Rattle.std.specs.List.{slice_get, IsDistinct}
 use Rattle.names.specs.declared.object.Object.{Object}
 use Rattle.names.specs.declared.node.Node.{Node}
 use Rattle.names.specs.declared.commit.Event.{Event}
-use Rattle.names.specs.declared.commit.Commit.TheVariants.{Tuples}
 use Rattle.names.specs.declared.refusal.Refusal.{Refusal}
 use Rattle.names.specs.declared.refusal.Refusal.TheVariants.{Full, Memory}
 use Rattle.meaning.specs.Snap.{Snap}
-use Rattle.meaning.specs.History.{after_commit}
 use Rattle.meaning.specs.Reads.{IsValid}
 use Rattle.idsets.specs.Naming.{AreDistinct}
 use Rattle.region_core.specs.World.{Fact, has}
 use Rattle.region_core.specs.Least.{IsLevelled}
 use Rattle.region.specs.Tables.{Rows, kept}
-use Rattle.region.specs.Sets.{IsHeld, IsWhole}
+use Rattle.region.specs.Sets.{IsHeld}
 use Rattle.facts.specs.Telling.{MayTell}
+use Rattle.facts.specs.Depending.{Leads, IsTouchedBy}
 use Rattle.hot.specs.declared.hot.Hot.{Hot}
 use Rattle.hot.specs.declared.hot.TheConstants.{MAX_MARKS}
 
@@ -30,7 +29,6 @@ pub record AreKept (S : Snap) (nodes : List Node) (users : List Object) (marks :
 pub record IsHot (hot : Hot) (S : Snap) : Type 0 where
   pub valid : IsValid S
   pub kept : AreKept S hot.numbers.nodes hot.numbers.users hot.marks hot.sets.rows
-  pub whole : IsWhole hot.sets
   pub distinct : AreDistinct hot.numbers.nodes
 
 -- the node is kept
@@ -41,9 +39,15 @@ IsKept hot n = (i : ℕ) × (slice_get hot.numbers.nodes i ≡ Some n) × (kept 
 abbrev pub IsMarked : Hot → Node → Type 0
 IsMarked hot n = (i : ℕ) × (has hot.marks i ≡ true) × (slice_get hot.numbers.nodes i ≡ Some n)
 
--- what is kept is that of some snapshot, from which a commit of events leads to this one
-abbrev pub IsBefore : Hot → List Event → Snap → Type 0
-IsBefore hot events S = (before : Snap) × IsHot hot before × (S ≡ after_commit before (Tuples events))
+-- the node is marked, or a marked node depends on it
+abbrev pub IsUnderMark : Hot → Snap → Node → Type 0
+IsUnderMark hot S n = (m : Node) × IsMarked hot m × Leads S m n
+
+-- The nodes that were asked, by their numbers: each once, and each is kept after the commit; where it was kept before, a walk
+-- of dependence led from it, before the commit, to the node of an event.
+pub record WasAskedFew (old new : Hot) (S : Snap) (events : List Event) (asked : List ℕ) : Type 0 where
+  pub once : IsDistinct nat_eq asked
+  pub few : (i : ℕ) → has asked i ≡ true → (n : Node) × (slice_get new.numbers.nodes i ≡ Some n) × IsKept new n × (IsKept old n → IsTouchedBy S events n)
 
 -- why a node is not marked: there is no room for one more mark, or no memory
 abbrev pub MarkCause : Hot → Node → Refusal → Type 0

@@ -1,5 +1,5 @@
 //! The marked nodes.
-ghost use Rattle.std.specs.Prelude.{◌≡◌, ℕ, ◌↔◌, ◌⊎◌, OnOk, OnErr, IfErr, IfOk, length};
+ghost use Rattle.region.specs.Sets.{IsWhole};
 
 use crate::renewing::renew;
 use facts::{Numbers, is_valid, number_of};
@@ -18,13 +18,19 @@ pub struct Hot {
     pub(crate) numbers: Numbers,
     pub(crate) marks: IdSet,
     pub(crate) sets: Sets,
+    ghost whole: { IsWhole sets },
 }
 
 impl Hot {
+    ghost use Rattle.std.specs.Prelude.{◌≡◌, ℕ, ◌↔◌, ◌⊎◌, OnOk, OnErr, IfErr, IfOk, length};
+    ghost use Rattle.names.specs.declared.commit.Commit.TheVariants.{Tuples};
+    ghost use Rattle.meaning.specs.History.{after_commit};
+    ghost use Rattle.std.specs.List.{slice_get};
+    ghost use Rattle.std.specs.Option.{option_copied};
     ghost use Rattle.names.specs.declared.node.Node.{Node};
     ghost use Rattle.meaning.specs.Snap.{Snap};
     ghost use Rattle.meaning.specs.Reads.{IsValid};
-    ghost use Rattle.hot.specs.Kept.{IsHot, IsMarked, IsBefore, MarkCause, AreOfEvents};
+    ghost use Rattle.hot.specs.Kept.{IsHot, IsMarked, WasAskedFew, MarkCause, AreOfEvents};
 
     /// Nothing is marked. It takes no memory.
     pub fn new(alloc: Global) -> Hot
@@ -45,11 +51,17 @@ impl Hot {
         self.marks.len()
     }
 
+    /// The node with a number.
+    pub fn node(&self, number: u64) -> Option<&Node>
+        ensures { option_copied result ≡ slice_get self.now.numbers.nodes number }
+    {
+        self.numbers.nodes.name(number)
+    }
+
     /// Marks a node, at the revision that is kept. It is refused with `Full` where so many are marked that there is no
     /// room for one more, and for want of memory; then what is marked and kept is what it was.
     pub fn mark(&mut self, alloc: Global, view: &View, node: &Node) -> Result<(), Refusal>
-        requires { IsHot self.old view.now }
-        ensures hot { IsHot self.new view.now }
+        ensures hot { IsHot self.old view.now → IsHot self.new view.now }
         ensures ok { OnOk result ((n : Node) → IsMarked self.new n ↔ (IsMarked self.old n ⊎ (n ≡ node.now))) }
         ensures err { OnErr result ((n : Node) → IsMarked self.new n ↔ IsMarked self.old n) }
         ensures cause { IfErr result (MarkCause self.old node.now) }
@@ -78,8 +90,9 @@ impl Hot {
         events: &[Event],
         view: &View,
     ) -> Result<Vec<u64>, AllocError>
-        requires { IsBefore self.old events.now view.now }
-        ensures hot { OnOk result (IsHot self.new view.now) }
+        ensures hot { OnOk result ((S : Snap) → IsHot self.old S → view.now ≡ after_commit S (Tuples events.now) → IsHot self.new view.now) }
+        ensures asked { IfOk result (λ asked. (S : Snap) → IsHot self.old S → view.now ≡ after_commit S (Tuples events.now)
+            → WasAskedFew self.old self.new S events.now asked.items) }
         ensures err { OnErr result ((S : Snap) → IsHot self.old S → IsHot self.new S) }
         ensures marked { (n : Node) → IsMarked self.new n ↔ IsMarked self.old n }
     {
@@ -101,7 +114,15 @@ impl Hot {
         }
         let mut sets = Sets::new(alloc);
         let numbers = &mut self.numbers;
-        renew(alloc, view, numbers, &mut sets, &self.marks, self.marks.as_slice(), &[])?;
+        renew(
+            alloc,
+            view,
+            numbers,
+            &mut sets,
+            &self.marks,
+            self.marks.as_slice(),
+            &[],
+        )?;
         self.sets = sets;
         Ok(())
     }

@@ -12,11 +12,12 @@ impl Hot {
     ghost use Rattle.names.specs.declared.node.Node.{Node};
     ghost use Rattle.meaning.specs.Snap.{Snap};
     ghost use Rattle.meaning.specs.Membership.{IsMember};
-    ghost use Rattle.hot.specs.Kept.{IsHot, IsKept};
+    ghost use Rattle.hot.specs.Kept.{IsHot, IsKept, IsUnderMark};
 
     /// Whether the node is kept: it is marked, or a marked node depends on it.
     pub fn is_kept(&self, node: &Node) -> bool
-        ensures { IsTrue result ↔ IsKept self.now node.now }
+        ensures kept { IsTrue result ↔ IsKept self.now node.now }
+        ensures exactly { (S : Snap) → IsHot self.now S → IsTrue result ↔ IsUnderMark self.now S node.now }
     {
         match self.numbers.nodes.id_of(node) {
             Some(id) => self.sets.is_kept(id),

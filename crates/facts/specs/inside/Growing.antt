@@ -15,8 +15,8 @@ use Rattle.region_core.specs.World.{Fact, Shape, AnyOf, has, arcs_of}
 use Rattle.graphs.specs.Graph.{IsShapeOf, IsFactOf}
 use Rattle.facts.specs.Numbers.{Grew, user_at, node_at}
 use Rattle.facts.specs.Telling.{MayTell, AreOwn, IsShapeIn, AreShapesIn, IsLater}
-use Rattle.facts.proofs.Numbering.{grew_none, grew_both, grew_get, grew_longer, node_is, user_is, node_same, user_same, number_below, past_none}
-use Rattle.facts.proofs.Shapes.{shape_same}
+use Rattle.facts.specs.inside.Tables.{grew_none, grew_both, grew_get, grew_longer, node_is, user_is, node_same, user_same, number_below, past_none}
+use Rattle.facts.specs.inside.Shapes.{shape_same}
 
 -- the own users are told apart by the numbers that they had
 own_more : (S : Snap) (a b : List Object) (n m : Node) (own : List ℕ) → AreDistinct b → Grew a b → n ≡ m → ((u : Object) → HasOne S n u → (j : ℕ) × (slice_get a j ≡ Some u))
@@ -38,13 +38,17 @@ pub may_more : (S : Snap) (nodes nodes' : List Node) (users users' : List Object
 may_more S nodes nodes' users users' i fact later may = record {
   named = (may.named.0, grew_get nodes nodes' i may.named.0 gn may.named.1);
   fact_is = ⊎_elim
-      (λ d. inl (d.0, subst (λ n. Defines S.config (rel_of n) d.0) here d.1, subst (λ n. IsAt S.config n fact.level) here d.2,
-      subst (λ n. IsShapeOf S (user_at users') (node_at nodes') n fact.own d.0.form fact.shape) here
-      (shape_same S S (node_at nodes) (node_at nodes') (user_at users) (user_at users') (node_at nodes i) fact.own refl
-      (own_more S users users' (node_at nodes i) (node_at nodes i) fact.own distinct gu refl may.seen)
-      (λ m. (λ h. h, λ h. h)) d.0.form fact.shape
-      (λ m h. node_same nodes nodes' m gn (may.within m h))
-      (λ m h t e p. (λ o. o, λ o. o)) d.3)))
+      (λ d. inl (
+        d.0,
+        subst (λ n. Defines S.config (rel_of n) d.0) here d.1,
+        subst (λ n. IsAt S.config n fact.level) here d.2,
+        subst (λ n. IsShapeOf S (user_at users') (node_at nodes') n fact.own d.0.form fact.shape) here
+            (shape_same S S (node_at nodes) (node_at nodes') (user_at users) (user_at users') (node_at nodes i) fact.own refl
+            (own_more S users users' (node_at nodes i) (node_at nodes i) fact.own distinct gu refl may.seen)
+            (λ m. (λ h. h, λ h. h)) d.0.form fact.shape
+            (λ m h. node_same nodes nodes' m gn (may.within m h))
+            (λ m h t e p. (λ o. o, λ o. o)) d.3),
+      ))
       (λ d. inr (subst (λ n. Has S.config (rel_of n) → ⊥) here d.0, d.1))
       may.fact_is;
   own = λ u. own_more S users users' (node_at nodes i) (node_at nodes' i) fact.own distinct gu here may.seen u (may.own u);

@@ -19,7 +19,7 @@ use Rattle.rows.proofs.Naming.{of_node, is_of_itself, named_object, object_named
 use Rattle.graphs.specs.Graph.{IsTupleTo}
 use Rattle.facts.specs.Numbers.{Grew, AreNumbersOf}
 use Rattle.facts.specs.Telling.{IsComputedOf}
-use Rattle.facts.proofs.Numbering.{numbers_keep, numbers_push}
+use Rattle.facts.specs.inside.Tables.{numbers_keep, numbers_push}
 
 -- a name gets the next number where it had none
 pub see_grew : {N E : Type 0} (old new : List N) (n : N) (r : Result ℕ E) → IfOk r (λ id. new ≡ (if nat_lt id (length old) then old else old ++ n ∷ [])) → OnErr r (new ≡ old) → Grew old new

@@ -60,9 +60,12 @@ module _ (S T : Snap) (f g : ℕ → Node) (users others : ℕ → Object) (n : 
         (is.0, e, λ u. ones u (is.2 u), ids_same f g is.0 (HasSet S n) (HasSet T n) at_ids sets is.3)
     shape_same (form.Computed c) shape at of is =
         let e = is.1 in
-        let at_ids = λ i h. at i (subst (λ (s : Shape). has (arcs_of s) i ≡ true) (sym e) h) in
-        (is.0, e, ids_same f g is.0 (λ m. m ≡ record { object = n.object; relation = c }) (λ m. m ≡ record { object = n.object; relation = c }) at_ids
-        (itself (λ m. m ≡ record { object = n.object; relation = c })) is.2)
+        let at_ids = λ i h. at i (subst (λ (s : Shape). has (arcs_of s) i ≡ true) (sym e) h) in (
+          is.0,
+          e,
+          ids_same f g is.0 (λ m. m ≡ record { object = n.object; relation = c }) (λ m. m ≡ record { object = n.object; relation = c }) at_ids
+              (itself (λ m. m ≡ record { object = n.object; relation = c })) is.2,
+        )
     shape_same (form.TupleTo t c) shape at of is =
         let e = is.2 in
         let read = is.0 in
