@@ -13,6 +13,7 @@ use Rattle.meaning.specs.TupleSet as set
 use Rattle.meaning.specs.Config.{Configured, Has, rel_of}
 use Rattle.meaning.specs.Membership.{HasOne, HasSet}
 use Rattle.meaning.proofs.Lists.{contains_here, contains_there, contains_cases, contains_none}
+use Rattle.config.specs.Places.{StandsAt}
 use Rattle.rows_core.specs.Named.{objects_in, nodes_in}
 use Rattle.tuple_keys.specs.Named.{is_of, object_in, node_in}
 use Rattle.rows.proofs.Naming.{of_node, is_of_itself, named_object, object_named, named_node, node_named}
@@ -29,11 +30,11 @@ see_grew old new n (Ok id) ok err = ⊎_elim
     (cases_Bool (nat_lt id (length old)))
 see_grew old new n (Err e) ok err = ([], err ∙ sym (append-nil old))
 
-in_left : {A : Type 0} (xs ys : List A) (x : A) → Contains xs x → Contains (xs ++ ys) x
+pub in_left : {A : Type 0} (xs ys : List A) (x : A) → Contains xs x → Contains (xs ++ ys) x
 in_left [] ys x c = absurd (contains_none x c)
 in_left (y ∷ xs) ys x c = ⊎_elim (λ e. subst (λ z. Contains (y ∷ xs ++ ys) z) e (contains_here y (xs ++ ys))) (λ d. contains_there y x (xs ++ ys) (in_left xs ys x d)) (contains_cases y x xs c)
 
-in_last : {A : Type 0} (xs : List A) (x : A) → Contains (xs ++ x ∷ []) x
+pub in_last : {A : Type 0} (xs : List A) (x : A) → Contains (xs ++ x ∷ []) x
 in_last [] x = contains_here x []
 in_last (y ∷ xs) x = contains_there y x (xs ++ x ∷ []) (in_last xs x)
 
@@ -135,3 +136,7 @@ parents S n t c from config objects is same both m = (
   λ w. (w.0, subst (λ x. HasOne S x w.0) is ((both w.0).0 w.1), subst (λ (x : Configured). Has x (record { namespace = w.0.namespace; relation = c })) same w.2, w.3),
   λ w. (w.0, (both w.0).1 (subst (λ x. HasOne S x w.0) (sym is) w.1), subst (λ (x : Configured). Has x (record { namespace = w.0.namespace; relation = c })) (sym same) w.2, w.3),
 )
+
+-- the relation of a node that has a place is there
+pub has_at : (config : Configured) (n : Node) (i : ℕ) → StandsAt config (rel_of n) i → Has config (rel_of n)
+has_at config n i at = (at.defined, (i, at.within, at.there), at.rel)

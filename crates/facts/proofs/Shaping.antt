@@ -1,6 +1,7 @@
 -- The shapes of rewrites at a node.
 use Rattle.std.proofs.Common.{ℕ, zero, suc, ◌≡◌, ◌≤◌, ◌<◌, ◌+◌, Bool, true, List, [], ◌∷◌, ◌++◌, take, length, get_or, map, refl, sym, ◌∙◌, ap, subst, arith, ⊎_elim, ◌⊎◌, inl, inr}
-use Rattle.std.specs.Prelude.{◌↔◌}
+use Rattle.std.specs.Prelude.{◌↔◌, Option, Some, None}
+use Rattle.std.specs.Option.{option_to_list}
 use Rattle.std.proofs.lemmas.Bool.{false≢true}
 use Rattle.std.proofs.lemmas.List.{take_more, take_all, map-append}
 use Rattle.names.specs.declared.object.Object.{Object}
@@ -124,3 +125,21 @@ pub each_last : (xs : List Shape) (x : Shape) → each_before xs x ≡ each_shap
 each_last [] x = refl
 each_last (z ∷ []) x = refl
 each_last (z ∷ v ∷ vs) x = ap (λ s. Both z s) (each_last (v ∷ vs) x)
+
+-- the last rule is taken off
+pub any_popped : (old new : List Rule) (r : Option Rule) (rule : Rule) (y z : Shape) → old ≡ new ++ option_to_list r → r ≡ Some rule → z ≡ Either (shape_of rule) y
+    → any_before (map shape_of new) z ≡ any_before (map shape_of old) y
+any_popped old new r rule y z is some e =
+    ap (any_before (map shape_of new)) e ∙ sym (any_onto (map shape_of new) (shape_of rule) y)
+    ∙ ap (λ xs. any_before xs y) (sym (ap (λ (xs : List Rule). map shape_of xs) (is ∙ ap (λ (o : Option Rule). new ++ option_to_list o) some) ∙ map-append shape_of new (rule ∷ [])))
+
+pub each_popped : (old new : List Rule) (r : Option Rule) (rule : Rule) (y z : Shape) → old ≡ new ++ option_to_list r → r ≡ Some rule → z ≡ Both (shape_of rule) y
+    → each_before (map shape_of new) z ≡ each_before (map shape_of old) y
+each_popped old new r rule y z is some e =
+    ap (each_before (map shape_of new)) e ∙ sym (each_onto (map shape_of new) (shape_of rule) y)
+    ∙ ap (λ xs. each_before xs y) (sym (ap (λ (xs : List Rule). map shape_of xs) (is ∙ ap (λ (o : Option Rule). new ++ option_to_list o) some) ∙ map-append shape_of new (rule ∷ [])))
+
+pub last_popped : (old new : List Rule) (r : Option Rule) (rule : Rule) → old ≡ new ++ option_to_list r → r ≡ Some rule → each_before (map shape_of new) (shape_of rule) ≡ each_shape (map shape_of old)
+last_popped old new r rule is some =
+    each_last (map shape_of new) (shape_of rule)
+    ∙ ap each_shape (sym (ap (λ (xs : List Rule). map shape_of xs) (is ∙ ap (λ (o : Option Rule). new ++ option_to_list o) some) ∙ map-append shape_of new (rule ∷ [])))

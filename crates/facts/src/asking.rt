@@ -19,7 +19,8 @@ impl<'a> ViewFacts<'a> {
     /// Nobody was asked. It takes no memory.
     pub fn of(alloc: Global, view: &'a View<'a>, numbers: Numbers) -> ViewFacts<'a>
         ensures view { result.view.now ≡ view.now }
-        ensures numbers { result.numbers ≡ numbers }
+        ensures nodes { result.numbers.nodes ≡ numbers.nodes }
+        ensures users { result.numbers.users ≡ numbers.users }
         ensures asked { result.asked.items ≡ [] }
     {
         ViewFacts {
@@ -31,8 +32,9 @@ impl<'a> ViewFacts<'a> {
 
     /// The numbers, as they are now, and who was asked for, in order.
     pub fn into_parts(self) -> (Numbers, Vec<u64>)
-        ensures numbers { result.0 ≡ self.numbers }
-        ensures asked { result.1 ≡ self.asked }
+        ensures nodes { result.0.nodes ≡ self.numbers.nodes }
+        ensures users { result.0.users ≡ self.numbers.users }
+        ensures asked { result.1.items ≡ self.asked.items }
     {
         (self.numbers, self.asked)
     }

@@ -1,6 +1,6 @@
 //! Rules joined.
 ghost use Rattle.std.specs.Prelude.{◌≡◌, [], map, IfOk};
-ghost use Rattle.region_core.specs.World.{Own, AnyOf, Reads, Either, Except};
+ghost use Rattle.region_core.specs.World.{Own, AnyOf, Reads, Either, Both, Except};
 ghost use Rattle.region.specs.Rules.{shape_of};
 ghost use Rattle.facts.specs.Telling.{any_before, each_shape};
 
@@ -14,7 +14,7 @@ pub(crate) fn any_of(alloc: Global, rules: Vec<Rule>) -> Result<Rule, AllocError
     let mut rules = rules;
     let mut any = Rule::AnyOf(Vec::new(alloc));
     while let Some(rule) = rules.pop() {
-        any = Rule::Either(Box::new(alloc, rule)?, Box::new(alloc, any)?);
+        any = either(alloc, rule, any)?;
     }
     Ok(any)
 }
@@ -29,9 +29,23 @@ pub(crate) fn each_of(alloc: Global, rules: Vec<Rule>) -> Result<Rule, AllocErro
     };
     let mut each = last;
     while let Some(rule) = rules.pop() {
-        each = Rule::Both(Box::new(alloc, rule)?, Box::new(alloc, each)?);
+        each = both(alloc, rule, each)?;
     }
     Ok(each)
+}
+
+/// One of two rules.
+fn either(alloc: Global, first: Rule, second: Rule) -> Result<Rule, AllocError>
+    ensures { IfOk result (λ rule. shape_of rule ≡ Either (shape_of first) (shape_of second)) }
+{
+    Ok(Rule::Either(Box::new(alloc, first)?, Box::new(alloc, second)?))
+}
+
+/// Both of two rules.
+fn both(alloc: Global, first: Rule, second: Rule) -> Result<Rule, AllocError>
+    ensures { IfOk result (λ rule. shape_of rule ≡ Both (shape_of first) (shape_of second)) }
+{
+    Ok(Rule::Both(Box::new(alloc, first)?, Box::new(alloc, second)?))
 }
 
 /// What the node holds by itself, or the members of any of some nodes.

@@ -1,4 +1,6 @@
 pub mod After
-pub mod Members
+pub mod Memberships
 pub mod Walks
 pub mod Marks
+pub mod Answering
+pub mod Lists

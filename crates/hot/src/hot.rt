@@ -1,6 +1,7 @@
 //! The marked nodes.
 ghost use Rattle.region.specs.Sets.{IsWhole};
 
+use crate::changed::changed_by;
 use crate::renewing::renew;
 use facts::{Numbers, is_valid, number_of};
 use idsets::IdSet;
@@ -30,7 +31,7 @@ impl Hot {
     ghost use Rattle.names.specs.declared.node.Node.{Node};
     ghost use Rattle.meaning.specs.Snap.{Snap};
     ghost use Rattle.meaning.specs.Reads.{IsValid};
-    ghost use Rattle.hot.specs.Kept.{IsHot, IsMarked, WasAskedFew, MarkCause, AreOfEvents};
+    ghost use Rattle.hot.specs.Kept.{IsHot, IsMarked, WasAskedFew, MarkCause};
 
     /// Nothing is marked. It takes no memory.
     pub fn new(alloc: Global) -> Hot
@@ -62,8 +63,8 @@ impl Hot {
     /// room for one more, and for want of memory; then what is marked and kept is what it was.
     pub fn mark(&mut self, alloc: Global, view: &View, node: &Node) -> Result<(), Refusal>
         ensures hot { IsHot self.old view.now → IsHot self.new view.now }
-        ensures ok { OnOk result ((n : Node) → IsMarked self.new n ↔ (IsMarked self.old n ⊎ (n ≡ node.now))) }
-        ensures err { OnErr result ((n : Node) → IsMarked self.new n ↔ IsMarked self.old n) }
+        ensures ok { OnOk result (IsHot self.old view.now → (n : Node) → IsMarked self.new n ↔ (IsMarked self.old n ⊎ (n ≡ node.now))) }
+        ensures err { OnErr result (IsHot self.old view.now → (n : Node) → IsMarked self.new n ↔ IsMarked self.old n) }
         ensures cause { IfErr result (MarkCause self.old node.now) }
     {
         let _ = (self.numbers.nodes.len(), self.numbers.users.len());
@@ -94,9 +95,9 @@ impl Hot {
         ensures asked { IfOk result (λ asked. (S : Snap) → IsHot self.old S → view.now ≡ after_commit S (Tuples events.now)
             → WasAskedFew self.old self.new S events.now asked.items) }
         ensures err { OnErr result ((S : Snap) → IsHot self.old S → IsHot self.new S) }
-        ensures marked { (n : Node) → IsMarked self.new n ↔ IsMarked self.old n }
+        ensures marked { (S : Snap) → IsHot self.old S → (n : Node) → IsMarked self.new n ↔ IsMarked self.old n }
     {
-        let changed = self.changed_by(alloc, events)?;
+        let changed = changed_by(alloc, &self.numbers.nodes, events)?;
         let _ = (self.numbers.nodes.len(), view.config());
         let (numbers, sets) = (&mut self.numbers, &mut self.sets);
         renew(alloc, view, numbers, sets, &self.marks, &[], &changed)
@@ -106,7 +107,7 @@ impl Hot {
     pub fn restart(&mut self, alloc: Global, view: &View) -> Result<(), AllocError>
         ensures hot { OnOk result ((S : Snap) → IsHot self.old S → IsHot self.new view.now) }
         ensures err { OnErr result ((S : Snap) → IsHot self.old S → IsHot self.new S) }
-        ensures marked { (n : Node) → IsMarked self.new n ↔ IsMarked self.old n }
+        ensures marked { (S : Snap) → IsHot self.old S → (n : Node) → IsMarked self.new n ↔ IsMarked self.old n }
     {
         // Never taken: each view is valid.
         if !is_valid(view) {
@@ -144,18 +145,5 @@ impl Hot {
         sweep(alloc, &mut self.sets, &marks, &[id])?;
         self.marks = marks;
         Ok(())
-    }
-
-    /// The numbers of the nodes of some events, as far as they have one.
-    fn changed_by(&self, alloc: Global, events: &[Event]) -> Result<Vec<u64>, AllocError>
-        ensures { IfOk result (λ ids. AreOfEvents self.now.numbers.nodes events.now ids.items) }
-    {
-        let mut ids = Vec::new(alloc);
-        for event in events {
-            if let Some(id) = self.numbers.nodes.id_of(&event.tuple.node) {
-                ids.push(id)?;
-            }
-        }
-        Ok(ids)
     }
 }

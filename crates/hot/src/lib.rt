@@ -2,6 +2,7 @@
 //! member of it at one revision. After a commit only what it touches is asked for and solved anew. No tuple is kept.
 #![tactic(auto)]
 
+mod changed;
 mod hot;
 mod members;
 mod renewing;

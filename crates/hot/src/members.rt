@@ -1,5 +1,5 @@
 //! Who is kept.
-ghost use Rattle.std.specs.Prelude.{◌≡◌, ℕ, ◌↔◌, Contains, IfOk, IfSome, IsTrue, true, Some, is_some};
+ghost use Rattle.std.specs.Prelude.{ℕ, ◌↔◌, ◌++◌, ◌∷◌, [], List, Contains, IfOk, OnOk, IfSome, IsTrue, is_some};
 ghost use Rattle.hot.specs.Named.{AreNamed};
 
 use crate::hot::Hot;
@@ -12,12 +12,11 @@ impl Hot {
     ghost use Rattle.names.specs.declared.node.Node.{Node};
     ghost use Rattle.meaning.specs.Snap.{Snap};
     ghost use Rattle.meaning.specs.Membership.{IsMember};
-    ghost use Rattle.hot.specs.Kept.{IsHot, IsKept, IsUnderMark};
+    ghost use Rattle.hot.specs.Kept.{IsHot, IsUnderMark};
 
     /// Whether the node is kept: it is marked, or a marked node depends on it.
     pub fn is_kept(&self, node: &Node) -> bool
-        ensures kept { IsTrue result ↔ IsKept self.now node.now }
-        ensures exactly { (S : Snap) → IsHot self.now S → IsTrue result ↔ IsUnderMark self.now S node.now }
+        ensures { (S : Snap) → IsHot self.now S → IsTrue result ↔ IsUnderMark self.now S node.now }
     {
         match self.numbers.nodes.id_of(node) {
             Some(id) => self.sets.is_kept(id),
@@ -27,7 +26,7 @@ impl Hot {
 
     /// The members of a node that is kept. No order is promised.
     pub fn members(&self, alloc: Global, node: &Node) -> Result<Option<Vec<Object>>, AllocError>
-        ensures kept { IfOk result (λ found. IsTrue (is_some found) ↔ IsKept self.now node.now) }
+        ensures exactly { IfOk result (λ found. (S : Snap) → IsHot self.now S → IsTrue (is_some found) ↔ IsUnderMark self.now S node.now) }
         ensures members { IfOk result (λ found. IfSome found (λ users. (S : Snap) → IsHot self.now S
             → (u : Object) → Contains users.items u ↔ IsMember S u node.now)) }
     {
@@ -43,7 +42,7 @@ impl Hot {
 
     /// Whether the user is a member of the node, where it is kept. It takes no memory.
     pub fn has(&self, node: &Node, user: &Object) -> Option<bool>
-        ensures kept { IsTrue (is_some result) ↔ IsKept self.now node.now }
+        ensures exactly { (S : Snap) → IsHot self.now S → IsTrue (is_some result) ↔ IsUnderMark self.now S node.now }
         ensures has { IfSome result (λ answer. (S : Snap) → IsHot self.now S → IsTrue answer ↔ IsMember S user.now node.now) }
     {
         let id = self.numbers.nodes.id_of(node)?;
@@ -61,9 +60,20 @@ fn named(alloc: Global, users: &Ids<Object>, ids: &IdSet) -> Result<Vec<Object>,
 {
     let mut found = Vec::new(alloc);
     for id in ids.as_slice() {
-        if let Some(user) = users.name(*id) {
-            found.push(user.clone()?)?;
-        }
+        push_named(users, &mut found, *id)?;
     }
     Ok(found)
+}
+
+/// Adds the user with a number, where there is one.
+fn push_named(users: &Ids<Object>, found: &mut Vec<Object>, id: u64) -> Result<(), AllocError>
+    ensures { OnOk result ((ids : List ℕ) → AreNamed users.now ids found.old.items → AreNamed users.now (ids ++ id ∷ []) found.new.items) }
+{
+    match users.name(id) {
+        Some(user) => {
+            found.push(user.clone()?)?;
+            Ok(())
+        }
+        None => Ok(()),
+    }
 }

@@ -1,0 +1,10 @@
+use Rattle.facts.proofs.Naming.{set_more, set_passed}
+use Rattle.facts.proofs.reading.push_set.Goals as goal
+
+pub returns-in-None-clause-numbers : goal.returns-in-None-clause-numbers
+returns-in-None-clause-numbers c = set_passed c.args.nodes.now c.args.ids.now.items c.args.tuple.now c.in-None.is
+
+pub returns-in_ok-push-in-Some-clause-numbers : goal.returns-in_ok-push-in-Some-clause-numbers
+returns-in_ok-push-in-Some-clause-numbers c =
+    set_more c.args.nodes.now c.number_of.new.ids c.args.ids.now.items c.push.new.self.items c.in_ok-id.id c.args.tuple.now c.in_ok-node.node c.in-Some.relation.now c.in-Some.is c.in_ok-node.ensures
+    c.in_ok-id.ensures.grew c.in_ok-id.ensures.id c.in_ok-push.ensures.items
