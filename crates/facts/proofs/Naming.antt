@@ -1,6 +1,7 @@
 -- What is read of tuples, one by one.
 use Rattle.std.proofs.Common.{ℕ, zero, suc, ◌≡◌, ◌≤◌, ◌<◌, ◌+◌, Bool, true, false, cond, nat_lt, List, [], ◌∷◌, ◌++◌, take, length, get_or, refl, sym, ◌∙◌, ap, subst, arith, ⊎_elim, ◌⊎◌, inl, inr, append-nil}
-use Rattle.std.specs.Prelude.{◌↔◌, Contains, Option, Some, None, Result, Ok, Err, IfOk, OnErr, filter, if◌then◌else◌}
+use Rattle.std.specs.Global.{Global}
+use Rattle.std.specs.Prelude.{◌↔◌, Vec, Contains, Option, Some, None, Result, Ok, Err, IfOk, OnErr, filter, if◌then◌else◌}
 use Rattle.std.specs.List.{slice_get, filter_map}
 use Rattle.std.proofs.lemmas.Bool.{cases_Bool}
 use Rattle.std.proofs.lemmas.List.{take_more, take_all}
@@ -139,4 +140,12 @@ parents S n t c from config objects is same both m = (
 
 -- the relation of a node that has a place is there
 pub has_at : (config : Configured) (n : Node) (i : ℕ) → StandsAt config (rel_of n) i → Has config (rel_of n)
-has_at config n i at = (at.defined, (i, at.within, at.there), at.rel)
+has_at config n i at = (at.defined, ((i, at.within, at.there), at.rel))
+
+pub numbers_parents : {E : Type 0} (S : Snap) (n : Node) (t c : List ℕ) (from : Node) (config : Configured) (objects : List Object) (nodes : List Node) (r : Result (Vec ℕ Global) E)
+    → from ≡ record { object = n.object; relation = t } → config ≡ S.config → {listed : List Object} → ((p : Object) → Contains listed p ↔ HasOne S from p) → objects ≡ listed
+    → IfOk r (λ ids. AreNumbersOf nodes ids.items (IsComputedOf config objects c)) → IfOk r (λ ids. AreNumbersOf nodes ids.items (IsTupleTo S n t c))
+numbers_parents S n t c from config objects nodes (Ok ids) is same {listed} both e are =
+    numbers_keep nodes nodes ids.items (IsComputedOf config objects c) (IsTupleTo S n t c) ([], sym (append-nil nodes))
+    (parents S n t c from config objects is same (λ p. subst (λ xs. Contains xs p ↔ HasOne S from p) (sym e) (both p))) are
+numbers_parents S n t c from config objects nodes (Err x) is same both e are = tt

@@ -13,6 +13,13 @@ use Rattle.region_core.proofs.Gives.{has-append}
 use Rattle.graphs.specs.Graph.{AreIdsOf}
 use Rattle.facts.specs.Numbers.{Grew, AreNumbersOf, longer, fresh, user_at, node_at}
 
+or_last : (b : Bool) → (b || false) ≡ b
+or_last true = refl
+or_last false = refl
+
+pub has_push : (xs : List ℕ) (x n : ℕ) → has (xs ++ x ∷ []) n ≡ (has xs n || nat_eq n x)
+has_push xs x n = has-append xs (x ∷ []) n ∙ ap (λ b. has xs n || b) (or_last (nat_eq n x))
+
 module _ {N : Type 0} where
   pub grew_none : (a : List N) → Grew a a
   grew_none a = ([], sym (append-nil a))
@@ -37,13 +44,6 @@ module _ {N : Type 0} where
     sound = λ i h. let s = are.sound i h in (s.0, (f s.0).0 s.1, grew_get a b i s.0 g s.2);
     complete = λ n q. let s = are.complete n ((f n).1 q) in (s.0, s.1, grew_get a b s.0 n g s.2);
   }
-
-  or_last : (b : Bool) → (b || false) ≡ b
-  or_last true = refl
-  or_last false = refl
-
-  pub has_push : (xs : List ℕ) (x n : ℕ) → has (xs ++ x ∷ []) n ≡ (has xs n || nat_eq n x)
-  has_push xs x n = has-append xs (x ∷ []) n ∙ ap (λ b. has xs n || b) (or_last (nat_eq n x))
 
   pub numbers_push : (a b : List N) (ids : List ℕ) (id : ℕ) (n : N) (P Q : N → Type 0) → Grew a b → AreNumbersOf a ids P → slice_get b id ≡ Some n → Q n
       → ((m : N) → P m → Q m) → ((m : N) → Q m → P m ⊎ (m ≡ n)) → AreNumbersOf b (ids ++ id ∷ []) Q
