@@ -100,10 +100,10 @@ module _ (S : Snap) (nodes : List Node) (n : Node) where
 pub rules_more : (S : Snap) (a b : List Node) (n : Node) (parts : List Rewrite) (i : ℕ) (part : Rewrite) (rules rules' : List Rule) (rule : Rule) → i < length parts → part ≡ get_or parts i part → rules' ≡ rules ++ rule ∷ []
     → Grew a b → AreShapesIn S a n (rewrite_forms (take i parts)) (map shape_of rules) → IsShapeIn S b n (form_of part) (shape_of rule)
     → AreShapesIn S b n (rewrite_forms (take (i + 1) parts)) (map shape_of rules')
-rules_more S a b n parts i part rules rules' rule lt e more g are is =
+rules_more S a b n parts i part rules rules' rule lt e pushed g are is =
     let next : take (i + 1) parts ≡ take i parts ++ part ∷ [] = take_more parts i part lt ∙ ap (λ y. take i parts ++ y ∷ []) (sym e) in
     let forms : map form_of (take (i + 1) parts) ≡ map form_of (take i parts) ++ form_of part ∷ [] = ap (λ (xs : List Rewrite). map form_of xs) next ∙ map-append form_of (take i parts) (part ∷ []) in
-    let shapes : map shape_of rules' ≡ map shape_of rules ++ shape_of rule ∷ [] = ap (λ (xs : List Rule). map shape_of xs) more ∙ map-append shape_of rules (rule ∷ []) in
+    let shapes : map shape_of rules' ≡ map shape_of rules ++ shape_of rule ∷ [] = ap (λ (xs : List Rule). map shape_of xs) pushed ∙ map-append shape_of rules (rule ∷ []) in
     subst (λ xs. AreShapesIn S b n (rewrite_forms (take (i + 1) parts)) xs) (sym shapes)
     (subst (λ fs. AreShapesIn S b n (forms_of fs) (map shape_of rules ++ shape_of rule ∷ [])) (sym forms)
     (shapes_push S b n (map form_of (take i parts)) (map shape_of rules) (form_of part) (shape_of rule) (shapes_more S a b n (rewrite_forms (take i parts)) (map shape_of rules) g are) is))

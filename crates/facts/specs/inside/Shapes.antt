@@ -56,11 +56,11 @@ module _ (S T : Snap) (f g : ℕ → Node) (users others : ℕ → Object) (n : 
     pub shape_same : (w : Form) (shape : Shape) → SameAt shape → SameOf shape → IsShapeOf S users f n own w shape → IsShapeOf T others g n own w shape
     shape_same form.This shape at of is =
         let e = is.1 in
-        let at_ids = λ i h. at i (subst (λ (s : Shape). has (arcs_of s) i ≡ true) (sym e) h) in
+        let at_ids : (i : ℕ) → has is.0 i ≡ true → f i ≡ g i = λ i h. at i (subst (λ (s : Shape). has (arcs_of s) i ≡ true) (sym e) h) in
         (is.0, e, λ u. ones u (is.2 u), ids_same f g is.0 (HasSet S n) (HasSet T n) at_ids sets is.3)
     shape_same (form.Computed c) shape at of is =
         let e = is.1 in
-        let at_ids = λ i h. at i (subst (λ (s : Shape). has (arcs_of s) i ≡ true) (sym e) h) in (
+        let at_ids : (i : ℕ) → has is.0 i ≡ true → f i ≡ g i = λ i h. at i (subst (λ (s : Shape). has (arcs_of s) i ≡ true) (sym e) h) in (
           is.0,
           e,
           ids_same f g is.0 (λ m. m ≡ record { object = n.object; relation = c }) (λ m. m ≡ record { object = n.object; relation = c }) at_ids
@@ -70,8 +70,8 @@ module _ (S T : Snap) (f g : ℕ → Node) (users others : ℕ → Object) (n : 
         let e = is.2 in
         let read = is.0 in
         let ids = is.1 in
-        let in_read = λ i h. subst (λ (s : Shape). has (arcs_of s) i ≡ true) (sym e) (has_left read ids i h) in
-        let in_ids = λ i h. subst (λ (s : Shape). has (arcs_of s) i ≡ true) (sym e) (has_right read ids i h) in
+        let in_read : (i : ℕ) → has read i ≡ true → has (arcs_of shape) i ≡ true = λ i h. subst (λ (s : Shape). has (arcs_of s) i ≡ true) (sym e) (has_left read ids i h) in
+        let in_ids : (i : ℕ) → has ids i ≡ true → has (arcs_of shape) i ≡ true = λ i h. subst (λ (s : Shape). has (arcs_of s) i ≡ true) (sym e) (has_right read ids i h) in
         let found = is.3.complete (record { object = n.object; relation = t }) refl in
         let both = of found.0 (in_read found.0 found.1) t found.2 in (
           read,
