@@ -2,11 +2,11 @@
 ghost use Rattle.std.specs.Prelude.{◌≡◌, ◌≢◌, ◌≤◌, ◌<◌, ◌^◌, ◌⊎◌, true, false, None, Err, IfOk, IfErr, IfSome, OnOk, map, string_bytes};
 ghost use Rattle.sqlite_wal.specs.Files.{image_at};
 ghost use Rattle.tasks.specs.declared.fault.Fault.TheVariants.{Refused};
-ghost use Rattle.tasks.specs.Faults.{fault_status, IsRunFault};
+ghost use Rattle.tasks.specs.Faults.{IsRunFault};
 ghost use Rattle.tasks.specs.Words.{asks_to_serve};
 ghost use Rattle.runs.specs.Runs.{is_read_fault, is_write_fault};
 ghost use Rattle.zanz.specs.Listening.{Announced, BeganAnnounced, StoppedServing};
-ghost use Rattle.zanz.specs.Ran.{AreWhole, RanAt, RefusedAt, Reported, BeganReport, IsReport, DoneOf, StoppedOf, Obeyed, Stopped, all_lines, whole_lines, first_lines};
+ghost use Rattle.zanz.specs.Ran.{AreWhole, RanAt, RefusedAt, Reported, BeganReport, IsReport, DoneOf, StoppedOf, Obeyed, Stopped, Tells, all_lines, whole_lines, first_lines};
 
 use crate::listening::serve;
 use crate::place::{is_number, is_there};
@@ -15,6 +15,7 @@ use names::Refusal;
 use runs::{Answering, Left, open_in, run, run_in, tables_in};
 use sqlite::Start;
 use std::alloc::Global;
+use std::io;
 use std::io::{Read, Write};
 use std::net::{Net, TcpListener, TcpStream};
 use std::rt::Files;
@@ -327,8 +328,8 @@ pub fn obey<
     }
 }
 
-/// Does what the words say, tells of a fault on `errors`, and answers the status that the process ends with, and
-/// what is left of the file that it ran over, of which `start` says what it held.
+/// Does what the words say, and tells of a fault on `errors`. It answers the status that the process ends with, what is
+/// left of the file that it ran over, of which `start` says what it held, and whether that could be told.
 pub fn command<
     P: Start + Send,
     H: Wait + Drop + Send,
@@ -345,7 +346,7 @@ pub fn command<
     reader: &mut TrackedReader<R>,
     writer: &mut TrackedWriter<W>,
     errors: &mut E,
-) -> (u8, Left<P>)
+) -> (u8, Left<P>, io::Result<()>)
     requires unbroken_reader { reader.old.failed ≡ false }
     requires unbroken_writer { writer.old.failed ≡ false }
 
@@ -355,28 +356,29 @@ pub fn command<
     ensures whole { result.0 ≡ 0 → AreWhole reader.new writer.new }
     ensures quiet { result.0 ≡ 0 → errors.new ≡ errors.old }
     ensures stopped { result.0 ≡ 1 → Stopped (image_at P.Start) (asks_to_serve (map string_bytes words.now))
-        R.remaining W.contents (reader.old, writer.old) (reader.new, writer.new) result.1 }
+        R.remaining W.contents (reader.old, writer.old) (reader.new, writer.new) result.1
+        (Tells E.contents result.2 errors.old errors.new) (errors.new ≡ errors.old) }
 
     // Nothing was read or written, and no file was opened.
-    ensures refused { result.0 ≡ 2 → (reader.new ≡ reader.old) × (writer.new ≡ writer.old) × (result.1 ≡ Err None) }
+    ensures refused { result.0 ≡ 2 → (reader.new ≡ reader.old) × (writer.new ≡ writer.old) × (result.1 ≡ Err None)
+        × Tells E.contents result.2 errors.old errors.new Fault.CommandLine }
     ensures status { result.0 ≤ 2 }
 {
     match task_of(rt.alloc(), words) {
         Ok(task) => {
             let (obeyed, left) = obey(rt, wait, net, task, start, reader, writer);
             match obeyed {
-                Ok(status) => (status, left),
-                Err(fault) => (tell(errors, &fault), left),
+                Ok(status) => (status, left, Ok(())),
+                Err(fault) => (fault.status(), left, tell(errors, &fault)),
             }
         }
-        Err(fault) => (tell(errors, &fault), Err(None)),
+        Err(fault) => (fault.status(), Err(None), tell(errors, &fault)),
     }
 }
 
-/// Tells of a fault, and answers the status that the process ends with.
-pub fn tell<E: Write>(errors: &mut E, fault: &Fault) -> u8
-    ensures { result ≡ fault_status fault.now }
+/// Tells of a fault by a line.
+pub fn tell<E: Write>(errors: &mut E, fault: &Fault) -> io::Result<()>
+    ensures { Tells E.contents result errors.old errors.new fault.now }
 {
-    let _ = writeln!(errors, "{fault}");
-    fault.status()
+    writeln!(errors, "{fault}")
 }
