@@ -1,5 +1,5 @@
 -- What the process leaves at its end.
-use Rattle.std.specs.Prelude.{ℕ, zero, suc, ◌≡◌, List, [], ◌∷◌, Option, Result, Ok, Err, IsOkAnd, false, true}
+use Rattle.std.specs.Prelude.{ℕ, zero, suc, ◌≡◌, List, [], ◌∷◌, Option, Some, None, Result, Ok, Err, IsOkAnd, false, true}
 use Rattle.sqlite_disk.specs.declared.Disk as disk
 use Rattle.sqlite_disk.specs.declared.Files.{Files}
 use Rattle.sqlite_wal.specs.Recovery.{Image}
@@ -13,12 +13,20 @@ use Rattle.sqlite.specs.Held.{Held}
 use Rattle.sqlite.specs.Files.{over_files}
 use Rattle.rows.specs.Retained.{Retained}
 use Rattle.store.specs.History.{KeepsHistory, LeavesHistory}
-use Rattle.tracked_io.specs.Tracking.{TrackedWriting}
+use Rattle.tracked_io.specs.Tracking.{TrackedReading, TrackedWriting}
+use Rattle.tasks.specs.Faults.{fault_status}
+use Rattle.tasks.specs.declared.fault.Fault.{Fault}
 use Rattle.runs.specs.Files.{Remains, HoldsOneOf, HoldsAmong}
+use Rattle.zanz.specs.Telling.{Tells}
 
 -- a writer that has not failed, and holds nothing back
 abbrev pub unbroken : {W : Type 0} → W → TrackedWriting W
 unbroken w = record { inner = w; failed = false; flushed = true }
+
+-- the writer, where there is one, with nothing written
+abbrev pub untouched : {W F : Type 0} → Result W F → Option (TrackedWriting W)
+untouched (Ok output) = Some (unbroken output)
+untouched (Err e) = None
 
 -- what closing a connection left: the two files, or a store, where the log could not be copied
 abbrev pub Remnant : {D : Type 0} → disk.Ghosts D → Type 0
@@ -42,3 +50,12 @@ abbrev pub EndsWith : {D : Type 0} {g : disk.Ghosts D} → ℕ → Remains g →
 EndsWith zero (Ok conn) end = IsOkAnd end (IsClosed conn)
 EndsWith zero (Err left) end = end ≡ Err (Err left)
 EndsWith (suc status) left end = end ≡ Err left
+
+-- For this fault, which was told, nothing was begun: nothing was read or written, and no file was opened.
+pub record IsUnbegun {R W E D F : Type 0} {g : disk.Ghosts D} (contents : E → Option (List ℕ)) (fault : Fault) (output : Result W F) (status : ℕ) (files : Result (Remnant g) (Remains g)) (writer : Option (TrackedWriting W))
+    (reader reader_after : TrackedReading R) (errors errors_after : TrackedWriting E) : Type 0 where
+  pub ends : status ≡ fault_status fault
+  pub unread : reader_after ≡ reader
+  pub unopened : files ≡ Err (Err None)
+  pub unwritten : writer ≡ untouched output
+  pub told : Tells contents errors errors_after fault

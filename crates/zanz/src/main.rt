@@ -8,26 +8,25 @@ mod listening;
 mod place;
 mod program;
 mod sharing;
+mod telling;
 
-use program::{given_to, program};
+use program::program;
 use sqlite::Unknown;
-use std::io;
 use std::io::BufWriter;
 use std::process::ExitCode;
-use tracked_io::TrackedReader;
+use std::{env, io};
+use tracked_io::{TrackedReader, TrackedWriter};
 
 fn main(rt: HostRuntime) -> ExitCode {
-    let output = BufWriter::new(rt.alloc(), io::writer(&rt));
-    let mut reader = TrackedReader::new(rt.reader());
-    let mut errors = rt.stderr();
     let ended = program(
         &rt,
         &rt,
         &rt,
-        given_to(&rt, output),
+        env::args(&rt),
         Unknown,
-        &mut reader,
-        &mut errors,
+        &mut TrackedReader::new(rt.reader()),
+        BufWriter::new(rt.alloc(), io::writer(&rt)),
+        &mut TrackedWriter::new(rt.stderr()),
     );
     ExitCode::from(ended.0)
 }
