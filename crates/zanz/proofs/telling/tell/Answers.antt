@@ -1,4 +1,4 @@
-use Rattle.zanz.proofs.Telling.{tells}
+use Rattle.zanz.proofs.Told.{tells}
 use Rattle.zanz.proofs.telling.tell.Goals as goal
 
 pub returns : goal.returns
