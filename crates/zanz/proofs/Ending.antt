@@ -65,7 +65,10 @@ is_unbroken {W} writer output inner failed flushed =
     subst (λ (f : Bool). writer ≡ record { inner = writer.inner; failed = writer.failed; flushed = f }) flushed refl))
 
 pub is_untouched : {W F : Type 0} (r : Result W F) (output : W) (writer : TrackedWriting W) → r ≡ Ok output → writer ≡ unbroken output → Some writer ≡ untouched r
-is_untouched r output writer is same = ap Some same ∙ sym (ap untouched is)
+is_untouched {W} {F} r output writer is same = subst (λ (s : Result W F). Some writer ≡ untouched s) (sym is) (ap (λ (w : TrackedWriting W). Some w) same)
+
+pub untouched_as : {W F : Type 0} (r : Result W F) (e : F) → r ≡ Err e → untouched {W = W} {F = F} (Err e) ≡ untouched r
+untouched_as {W} {F} r e is = ap (λ (s : Result W F). untouched s) (sym is)
 
 module _ {R W D : Type 0} {g : disk.Ghosts D} (image : Image) (serves : Bool) (remaining : R → Option (List ℕ)) (contents : W → Option (List ℕ)) (reader : TrackedReading R) (writer start : TrackedWriting W) (new : TrackedReading R × TrackedWriting W) (left : Remains g) (is : writer ≡ start) where
   pub obeyed_from : Obeyed image serves remaining contents (reader, writer) new left → Obeyed image serves remaining contents (reader, start) new left
@@ -87,7 +90,7 @@ module _ {R W E D F : Type 0} {g : disk.Ghosts D} (contents : E → Option (List
   pub unbegun_for : (fault same : Fault) → fault ≡ same → status ≡ fault_status fault → files ≡ Err (Err None) → writer ≡ untouched output → Tells contents errors errors_after fault
       → IsUnbegun contents same output status files writer reader reader errors errors_after
   unbegun_for fault same is ends unopened unwritten told = record {
-    ends = ends ∙ ap fault_status is;
+    ends = ends ∙ ap (λ (f : Fault). fault_status f) is;
     unread = refl;
     unopened = unopened;
     unwritten = unwritten;
