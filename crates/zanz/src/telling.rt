@@ -8,7 +8,7 @@ use names::Refusal;
 use std::io;
 use std::io::Write;
 use tasks::Fault;
-use tracked_io::{TrackedWriter, put_parts, say};
+use tracked_io::{TrackedWriter, put, put_parts};
 
 /// Tells of a fault by a line.
 pub fn tell<E: Write>(errors: &mut TrackedWriter<E>, fault: &Fault)
@@ -18,26 +18,32 @@ pub fn tell<E: Write>(errors: &mut TrackedWriter<E>, fault: &Fault)
     let _ = say_fault(errors, fault);
 }
 
-// Says the line of a fault.
+// Says the line of a fault, and hands it on.
 fn say_fault<E: Write>(errors: &mut TrackedWriter<E>, fault: &Fault) -> io::Result<()>
     ensures wrote { Writes E.contents result errors.old errors.new (fault_line fault.now) }
     ensures failed { FailsWith result errors.old.failed errors.new.failed }
     ensures flushed { OnOk result (errors.new.flushed ≡ true) }
 {
+    put_fault(errors, fault)?;
+    errors.flush()
+}
+
+fn put_fault<E: Write>(errors: &mut TrackedWriter<E>, fault: &Fault) -> io::Result<()>
+    ensures wrote { Writes E.contents result errors.old errors.new (fault_line fault.now) }
+    ensures failed { FailsWith result errors.old.failed errors.new.failed }
+{
     match fault {
-        Fault::CommandLine => say(errors, b"zanz: bad command line\n"),
-        Fault::Refused(why) => say_refusal(errors, why),
-        Fault::CannotRead => say(errors, b"zanz: cannot read\n"),
-        Fault::CannotWrite => say(errors, b"zanz: cannot write\n"),
-        Fault::CannotListen => say(errors, b"zanz: cannot listen\n"),
+        Fault::CommandLine => put(errors, b"zanz: bad command line\n"),
+        Fault::Refused(why) => put_refusal(errors, why),
+        Fault::CannotRead => put(errors, b"zanz: cannot read\n"),
+        Fault::CannotWrite => put(errors, b"zanz: cannot write\n"),
+        Fault::CannotListen => put(errors, b"zanz: cannot listen\n"),
     }
 }
 
-// Says the line of a refusal.
-fn say_refusal<E: Write>(errors: &mut TrackedWriter<E>, why: &Refusal) -> io::Result<()>
+fn put_refusal<E: Write>(errors: &mut TrackedWriter<E>, why: &Refusal) -> io::Result<()>
     ensures wrote { Writes E.contents result errors.old errors.new (fault_line (Fault.Refused why.now)) }
     ensures failed { FailsWith result errors.old.failed errors.new.failed }
-    ensures flushed { OnOk result (errors.new.flushed ≡ true) }
 {
     let mut number = Buffer::new();
     let parts = [
@@ -47,6 +53,5 @@ fn say_refusal<E: Write>(errors: &mut TrackedWriter<E>, why: &Refusal) -> io::Re
         why.name().as_bytes(),
         b"\n".as_slice(),
     ];
-    put_parts(errors, parts.as_slice())?;
-    errors.flush()
+    put_parts(errors, parts.as_slice())
 }

@@ -10,7 +10,7 @@ returns-in-Ok-obeyed-clause-done g c = λ zero. (c.in-Ok.task, c.in-Ok.ensures.s
 pub returns-in-Ok-obeyed-clause-stopped : goal.returns-in-Ok-obeyed-clause-stopped
 returns-in-Ok-obeyed-clause-stopped g c = λ one.
     let k = (ok_value _ c.obey-obeyed.result.0 c.in-Ok-obeyed.status c.in-Ok-obeyed.is c.obey-obeyed.ensures.told) one in
-    is_no_configuration k.1 k.2.0 (ok_value _ c.obey-obeyed.result.0 c.in-Ok-obeyed.status c.in-Ok-obeyed.is c.obey-obeyed.ensures.whole) k.2.1 refl
+    is_no_configuration k.1 k.2 (ok_value _ c.obey-obeyed.result.0 c.in-Ok-obeyed.status c.in-Ok-obeyed.is c.obey-obeyed.ensures.whole) k.3 refl
 
 pub returns-in-Err-obeyed-clause-done : goal.returns-in-Err-obeyed-clause-done
 returns-in-Err-obeyed-clause-done g c = λ zero. absurd (never_0 c.in-Err-obeyed.fault (sym c.status.ensures ∙ zero))

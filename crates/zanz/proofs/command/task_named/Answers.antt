@@ -8,5 +8,5 @@ use Rattle.zanz.proofs.command.task_named.Goals as goal
 
 pub returns-clause-serves : goal.returns-clause-serves
 returns-clause-serves c =
-    let items = items_from_collect {E = Unit {0}} (Ok c.in_ok-collect.field-0) c.in_ok-collect.ensures.ran (YieldsList-from_vec (into_iter_items c.args.words) refl c.args.words.rest.ok.0) in
+    let items = items_from_collect {E = Unit {0}} (Ok c.in_ok-words.field-0) c.in_ok-words.ensures.ran (YieldsList-from_vec (into_iter_items c.args.words) refl c.args.words.rest.ok.0) in
     subst (λ (ws : List (String Global)). IfOk c.task_of.result (λ task. OnServe task (IsTrue (asks_to_serve (map string_bytes ws))))) (c.as_slice.ensures.value ∙ items) c.task_of.ensures.serves
