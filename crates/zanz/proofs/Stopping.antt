@@ -64,3 +64,11 @@ never_0 (Refused why) is = absurd (omega arith)
 never_0 CannotRead is = absurd (omega arith)
 never_0 CannotWrite is = absurd (omega arith)
 never_0 CannotListen is = absurd (omega arith)
+
+-- the one that ends with 2
+pub is_bad_line : (fault : Fault) → fault_status fault ≡ 2 → fault ≡ CommandLine
+is_bad_line CommandLine is = refl
+is_bad_line (Refused why) is = absurd (omega arith)
+is_bad_line CannotRead is = absurd (omega arith)
+is_bad_line CannotWrite is = absurd (omega arith)
+is_bad_line CannotListen is = absurd (omega arith)

@@ -1,7 +1,9 @@
-use Rattle.std.proofs.Common.{refl, sym, ◌∙◌, arith}
+use Rattle.std.proofs.Common.{refl, sym, subst, ◌∙◌, arith}
 use Rattle.zanz.specs.Ran.{task_stopped, is_no_configuration, words_unread}
 use Rattle.zanz.proofs.Results.{ok_value, err_at}
-use Rattle.zanz.proofs.Stopping.{never_0}
+use Rattle.tasks.specs.declared.fault.Fault.{Fault}
+use Rattle.zanz.specs.Telling.{Tells}
+use Rattle.zanz.proofs.Stopping.{never_0, is_bad_line}
 use Rattle.zanz.proofs.command.command.Goals as goal
 
 pub returns-in-Ok-obeyed-clause-done : goal.returns-in-Ok-obeyed-clause-done
@@ -22,3 +24,7 @@ returns-in-Err-obeyed-clause-stopped g c = λ one.
 
 pub returns-in-Err-clause-stopped : goal.returns-in-Err-clause-stopped
 returns-in-Err-clause-stopped g c = λ one. words_unread c.in-Err.fault c.in-Err.ensures.err (sym c.status-in-Err.ensures ∙ one) refl refl refl c.tell-in-Err.ensures
+
+pub returns-in-Err-clause-refused : goal.returns-in-Err-clause-refused
+returns-in-Err-clause-refused g c = λ two. (refl, refl, refl,
+    subst (λ (f : Fault). Tells g.E.Write.contents c.args.errors.now c.tell-in-Err.new.errors f) (is_bad_line c.in-Err.fault (sym c.status-in-Err.ensures ∙ two)) c.tell-in-Err.ensures)
