@@ -332,13 +332,21 @@ pub fn obey<
     }
 }
 
+// The words, in a list.
+fn list_of(alloc: Global, words: Args) -> Result<Vec<String>, Fault>
+    ensures items { IfOk result (λ all. all.items ≡ into_iter_items words) }
+    ensures err { IfErr result IsLineFault }
+{
+    Ok(words.collect(alloc)?)
+}
+
 // What the words ask for.
 fn task_named(alloc: Global, words: Args) -> Result<Task, Fault>
     ensures serves { IfOk result (λ task. OnServe task (IsTrue (asks_to_serve (map string_bytes (into_iter_items words))))) }
     ensures err { IfErr result IsLineFault }
 {
-    let words: Vec<String> = words.collect(alloc)?;
-    task_of(alloc, words.as_slice())
+    let listed = list_of(alloc, words)?;
+    task_of(alloc, listed.as_slice())
 }
 
 /// Does what the words say, tells of a fault on `errors`, and answers the status that the process ends with, and

@@ -1,10 +1,9 @@
 //! What standard error is told of a fault.
 ghost use Rattle.std.specs.Prelude.{◌≡◌, true, false, OnOk};
 ghost use Rattle.tracked_io.specs.Tracking.{FailsWith, Writes};
-ghost use Rattle.zanz.specs.Telling.{Tells, fault_line};
+ghost use Rattle.zanz.specs.Telling.{Tells, fault_line, refusal_line};
 
 use itoa::Buffer;
-use names::Refusal;
 use std::io;
 use std::io::Write;
 use tasks::Fault;
@@ -34,23 +33,23 @@ fn put_fault<E: Write>(errors: &mut TrackedWriter<E>, fault: &Fault) -> io::Resu
 {
     match fault {
         Fault::CommandLine => put(errors, b"zanz: bad command line\n"),
-        Fault::Refused(why) => put_refusal(errors, why),
+        Fault::Refused(why) => put_refusal(errors, why.number(), why.name().as_bytes()),
         Fault::CannotRead => put(errors, b"zanz: cannot read\n"),
         Fault::CannotWrite => put(errors, b"zanz: cannot write\n"),
         Fault::CannotListen => put(errors, b"zanz: cannot listen\n"),
     }
 }
 
-fn put_refusal<E: Write>(errors: &mut TrackedWriter<E>, why: &Refusal) -> io::Result<()>
-    ensures wrote { Writes E.contents result errors.old errors.new (fault_line (Fault.Refused why.now)) }
+fn put_refusal<E: Write>(errors: &mut TrackedWriter<E>, number: u8, name: &[u8]) -> io::Result<()>
+    ensures wrote { Writes E.contents result errors.old errors.new (refusal_line number name.now) }
     ensures failed { FailsWith result errors.old.failed errors.new.failed }
 {
-    let mut number = Buffer::new();
+    let mut buffer = Buffer::new();
     let parts = [
         b"zanz: refused ".as_slice(),
-        number.format(why.number()).as_bytes(),
+        buffer.format(number).as_bytes(),
         b" ".as_slice(),
-        why.name().as_bytes(),
+        name,
         b"\n".as_slice(),
     ];
     put_parts(errors, parts.as_slice())

@@ -26,5 +26,9 @@ pub returns-in-Err-clause-stopped : goal.returns-in-Err-clause-stopped
 returns-in-Err-clause-stopped g c = λ one. words_unread c.in-Err.fault c.in-Err.ensures.err (sym c.status-in-Err.ensures ∙ one) refl refl refl c.tell-in-Err.ensures
 
 pub returns-in-Err-clause-refused : goal.returns-in-Err-clause-refused
-returns-in-Err-clause-refused g c = λ two. (refl, refl, refl,
-    subst (λ (f : Fault). Tells g.E.Write.contents c.args.errors.now c.tell-in-Err.new.errors f) (is_bad_line c.in-Err.fault (sym c.status-in-Err.ensures ∙ two)) c.tell-in-Err.ensures)
+returns-in-Err-clause-refused g c = λ two. (
+  refl,
+  refl,
+  refl,
+  subst (λ (f : Fault). Tells g.E.Write.contents c.args.errors.now c.tell-in-Err.new.errors f) (is_bad_line c.in-Err.fault (sym c.status-in-Err.ensures ∙ two)) c.tell-in-Err.ensures,
+)

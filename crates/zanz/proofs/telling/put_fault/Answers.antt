@@ -1,6 +1,6 @@
-use Rattle.std.proofs.Common.{refl}
-use Rattle.tasks.specs.declared.fault.Fault.TheVariants.{CommandLine, CannotRead, CannotWrite, CannotListen}
-use Rattle.zanz.proofs.Told.{says}
+use Rattle.std.proofs.Common.{refl, ◌∙◌}
+use Rattle.tasks.specs.declared.fault.Fault.TheVariants.{CommandLine, Refused, CannotRead, CannotWrite, CannotListen}
+use Rattle.zanz.proofs.Told.{says, refusal_is}
 use Rattle.zanz.proofs.telling.put_fault.Goals as goal
 
 pub returns-in-CommandLine-clause-wrote : goal.returns-in-CommandLine-clause-wrote
@@ -14,3 +14,6 @@ returns-in-CannotWrite-clause-wrote g c = says c.put-in-CannotWrite.result _ _ _
 
 pub returns-in-CannotListen-clause-wrote : goal.returns-in-CannotListen-clause-wrote
 returns-in-CannotListen-clause-wrote g c = says c.put-in-CannotListen.result _ _ _ c.args.fault.now CannotListen c.in-CannotListen.is refl c.put-in-CannotListen.ensures.wrote
+
+pub returns-in-Refused-clause-wrote : goal.returns-in-Refused-clause-wrote
+returns-in-Refused-clause-wrote g c = says c.put_refusal.result _ _ _ c.args.fault.now (Refused c.in-Refused.why) c.in-Refused.is (refusal_is c.in-Refused.why _ _ c.number.ensures (c.as_bytes.ensures.value ∙ c.name.ensures)) c.put_refusal.ensures.wrote
