@@ -9,15 +9,16 @@ returns-in-Ok-obeyed-clause-done g c = λ zero. (c.in-Ok.task, c.in-Ok.ensures.s
 
 pub returns-in-Ok-obeyed-clause-stopped : goal.returns-in-Ok-obeyed-clause-stopped
 returns-in-Ok-obeyed-clause-stopped g c = λ one.
-    let k = (ok_value _ c.obey-obeyed.result.0 c.in-Ok-obeyed.status c.in-Ok-obeyed.is c.obey-obeyed.ensures.told) one in is_no_configuration k.1 k.2
+    let k = (ok_value _ c.obey-obeyed.result.0 c.in-Ok-obeyed.status c.in-Ok-obeyed.is c.obey-obeyed.ensures.told) one in
+    is_no_configuration k.1 k.2.0 (ok_value _ c.obey-obeyed.result.0 c.in-Ok-obeyed.status c.in-Ok-obeyed.is c.obey-obeyed.ensures.whole) k.2.1 refl
 
 pub returns-in-Err-obeyed-clause-done : goal.returns-in-Err-obeyed-clause-done
-returns-in-Err-obeyed-clause-done g c = λ zero. absurd (never_0 c.in-Err-obeyed.fault (sym c.tell.ensures ∙ zero))
+returns-in-Err-obeyed-clause-done g c = λ zero. absurd (never_0 c.in-Err-obeyed.fault (sym c.status.ensures ∙ zero))
 
 pub returns-in-Err-obeyed-clause-stopped : goal.returns-in-Err-obeyed-clause-stopped
 returns-in-Err-obeyed-clause-stopped g c = λ one.
-    task_stopped c.in-Ok.task c.in-Err-obeyed.fault c.in-Ok.ensures.serves (sym c.tell.ensures ∙ one)
-    (err_at _ c.obey-obeyed.result.0 c.in-Err-obeyed.fault c.in-Err-obeyed.is c.obey-obeyed.ensures.stopped)
+    task_stopped c.in-Ok.task c.in-Err-obeyed.fault c.in-Ok.ensures.serves (sym c.status.ensures ∙ one)
+    (err_at _ c.obey-obeyed.result.0 c.in-Err-obeyed.fault c.in-Err-obeyed.is c.obey-obeyed.ensures.stopped) c.tell.ensures
 
 pub returns-in-Err-clause-stopped : goal.returns-in-Err-clause-stopped
-returns-in-Err-clause-stopped g c = λ one. words_unread refl refl refl
+returns-in-Err-clause-stopped g c = λ one. words_unread c.in-Err.fault c.in-Err.ensures.err (sym c.status-in-Err.ensures ∙ one) refl refl refl c.tell-in-Err.ensures
