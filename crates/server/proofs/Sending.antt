@@ -11,6 +11,8 @@ use Rattle.front.specs.contracts.lock.Keeper as Keeper
 use Rattle.front.specs.contracts.front.Front as Front
 use Rattle.front.specs.contracts.locked.Locked as Locked
 use Rattle.server.specs.contracts.counted.Counted as Counted
+use Rattle.server.specs.contracts.indexer.Indexer as Indexer
+use Rattle.server.specs.contracts.waking.Waking as Waking
 
 Desk-inside-send : (T H : RattleType) (g : _) → IsSend T → IsSend H → IsSend (Desk.TheInside.the_row T H g)
 Desk-inside-send T H g t h =
@@ -46,3 +48,9 @@ Locked-send lives T J H R g j t s h r = view_send _ _ _ _ _ (Locked-inside-send 
 
 pub Counted-send : (lives : NamedLft) (A G : RattleType) → IsSend A → IsSync G → IsSend (Counted.the_row lives A G)
 Counted-send lives A G a s = search (crosses, sendable) depth 40
+
+pub Waking-send : (lives : NamedLft) (A R : RattleType) → IsSend A → IsSync R → IsSend (Waking.the_row lives A R)
+Waking-send lives A R a s = search (crosses, sendable) depth 40
+
+pub Indexer-send : (lives : NamedLft) (T J H : RattleType) (g : _) (j : _) → IsSend T → IsSend J → IsSend H → IsSend (Indexer.the_row lives T J H g j)
+Indexer-send lives T J H g j t s h = search (Keeper-sync, crosses_published, crosses, sendable) depth 40
