@@ -1,10 +1,10 @@
 //! The indexer: it follows the changes of a keeper with the parts that read them.
-ghost use Rattle.std.specs.Prelude.{◌≡◌, ◌↔◌, IsTrue, IfOk, IfErr};
+ghost use Rattle.std.specs.Prelude.{◌≡◌, ◌↔◌, IsTrue, IfOk, IfErr, false};
 ghost use Rattle.names.specs.declared.refusal.Refusal.TheVariants.{NoSeat};
 ghost use Rattle.server.specs.Turns.{IsBehind};
 
 use crate::pool::Follows;
-use crate::turn::take_turn;
+use crate::turn::{Turn, take_turn};
 use crossbeam_channel::{Receiver, TryRecvError};
 use front::Keeper;
 use names::{Refusal, State};
@@ -38,18 +38,14 @@ impl<'k, T: Tables + Drop, J: Naming, H: Wait + Drop> Indexer<'k, T, J, H> {
         })
     }
 
-    // Takes a turn if a part is behind what is shown. Whether one was taken and is shown: more may be left to take. What was
-    // refused, or waits to be shown, waits for the next change, which shows it.
+    // Takes a turn if a part is behind what is shown. Whether more may be left to take.
     fn takes_turn<R: Wait>(&mut self, rt: &R) -> bool {
         match self.session.state() {
             Ok(state) if is_behind(&state) => {}
             _ => return false,
         }
         let taken = take_turn(&mut self.keeper.hold(rt), &mut self.session);
-        match taken {
-            Ok(turn) => turn.receipt.is_shown(),
-            Err(_) => false,
-        }
+        may_go_on(&taken)
     }
 }
 
@@ -73,4 +69,16 @@ fn is_behind(state: &State) -> bool
     ensures { IsTrue result ↔ IsBehind state.now }
 {
     state.index.min(state.hot) < state.newest
+}
+
+// Whether another turn may follow: one was taken, and is shown. Where it was refused, or waits for memory to be shown, the next
+// change wakes the indexer again.
+fn may_go_on(taken: &Result<Turn, Refusal>) -> bool
+    ensures ok { IfOk taken.now (λ turn. result ≡ turn.receipt.shown) }
+    ensures err { IfErr taken.now (λ _. result ≡ false) }
+{
+    match taken {
+        Ok(turn) => turn.receipt.is_shown(),
+        Err(_) => false,
+    }
 }

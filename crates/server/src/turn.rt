@@ -1,5 +1,5 @@
 //! A turn of the indexer.
-ghost use Rattle.std.specs.Prelude.{◌≡◌, ◌×◌, IfOk, IfErr};
+ghost use Rattle.std.specs.Prelude.{◌≡◌, IfOk, IfErr};
 ghost use Rattle.shown.specs.Standing.{standing, cursor_after};
 ghost use Rattle.published.specs.Known.{Begins};
 ghost use Rattle.published.specs.Receipts.{ReceiptFacts};
