@@ -1,3 +1,4 @@
+use Rattle.std.proofs.Common.{rules}
 use denote.Exit.{no}
 use denote.Param.Send.{arg_send, param_send}
 use denote.Param.{param}
@@ -15,3 +16,6 @@ pub serve_by_threads-requires-send-F : goal.serve_by_threads-requires-send-F
 serve_by_threads-requires-send-F g c κs within =
     let b = c.type_bounds in
     param_send 1 _ (arg_send _ no _ (Indexer-send _ (param 1 g.row.T) (param 2 g.row.J) (param 3 g.row.H) g.T.Tables g.J.Naming b.send-T b.send-J b.send-H))
+
+pub returns-in_err-push : goal.returns-in_err-push
+returns-in_err-push g c = ?
