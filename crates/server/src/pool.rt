@@ -93,10 +93,6 @@ pub(crate) fn serve_by_threads<
     let (to, from) = queue;
     let waiting = &from;
     thread::scope(thread::scope_env(), rt, |scope| {
-        let mut follower = follower;
-        if scope.spawn(move || follower.follow(rt)).is_err() {
-            return false;
-        }
         let mut made = false;
         for server in servers {
             let mut server = server;
@@ -107,6 +103,9 @@ pub(crate) fn serve_by_threads<
                 made = true;
             }
         }
+        let mut follower = follower;
+        let followed = scope.spawn(move || follower.follow(rt)).is_ok();
+        let made = made && followed;
         if made {
             accept(rt, listener, &to, gate);
         }

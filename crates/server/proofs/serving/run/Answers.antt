@@ -1,7 +1,11 @@
-use Rattle.std.proofs.Common.{rules}
+use Rattle.std.proofs.Common.{◌≡◌, refl, inr}
+use Rattle.std.specs.Prelude.{◌⊎◌}
 use denote.Exit.{no}
 use denote.Param.Send.{arg_send, param_send}
 use denote.Param.{param}
+use Rattle.names.specs.declared.refusal.Refusal.{Refusal}
+use Rattle.names.specs.declared.refusal.Refusal.TheVariants.{Memory, NoSeat}
+use Rattle.keeper_core.proofs.Changed.{refused_exit}
 use Rattle.server.proofs.Crossing.{Worker-send}
 use Rattle.server.proofs.Sending.{Locked-send, Counted-send, Waking-send, Indexer-send}
 use Rattle.server.proofs.serving.run.Goals as goal
@@ -18,4 +22,6 @@ serve_by_threads-requires-send-F g c κs within =
     param_send 1 _ (arg_send _ no _ (Indexer-send _ (param 1 g.row.T) (param 2 g.row.J) (param 3 g.row.H) g.T.Tables g.J.Naming b.send-T b.send-J b.send-H))
 
 pub returns-in_err-push : goal.returns-in_err-push
-returns-in_err-push g c = ?
+returns-in_err-push g c =
+    let told = c.from_residual-in_err-push in
+    refused_exit (λ (why : Refusal). (why ≡ NoSeat) ⊎ (why ≡ Memory)) told.result Memory told.ensures.1 (inr refl)
