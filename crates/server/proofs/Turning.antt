@@ -1,5 +1,5 @@
 -- What a turn does to a desk, also where more is shown after it.
-use Rattle.std.proofs.Common.{◌≡◌, ℕ, List, ◌∷◌, ap, sym, ◌∙◌}
+use Rattle.std.proofs.Common.{◌≡◌, ℕ, List, ap, sym, ◌∙◌}
 use Rattle.names.specs.declared.part.Part.{Part}
 use Rattle.names.specs.declared.part.Part.TheVariants.{Index, Hot}
 use Rattle.names.specs.declared.refusal.Refusal.{Refusal}

@@ -74,19 +74,12 @@ fn accept<R: Wait + Clock, G: Gate>(
 }
 
 /// Serves the connections of a listener, by a thread for each of these that one can be made for, while the gate takes more;
-/// then those that wait, and ends once each thread has. Another thread follows what they change. Where none could be made
-/// for it, or for no server, nothing is accepted, and it answers so.
-pub(crate) fn serve_by_threads<
-    R: Threads + Wait + Clock + Sync,
-    F: Follows + Send + Drop,
-    S: Serves + Send + Drop,
-    G: Gate + Sync,
->(
+/// then those that wait, and ends once each thread has. Where no thread could be made it accepts nothing, and answers so.
+fn serve_by_threads<R: Threads + Wait + Clock + Sync, S: Serves + Send + Drop, G: Gate + Sync>(
     rt: &R,
     alloc: Global,
     listener: &TcpListener,
     queue: (Sender<TcpStream>, Receiver<TcpStream>),
-    follower: F,
     servers: Vec<S>,
     gate: &G,
 ) -> bool {
@@ -103,13 +96,34 @@ pub(crate) fn serve_by_threads<
                 made = true;
             }
         }
-        let mut follower = follower;
-        let followed = scope.spawn(move || follower.follow(rt)).is_ok();
-        let made = made && followed;
         if made {
             accept(rt, listener, &to, gate);
         }
         drop(to);
         made
+    })
+}
+
+/// The same, while another thread follows what they change. Where none could be made for it, nothing is accepted either.
+pub(crate) fn serve_and_follow<
+    R: Threads + Wait + Clock + Sync,
+    F: Follows + Send + Drop,
+    S: Serves + Send + Drop,
+    G: Gate + Sync,
+>(
+    rt: &R,
+    alloc: Global,
+    listener: &TcpListener,
+    queue: (Sender<TcpStream>, Receiver<TcpStream>),
+    follower: F,
+    servers: Vec<S>,
+    gate: &G,
+) -> bool {
+    thread::scope(thread::scope_env(), rt, |scope| {
+        let mut follower = follower;
+        if scope.spawn(move || follower.follow(rt)).is_err() {
+            return false;
+        }
+        serve_by_threads(rt, alloc, listener, queue, servers, gate)
     })
 }

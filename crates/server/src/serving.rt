@@ -5,7 +5,7 @@ ghost use Rattle.names.specs.declared.refusal.Refusal.TheVariants.{Memory, NoSea
 use crate::counted::Counted;
 use crate::gate::Gate;
 use crate::indexer::Indexer;
-use crate::pool::serve_by_threads;
+use crate::pool::serve_and_follow;
 use crate::waking::Waking;
 use crate::worker::Worker;
 use front::{Front, Keeper, Locked};
@@ -65,7 +65,7 @@ pub fn run<
     }
     // The indexer ends once no worker is left.
     drop(wakes);
-    if serve_by_threads(rt, alloc, listener, queue, indexer, machines, gate) {
+    if serve_and_follow(rt, alloc, listener, queue, indexer, machines, gate) {
         Ok(())
     } else {
         Err(Refusal::Memory)
