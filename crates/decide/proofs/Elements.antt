@@ -1,7 +1,8 @@
 -- What stands at an index of a list, after a push and after a store.
-use Rattle.std.proofs.Common.{◌≡◌, ℕ, ◌<◌, List, [], ◌∷◌, ◌++◌, length, get_or, set, ap, ◌∙◌, sym, subst, inl, inr, ⊎_elim, arith, length-append}
-use Rattle.std.specs.Prelude.{◌⊎◌, Contains}
-use Rattle.std.proofs.lemmas.Bool.{cases_eq, cases_lt}
+use Rattle.std.proofs.Common.{◌≡◌, ℕ, ◌<◌, List, [], ◌∷◌, ◌++◌, true, length, get_or, set, ap, ◌∙◌, sym, subst, inl, inr, ⊎_elim, arith, length-append}
+use Rattle.std.specs.Prelude.{◌⊎◌, Contains, nat_eq}
+use Rattle.std.specs.List.{list_any}
+use Rattle.std.proofs.lemmas.Bool.{cases_eq, cases_lt, or_cases, eqb-true, false≢true}
 use Rattle.std.proofs.lemmas.List.{length-set, get_or-set_same, get_or-set_other, get_or_append_left, get_or_default}
 use Rattle.std.proofs.lemmas.List.Elements.{Contains-get_or}
 use Rattle.std.proofs.Math.Seq.{get_or-append_seam}
@@ -77,3 +78,11 @@ holds_some (x ∷ xs) i lt = (get_or (x ∷ xs) i x, holds_read (x ∷ xs) i x l
 
 pub nothing_in : (xs : List ℕ) (i : ℕ) → length xs ≡ 0 → Contains xs i → ⊥
 nothing_in xs i none (k, lt, e) = absurd (omega (arith, none, lt))
+
+pub contains_any : (xs : List ℕ) (n : ℕ) → list_any (λ y. nat_eq y n) xs ≡ true → Contains xs n
+contains_any [] n is = absurd (false≢true is)
+contains_any (x ∷ xs) n is =
+    ⊎_elim
+    (λ here. subst (Contains (x ∷ xs)) (eqb-true x n here) (contains_here x xs))
+    (λ rest. contains_there x n xs (contains_any xs n rest))
+    (or_cases (nat_eq x n) (list_any (λ y. nat_eq y n) xs) is)

@@ -220,7 +220,8 @@ impl Search {
         self.opened[number].parents = Some(parents);
     }
 
-    /// Lets the asker wait for a node.
+    /// Lets the asker wait for a node, where it does not already: who stood twice in a list would be woken and looked at
+    /// twice, would wait twice more, and so on.
     pub(crate) fn wait(&mut self, number: usize, asker: usize) -> Result<(), AllocError>
         requires { number < length self.old.opened.items }
         ensures grew { OnOk result (Grew self.old self.new) }
@@ -229,6 +230,9 @@ impl Search {
         ensures running { OnOk result ((S : Snap) (u : Object) (but : Option ℕ) → asker < length self.old.opened.items
             → IsRunning S u self.old but → IsRunning S u self.new but) }
     {
+        if self.opened[number].waiting.contains(&asker) {
+            return Ok(());
+        }
         self.opened[number].waiting.push(asker)?;
         Ok(())
     }

@@ -1,9 +1,11 @@
-use Rattle.std.proofs.Common.{◌≡◌, ◌++◌, ◌∷◌, [], ap, refl, sym, ◌∙◌, subst}
+use Rattle.std.proofs.Common.{rules, ◌≡◌, ◌++◌, ◌∷◌, [], true, ap, refl, sym, ◌∙◌, subst}
 use Rattle.std.proofs.lemmas.List.Elements.{Contains-append_left, Contains-push}
-use Rattle.std.specs.Prelude.{Contains}
+use Rattle.std.specs.Prelude.{Contains, nat_eq}
+use Rattle.std.specs.List.{list_any}
 use Rattle.decide.specs.declared.search.Opened.{Opened}
 use Rattle.decide.specs.inside.Searches.{IsMore}
-use Rattle.decide.proofs.Elements.{Holds, holds_same, holds_stored}
+use Rattle.decide.proofs.Elements.{Holds, holds_same, holds_stored, contains_any}
+use Rattle.decide.proofs.SearchLemmas.{grew_refl}
 use Rattle.decide.proofs.Replacing.{replaced_grew, waiting_running}
 use Rattle.decide.proofs.search.Search.wait.Goals as goal
 use Rattle.decide.proofs.search.Search.wait.Goals.{In_ok-push}
@@ -48,3 +50,12 @@ returns-clause-waits c e at unsure =
 pub returns-clause-running : goal.returns-clause-running
 returns-clause-running c S u but there =
     waiting_running c.args.self.now _ c.args.number (before c) (after c) (stood c) (more c) refl refl refl refl c.args.asker (pushed c) there S u but
+
+pub returns-then-contains-clause-grew : goal.returns-then-contains-clause-grew
+returns-then-contains-clause-grew c = grew_refl c.args.self.now
+
+pub returns-then-contains-clause-waits : goal.returns-then-contains-clause-waits
+returns-then-contains-clause-waits c e at unsure =
+    let same : c.index.result.now ≡ e = holds_same c.args.self.now.opened.items c.args.number c.index.result.now e (c.requires, sym c.index.ensures) at in
+    let all : list_any (λ y. nat_eq y c.args.asker) c.index.result.now.waiting.items ≡ true = search rules in
+    (c.args.number, e, at, refl, unsure, subst (λ (x : Opened). Contains x.waiting.items c.args.asker) same (contains_any c.index.result.now.waiting.items c.args.asker all))
