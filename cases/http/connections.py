@@ -440,6 +440,43 @@ def insert(name):
     return json.dumps({"ops": [{"op": "insert", "tuple": f"group:a#member@user:{name}"}]}, separators=(",", ":"))
 
 
+def state_of(stream):
+    status, body = ask(stream, "state")
+    same("state", 200, status)
+    return json.loads(body)
+
+
+def what_is_written_is_read_by_the_parts(program, folder):
+    for words in ([], ["--db", "followed.db", "--store", "1"]):
+        with Server(program, folder, "--workers", "2", *words) as server, server.connect() as stream:
+            same("config", 200, ask(stream, "config", CONFIG)[0])
+            for turn in range(40):
+                status, body = ask(stream, "write", insert(f"u{turn}"))
+                same("write", 200, status)
+            newest, end = json.loads(body)["zookie"], time.monotonic() + LIMIT
+            found = state_of(stream)
+            while (found["index"], found["hot"]) != (newest, newest) and time.monotonic() < end:
+                time.sleep(0.001)
+                found = state_of(stream)
+            same("cursors", {"hot": newest, "index": newest, "newest": newest}, {it: found[it] for it in ("hot", "index", "newest")})
+            same("a trim", (200, f'{{"floor":"{newest}","shown":true}}'), ask(stream, "trim", f'{{"floor":"{newest}"}}'))
+
+
+def one_worker_alone_leaves_the_parts_to_its_callers(program, folder):
+    with Server(program, folder, "--workers", "1") as server, server.connect() as stream:
+        same("config", 200, ask(stream, "config", CONFIG)[0])
+        status, body = ask(stream, "write", insert("ann"))
+        same("write", 200, status)
+        newest, first = json.loads(body)["zookie"], state_of(stream)["floor"]
+        trim = ("trim", f'{{"floor":"{newest}"}}')
+        for part in ("index", "hot"):
+            found = state_of(stream)
+            same(f"the cursor of {part}", (first, newest), (found[part], found["newest"]))
+            same("a trim before the parts have read", (409, '{"error":{"code":17,"name":"InUse"}}'), ask(stream, *trim))
+            same("catchup", 200, ask(stream, "catchup", f'{{"commits":2,"part":"{part}"}}')[0])
+        same("a trim", (200, f'{{"floor":"{newest}","shown":true}}'), ask(stream, *trim))
+
+
 def writes_until(server, end):
     """The zookies of the writes that were accepted until the server is gone, which is killed at this time."""
     zookies = []
@@ -536,6 +573,8 @@ CASES = [
     the_most_workers_are_thirty,
     a_port_in_use_is_told,
     a_port_that_is_given_is_listened_on,
+    what_is_written_is_read_by_the_parts,
+    one_worker_alone_leaves_the_parts_to_its_callers,
     what_was_accepted_is_there_after_a_kill,
     what_many_were_told_is_there_after_a_kill,
 ]

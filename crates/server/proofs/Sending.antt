@@ -4,13 +4,17 @@ use denote.RattleType.{RattleType}
 use denote.Ref.{NamedLft}
 use denote.Struct.Declared as S
 use Rattle.std.proofs.Crossing.{crosses}
-use Rattle.front.proofs.Crossing.{crosses_published}
+use Rattle.crossbeam_channel.proofs.channel.Sender.TheSendSync as Sender
+use Rattle.crossbeam_channel.proofs.channel.Receiver.TheSendSync as Receiver
+use Rattle.front.proofs.Crossing.{crosses_published, Session-send}
 use Rattle.keeper_core.specs.contracts.desk.Desk as Desk
 use Rattle.front.specs.contracts.lock.KeptDesk as KeptDesk
 use Rattle.front.specs.contracts.lock.Keeper as Keeper
 use Rattle.front.specs.contracts.front.Front as Front
 use Rattle.front.specs.contracts.locked.Locked as Locked
 use Rattle.server.specs.contracts.counted.Counted as Counted
+use Rattle.server.specs.contracts.indexer.Indexer as Indexer
+use Rattle.server.specs.contracts.waking.Waking as Waking
 
 Desk-inside-send : (T H : RattleType) (g : _) → IsSend T → IsSend H → IsSend (Desk.TheInside.the_row T H g)
 Desk-inside-send T H g t h =
@@ -46,3 +50,13 @@ Locked-send lives T J H R g j t s h r = view_send _ _ _ _ _ (Locked-inside-send 
 
 pub Counted-send : (lives : NamedLft) (A G : RattleType) → IsSend A → IsSync G → IsSend (Counted.the_row lives A G)
 Counted-send lives A G a s = search (crosses, sendable) depth 40
+
+pub Waking-send : (lives : NamedLft) (A R : RattleType) → IsSend A → IsSync R → IsSend (Waking.the_row lives A R)
+Waking-send lives A R a s =
+    let W = Waking.the_type lives A R in
+    recorded_send _ _ W.to W.to_one (struct_send (S.shape W) (a, (shr_send _ _ _ s, ((search (Sender.the_send, crosses, sendable) depth 40 fits 30000), tt))))
+
+pub Indexer-send : (lives : NamedLft) (T J H : RattleType) (g : _) (j : _) → IsSend T → IsSend J → IsSend H → IsSend (Indexer.the_row lives T J H g j)
+Indexer-send lives T J H g j t s h =
+    let I = Indexer.the_type lives T J H g j in
+    recorded_send _ _ I.to I.to_one (struct_send (S.shape I) (shr_send _ _ _ (Keeper-sync T J H g j t s h), (Session-send, ((search (Receiver.the_send, crosses, sendable) depth 40 fits 30000), tt))))

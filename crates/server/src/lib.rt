@@ -1,17 +1,21 @@
 //! Connections over TCP, served by many workers: an acceptor puts them into a queue, and each worker takes one after
-//! another and answers its calls by a machine of its own.
+//! another and answers its calls by a machine of its own. Beside them the indexer follows what they change.
 //!
 //! What a connection says is `http_api`'s, what a call is answered is `front`'s. No proof says of threads that they get on.
 #![tactic(auto)]
 
 mod counted;
 mod gate;
+mod indexer;
 mod pool;
 mod serving;
 mod stream;
+mod turn;
+mod waking;
 mod worker;
 
 pub use counted::Counted;
 pub use gate::Gate;
 pub use serving::run;
 pub use stream::{serve_stream, sides_of, take_leave};
+pub use turn::{TURN_COMMITS, Turn, take_turn};

@@ -26,6 +26,12 @@ pub(crate) trait Serves {
         ensures { served self.old result self.new };
 }
 
+/// What follows the changes that are made.
+pub(crate) trait Follows {
+    /// Follows them until nobody is left who makes any.
+    fn follow<R: Wait>(&mut self, rt: &R);
+}
+
 /// Serves each connection that the queue gives, one after another, until it gives no more. However one of them ends, the
 /// next is served.
 pub(crate) fn serve_each<Q: Iterator<Item = TcpStream>, S: Serves>(
@@ -69,11 +75,7 @@ fn accept<R: Wait + Clock, G: Gate>(
 
 /// Serves the connections of a listener, by a thread for each of these that one can be made for, while the gate takes more;
 /// then those that wait, and ends once each thread has. Where no thread could be made it accepts nothing, and answers so.
-pub(crate) fn serve_by_threads<
-    R: Threads + Wait + Clock + Sync,
-    S: Serves + Send + Drop,
-    G: Gate + Sync,
->(
+fn serve_by_threads<R: Threads + Wait + Clock + Sync, S: Serves + Send + Drop, G: Gate + Sync>(
     rt: &R,
     alloc: Global,
     listener: &TcpListener,
@@ -99,5 +101,29 @@ pub(crate) fn serve_by_threads<
         }
         drop(to);
         made
+    })
+}
+
+/// The same, while another thread follows what they change. Where none could be made for it, nothing is accepted either.
+pub(crate) fn serve_and_follow<
+    R: Threads + Wait + Clock + Sync,
+    F: Follows + Send + Drop,
+    S: Serves + Send + Drop,
+    G: Gate + Sync,
+>(
+    rt: &R,
+    alloc: Global,
+    listener: &TcpListener,
+    queue: (Sender<TcpStream>, Receiver<TcpStream>),
+    follower: F,
+    servers: Vec<S>,
+    gate: &G,
+) -> bool {
+    thread::scope(thread::scope_env(), rt, |scope| {
+        let mut follower = follower;
+        if scope.spawn(move || follower.follow(rt)).is_err() {
+            return false;
+        }
+        serve_by_threads(rt, alloc, listener, queue, servers, gate)
     })
 }

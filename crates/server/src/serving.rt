@@ -4,7 +4,9 @@ ghost use Rattle.names.specs.declared.refusal.Refusal.TheVariants.{Memory, NoSea
 
 use crate::counted::Counted;
 use crate::gate::Gate;
-use crate::pool::serve_by_threads;
+use crate::indexer::Indexer;
+use crate::pool::serve_and_follow;
+use crate::waking::Waking;
 use crate::worker::Worker;
 use front::{Front, Keeper, Locked};
 use http_api::routes;
@@ -19,10 +21,12 @@ use std::time::Clock;
 use tables::Tables;
 
 /// Serves the connections of a listener over HTTP/1.1 by so many workers, each with a front of its own, until the gate takes
-/// no more; then serves those that wait, and returns once each connection has ended.
+/// no more; then serves those that wait, and returns once each connection has ended. Beside them the indexer, with a session of
+/// its own, has the index and the hot table read what was changed, in turns of up to 16 commits for each.
 ///
 /// All that can be refused is asked for first, before any thread is made and any connection accepted: a session for each
-/// worker, and memory. Where no thread can be made at all it accepts nothing, and is refused as for want of memory.
+/// worker and one for the indexer, and memory. Where no thread can be made for the indexer, or for no worker, it accepts
+/// nothing, and is refused as for want of memory.
 pub fn run<
     R: Threads + Wait + Clock + Sync,
     T: Tables + Drop + Send,
@@ -44,16 +48,24 @@ pub fn run<
     };
     let calls = AtomicU64::new(0);
     let queue = crossbeam_channel::unbounded(alloc)?;
+    let (wakes, woken) = crossbeam_channel::bounded(alloc, 1)?;
+    let indexer = Indexer::new(rt, keeper, woken)?;
     let mut machines = Vec::with_capacity(alloc, workers)?;
     for _ in 0..workers {
         let answers = Counted {
-            answers: Locked::new(rt, Front::new(alloc, rt, keeper)?),
+            answers: Waking::new(
+                Locked::new(rt, Front::new(alloc, rt, keeper)?),
+                rt,
+                wakes.clone()?,
+            ),
             calls: &calls,
             gate,
         };
         machines.push(Worker::new(answers, &routes))?;
     }
-    if serve_by_threads(rt, alloc, listener, queue, machines, gate) {
+    // The indexer ends once no worker is left.
+    drop(wakes);
+    if serve_and_follow(rt, alloc, listener, queue, indexer, machines, gate) {
         Ok(())
     } else {
         Err(Refusal::Memory)

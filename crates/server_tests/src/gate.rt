@@ -84,7 +84,7 @@ fn two_are_answered<R: Net<Stream = TcpStream>>(
 }
 
 // A port that is free, listened on, and its address.
-fn listen<R: Net<Listener = TcpListener, Stream = TcpStream>>(
+pub(crate) fn listen<R: Net<Listener = TcpListener, Stream = TcpStream>>(
     rt: &R,
 ) -> Option<(TcpListener, SocketAddr)> {
     let listener = TcpListener::bind(rt, (Ipv4Addr::LOCALHOST, 0)).ok()?;

@@ -1,5 +1,7 @@
-//! Tests of `server` that the program cannot show: what its gate is told, and when.
+//! Tests of `server` that the program cannot show: what its gate is told, and when; that the parts read what is written.
 #![tactic(auto)]
 
 #[cfg(test)]
 mod gate;
+#[cfg(test)]
+mod indexer;

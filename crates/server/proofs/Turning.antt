@@ -1,0 +1,70 @@
+-- What a turn does to a desk, also where more is shown after it.
+use Rattle.std.proofs.Common.{◌≡◌, ℕ, List, ap, sym, ◌∙◌}
+use Rattle.names.specs.declared.part.Part.{Part}
+use Rattle.names.specs.declared.part.Part.TheVariants.{Index, Hot}
+use Rattle.names.specs.declared.refusal.Refusal.{Refusal}
+use Rattle.tables.specs.declared.tables.Tables.{Ghosts}
+use Rattle.shown.specs.declared.step.Step.{Step}
+use Rattle.shown.specs.declared.step.Step.TheVariants.{Take}
+use Rattle.shown.specs.Standing.{Standing, standing, after_take, cursor_of, cursor_after}
+use Rattle.published.specs.Receipts.{ReceiptFacts}
+use Rattle.published.proofs.Prefixes.{prefix_trans}
+use Rattle.keeper_core.specs.Posts.{Posts, ShowsMore, SameTables, PostsStep}
+use Rattle.keeper_core.specs.Changes.{CatchUpAccepted, TellsShown, CatchUpJudged, IsNoChange, IsRefused}
+use Rattle.keeper_core.proofs.Standings.{standing_next}
+use Rattle.keeper.proofs.Refreshing.{still_refused}
+use Rattle.server.specs.declared.turn.TheConstants.{TURN_COMMITS}
+use Rattle.server.specs.Turns.{TakesTurn, TurnRefused, index_refused, hot_refused}
+
+-- ---- more is shown, and a new receipt tells of it
+
+taken_still : {T : Type 0} (old mid new : Posts T) (part : Part) (commits cursor : ℕ) (first then : ReceiptFacts)
+    → CatchUpAccepted old part commits cursor first mid → ShowsMore mid new → SameTables mid new → TellsShown then new → CatchUpAccepted old part commits cursor then new
+taken_still old mid new part commits cursor first then taken more same tells =
+    record {
+      works = taken.works;
+      few = taken.few;
+      posts = record {
+        posted = more.posted ∙ taken.posts.posted;
+        book = more.book ∙ taken.posts.book;
+        later = prefix_trans old.shown mid.shown new.shown taken.posts.later more.later;
+        beginning = more.beginning;
+        faults = same.2 ∙ taken.posts.faults;
+      };
+      tables = same.0 ∙ taken.tables;
+      stored = same.1 ∙ taken.stored;
+      moved = taken.moved ∙ ap (λ (steps : List Step). cursor_of part (standing steps)) (sym more.posted);
+      tells = tells;
+    }
+
+pub turn_still : {T : Type 0} (old mid new : Posts T) (index hot : ℕ) (first then : ReceiptFacts)
+    → TakesTurn old index hot first mid → ShowsMore mid new → SameTables mid new → TellsShown then new → TakesTurn old index hot then new
+turn_still old mid new index hot first then turn more same tells =
+    record {
+      between = turn.between;
+      told = turn.told;
+      index_takes = turn.index_takes;
+      hot_takes = taken_still turn.between mid new Hot TURN_COMMITS hot first then turn.hot_takes more same tells;
+    }
+
+pub turn_refused_still : {T : Type 0} (g : Ghosts T) (old mid new : Posts T) (why : Refusal) → TurnRefused g old why mid → ShowsMore mid new → SameTables mid new → TurnRefused g old why new
+turn_refused_still g old mid new why (index_refused refused) more same = index_refused (still_refused g old mid new IsNoChange (CatchUpJudged TURN_COMMITS) why refused more same)
+turn_refused_still g old mid new why (hot_refused between index told taken refused) more same =
+    hot_refused between index told taken (still_refused g between mid new IsNoChange (CatchUpJudged TURN_COMMITS) why refused more same)
+
+-- ---- where the cursors are
+
+taken_stands : {T : Type 0} (old new : Posts T) (part : Part) (commits : ℕ) → PostsStep old (Take part commits) new → standing new.posted ≡ after_take (standing old.posted) part commits
+taken_stands old new part commits posts = ap standing posts.posted ∙ standing_next old.posted (Take part commits)
+
+module _ {T : Type 0} (old : Posts T) (index hot : ℕ) (receipt : ReceiptFacts) (new : Posts T) (turn : TakesTurn old index hot receipt new) where
+  between_stands : standing turn.between.posted ≡ after_take (standing old.posted) Index TURN_COMMITS
+  between_stands = taken_stands old turn.between Index TURN_COMMITS turn.index_takes.posts
+
+  pub index_at : index ≡ cursor_after (standing old.posted).kept (standing old.posted).index TURN_COMMITS
+  index_at = turn.index_takes.moved ∙ ap (cursor_of Index) between_stands
+
+  pub hot_at : hot ≡ cursor_after (standing old.posted).kept (standing old.posted).hot TURN_COMMITS
+  hot_at =
+      turn.hot_takes.moved
+      ∙ (ap (cursor_of Hot) (taken_stands turn.between new Hot TURN_COMMITS turn.hot_takes.posts) ∙ ap (λ (s : Standing). cursor_after s.kept s.hot TURN_COMMITS) between_stands)

@@ -1,0 +1,20 @@
+use Rattle.names.specs.declared.refusal.Refusal.{Refusal}
+use Rattle.keeper_core.proofs.Changed.{refused_exit}
+use Rattle.server.specs.Turns.{TurnRefused, index_refused, hot_refused}
+use Rattle.server.proofs.turn.take_both.Goals as goal
+
+pub returns-in_err-index-clause-err : goal.returns-in_err-index-clause-err
+returns-in_err-index-clause-err g c =
+    refused_exit (λ (why : Refusal). TurnRefused g.T.Tables c.args.desk.now why c.catch_up.new.self) c.from_residual.result c.in_err-index.field-0.0 c.from_residual.ensures.1
+    (index_refused c.in_err-index.ensures.err)
+
+pub returns-in_err-hot-clause-err : goal.returns-in_err-hot-clause-err
+returns-in_err-hot-clause-err g c =
+    let index = c.in_ok-index.index in
+    refused_exit (λ (why : Refusal). TurnRefused g.T.Tables c.args.desk.now why c.catch_up-2.new.self) c.from_residual-in_err-hot.result c.in_err-hot.field-0.0 c.from_residual-in_err-hot.ensures.1
+    (hot_refused c.catch_up.new.self index.value index.receipt c.in_ok-index.ensures.ok c.in_err-hot.ensures.err)
+
+pub returns-clause-ok : goal.returns-clause-ok
+returns-clause-ok g c =
+    let index = c.in_ok-index.index in
+    (c.in_ok-hot.hot.receipt, record { between = c.catch_up.new.self; told = index.receipt; index_takes = c.in_ok-index.ensures.ok; hot_takes = c.in_ok-hot.ensures.ok })

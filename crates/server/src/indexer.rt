@@ -1,0 +1,84 @@
+//! The indexer: it follows the changes of a keeper with the parts that read them.
+ghost use Rattle.std.specs.Prelude.{◌≡◌, ◌↔◌, IsTrue, IfOk, IfErr, false};
+ghost use Rattle.names.specs.declared.refusal.Refusal.TheVariants.{NoSeat};
+ghost use Rattle.server.specs.Turns.{IsBehind};
+
+use crate::pool::Follows;
+use crate::turn::{Turn, take_turn};
+use crossbeam_channel::{Receiver, TryRecvError};
+use front::Keeper;
+use names::{Refusal, State};
+use published::{Naming, Session};
+use std::sync::Wait;
+use tables::Tables;
+
+/// A keeper, a session of its own, and what wakes it.
+#[derive(Drop)]
+pub(crate) struct Indexer<'k, T: Tables + Drop, J: Naming, H: Wait + Drop> {
+    keeper: &'k Keeper<T, J, H>,
+    session: Session,
+    woken: Receiver<()>,
+    ghost of_book: { session.book ≡ J.book },
+}
+
+impl<'k, T: Tables + Drop, J: Naming, H: Wait + Drop> Indexer<'k, T, J, H> {
+    /// One that looks after its keeper whenever it is woken. It is refused where all sessions have been given out.
+    pub(crate) fn new<R: Wait>(
+        rt: &R,
+        keeper: &'k Keeper<T, J, H>,
+        woken: Receiver<()>,
+    ) -> Result<Indexer<'k, T, J, H>, Refusal>
+        ensures { IfErr result (λ why. why ≡ NoSeat) }
+    {
+        let session = keeper.hold(rt).session()?;
+        Ok(Indexer {
+            keeper,
+            session,
+            woken,
+        })
+    }
+
+    // Takes a turn if a part is behind what is shown. Whether more may be left to take.
+    fn takes_turn<R: Wait>(&mut self, rt: &R) -> bool {
+        match self.session.state() {
+            Ok(state) if is_behind(&state) => {}
+            _ => return false,
+        }
+        let taken = take_turn(&mut self.keeper.hold(rt), &mut self.session);
+        may_go_on(&taken)
+    }
+}
+
+impl<'k, T: Tables + Drop, J: Naming, H: Wait + Drop> Follows for Indexer<'k, T, J, H> {
+    fn follow<R: Wait>(&mut self, rt: &R) {
+        for _ in rt.forever() {
+            let goes_on = if self.takes_turn(rt) {
+                self.woken.try_recv(rt) != Err(TryRecvError::Disconnected)
+            } else {
+                self.woken.recv(rt).is_ok()
+            };
+            if !goes_on {
+                return;
+            }
+        }
+    }
+}
+
+// Whether a part has still to read commits.
+fn is_behind(state: &State) -> bool
+    ensures { IsTrue result ↔ IsBehind state.now }
+{
+    state.index.min(state.hot) < state.newest
+}
+
+// Whether another turn may follow: one was taken, and is shown. Where it was refused, or waits for memory to be shown, the next
+// change wakes the indexer again.
+fn may_go_on(taken: &Result<Turn, Refusal>) -> bool
+    ensures ok { IfOk taken.now (λ turn. result ≡ turn.receipt.shown) }
+    ensures err { IfErr taken.now (λ _. result ≡ false) }
+{
+    match taken {
+        Ok(turn) => turn.receipt.is_shown(),
+        Err(_) => false,
+    }
+}
