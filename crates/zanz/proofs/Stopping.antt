@@ -1,6 +1,6 @@
 -- Why a task was not done, or that it was.
 use Rattle.std.proofs.Common.{◌≡◌, ◌≢◌, ◌⊎◌, ℕ, List, Global, String, Option, true, refl, sym, ap, subst, ◌∙◌, arith}
-use Rattle.std.specs.Prelude.{Result, Err, IfErr}
+use Rattle.std.specs.Prelude.{None, Result, Err, IfErr}
 use Rattle.sqlite_disk.specs.declared.Disk as disk
 use Rattle.sqlite_wal.specs.Recovery.{Image}
 use Rattle.names.specs.declared.refusal.Refusal.{Refusal}
@@ -25,11 +25,11 @@ module _ {R W D : Type 0} {g : disk.Ghosts D} (image : Image) (remaining : R →
   StoppedBy fault task = StoppedOf image task fault remaining contents (reader, writer) (reader_after, writer_after) left
 
   module _ (place : Place) where
-    pub done_service : (task : Task) (port : ℕ) (workers : Option ℕ) → task ≡ Serve place port workers → reader_after ≡ reader → Announced contents writer writer_after → Done task
-    done_service task port workers is same announced = subst Done (sym is) (same, announced)
+    pub done_service : (task : Task) (port : ℕ) (workers : Option ℕ) → task ≡ Serve place port workers → reader_after ≡ reader → Announced contents writer writer_after → left ≡ Err None → Done task
+    done_service task port workers is same announced none = subst Done (sym is) (same, announced, none)
 
-    pub service_stops : (task : Task) (port : ℕ) (workers : Option ℕ) (fault : Fault) → task ≡ Serve place port workers → reader_after ≡ reader → StoppedServing contents writer writer_after → StoppedBy fault task
-    service_stops task port workers fault is same stopped = subst (StoppedBy fault) (sym is) (same, stopped)
+    pub service_stops : (task : Task) (port : ℕ) (workers : Option ℕ) (fault : Fault) → task ≡ Serve place port workers → reader_after ≡ reader → StoppedServing contents writer writer_after → left ≡ Err None → StoppedBy fault task
+    service_stops task port workers fault is same stopped none = subst (StoppedBy fault) (sym is) (same, stopped, none)
 
     pub done_run : (task : Task) → task ≡ Run place → RanAt image all_lines place remaining contents (reader, writer) (reader_after, writer_after) left → Done task
     done_run task is ran = subst Done (sym is) ran
@@ -64,3 +64,11 @@ never_0 (Refused why) is = absurd (omega arith)
 never_0 CannotRead is = absurd (omega arith)
 never_0 CannotWrite is = absurd (omega arith)
 never_0 CannotListen is = absurd (omega arith)
+
+-- the one that ends with 2
+pub is_bad_line : (fault : Fault) → fault_status fault ≡ 2 → fault ≡ CommandLine
+is_bad_line CommandLine is = refl
+is_bad_line (Refused why) is = absurd (omega arith)
+is_bad_line CannotRead is = absurd (omega arith)
+is_bad_line CannotWrite is = absurd (omega arith)
+is_bad_line CannotListen is = absurd (omega arith)

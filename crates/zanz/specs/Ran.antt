@@ -13,7 +13,7 @@ use Rattle.keeper_core.specs.Posts.{Posts}
 use Rattle.store.specs.History.{device_below}
 use Rattle.tracked_io.specs.Tracking.{TrackedReading, TrackedWriting, Reads, ReadsAll}
 use Rattle.tracked_io.specs.Wrote.{WroteSome}
-use Rattle.tasks.specs.Faults.{fault_status}
+use Rattle.tasks.specs.Faults.{fault_status, IsLineFault}
 use Rattle.tasks.specs.Report.{Reports}
 use Rattle.tasks.specs.Words.{OnServe}
 use Rattle.tasks.specs.declared.fault.Fault.{Fault}
@@ -125,18 +125,18 @@ IsReport (Config file) = ⊤
 IsReport _ = ⊥
 
 -- The task was done: all that was there was read, each line answered, and the answers handed on; or the levels of a valid
--- configuration were printed; or the program listened, and said where.
+-- configuration were printed; or the program listened, and said where. Only a run leaves a file.
 abbrev pub DoneOf : {R W D : Type 0} {g : disk.Ghosts D} → Image → Task → (R → Option (List ℕ)) → (W → Option (List ℕ)) → TrackedReading R × TrackedWriting W → TrackedReading R × TrackedWriting W → Remains g → Type 0
 DoneOf image (Run place) remaining contents old new left = RanAt image all_lines place remaining contents old new left
-DoneOf image (Config file) remaining contents (reader, writer) (reader_after, writer_after) left = (reader_after ≡ reader) × Reported contents true writer writer_after
-DoneOf image _ remaining contents (reader, writer) (reader_after, writer_after) left = (reader_after ≡ reader) × Announced contents writer writer_after
+DoneOf image (Config file) remaining contents (reader, writer) (reader_after, writer_after) left = (reader_after ≡ reader) × Reported contents true writer writer_after × (left ≡ Err None)
+DoneOf image _ remaining contents (reader, writer) (reader_after, writer_after) left = (reader_after ≡ reader) × Announced contents writer writer_after × (left ≡ Err None)
 
 -- For this fault it was not done, or not to its end. Of a report, or of the line that says where the program listens, a beginning
 -- was written where the writer failed, and else nothing; or it listened, and could make no worker.
 abbrev pub StoppedOf : {R W D : Type 0} {g : disk.Ghosts D} → Image → Task → Fault → (R → Option (List ℕ)) → (W → Option (List ℕ)) → TrackedReading R × TrackedWriting W → TrackedReading R × TrackedWriting W → Remains g → Type 0
 StoppedOf image (Run place) fault remaining contents old new left = RunStopped image place fault remaining contents old new left
-StoppedOf image (Config file) fault remaining contents (reader, writer) (reader_after, writer_after) left = (reader_after ≡ reader) × (((writer_after.failed ≡ true) × BeganReport contents writer writer_after) ⊎ (writer_after ≡ writer))
-StoppedOf image _ fault remaining contents (reader, writer) (reader_after, writer_after) left = (reader_after ≡ reader) × StoppedServing contents writer writer_after
+StoppedOf image (Config file) fault remaining contents (reader, writer) (reader_after, writer_after) left = (reader_after ≡ reader) × (((writer_after.failed ≡ true) × BeganReport contents writer writer_after) ⊎ (writer_after ≡ writer)) × (left ≡ Err None)
+StoppedOf image _ fault remaining contents (reader, writer) (reader_after, writer_after) left = (reader_after ≡ reader) × StoppedServing contents writer writer_after × (left ≡ Err None)
 
 -- ---- any words
 
@@ -144,10 +144,10 @@ StoppedOf image _ fault remaining contents (reader, writer) (reader_after, write
 abbrev pub Obeyed : {R W D : Type 0} {g : disk.Ghosts D} → Image → Bool → (R → Option (List ℕ)) → (W → Option (List ℕ)) → TrackedReading R × TrackedWriting W → TrackedReading R × TrackedWriting W → Remains g → Type 0
 Obeyed image serves remaining contents old new left = (task : Task) × OnServe task (IsTrue serves) × DoneOf image task remaining contents old new left
 
--- Why the program ends with 1: a task was stopped by a fault; a configuration is no valid one, which was reported; or there was
--- no memory to read the words, and nothing was done.
+-- Why the program ends with 1: a task was stopped by a fault, which was told; a configuration is no valid one, which was reported
+-- in whole and in silence; or there was no memory to read the words, which was told, and nothing was done.
 pub data Stopped {R W D : Type 0} {g : disk.Ghosts D} (image : Image) (serves : Bool) (remaining : R → Option (List ℕ)) (contents : W → Option (List ℕ))
-    (old new : TrackedReading R × TrackedWriting W) (left : Remains g) : Type 0 where
-  task_stopped : (task : Task) (fault : Fault) → OnServe task (IsTrue serves) → fault_status fault ≡ 1 → StoppedOf image task fault remaining contents old new left → Stopped image serves remaining contents old new left
-  is_no_configuration : new.0 ≡ old.0 → Reported contents false old.1 new.1 → Stopped image serves remaining contents old new left
-  words_unread : new.0 ≡ old.0 → new.1 ≡ old.1 → left ≡ Err None → Stopped image serves remaining contents old new left
+    (old new : TrackedReading R × TrackedWriting W) (left : Remains g) (tells : Fault → Type 0) (silence : Type 0) : Type 0 where
+  task_stopped : (task : Task) (fault : Fault) → OnServe task (IsTrue serves) → fault_status fault ≡ 1 → StoppedOf image task fault remaining contents old new left → tells fault → Stopped image serves remaining contents old new left tells silence
+  is_no_configuration : new.0 ≡ old.0 → Reported contents false old.1 new.1 → AreWhole new.0 new.1 → left ≡ Err None → silence → Stopped image serves remaining contents old new left tells silence
+  words_unread : (fault : Fault) → IsLineFault fault → fault_status fault ≡ 1 → new.0 ≡ old.0 → new.1 ≡ old.1 → left ≡ Err None → tells fault → Stopped image serves remaining contents old new left tells silence

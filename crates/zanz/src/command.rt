@@ -1,20 +1,25 @@
 //! The program, but for its process.
-ghost use Rattle.std.specs.Prelude.{◌≡◌, ◌≢◌, ◌≤◌, ◌<◌, ◌^◌, ◌⊎◌, true, false, None, Err, IfOk, IfErr, IfSome, OnOk, map, string_bytes};
+ghost use Rattle.std.specs.Prelude.{◌≡◌, ◌≢◌, ◌≤◌, ◌<◌, ◌^◌, ◌⊎◌, true, false, None, Err, IfOk, IfErr, IfSome, IsTrue, OnOk, map, string_bytes};
+ghost use Rattle.std.specs.Vec.Iter.{into_iter_items};
 ghost use Rattle.sqlite_wal.specs.Files.{image_at};
 ghost use Rattle.tasks.specs.declared.fault.Fault.TheVariants.{Refused};
-ghost use Rattle.tasks.specs.Faults.{fault_status, IsRunFault};
-ghost use Rattle.tasks.specs.Words.{asks_to_serve};
+ghost use Rattle.tasks.specs.Faults.{IsRunFault, IsLineFault};
+ghost use Rattle.tasks.specs.Words.{asks_to_serve, OnServe};
 ghost use Rattle.runs.specs.Runs.{is_read_fault, is_write_fault};
 ghost use Rattle.zanz.specs.Listening.{Announced, BeganAnnounced, StoppedServing};
 ghost use Rattle.zanz.specs.Ran.{AreWhole, RanAt, RefusedAt, Reported, BeganReport, IsReport, DoneOf, StoppedOf, Obeyed, Stopped, all_lines, whole_lines, first_lines};
+ghost use Rattle.zanz.specs.Telling.{Tells};
 
 use crate::listening::serve;
 use crate::place::{is_number, is_there};
 use crate::sharing::{share, share_over, workers_of_machine};
+use crate::telling::tell;
 use names::Refusal;
 use runs::{Answering, Left, open_in, run, run_in, tables_in};
 use sqlite::Start;
 use std::alloc::Global;
+use std::env::Args;
+use std::fs;
 use std::io::{Read, Write};
 use std::net::{Net, TcpListener, TcpStream};
 use std::rt::Files;
@@ -87,7 +92,7 @@ fn run_at<P: Start, H: Wait + Drop, R: Read, W: Write>(
             run_in(rt, wait, file.as_str(), Some(*store), start, reader, writer)
         }
         Place::There { file } => {
-            if let Err(fault) = is_there(rt, file.as_str()) {
+            if let Err(fault) = is_there(fs::open(rt, file.as_str())) {
                 return (Err(fault), Err(None));
             }
             run_in(rt, wait, file.as_str(), None, start, reader, writer)
@@ -137,7 +142,7 @@ fn serve_alone_at<
             serve(rt, net, port, &mut answering, writer)
         }
         Place::There { file } => {
-            is_there(rt, file.as_str())?;
+            is_there(fs::open(rt, file.as_str()))?;
             let mut answering = match open_in(rt, wait, file.as_str(), None, start) {
                 Ok(answering) => answering,
                 Err((fault, _)) => return Err(fault),
@@ -222,7 +227,7 @@ fn serve_shared_at<
             )
         }
         Place::There { file } => {
-            is_there(rt, file.as_str())?;
+            is_there(fs::open(rt, file.as_str()))?;
             share_in(
                 rt,
                 wait,
@@ -298,7 +303,7 @@ pub fn obey<
     ensures done { IfOk result.0 (λ status. status ≡ 0
         → DoneOf (image_at P.Start) task R.remaining W.contents (reader.old, writer.old) (reader.new, writer.new) result.1) }
     ensures told { IfOk result.0 (λ status. status ≡ 1
-        → IsReport task × (reader.new ≡ reader.old) × Reported W.contents false writer.old writer.new) }
+        → IsReport task × (reader.new ≡ reader.old) × Reported W.contents false writer.old writer.new × (result.1 ≡ Err None)) }
     ensures whole { IfOk result.0 (λ _. AreWhole reader.new writer.new) }
     ensures status { IfOk result.0 (λ status. status ≤ 1) }
     ensures stopped { IfErr result.0 (λ fault.
@@ -327,6 +332,23 @@ pub fn obey<
     }
 }
 
+// The words, in a list.
+fn list_of(alloc: Global, words: Args) -> Result<Vec<String>, Fault>
+    ensures items { IfOk result (λ all. all.items ≡ into_iter_items words) }
+    ensures err { IfErr result IsLineFault }
+{
+    Ok(words.collect(alloc)?)
+}
+
+// What the words ask for.
+fn task_named(alloc: Global, words: Args) -> Result<Task, Fault>
+    ensures serves { IfOk result (λ task. OnServe task (IsTrue (asks_to_serve (map string_bytes (into_iter_items words))))) }
+    ensures err { IfErr result IsLineFault }
+{
+    let listed = list_of(alloc, words)?;
+    task_of(alloc, listed.as_slice())
+}
+
 /// Does what the words say, tells of a fault on `errors`, and answers the status that the process ends with, and
 /// what is left of the file that it ran over, of which `start` says what it held.
 pub fn command<
@@ -340,43 +362,44 @@ pub fn command<
     rt: &HostRuntime,
     wait: H,
     net: &N,
-    words: &[String],
+    words: Args,
     start: P,
     reader: &mut TrackedReader<R>,
     writer: &mut TrackedWriter<W>,
-    errors: &mut E,
+    errors: &mut TrackedWriter<E>,
 ) -> (u8, Left<P>)
     requires unbroken_reader { reader.old.failed ≡ false }
     requires unbroken_writer { writer.old.failed ≡ false }
+    requires unbroken_errors { errors.old.failed ≡ false }
 
     // A task was done; which one, the words say, and of that a contract knows whether it is to serve.
-    ensures done { result.0 ≡ 0 → Obeyed (image_at P.Start) (asks_to_serve (map string_bytes words.now))
+    ensures done { result.0 ≡ 0 → Obeyed (image_at P.Start) (asks_to_serve (map string_bytes (into_iter_items words)))
         R.remaining W.contents (reader.old, writer.old) (reader.new, writer.new) result.1 }
     ensures whole { result.0 ≡ 0 → AreWhole reader.new writer.new }
     ensures quiet { result.0 ≡ 0 → errors.new ≡ errors.old }
-    ensures stopped { result.0 ≡ 1 → Stopped (image_at P.Start) (asks_to_serve (map string_bytes words.now))
-        R.remaining W.contents (reader.old, writer.old) (reader.new, writer.new) result.1 }
+    ensures stopped { result.0 ≡ 1 → Stopped (image_at P.Start) (asks_to_serve (map string_bytes (into_iter_items words)))
+        R.remaining W.contents (reader.old, writer.old) (reader.new, writer.new) result.1
+        (Tells E.contents errors.old errors.new) (errors.new ≡ errors.old) }
 
     // Nothing was read or written, and no file was opened.
-    ensures refused { result.0 ≡ 2 → (reader.new ≡ reader.old) × (writer.new ≡ writer.old) × (result.1 ≡ Err None) }
+    ensures refused { result.0 ≡ 2 → (reader.new ≡ reader.old) × (writer.new ≡ writer.old) × (result.1 ≡ Err None)
+        × Tells E.contents errors.old errors.new Fault.CommandLine }
     ensures status { result.0 ≤ 2 }
 {
-    match task_of(rt.alloc(), words) {
+    match task_named(rt.alloc(), words) {
         Ok(task) => {
             let (obeyed, left) = obey(rt, wait, net, task, start, reader, writer);
             match obeyed {
                 Ok(status) => (status, left),
-                Err(fault) => (tell(errors, &fault), left),
+                Err(fault) => {
+                    tell(errors, &fault);
+                    (fault.status(), left)
+                }
             }
         }
-        Err(fault) => (tell(errors, &fault), Err(None)),
+        Err(fault) => {
+            tell(errors, &fault);
+            (fault.status(), Err(None))
+        }
     }
-}
-
-/// Tells of a fault, and answers the status that the process ends with.
-pub fn tell<E: Write>(errors: &mut E, fault: &Fault) -> u8
-    ensures { result ≡ fault_status fault.now }
-{
-    let _ = writeln!(errors, "{fault}");
-    fault.status()
 }

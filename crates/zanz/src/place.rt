@@ -1,11 +1,12 @@
 //! What is asked of a place before its file is opened.
-ghost use Rattle.std.specs.Prelude.{◌≡◌, ◌≤◌, ◌<◌, ◌^◌, ◌↔◌, IsTrue, IfErr};
+ghost use Rattle.std.specs.Prelude.{◌≡◌, ◌≢◌, ◌≤◌, ◌<◌, ◌^◌, ◌↔◌, IsTrue, IsOk, IfOk, IfErr, Err};
+ghost use Rattle.std.specs.IoError.{error_kind};
 ghost use Rattle.names.specs.declared.refusal.Refusal.{Refusal};
 ghost use Rattle.tasks.specs.declared.fault.Fault.TheVariants.{Refused};
 ghost use Rattle.tasks.specs.Faults.{IsRunFault};
 
 use names::Refusal;
-use std::fs;
+use std::io;
 use std::io::ErrorKind;
 use tasks::Fault;
 
@@ -16,12 +17,15 @@ pub fn is_number(store: u64) -> bool
     1 <= store && store <= i64::MAX as u64
 }
 
-/// Refuses a file that is not there, so that it is not made.
-pub fn is_there(rt: &HostRuntime, file: &str) -> Result<(), Fault>
+/// Refuses a file that could not be opened to be read, so that it is not made: with 21 for want of memory, else with 22.
+pub fn is_there<F: Drop>(opened: io::Result<F>) -> Result<(), Fault>
+    ensures there { IfOk opened (λ _. IsOk result) }
+    ensures memory { IfErr opened (λ e. error_kind e ≡ ErrorKind.OutOfMemory → result ≡ Err (Refused Refusal.Memory)) }
+    ensures missing { IfErr opened (λ e. error_kind e ≢ ErrorKind.OutOfMemory → result ≡ Err (Refused Refusal.StoreFault)) }
     ensures cause { IfErr result IsRunFault }
     ensures refused { IfErr result (λ fault. (why : Refusal) × (fault ≡ Refused why)) }
 {
-    match fs::open(rt, file) {
+    match opened {
         Ok(_) => Ok(()),
         Err(e) => Err(if e.kind() == ErrorKind::OutOfMemory {
             Fault::Refused(Refusal::Memory)

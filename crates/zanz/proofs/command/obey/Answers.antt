@@ -17,8 +17,8 @@ returns-in-Run-clause-stopped g c =
 
 pub returns-in-Ok-serve_at-clause-done : goal.returns-in-Ok-serve_at-clause-done
 returns-in-Ok-serve_at-clause-done g c = λ zero.
-    done_service (image_at g.P.Start) g.R.Read.remaining g.W.Write.contents c.args.reader.now c.args.reader.now c.args.writer.now c.serve_at.new.writer (Err None) c.in-Serve.place c.args.task c.in-Serve.port c.in-Serve.workers c.in-Serve.is refl c.in-Ok-serve_at.ensures.ok
+    done_service (image_at g.P.Start) g.R.Read.remaining g.W.Write.contents c.args.reader.now c.args.reader.now c.args.writer.now c.serve_at.new.writer (Err None) c.in-Serve.place c.args.task c.in-Serve.port c.in-Serve.workers c.in-Serve.is refl c.in-Ok-serve_at.ensures.ok refl
 
 pub returns-in-Serve-clause-stopped : goal.returns-in-Serve-clause-stopped
 returns-in-Serve-clause-stopped g c =
-    service_stops (image_at g.P.Start) g.R.Read.remaining g.W.Write.contents c.args.reader.now c.args.reader.now c.args.writer.now c.serve_at.new.writer (Err None) c.in-Serve.place c.args.task c.in-Serve.port c.in-Serve.workers c.in-Err-serve_at.fault c.in-Serve.is refl c.in-Err-serve_at.ensures.failed
+    service_stops (image_at g.P.Start) g.R.Read.remaining g.W.Write.contents c.args.reader.now c.args.reader.now c.args.writer.now c.serve_at.new.writer (Err None) c.in-Serve.place c.args.task c.in-Serve.port c.in-Serve.workers c.in-Err-serve_at.fault c.in-Serve.is refl c.in-Err-serve_at.ensures.failed refl
