@@ -13,7 +13,7 @@ STATUSES = {400: (1, 2, 3, 4, 9, 11, 12, 16), 409: (5, 6, 7, 10, 13, 17, 18, 19)
 MALFORMED, BAD_ZOOKIE = Refusal(1, "Malformed"), Refusal(11, "BadZookie")
 UNKNOWN, UNTYPED, TWICE = Refusal(2, "UnknownRelation"), Refusal(3, "TypeRefused"), Refusal(4, "TwiceInOneWrite")
 FOREIGN, FUTURE, EXPIRED, TOO_LARGE = Refusal(12, "ForeignZookie"), Refusal(13, "Future"), Refusal(14, "Expired"), Refusal(15, "TooLarge")
-IN_USE = Refusal(17, "InUse")
+NOT_INDEXED, IN_USE = Refusal(16, "NotIndexed"), Refusal(17, "InUse")
 MOST_TREE_NODES = 4096
 
 
@@ -302,6 +302,52 @@ class Snapshot:
             return any(found)
         return all(found) if kind == "intersection" else found[0] and not found[1]
 
+    # Groups: nodes of indexed relations. A group leads to the userset of each of its tuples, and to what it computes.
+
+    def led_to(self, group):
+        """The ends of all walks from a group, itself among them."""
+        found, before = {group}, None
+        while before != len(found):
+            before = len(found)
+            for it in sorted(found):
+                found.update(each for each in self.subjects(it) if "#" in each)
+                namespace, _, relation = parts_of(it)
+                leaves = self.config.leaves(namespace, relation) if self.config.has(namespace, relation) else []
+                found.update(f"{it.partition('#')[0]}#{name}" for kind, name in leaves if kind == "computed")
+        return found
+
+    def naming(self, user):
+        """The groups that name a user by a tuple of their own."""
+        nodes = {it.partition("@")[0] for it in self.tuples if it.partition("@")[2] == user}
+        return {it for it in nodes if self.config.is_indexed(*parts_of(it)[::2])}
+
+    def meant(self, expr):
+        """The groups that an expression means."""
+        ((kind, inside),) = expr.items()
+        if kind == "m2g":
+            return self.naming(inside)
+        if kind == "g2g":
+            return self.led_to(inside)
+        found = [self.meant(it) for it in inside]
+        return {"union": set.union, "intersection": set.intersection, "exclusion": set.difference}[kind](*found)
+
+    def leopard(self, expr, limit):
+        """The first groups of an expression. Each closure that is asked for must be of a group."""
+        asked = [parts_of(it)[::2] for it in closures_in(expr)]
+        if not all(self.config.has(*it) for it in asked):
+            raise Refused(UNKNOWN)
+        if not all(self.config.is_indexed(*it) for it in asked):
+            raise Refused(NOT_INDEXED)
+        found = sorted(self.meant(expr), key=parts_of)
+        for user in self.users_named():
+            for group in closures_in(expr):
+                assert bool(self.led_to(group) & self.naming(user)) == self.check(group, user), f"{group} by {user}"
+        return found[:limit]
+
+    def users_named(self):
+        """The objects that are subjects."""
+        return {it.partition("@")[2] for it in self.tuples if "#" not in it.partition("@")[2]}
+
     def read(self, namespace, thing=None, relation=None, subject=None, after=None, limit=1000):
         found = []
         for it in sorted(self.tuples, key=order_of):
@@ -311,6 +357,14 @@ class Snapshot:
             if fits and (after is None or order_of(after) < order_of(it)):
                 found.append(it)
         return found[:limit]
+
+
+def closures_in(expr):
+    """The groups whose closures an expression asks for."""
+    ((kind, inside),) = expr.items()
+    if kind in ("m2g", "g2g"):
+        return [inside] if kind == "g2g" else []
+    return [each for it in inside for each in closures_in(it)]
 
 
 # -- histories

@@ -3,8 +3,8 @@
 
 usage: histories.py PROGRAM [--histories N] [--calls N] [--seed N]      2,000 histories of 40 calls each
 
-cases/run runs fewer of them as a case. A history is a configuration and random calls: configurations, writes, checks, trees, pages
-of tuples and of events, catch-ups, at random revisions; every other one is in a file, which is opened again after half of the calls.
+cases/run runs fewer of them as a case. A history is a configuration and random calls: configurations, writes, checks, trees, groups,
+pages of tuples and of events, catch-ups, at random revisions; every other one is in a file, which is opened again after half of the calls.
 The answers are compared as texts, but for the cycle of a configuration, of which there may be several.
 """
 import argparse
@@ -68,7 +68,22 @@ def config_of(choose):
                     relation["indexed"] = True
             relations[name] = relation
         namespaces[namespace] = relations
+    if some(choose, 0.5):
+        index_all(namespaces)
     return namespaces
+
+
+def index_all(namespaces):
+    """Indexes each relation that can be, with those that it needs."""
+    config = Config(namespaces)
+    for namespace, name in config.relations():
+        namespaces[namespace][name]["indexed"] = True
+    while True:
+        lacking = [it for it in config.relations() if config.lacks_index(*it)]
+        for namespace, name in lacking:
+            del namespaces[namespace][name]["indexed"]
+        if not lacking:
+            return
 
 
 def has_this(rewrite):
@@ -231,6 +246,35 @@ class Script:
 
         self.add("read", {**at, **body}, answer)
 
+    def expression(self, depth):
+        """A set expression over groups."""
+        choose = self.choose
+        kind = choose.choice(["m2g", "g2g", "g2g", "union", "intersection", "exclusion"] if depth else ["m2g", "g2g"])
+        if kind == "m2g":
+            return {kind: choose.choice(USERS * 4 + [thing(choose)])}
+        if kind == "g2g":
+            return {kind: self.group() if some(choose, 0.9) else self.asked_node()}
+        return {kind: [self.expression(depth - 1) for _ in range(2 if kind == "exclusion" else choose.randrange(1, 4))]}
+
+    def group(self):
+        """A node of an indexed relation, where there is one."""
+        indexed = [it for it in self.config.relations() if self.config.is_indexed(*it)]
+        if not indexed:
+            return self.asked_node()
+        namespace, name = self.choose.choice(indexed)
+        return f"{namespace}:{self.choose.choice(THINGS[namespace])}#{name}"
+
+    def leopard(self):
+        at, expr, limit = asked_at(self.choose, self.history.newest), self.expression(2), self.choose.choice([1001] if some(self.choose, 0.03) else [0, 1, 1, 2, 3, 1000])
+
+        def answer():
+            if limit > 1000:
+                raise Refused(MALFORMED)
+            groups, zookie = self.history.ask(at.get("at"), lambda it: it.leopard(expr, limit))
+            return {"groups": groups, "zookie": zookie}
+
+        self.add("leopard", {**at, "expr": expr, "limit": limit}, answer)
+
     def watch(self):
         choose = self.choose
         body = {"commits": choose.choice([0, 257] if some(choose, 0.1) else [1, 1, 2, 3, 256]), "cursor": a_zookie(choose, self.history.newest)}
@@ -264,7 +308,7 @@ class Script:
         self.add("state", {}, self.history.state)
 
     def go_on(self, calls):
-        kinds = [self.configure] + [self.write] * 8 + [self.check] * 8 + [self.expand] * 4 + [self.read] * 4 + [self.watch] * 3 + [self.catch_up] * 2 + [self.trim, self.state]
+        kinds = [self.configure] + [self.write] * 8 + [self.check] * 8 + [self.expand] * 4 + [self.read] * 4 + [self.leopard] * 4 + [self.watch] * 3 + [self.catch_up] * 2 + [self.trim, self.state]
         for _ in range(calls):
             self.choose.choice(kinds)()
 

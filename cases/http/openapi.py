@@ -13,7 +13,7 @@ sys.path.insert(0, os.path.dirname(os.path.realpath(__file__)))
 from connections import NO_ROUTE, TOP, Server, ask, same
 
 # The calls of a later stage: they have their routes, and are answered as if they had none.
-LATER = ["hot", "leopard", "rebuild"]
+LATER = ["hot", "rebuild"]
 # What the connection refuses has no number of its own.
 OF_CONNECTIONS = {(0, "LengthRequired", 411), (0, "BodyTooLarge", 413)}
 # Malformed and BadZookie: what is refused so does not fit its schema, and all else does.

@@ -11,3 +11,6 @@ pub mod Naming
 pub mod Cursors
 pub mod Floors
 pub mod Events
+pub mod Expressions
+pub mod Alike
+pub mod Grouped

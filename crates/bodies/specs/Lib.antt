@@ -7,4 +7,5 @@ pub mod Watching
 pub mod Trimming
 pub mod Pages
 pub mod Paging
+pub mod Grouping
 pub mod inside

@@ -2,6 +2,8 @@
 #![tactic(auto)]
 
 mod conditions;
+mod exprs;
+pub mod grouping;
 mod ops;
 pub mod pages;
 pub mod paging;

@@ -46,6 +46,8 @@ impl Config {
     ghost use Rattle.names.specs.declared.refusal.Refusal.TheVariants.{UnknownRelation, TypeRefused};
     ghost use Rattle.config.specs.Levels.{AreLevels};
     ghost use Rattle.config.specs.Places.{StandsAt};
+    ghost use Rattle.config.specs.Valid.{IsValid};
+    ghost use Rattle.config_core.specs.Order.{IsOrdered};
     ghost use Rattle.config.specs.Causes.{Accepts, ConfigCause};
     ghost use Rattle.config.specs.Refused.{AdmitCause};
 
@@ -86,9 +88,11 @@ impl Config {
         })
     }
 
-    /// The relations, by namespace and then by name.
+    /// The relations, by namespace and then by name. Each configuration is a valid one, in which a relation stands once.
     pub fn relations(&self) -> &[Relation]
         ensures relations { map defined_of result.now ≡ self.now.relations }
+        ensures valid { IsValid self.now }
+        ensures ordered { IsOrdered self.now }
         ensures whole { All (λ d. IsWhole d.form) self.now.relations }
     {
         &self.relations

@@ -72,13 +72,6 @@ contains_or_not (x ∷ xs) n =
     (contains_or_not xs n))
     (cases_eq x n)
 
-pub holds_some : {A : Type 0} (xs : List A) (i : ℕ) → i < length xs → (x : A) × Holds xs i x
-holds_some [] i lt = absurd (omega (arith, lt))
-holds_some (x ∷ xs) i lt = (get_or (x ∷ xs) i x, holds_read (x ∷ xs) i x lt)
-
-pub nothing_in : (xs : List ℕ) (i : ℕ) → length xs ≡ 0 → Contains xs i → ⊥
-nothing_in xs i none (k, lt, e) = absurd (omega (arith, none, lt))
-
 pub contains_any : (xs : List ℕ) (n : ℕ) → list_any (λ y. nat_eq y n) xs ≡ true → Contains xs n
 contains_any [] n is = absurd (false≢true is)
 contains_any (x ∷ xs) n is =
@@ -86,3 +79,10 @@ contains_any (x ∷ xs) n is =
     (λ here. subst (Contains (x ∷ xs)) (eqb-true x n here) (contains_here x xs))
     (λ rest. contains_there x n xs (contains_any xs n rest))
     (or_cases (nat_eq x n) (list_any (λ y. nat_eq y n) xs) is)
+
+pub holds_some : {A : Type 0} (xs : List A) (i : ℕ) → i < length xs → (x : A) × Holds xs i x
+holds_some [] i lt = absurd (omega (arith, lt))
+holds_some (x ∷ xs) i lt = (get_or (x ∷ xs) i x, holds_read (x ∷ xs) i x lt)
+
+pub nothing_in : (xs : List ℕ) (i : ℕ) → length xs ≡ 0 → Contains xs i → ⊥
+nothing_in xs i none (k, lt, e) = absurd (omega (arith, none, lt))

@@ -26,10 +26,22 @@ use Rattle.decide.specs.declared.asking.Found.TheVariants as found
 use Rattle.config.specs.Places.{StandsAt}
 use Rattle.decide.proofs.Relations.{there_gives, gives_there}
 use Rattle.decide.specs.inside.Given.{RelationGave, Gave, HasNode, HasSome, no_or_later, opposite, BaseGives}
+use Rattle.decide.specs.inside.Ending.{IsUnfinished}
 use Rattle.decide.specs.inside.Asked.{high, Counts, IsCounted, IsLeft, IsAsking, GoesOn}
 use Rattle.decide.specs.inside.Reads.{AreNodesOf, AreOwn}
 use Rattle.decide.proofs.SearchLemmas.{grew_refl, grew_trans, grew_waits, grew_number}
 use Rattle.decide.proofs.Settling.{under_up, under_own, same_opened, settled}
+
+-- what is not finished is not where nodes were opened, or others wait
+pub unfinished_grows : (s t : Search) (level : ℕ) → Grew s t → IsUnfinished s level → IsUnfinished t level
+unfinished_grows s t level g (l, i, less, on) = (l, i, less, g.stacked l i on)
+
+-- a node of a lower level is not settled
+pub counted_unfinished : (S : Snap) (s t : Search) (a : Asking) (m : Node) (i level : ℕ) → a.plain ≡ false → IsCounted S s a m i → ((e : Opened) → Stands s i e → e.level ≡ level) → IsUnfinished s (suc level) → Grew s t → IsUnfinished t a.level
+counted_unfinished S s t a m i level subtracted (k, (e, at, node, is), _, low) its (l, j, less, on) grew =
+    let own : e.level ≡ level = its e at in
+    let below : high a ≡ a.level = ap (λ b. cond b (suc a.level) a.level) subtracted in
+    (l, j, omega (arith, less, own, is, low, below), grew.stacked l j on)
 
 module _ (S : Snap) (u : Object) (a : Asking) where
   pub goes_refl : (s : Search) → IsAsking S u s a → GoesOn S u s s a
@@ -146,19 +158,19 @@ module _ (S : Snap) (u : Object) (a : Asking) where
   pub none_of : (s : Search) (nodes : List Node) → IsNoneBefore s nodes (length nodes) → (m : Node) → Contains nodes m → IsLeft S u s a m → ⊥
   none_of s nodes none m (j, lt, at) left = none j m lt at left
 
-  pub some_found : (s : Search) (nodes : List Node) (later : Bool) (k : ℕ) → length nodes ≤ k → (later ≡ false → IsNoneBefore s nodes k) → HasSome S u s a nodes (no_or_later later)
-  some_found s nodes true k end none = tt
-  some_found s nodes false k end none = none_of s nodes (λ j m lt at left. none refl j m (omega (arith, lt, end)) at left)
+  pub some_found : (s : Search) (nodes : List Node) (later : Bool) (k : ℕ) → length nodes ≤ k → (later ≡ false → IsNoneBefore s nodes k) → (later ≡ true → IsUnfinished s a.level) → HasSome S u s a nodes (no_or_later later)
+  some_found s nodes true k end none unfinished = unfinished refl
+  some_found s nodes false k end none unfinished = none_of s nodes (λ j m lt at left. none refl j m (omega (arith, lt, end)) at left)
 
   pub computed_gave : (s : Search) (c : List ℕ) (m : Node) (f : Found) → m ≡ record { object = a.node.now.object; relation = c } → HasNode S u s a m f → Gave S u s a (Computed c) f
   computed_gave s c m found.Yes e h = subst (Counts S u a) e h
   computed_gave s c m found.No e h = λ g. h (subst (IsLeft S u s a) (sym e) g)
-  computed_gave s c m found.Later e h = tt
+  computed_gave s c m found.Later e h = h
 
   pub some_grows : (s t : Search) (nodes : List Node) (f : Found) → Grew s t → HasSome S u s a nodes f → HasSome S u t a nodes f
   some_grows s t nodes found.Yes g h = h
   some_grows s t nodes found.No g h = λ m c left. h m c (left_before S u a s t m g left)
-  some_grows s t nodes found.Later g h = tt
+  some_grows s t nodes found.Later g h = unfinished_grows s t a.level g h
 
   counts_has : (m : Node) → Under S u (high a) m → Has S.config (rel_of m)
   counts_has m x = (below_level S u (high a) m x).1.0
@@ -166,7 +178,7 @@ module _ (S : Snap) (u : Object) (a : Asking) where
   pub this_gave : (s : Search) (sets : List Node) (f : Found) → AreOwn S u a.node.now sets → HasSome S u s a sets f → Gave S u s a This f
   this_gave s sets found.Yes own (m, c, counts) = inr (m, own.only m c, counts)
   this_gave s sets found.No own none = λ g. ⊎_elim own.direct (λ (m, set, left). none m (own.all m set (counts_has m left.0)) left) g
-  this_gave s sets found.Later own h = tt
+  this_gave s sets found.Later own h = h
 
   pub through_gave : (s : Search) (t c : List ℕ) (nodes : List Node) (f : Found) → AreNodesOf S a.node.now t c nodes → HasSome S u s a nodes f → Gave S u s a (TupleTo t c) f
   through_gave s t c nodes found.Yes are (m, x, counts) =
@@ -174,7 +186,7 @@ module _ (S : Snap) (u : Object) (a : Asking) where
       let here : Under S u (high a) (record { object = p.0; relation = c }) = subst (Counts S u a) (sym p.2) counts in
       (p.0, p.1, counts_has (record { object = p.0; relation = c }) here, here)
   through_gave s t c nodes found.No are none = λ (p, one, has, left). none (record { object = p; relation = c }) ((are (record { object = p; relation = c })).1 (p, one, refl)) left
-  through_gave s t c nodes found.Later are h = tt
+  through_gave s t c nodes found.Later are h = h
 
   pub goes_more : (s t v : Search) → Grew s t → GoesOn S u t v a → GoesOn S u s v a
   goes_more s t v g h = record { asking = h.asking; grew = grew_trans s t v g h.grew }
@@ -194,9 +206,9 @@ module _ (S : Snap) (u : Object) (a : Asking) where
 
   pub union_found : (s : Search) (parts : List Rewrite) (later : Bool) (k : ℕ) → length parts ≤ k
       → (later ≡ false → (w : Search) → Grew s w → SomeGives S u a.node.now (rewrite_forms parts) (IsLeft S u w a) (Under S u a.level) → SomeGives S u a.node.now (rewrite_forms (drop k parts)) (IsLeft S u w a) (Under S u a.level))
-      → Gave S u s a (Union (rewrite_forms parts)) (no_or_later later)
-  union_found s parts true k end left = tt
-  union_found s parts false k end left = λ g. some_none S u a.node.now (IsLeft S u s a) (Under S u a.level) parts k end (left refl s (grew_refl s) g)
+      → (later ≡ true → IsUnfinished s a.level) → Gave S u s a (Union (rewrite_forms parts)) (no_or_later later)
+  union_found s parts true k end left unfinished = unfinished refl
+  union_found s parts false k end left unfinished = λ g. some_none S u a.node.now (IsLeft S u s a) (Under S u a.level) parts k end (left refl s (grew_refl s) g)
 
   pub asking_subtracted : (s : Search) (b : Asking) → b ≡ record a { plain = false } → IsAsking S u s a → IsAsking S u s b
   asking_subtracted s b e h = subst (IsAsking S u s) (sym e) (record { running = h.running; number = h.number })
@@ -210,7 +222,7 @@ module _ (S : Snap) (u : Object) (a : Asking) where
     base,
     λ g. less (gives_grows S u a.node.now w (Under S u a.level) (IsLeft S u s (record a { plain = false })) (Under S u a.level) (Under S u a.level) (λ m x. (x, λ p. absurd (false≢true p))) (λ m. (λ x. x, λ x. x)) g),
   )
-  exclusion_of s v w found.Later base less = tt
+  exclusion_of s v w found.Later base less = less
 
   pub exclusion_gave : (s : Search) (v w : Form) (f : Found) (b : Asking) → b ≡ record a { plain = false } → Gives S u a.node.now v (Counts S u a) (Under S u a.level) → Gave S u s b w f → Gave S u s a (Exclusion v w) (opposite f)
   exclusion_gave s v w f b e base less = exclusion_of s v w f base (subst (λ x. Gave S u s x w f) e less)
@@ -222,4 +234,4 @@ module _ (S : Snap) (u : Object) (a : Asking) where
   pub relation_gave : (s : Search) (f : Found) (i : ℕ) (stands : StandsAt S.config (rel_of a.node.now) i) (d : Relation) → stands.defined ≡ defined_of d → Gave S u s a (form_of d.rewrite) f → RelationGave S u s a f
   relation_gave s found.Yes i stands d is g = there_gives S u a.node.now (Counts S u a) (Under S u a.level) i stands d is g
   relation_gave s found.No i stands d is g = λ h. g (gives_there S u a.node.now (IsLeft S u s a) (Under S u a.level) i stands d is h)
-  relation_gave s found.Later i stands d is g = tt
+  relation_gave s found.Later i stands d is g = g

@@ -1,5 +1,5 @@
 -- A node has the user, and all that waited for it are to be looked at.
-use Rattle.std.proofs.Common.{◌≡◌, ℕ, suc, ◌<◌, List, [], ◌∷◌, ◌++◌, true, length, set, refl, ap, ◌∙◌, sym, subst, inl, inr, ⊎_elim, arith}
+use Rattle.std.proofs.Common.{◌≡◌, ℕ, suc, ◌<◌, List, [], ◌∷◌, ◌++◌, true, false, length, set, refl, ap, ◌∙◌, sym, subst, inl, inr, ⊎_elim, arith}
 use Rattle.std.specs.Prelude.{◌⊎◌, Contains, Some, None}
 use Rattle.std.proofs.lemmas.Bool.{cases_eq, false≢true}
 use Rattle.std.proofs.lemmas.List.{length-set}
@@ -13,12 +13,13 @@ use Rattle.meaning.proofs.Lists.{contains_none}
 use Rattle.decide.specs.declared.search.Search.{Search}
 use Rattle.decide.specs.declared.search.Opened.{Opened}
 use Rattle.decide.specs.inside.Under.{Under}
-use Rattle.decide.specs.inside.Searches.{Stands, IsStacked, Waits, IsNumberOf, Pushes, Wakes}
+use Rattle.decide.specs.inside.Searches.{Stands, IsStacked, Waits, IsNumberOf, Pushes, Wakes, AreFalling, sures}
 use Rattle.decide.specs.inside.Reads.{IsKept}
 use Rattle.decide.specs.inside.Running.{IsRunning}
 use Rattle.decide.proofs.Elements.{Holds, holds_same, holds_set, holds_stored, holds_set_back, contains_or_not}
-use Rattle.decide.proofs.Pushing.{pushed_long, pushed_stays, pushed_here, pushed_back}
+use Rattle.decide.proofs.Pushing.{pushed_long, pushed_stays, pushed_here, pushed_from}
 use Rattle.decide.proofs.SearchLemmas.{waits_stuck, kept_same}
+use Rattle.decide.proofs.Counting.{sures_given}
 
 pub wakes_none : (s : Search) → Wakes s s []
 wakes_none s = record {
@@ -26,11 +27,12 @@ wakes_none s = record {
   stays = λ l i on. on;
   woken = λ w e c at. absurd (contains_none w c);
   only = λ l i on. inl on;
+  falling = λ falls. falls;
 }
 
 pub wakes_one : (r s t : Search) (xs : List ℕ) (w : ℕ) (e : Opened) → Wakes r s xs → Stands r w e
-    → e.level < length s.stacks.items → Pushes s.stacks.items t.stacks.items e.level w → Wakes r t (xs ++ w ∷ [])
-wakes_one r s t xs w e wakes at there pushes = record {
+    → e.level < length s.stacks.items → Pushes s.stacks.items t.stacks.items e.level w → (AreFalling s.frames.items → AreFalling t.frames.items) → Wakes r t (xs ++ w ∷ [])
+wakes_one r s t xs w e wakes at there pushes falls = record {
   long = pushed_long s.stacks.items t.stacks.items e.level w pushes ∙ wakes.long;
   stays = λ l i on. pushed_stays s.stacks.items t.stacks.items e.level w pushes l i (wakes.stays l i on);
   woken = λ v f c standing. ⊎_elim
@@ -41,9 +43,13 @@ wakes_one r s t xs w e wakes at there pushes = record {
       subst (λ (x : Opened). IsStacked t x.level v) here (subst (IsStacked t e.level) same on))
       (Contains-push_cases xs w v c);
   only = λ l i on. ⊎_elim
-      (λ before. ⊎_elim inl (λ c. inr (Contains-append_left xs (w ∷ []) i c)) (wakes.only l i before))
-      (λ same. inr (subst (Contains (xs ++ w ∷ [])) same (Contains-push xs w)))
-      (pushed_back s.stacks.items t.stacks.items e.level w pushes l i on);
+      (λ before. ⊎_elim inl (λ (c, level). inr (Contains-append_left xs (w ∷ []) i c, level)) (wakes.only l i before))
+      (λ (same, low). inr (
+        subst (Contains (xs ++ w ∷ [])) same (Contains-push xs w),
+        λ f standing. ap (λ (x : Opened). x.level) (holds_same r.opened.items i f e standing (subst (λ q. Holds r.opened.items q e) same at)) ∙ sym low,
+      ))
+      (pushed_from s.stacks.items t.stacks.items e.level w pushes l i on);
+  falling = λ falling. falls (wakes.falling falling);
 }
 
 -- what a search is after it, where none waits for the node any more
@@ -60,7 +66,8 @@ pub record Gave (s t : Search) (i : ℕ) (e f : Opened) : Type 0 where
   pub long : length t.stacks.items ≡ length s.stacks.items
   pub stays : (l j : ℕ) → IsStacked s l j → IsStacked t l j
   pub woken : (w : ℕ) (g : Opened) → Contains e.waiting.items w → Stands s w g → IsStacked t g.level w
-  pub only : (l j : ℕ) → IsStacked t l j → IsStacked s l j ⊎ Contains e.waiting.items j
+  pub only : (l j : ℕ) → IsStacked t l j → IsStacked s l j ⊎ (Contains e.waiting.items j × ((g : Opened) → Stands s j g → g.level ≡ l))
+  pub falling : AreFalling s.frames.items → AreFalling t.frames.items
 
 module _ (s t : Search) (i : ℕ) (e f : Opened) (gave : Gave s t i e f) where
   cases : (j : ℕ) (g : Opened) → Stands t j g → ((j ≡ i) × (g ≡ f)) ⊎ ((j ≡ i → ⊥) × Stands s j g)
@@ -69,8 +76,12 @@ module _ (s t : Search) (i : ℕ) (e f : Opened) (gave : Gave s t i e f) where
   kept : (j : ℕ) (g : Opened) → (j ≡ i → ⊥) → Stands s j g → Stands t j g
   kept j g other at = subst (λ xs. Holds xs j g) (sym gave.opened) (holds_set s.opened.items i f j g other at)
 
-  as_long : length t.opened.items ≡ length s.opened.items
+  pub as_long : length t.opened.items ≡ length s.opened.items
   as_long = ap length gave.opened ∙ length-set s.opened.items i f
+
+  pub gave_sures : (g : Opened) → Stands s i g → g.sure ≡ false → sures s < sures t
+  gave_sures g at unsure =
+      sures_given s t i e f gave.at gave.opened (ap (λ (x : Opened). x.sure) (holds_same s.opened.items i e g gave.at at) ∙ unsure) gave.sure
 
   pub gave_numbers : (j k : ℕ) (n : Node) → IsNumberOf s j n k → IsNumberOf t j n k
   gave_numbers j k n (g, at, node, level) = ⊎_elim
@@ -139,8 +150,15 @@ module _ (s t : Search) (i : ℕ) (e f : Opened) (gave : Gave s t i e f) where
           (cases j g at);
       stacked_there = λ l j on. ⊎_elim
           (λ old. let lt = r.stacked_there l j old in omega (arith, lt, as_long))
-          (λ c. let lt = r.waiting_there i j e gave.at c in omega (arith, lt, as_long))
+          (λ (c, _). let lt = r.waiting_there i j e gave.at c in omega (arith, lt, as_long))
           (gave.only l j on);
+      leveled = λ l j g on at. ⊎_elim
+          (λ (same, here).
+          let old : Stands s j e = subst (λ q. Holds s.opened.items q e) (sym same) gave.at in
+          ap (λ (x : Opened). x.level) here ∙ gave.level ∙ ⊎_elim (λ before. r.leveled l j e before old) (λ (_, level). level e old) (gave.only l j on))
+          (λ (_, old). ⊎_elim (λ before. r.leveled l j g before old) (λ (_, level). level g old) (gave.only l j on))
+          (cases j g at);
+      falling = gave.falling r.falling;
       right = right_all;
       kept = λ j g at. ⊎_elim
           (λ (_, same). subst (IsKept S u) (sym same) (kept_same S u e f gave.node gave.own gave.parents (r.kept i e gave.at)))

@@ -3,6 +3,8 @@ pub mod Nodes
 pub mod Few
 pub mod SearchLemmas
 pub mod Pushing
+pub mod Popping
+pub mod Counting
 pub mod Opening
 pub mod Replacing
 pub mod Giving
@@ -11,4 +13,4 @@ pub mod Parts
 pub mod Found
 pub mod Relations
 pub mod Turns
-pub mod Popping
+pub mod Turning

@@ -1,5 +1,5 @@
 -- Stacks after a pop from one of them, and a search from which a number was taken.
-use Rattle.std.proofs.Common.{◌≡◌, ℕ, ◌<◌, List, [], ◌∷◌, ◌++◌, length, set, refl, ap, ◌∙◌, sym, subst, inl, inr, ⊎_elim, arith}
+use Rattle.std.proofs.Common.{◌≡◌, ℕ, ◌<◌, ◌≤◌, List, [], ◌∷◌, ◌++◌, length, set, refl, ap, ◌∙◌, sym, subst, inl, inr, ⊎_elim, arith}
 use Rattle.std.specs.Prelude.{◌⊎◌, Contains, Vec, Option, Some, None, IfSome, IfNone}
 use Rattle.std.specs.Global.{Global}
 use Rattle.std.proofs.lemmas.Bool.{cases_eq}
@@ -9,7 +9,8 @@ use Rattle.names.specs.declared.node.Node.{Node}
 use Rattle.meaning.specs.Snap.{Snap}
 use Rattle.decide.specs.declared.search.Search.{Search}
 use Rattle.decide.specs.declared.search.Opened.{Opened}
-use Rattle.decide.specs.inside.Searches.{Stands, IsStacked, Waits, IsNumberOf}
+use Rattle.decide.specs.declared.search.Frame.{Frame}
+use Rattle.decide.specs.inside.Searches.{Stands, IsStacked, Waits, IsNumberOf, IsFrame, AreFalling, IsLowest}
 use Rattle.decide.specs.inside.Running.{IsRunning}
 use Rattle.decide.proofs.Elements.{Holds, holds_same, holds_set, holds_stored, holds_set_back}
 use Rattle.decide.proofs.Pushing.{IsOn}
@@ -52,7 +53,7 @@ if_some (Some n) P f = f n refl
 if_some None P f = tt
 
 module _ (S : Snap) (u : Object) (s t : Search) (opened : t.opened.items ≡ s.opened.items) (long : length t.stacks.items ≡ length s.stacks.items)
-    (fewer : (l j : ℕ) → IsStacked t l j → IsStacked s l j) where
+    (fewer : (l j : ℕ) → IsStacked t l j → IsStacked s l j) (falls : AreFalling s.frames.items → AreFalling t.frames.items) where
   module _ (but except : Option ℕ)
       (rest : (l j : ℕ) → (except ≡ Some j → ⊥) → IsStacked s l j → IsStacked t l j)
       (apart : (j : ℕ) → (except ≡ Some j → ⊥) → but ≡ Some j → ⊥) where
@@ -66,6 +67,8 @@ module _ (S : Snap) (u : Object) (s t : Search) (opened : t.opened.items ≡ s.o
           stack_there = λ j g at. let lt = r.stack_there j g (old j g at) in omega (arith, lt, long);
           waiting_there = λ j w g at c. let lt = r.waiting_there j w g (old j g at) c in omega (arith, lt, as_long);
           stacked_there = λ l j on. let lt = r.stacked_there l j (fewer l j on) in omega (arith, lt, as_long);
+          leveled = λ l j g on at. r.leveled l j g (fewer l j on) (old j g at);
+          falling = falls r.falling;
           right = λ j g at sure. r.right j g (old j g at) sure;
           kept = λ j g at. r.kept j g (old j g at);
           covered = λ j g at unsure other. ⊎_elim
@@ -84,9 +87,9 @@ module _ (S : Snap) (u : Object) (s t : Search) (opened : t.opened.items ≡ s.o
       (λ j _ equal. cc)
 
 pub same_running : (S : Snap) (u : Object) (s t : Search) → t.opened.items ≡ s.opened.items → t.stacks.items ≡ s.stacks.items
-    → IsRunning S u s None → IsRunning S u t None
-same_running S u s t opened stacks =
-    fewer_running S u s t opened (ap length stacks) (λ l j on. subst (λ xs. IsOn xs l j) stacks on)
+    → (AreFalling s.frames.items → AreFalling t.frames.items) → IsRunning S u s None → IsRunning S u t None
+same_running S u s t opened stacks falls =
+    fewer_running S u s t opened (ap length stacks) (λ l j on. subst (λ xs. IsOn xs l j) stacks on) falls
     None None
     (λ l j _ on. subst (λ xs. IsOn xs l j) (sym stacks) on)
     (λ j other. other)
@@ -101,16 +104,26 @@ none_mapped None P Q f h = f h
 
 -- one number was taken from a search that stood as another does
 module _ (r s t : Search) (opened_before : s.opened.items ≡ r.opened.items) (stacks_before : s.stacks.items ≡ r.stacks.items)
-    (opened : t.opened.items ≡ s.opened.items) where
+    (opened : t.opened.items ≡ s.opened.items) (framed : t.frames.items ≡ s.frames.items) (falls : AreFalling r.frames.items → AreFalling s.frames.items) where
   pub taken_running : (S : Snap) (u : Object) (n : ℕ) → length t.stacks.items ≡ length s.stacks.items
       → ((l j : ℕ) → IsStacked t l j → IsStacked s l j)
       → ((l : ℕ) × IsStacked s l n) × ((l j : ℕ) → IsStacked s l j → (j ≡ n) ⊎ IsStacked t l j)
       → IsRunning S u r None → (n < length t.opened.items) × IsRunning S u t (Some n)
   taken_running S u n long fewer took running =
-      let now = same_running S u r s opened_before stacks_before running in
+      let now = same_running S u r s opened_before stacks_before falls running in
       let lt = now.stacked_there took.0.0 n took.0.1 in
       let same = ap length opened in
-      (omega (arith, lt, same), popped_running S u s t opened long fewer n took.1 now)
+      (omega (arith, lt, same), popped_running S u s t opened long fewer (subst AreFalling (sym framed)) n took.1 now)
+
+  -- its level is below all frames
+  pub taken_lowest : (S : Snap) (u : Object) (n level : ℕ) → ((l : ℕ) × (l < level) × IsStacked s l n)
+      → (AreFalling s.frames.items → (i : ℕ) (f : Frame) → IsFrame s.frames.items i f → level ≤ f.level)
+      → IsRunning S u r None → IsLowest t n
+  taken_lowest S u n level (l, below, on) low running i e f stands frame =
+      let now = same_running S u r s opened_before stacks_before falls running in
+      let its = now.leveled l n e on (subst (λ xs. Holds xs n e) opened stands) in
+      let above = low now.falling i f (subst (λ fs. IsFrame fs i f) framed frame) in
+      omega (arith, its, below, above)
 
   pub taken_numbers : (i k : ℕ) (n : Node) → IsNumberOf r i n k → IsNumberOf t i n k
   taken_numbers i k n (e, at, node, level) = (e, subst (λ xs. Holds xs i e) (sym (opened ∙ opened_before)) at, node, level)

@@ -39,8 +39,8 @@ module _ (xs ys : List (Vec ℕ Global)) (k i : ℕ) (pushes : Pushes xs ys k i)
       subst (λ zs. IsOn zs k i) (sym pushes.4)
       (w, stored.0, stored.1, subst (λ zs. Contains zs i) (sym pushes.3) (Contains-push pushes.0.items i))
 
-  pub pushed_back : (l j : ℕ) → IsOn ys l j → IsOn xs l j ⊎ (i ≡ j)
-  pushed_back l j on =
+  pub pushed_from : (l j : ℕ) → IsOn ys l j → IsOn xs l j ⊎ ((i ≡ j) × (l ≡ k))
+  pushed_from l j on =
       let v = pushes.0 in
       let w = pushes.1 in
       let (x, lt, read, c) = subst (λ zs. IsOn zs l j) pushes.4 on in
@@ -50,7 +50,10 @@ module _ (xs ys : List (Vec ℕ Global)) (k i : ℕ) (pushes : Pushes xs ys k i)
       let all : Contains (v.items ++ i ∷ []) j = subst (λ zs. Contains zs j) pushes.3 (subst (λ (y : Vec ℕ Global). Contains y.items j) here c) in
       ⊎_elim
       (λ before. inl (v, within, ap (λ q. get_or xs q v) same ∙ pushes.2, before))
-      inr
+      (λ last. inr (last, same))
       (Contains-push_cases v.items i j all))
       (λ (other, h). inl (x, h.0, h.1, c))
       (holds_set_back xs k w l x (lt, read))
+
+  pub pushed_back : (l j : ℕ) → IsOn ys l j → IsOn xs l j ⊎ (i ≡ j)
+  pushed_back l j on = ⊎_elim inl (λ here. inr here.0) (pushed_from l j on)

@@ -1,5 +1,5 @@
 -- A search that grew: what held of it holds still.
-use Rattle.std.proofs.Common.{◌≡◌, ℕ, refl, sym, ◌∙◌, subst}
+use Rattle.std.proofs.Common.{◌≡◌, ◌≤◌, ℕ, length, refl, sym, ◌∙◌, subst, inl, inr, ⊎_elim, arith}
 use Rattle.std.specs.Prelude.{Option, Vec, Some, None, IfSome}
 use Rattle.std.specs.Global.{Global}
 use Rattle.names.specs.declared.object.Object.{Object}
@@ -12,7 +12,7 @@ use Rattle.decide.specs.declared.search.Opened.{Opened}
 use Rattle.decide.specs.declared.search.Parents.{Parents}
 use Rattle.decide.proofs.Elements.{holds_same}
 use Rattle.decide.specs.inside.Under.{Under}
-use Rattle.decide.specs.inside.Searches.{Stands, Waits, IsMore, Grew, IsNumberOf}
+use Rattle.decide.specs.inside.Searches.{Stands, Waits, IsMore, Keeps, Grew, IsNumberOf}
 use Rattle.decide.specs.inside.Reads.{AreOwn, AreParents, IsKept}
 use Rattle.decide.specs.inside.Running.{IsHope, IsStuck}
 
@@ -29,7 +29,7 @@ more_trans e f g a b = record {
 }
 
 pub grew_refl : (s : Search) → Grew s s
-grew_refl s = record { stands = λ i e at. (e, at, more_refl e); stacked = λ l i c. c; long = refl }
+grew_refl s = record { stands = λ i e at. (e, at, more_refl e); stacked = λ l i c. c; long = refl; frames = refl; sures = refl; rises = inr (refl, refl) }
 
 pub grew_trans : (r s t : Search) → Grew r s → Grew s t → Grew r t
 grew_trans r s t a b = record {
@@ -39,12 +39,27 @@ grew_trans r s t a b = record {
       (g.0, g.1, more_trans e f.0 g.0 f.2 g.2);
   stacked = λ l i c. b.stacked l i (a.stacked l i c);
   long = b.long ∙ a.long;
+  frames = b.frames ∙ a.frames;
+  sures = b.sures ∙ a.sures;
+  rises = ⊎_elim
+      (λ first. inl (⊎_elim (λ then. omega (arith, first, then)) (λ same. let l = same.1 in omega (arith, first, l)) b.rises))
+      (λ same. let l = same.1 in ⊎_elim (λ then. inl (omega (arith, then, l))) (λ again. inr (again.0 ∙ same.0, again.1 ∙ l)) b.rises)
+      a.rises;
 }
 
-pub grew_waits : (s t : Search) (m : Node) (i : ℕ) → Grew s t → Waits s m i → Waits t m i
-grew_waits s t m i grew (j, e, at, node, sure, waits) =
-    let f = grew.stands j e at in
+pub grew_keeps : (s t : Search) → Grew s t → Keeps s t
+grew_keeps s t grew = record { stands = grew.stands; stacked = grew.stacked; long = grew.long }
+
+pub grew_long : (s t : Search) → Grew s t → length s.opened.items ≤ length t.opened.items
+grew_long s t grew = ⊎_elim (λ less. omega (arith, less)) (λ same. let l = same.1 in omega (arith, l)) grew.rises
+
+pub keeps_waits : (s t : Search) (m : Node) (i : ℕ) → Keeps s t → Waits s m i → Waits t m i
+keeps_waits s t m i keeps (j, e, at, node, sure, waits) =
+    let f = keeps.stands j e at in
     (j, f.0, f.1, f.2.node ∙ node, f.2.sure ∙ sure, f.2.waiting i waits)
+
+pub grew_waits : (s t : Search) (m : Node) (i : ℕ) → Grew s t → Waits s m i → Waits t m i
+grew_waits s t m i grew = keeps_waits s t m i (grew_keeps s t grew)
 
 pub grew_number : (s t : Search) (i : ℕ) (n : Node) (k : ℕ) → Grew s t → IsNumberOf s i n k → IsNumberOf t i n k
 grew_number s t i n k grew (e, at, node, level) =
@@ -64,10 +79,10 @@ waits_stuck S u s t i e f waits node level stuck gives =
     (Under S u e.level) (Under S u e.level)
     (λ m hope. (hope.0, λ w. hope.1 (waits m w))) (λ m. (λ a. a, λ a. a)) at_level)
 
-pub grew_stuck : (S : Snap) (u : Object) (s t : Search) (i : ℕ) (e f : Opened) → Grew s t
+pub grew_stuck : (S : Snap) (u : Object) (s t : Search) (i : ℕ) (e f : Opened) → Keeps s t
     → Stands s i e → Stands t i f → IsMore e f → IsStuck S u s i e → IsStuck S u t i f
 grew_stuck S u s t i e f grew _ _ more stuck =
-    waits_stuck S u s t i e f (λ m w. grew_waits s t m i grew w) more.node more.level stuck
+    waits_stuck S u s t i e f (λ m w. keeps_waits s t m i grew w) more.node more.level stuck
 
 -- ---- what is kept of nodes
 

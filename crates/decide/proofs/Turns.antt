@@ -40,6 +40,8 @@ module _ (S : Snap) (u : Object) where
     stack_there = run.stack_there;
     waiting_there = run.waiting_there;
     stacked_there = run.stacked_there;
+    leveled = run.leveled;
+    falling = run.falling;
     right = run.right;
     kept = run.kept;
     covered = λ i e st unsure _. ⊎_elim
@@ -104,13 +106,15 @@ module _ (S : Snap) (u : Object) where
       (e.0, (lt, e.1), node e.0 (lt, e.1), level e.0 (lt, e.1))
 
   -- before the first turn
-  pub running_new : (s : Search) → s.opened.items ≡ [] → ((l i : ℕ) → IsStacked s l i → ⊥) → IsRunning S u s None
-  running_new s none empty = record {
+  pub running_new : (s : Search) → s.opened.items ≡ [] → ((l i : ℕ) → IsStacked s l i → ⊥) → s.frames.items ≡ [] → IsRunning S u s None
+  running_new s none empty unframed = record {
     at = λ i e st. absurd (nothing i e st);
     placed = λ i e st. absurd (nothing i e st);
     stack_there = λ i e st. absurd (nothing i e st);
     waiting_there = λ i w e st. absurd (nothing i e st);
     stacked_there = λ l i x. absurd (empty l i x);
+    leveled = λ l i e x. absurd (empty l i x);
+    falling = λ i j f g less at. absurd (let lt = at.0 in let none = ap length unframed in omega (arith, lt, none));
     right = λ i e st. absurd (nothing i e st);
     kept = λ i e st. absurd (nothing i e st);
     covered = λ i e st. absurd (nothing i e st);

@@ -1,5 +1,5 @@
 //! The question.
-ghost use Rattle.std.specs.Prelude.{◌≡◌, ◌<◌, ◌^◌, ℕ, IfOk, IfErr, OnOk, length, true, Some, None};
+ghost use Rattle.std.specs.Prelude.{◌≡◌, ◌<◌, ◌^◌, ℕ, IfOk, IfErr, IfSome, IfNone, OnOk, length, true, false, Some, None};
 ghost use Rattle.std.proofs.Common.{suc};
 ghost use Rattle.meaning.specs.Admits.{has_relation};
 ghost use Rattle.meaning.specs.Causes.{CheckCause};
@@ -8,7 +8,9 @@ ghost use Rattle.config.specs.Places.{StandsAt};
 ghost use Rattle.names.specs.declared.node.Node.{Node as NodeValue};
 ghost use Rattle.decide.specs.Answers.{IsAnswer};
 ghost use Rattle.decide.specs.inside.Under.{Under};
-ghost use Rattle.decide.specs.inside.Searches.{IsNumberOf};
+ghost use Rattle.decide.specs.inside.Searches.{Stands, IsNumberOf, IsLowest};
+ghost use Rattle.decide.specs.inside.Ending.{Turned, progress};
+ghost use Rattle.decide.specs.declared.search.Opened.{Opened};
 ghost use Rattle.decide.specs.inside.Running.{IsRunning};
 ghost use Rattle.decide.specs.inside.Asked.{IsSource, IsAsking};
 
@@ -52,8 +54,7 @@ pub fn check_at<O: Oracle>(
     Ok(answer)
 }
 
-/// Whether the user is a member of a node whose relation stands at the place. Each turn looks at one node. The count of turns stands
-/// in place of a measure; no contract says that a search ends before it.
+/// Whether the user is a member of a node whose relation stands at the place.
 fn is_member<O: Oracle>(
     source: &Source,
     oracle: &mut O,
@@ -69,31 +70,70 @@ fn is_member<O: Oracle>(
     let level = source.level_at(place);
     let mut search = Search::new(source.alloc, level)?;
     let root = search.open(node, level, place, key_of(node))?;
-    'turns: for _ in 0..u64::MAX {
-        if search.is_sure(root) {
-            return Ok(true);
-        }
-        match search.next() {
-            None => return Ok(search.is_sure(root)),
-            Some(number) => look(source, oracle, &mut facts, &mut search, number)?,
+    'rounds: loop {
+        match round(source, oracle, &mut facts, &mut search, root)? {
+            Some(answer) => return Ok(answer),
+            None => {}
         }
     }
-    Err(AllocError)
 }
 
-/// Looks at a node: the oracle is asked first.
+/// Looks at nodes until it is known whether the root has the user, or else until a node more was opened or has the user.
+/// Each turn looks at one node.
+fn round<O: Oracle>(
+    source: &Source,
+    oracle: &mut O,
+    facts: &mut Facts,
+    search: &mut Search,
+    root: usize,
+) -> Result<Option<bool>, AllocError>
+    requires source { IsSource source.now }
+    requires facts { facts.old ≡ source.now.view.now }
+    requires tells { O.tells oracle.old source.now.view.now }
+    requires root { root < length search.old.opened.items }
+    requires running { IsRunning source.now.view.now source.now.user.now search.old None }
+    ensures answer { IfOk result (λ o. IfSome o (λ b. (n : NodeValue) (k : ℕ) → IsNumberOf search.old root n k
+        → IsAnswer source.now.view.now source.now.user.now n b)) }
+    ensures more { IfOk result (λ o. IfNone o (progress search.old < progress search.new)) }
+    ensures facts { OnOk result (facts.new ≡ facts.old) }
+    ensures running { IfOk result (λ o. IfNone o (IsRunning source.now.view.now source.now.user.now search.new None)) }
+    ensures numbers { OnOk result
+        ((i k : ℕ) (n : NodeValue) → IsNumberOf search.old i n k → IsNumberOf search.new i n k) }
+    ensures tells { OnOk result (O.tells oracle.new source.now.view.now) }
+    ensures small { OnOk result (progress search.old < 2 ^ 65) }
+{
+    let opened = search.len();
+    'turns: loop {
+        if search.is_sure(root) {
+            return Ok(Some(true));
+        }
+        match search.next() {
+            None => return Ok(Some(search.is_sure(root))),
+            Some(number) => {
+                let gave = look(source, oracle, facts, search, number)?;
+                if gave || search.len() > opened {
+                    return Ok(None);
+                }
+            }
+        }
+    }
+}
+
+/// Looks at a node, and says whether it has the user now and had not: the oracle is asked first.
 fn look<O: Oracle>(
     source: &Source,
     oracle: &mut O,
     facts: &mut Facts,
     search: &mut Search,
     number: usize,
-) -> Result<(), AllocError>
+) -> Result<bool, AllocError>
     requires source { IsSource source.now }
     requires facts { facts.old ≡ source.now.view.now }
     requires tells { O.tells oracle.old source.now.view.now }
     requires number { number < length search.old.opened.items }
     requires running { IsRunning source.now.view.now source.now.user.now search.old (Some number) }
+    requires lowest { IsLowest search.old number }
+    ensures turned { IfOk result (Turned search.old search.new) }
     ensures facts { OnOk result (facts.new ≡ facts.old) }
     ensures running { OnOk result (IsRunning source.now.view.now source.now.user.now search.new None) }
     ensures numbers { OnOk result
@@ -101,16 +141,16 @@ fn look<O: Oracle>(
     ensures tells { O.tells oracle.new source.now.view.now }
 {
     if search.is_sure(number) {
-        return Ok(());
+        return Ok(false);
     }
     let node = search.node_of(number)?;
     let level = search.level_of(number);
     match oracle.knows(&node, source.user) {
         Some(true) => {
             search.give(number)?;
-            Ok(())
+            Ok(true)
         }
-        Some(false) => Ok(()),
+        Some(false) => Ok(false),
         None => {
             let asking = Asking {
                 number,
@@ -118,23 +158,25 @@ fn look<O: Oracle>(
                 level,
                 plain: true,
             };
-            step(source, facts, search, &asking)?;
-            Ok(())
+            step(source, facts, search, &asking)
         }
     }
 }
 
-/// Looks at what the node's rewrite gives.
+/// Looks at what the node's rewrite gives, and says whether that is the user.
 fn step(
     source: &Source,
     facts: &mut Facts,
     search: &mut Search,
     asking: &Asking,
-) -> Result<(), AllocError>
+) -> Result<bool, AllocError>
     requires source { IsSource source.now }
     requires facts { facts.old ≡ source.now.view.now }
     requires asking { IsAsking source.now.view.now source.now.user.now search.old asking.now }
     requires plain { asking.now.plain ≡ true }
+    requires lowest { IsLowest search.old asking.now.number }
+    requires unsure { (e : Opened) → Stands search.old asking.now.number e → e.sure ≡ false }
+    ensures turned { IfOk result (Turned search.old search.new) }
     ensures facts { OnOk result (facts.new ≡ facts.old) }
     ensures running { OnOk result (IsRunning source.now.view.now source.now.user.now search.new None) }
     ensures numbers { OnOk result
@@ -143,12 +185,12 @@ fn step(
     match relation_gives(source, facts, search, asking)? {
         Found::Yes => {
             search.give(asking.number)?;
-            Ok(())
+            Ok(true)
         }
-        Found::No => Ok(()),
+        Found::No => Ok(false),
         Found::Later => {
             search.put_back(asking.number, asking.level)?;
-            Ok(())
+            Ok(false)
         }
     }
 }

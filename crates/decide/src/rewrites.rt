@@ -285,7 +285,7 @@ fn without(
             let found = gives(source, search, &subtracted, less)?;
             Ok(opposite(found))
         }
-        _ => Ok(Found::Later),
+        _ => Ok(Found::No),
     }
 }
 

@@ -8,7 +8,8 @@ ghost use Rattle.names.specs.declared.object.Object.{Object};
 ghost use Rattle.names.specs.declared.node.Node.{Node as NodeValue};
 ghost use Rattle.decide.specs.declared.search.Opened.{Opened};
 ghost use Rattle.decide.specs.inside.Under.{Under};
-ghost use Rattle.decide.specs.inside.Searches.{Stands, IsStacked, Waits, Grew, IsNodeAt, IsNumberOf, Opens, Pushes, IsThere, Wakes};
+ghost use Rattle.decide.specs.inside.Searches.{Stands, IsStacked, Waits, Grew, IsNodeAt, IsNumberOf, Opens, Pushes, IsThere, Wakes, IsFrame, AreFalling, IsLowest, sures};
+ghost use Rattle.decide.specs.inside.Ending.{IsUnfinished, left};
 ghost use Rattle.decide.specs.inside.Reads.{AreOwn, AreParents};
 ghost use Rattle.decide.specs.inside.Running.{IsRunning};
 
@@ -68,6 +69,7 @@ impl Search {
         ensures opened { IfOk result (λ s. s.opened.items ≡ []) }
         ensures long { IfOk result (λ s. length s.stacks.items ≡ level + 1) }
         ensures stacked { IfOk result (λ s. (l i : ℕ) → IsStacked s l i → ⊥) }
+        ensures frames { IfOk result (λ s. s.frames.items ≡ []) }
     {
         Ok(Search {
             alloc,
@@ -143,6 +145,13 @@ impl Search {
         self.stacks[level].push(number)?;
         self.likely[kind_of(node)] = number;
         Ok(number)
+    }
+
+    /// How many nodes were opened.
+    pub(crate) fn len(&self) -> usize
+        ensures { result ≡ length self.now.opened.items }
+    {
+        self.opened.len()
     }
 
     /// Whether the node is known to have the user.
@@ -244,6 +253,7 @@ impl Search {
         ensures opened { OnOk result (self.new.opened.items ≡ self.old.opened.items) }
         ensures stacked { OnOk result ((e : Opened) → Stands self.old number e
             → Pushes self.old.stacks.items self.new.stacks.items e.level number) }
+        ensures frames { OnOk result (self.new.frames.items ≡ self.old.frames.items) }
     {
         let level = self.opened[number].level;
         self.stacks[level].push(number)?;
@@ -257,6 +267,7 @@ impl Search {
         ensures opened { OnOk result (self.new.opened.items ≡ self.old.opened.items) }
         ensures stacked { OnOk result ((e : Opened) → Stands self.old number e
             → Pushes self.old.stacks.items self.new.stacks.items e.level number) }
+        ensures falling { OnOk result (AreFalling self.old.frames.items → AreFalling self.new.frames.items) }
     {
         self.stack(number)?;
         if let Some(frame) = self.frames.last() {
@@ -288,6 +299,9 @@ impl Search {
         ensures running { OnOk result ((S : Snap) (u : Object)
             → ((e : Opened) → Stands self.old number e → Under S u (suc e.level) e.node)
             → IsRunning S u self.old (Some number) → IsRunning S u self.new None) }
+        ensures long { OnOk result (length self.new.opened.items ≡ length self.old.opened.items) }
+        ensures sures { OnOk result ((e : Opened) → Stands self.old number e → e.sure ≡ false
+            → sures self.old < sures self.new) }
     {
         let waiting = replace(&mut self.opened[number].waiting, Vec::new(self.alloc));
         self.wake_all(&waiting)?;
@@ -295,14 +309,19 @@ impl Search {
         Ok(())
     }
 
-    /// The node is to be looked at again when the lower levels are finished.
+    /// The node is to be looked at again when the lower levels are finished, of which one is not.
     pub(crate) fn put_back(&mut self, number: usize, level: usize) -> Result<(), AllocError>
         requires number { number < length self.old.opened.items }
         requires there { IsThere self.old number }
+        requires level { (e : Opened) → Stands self.old number e → e.level ≡ level }
+        requires lowest { IsLowest self.old number }
+        requires unfinished { IsUnfinished self.old level }
         ensures numbers { OnOk result
             ((i k : ℕ) (n : NodeValue) → IsNumberOf self.old i n k → IsNumberOf self.new i n k) }
         ensures running { OnOk result ((S : Snap) (u : Object)
             → IsRunning S u self.old (Some number) → IsRunning S u self.new None) }
+        ensures opened { OnOk result (self.new.opened.items ≡ self.old.opened.items) }
+        ensures ends { OnOk result (left self.new ≤ left self.old) }
     {
         self.stack(number)?;
         self.frames.push(Frame {
@@ -315,13 +334,15 @@ impl Search {
     /// Takes a number off the highest stack below the level.
     fn pop_below(&mut self, level: usize) -> Option<usize>
         ensures opened { self.new.opened.items ≡ self.old.opened.items }
-        ensures frames { self.new.frames.items ≡ self.old.frames.items }
+        ensures frames { self.new.frames ≡ self.old.frames }
         ensures long { length self.new.stacks.items ≡ length self.old.stacks.items }
         ensures stacked { (l i : ℕ) → IsStacked self.new l i → IsStacked self.old l i }
         ensures none { IfNone result (self.new.stacks.items ≡ self.old.stacks.items) }
         ensures empty { IfNone result ((l i : ℕ) → l < level → IsStacked self.old l i → ⊥) }
         ensures some { IfSome result (λ n. ((l : ℕ) × IsStacked self.old l n)
             × ((l i : ℕ) → IsStacked self.old l i → (i ≡ n) ⊎ IsStacked self.new l i)) }
+        ensures below { IfSome result (λ n. (l : ℕ) × (l < level) × IsStacked self.old l n) }
+        ensures ends { IfSome result (λ _. left self.new < left self.old) }
     {
         let mut left = level.min(self.stacks.len());
         while left > 0 {
@@ -340,11 +361,15 @@ impl Search {
         ensures same { IfNone result ((S : Snap) (u : Object) → IsRunning S u self.old None → IsRunning S u self.new None) }
         ensures some { IfSome result (λ n. (S : Snap) (u : Object)
             → IsRunning S u self.old None → (n < length self.new.opened.items) × IsRunning S u self.new (Some n)) }
+        ensures lowest { IfSome result (λ n. (S : Snap) (u : Object) → IsRunning S u self.old None → IsLowest self.new n) }
+        ensures opened { self.new.opened.items ≡ self.old.opened.items }
+        ensures ends { IfSome result (λ _. left self.new < left self.old) }
     {
         while !self.frames.is_empty() {
             let level = self.frames[self.frames.len() - 1].level;
-            if let Some(number) = self.pop_below(level) {
-                return Some(number);
+            match self.pop_below(level) {
+                Some(number) => return Some(number),
+                None => {}
             }
             let _ = self.frames.pop();
         }
@@ -355,7 +380,8 @@ impl Search {
     /// Whether no node up to the level is to be looked at.
     pub(crate) fn is_settled(&self, level: usize) -> bool
         requires { level < length self.now.stacks.items }
-        ensures { IsTrue result → (l i : ℕ) → l ≤ level → IsStacked self.now l i → ⊥ }
+        ensures yes { IsTrue result → (l i : ℕ) → l ≤ level → IsStacked self.now l i → ⊥ }
+        ensures no { result ≡ false → IsUnfinished self.now (suc level) }
     {
         for stack in &self.stacks[..level + 1] {
             if !stack.is_empty() {

@@ -1,7 +1,7 @@
 -- What a worker's front may answer to a call, and what its session knows after that.
 use Rattle.std.specs.Prelude.{ℕ, ◌≡◌, List, Option}
 use Rattle.names.specs.declared.call.Call.{Call}
-use Rattle.names.specs.declared.call.Call.TheVariants.{Check, Read, Expand, Watch, State}
+use Rattle.names.specs.declared.call.Call.TheVariants.{Check, Read, Expand, Leopard, Watch, State}
 use Rattle.tables.specs.declared.tables.Tables.{Ghosts}
 use Rattle.published.specs.Known.{Known, Begins}
 use Rattle.keeper_core.specs.Posts.{Posts, shown_by}
@@ -9,6 +9,7 @@ use Rattle.keeper.specs.Rules.{DeskStep}
 use Rattle.front.specs.Questions.{CheckFrom, StateFrom}
 use Rattle.front.specs.Tuples.{ReadFrom}
 use Rattle.front.specs.Trees.{ExpandFrom}
+use Rattle.front.specs.Groups.{GroupsFrom}
 use Rattle.front.specs.Pages.{WatchFrom}
 
 -- A change, or a call that is not served: whatever a desk holds, it would tell this and stay as it is, and no desk was
@@ -27,6 +28,7 @@ abbrev pub FrontStep : {T : Type 0}
 FrontStep g old Check body told new = CheckFrom old body told new
 FrontStep g old Read body told new = ReadFrom old body told new
 FrontStep g old Expand body told new = ExpandFrom old body told new
+FrontStep g old Leopard body told new = GroupsFrom old body told new
 FrontStep g old Watch body told new = WatchFrom old body told new
 FrontStep g old State body told new = StateFrom old told new
 FrontStep g old call body told new = ChangeFrom g old call body told new

@@ -8,9 +8,11 @@ ghost use Rattle.front.specs.Kept.{IsKnownIn};
 ghost use Rattle.front.specs.Questions.{IsAsked, CheckFrom, StateFrom};
 ghost use Rattle.front.specs.Trees.{IsTreeAsked, ExpandFrom};
 ghost use Rattle.front.specs.Tuples.{AreTuplesAsked, ReadFrom};
+ghost use Rattle.front.specs.Groups.{AreGroupsAsked, GroupsFrom};
 ghost use Rattle.front.specs.Pages.{IsPageAsked, WatchFrom};
 ghost use Rattle.front.specs.Fronts.{ChangeFrom, FrontStep};
 
+use crate::groups::{AskedGroups, groups_again, groups_from};
 use crate::lock::Keeper;
 use crate::pages::{AskedPage, watch_again, watch_from};
 use crate::questions::{Asked, check_again, check_from, state_from};
@@ -94,6 +96,14 @@ impl<'k, T: Tables + Drop, J: Naming, R: Wait + Drop> Front<'k, T, J, R> {
         read_from(self.alloc, &mut self.session, body)
     }
 
+    /// Reads a `leopard` and asks it, with no lock. Where its zookie is of a revision that the session does not know yet,
+    /// it comes back.
+    pub fn ask_for_groups(&mut self, body: &[u8]) -> AskedGroups
+        ensures { AreGroupsAsked self.old body.now result self.new }
+    {
+        groups_from(self.alloc, &mut self.session, body)
+    }
+
     /// Reads a `watch` and asks it, with no lock. Where its cursor is of a revision that the session does not know yet,
     /// it comes back.
     pub fn ask_for_page(&mut self, body: &[u8]) -> AskedPage
@@ -152,6 +162,19 @@ impl<'k, T: Tables + Drop, J: Naming, R: Wait + Drop> Front<'k, T, J, R> {
             AskedTuples::NotYet(question) => {
                 self.refresh(rt);
                 read_again(self.alloc, &mut self.session, &question)
+            }
+        }
+    }
+
+    /// Answers `leopard`. A question of the future is asked once more after a refresh.
+    pub fn groups<W: Wait>(&mut self, rt: &W, body: &[u8]) -> Reply
+        ensures { GroupsFrom self.old body.now (told result) self.new }
+    {
+        match self.ask_for_groups(body) {
+            AskedGroups::Told(reply) => reply,
+            AskedGroups::NotYet(question) => {
+                self.refresh(rt);
+                groups_again(self.alloc, &mut self.session, &question)
             }
         }
     }
@@ -232,6 +255,7 @@ impl<'k, T: Tables + Drop, J: Naming, R: Wait + Drop> Front<'k, T, J, R> {
             Call::Check => self.check(rt, body),
             Call::Expand => self.expand(rt, body),
             Call::Read => self.read(rt, body),
+            Call::Leopard => self.groups(rt, body),
             Call::Watch => self.watch(rt, body),
             Call::Trim => self.trim(rt, body),
             Call::CatchUp => self.catch_up(rt, body),

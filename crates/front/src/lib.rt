@@ -2,6 +2,7 @@
 #![tactic(auto)]
 
 mod front;
+mod groups;
 mod lock;
 mod locked;
 mod pages;
@@ -10,6 +11,7 @@ mod trees;
 mod tuples;
 
 pub use front::Front;
+pub use groups::{AskedGroups, GroupsQuestion, groups_again, groups_from};
 pub use lock::{Keeper, KeptDesk};
 pub use locked::Locked;
 pub use pages::{AskedPage, PageQuestion, watch_again, watch_from};

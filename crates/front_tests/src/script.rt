@@ -13,7 +13,7 @@ use std::test::*;
 use tables::Listed;
 
 // The calls of the stored script, and calls that are refused.
-const CALLS: [(Call, &str); 27] = [
+const CALLS: [(Call, &str); 31] = [
     (
         Call::Config,
         r#"{"namespaces":{"group":{"member":{"types":["user","group#member"]}},"user":{}}}"#,
@@ -74,6 +74,16 @@ const CALLS: [(Call, &str); 27] = [
     (
         Call::Watch,
         r#"{"commits":1,"cursor":"AQAAAAAAAAABAAAAAAAAAAk","namespaces":["group"]}"#,
+    ),
+    (Call::Leopard, "{}"),
+    (Call::Leopard, r#"{"expr":{"m2g":"user:ann"},"limit":2}"#),
+    (
+        Call::Leopard,
+        r#"{"at":{"exactly":"AQAAAAAAAAABAAAAAAAAAAI"},"expr":{"g2g":"group:a#member"},"limit":2}"#,
+    ),
+    (
+        Call::Leopard,
+        r#"{"at":{"exactly":"AQAAAAAAAAABAAAAAAAAAAk"},"expr":{"m2g":"user:ann"},"limit":1}"#,
     ),
     (Call::Trim, "{}"),
     (Call::Trim, r#"{"floor":"AQAAAAAAAAABAAAAAAAAAAI"}"#),

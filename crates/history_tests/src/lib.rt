@@ -17,11 +17,11 @@ mod histories;
 #[cfg(test)]
 mod history;
 #[cfg(test)]
+mod machine;
+#[cfg(test)]
 mod pages;
 #[cfg(test)]
 mod policies;
-#[cfg(test)]
-mod publication;
 #[cfg(test)]
 mod random_policies;
 #[cfg(test)]

@@ -5,16 +5,15 @@ ghost use Rattle.http_api.specs.Heads.{IsHopeless, max_head};
 ghost use Rattle.http_api.specs.inside.Finding.{MayGoOn};
 ghost use Rattle.http_api.specs.inside.Endings.{IsEnding, HasHead, HasNoHead, is_space, spaces};
 
+use crate::limits::{MAX_FIELDS, MAX_HEAD};
 use httparse::Status;
 use httparse::spans::{HeaderSpan, parse_request};
-
-const MAX_HEAD: usize = 8_192;
 
 // A line end that is half there, and then the shortest head.
 const SHORTEST: &[u8] = b"\nA B HTTP/1.0\n\n";
 
 // Whether the bytes with these behind them begin with a head.
-fn is_ended_by(bytes: &[u8], end: &[u8], fields: &mut [HeaderSpan; 64]) -> bool
+fn is_ended_by(bytes: &[u8], end: &[u8], fields: &mut [HeaderSpan; MAX_FIELDS]) -> bool
     requires room { length bytes.now + length end.now ≤ max_head }
     ensures yes { result ≡ true → HasHead (bytes.now ++ end.now) }
     ensures no { result ≡ false → HasNoHead (bytes.now ++ end.now) }
@@ -31,7 +30,7 @@ fn is_ended_by(bytes: &[u8], end: &[u8], fields: &mut [HeaderSpan; 64]) -> bool
 }
 
 // Whether some bytes that end a head fit behind these.
-fn can_be_ended(bytes: &[u8], fields: &mut [HeaderSpan; 64]) -> bool
+fn can_be_ended(bytes: &[u8], fields: &mut [HeaderSpan; MAX_FIELDS]) -> bool
     requires short { length bytes.now < max_head }
     ensures yes { result ≡ true → (end : List ℕ) × (length bytes.now + length end ≤ max_head) × HasHead (bytes.now ++ end) }
     ensures no { result ≡ false → (end : List ℕ) → IsEnding end → length bytes.now + length end ≤ max_head → HasNoHead (bytes.now ++ end) }
@@ -65,7 +64,7 @@ fn spaces(bytes: &[u8]) -> usize
 
 /// Whether bytes that hold no head yet, and may become one, still may within the limit of its length. A target is read
 /// to that limit: whether it is text is seen at its end alone.
-pub fn may_go_on(bytes: &[u8], fields: &mut [HeaderSpan; 64]) -> bool
+pub fn may_go_on(bytes: &[u8], fields: &mut [HeaderSpan; MAX_FIELDS]) -> bool
     requires short { length bytes.now < max_head }
     requires none { HasNoRequest bytes.now }
     requires may { MayBecomeRequest bytes.now }

@@ -6,10 +6,9 @@ ghost use Rattle.http_api.specs.Heads.{Begins, IsHopeless, max_head};
 ghost use Rattle.http_api.specs.inside.Finding.{IfHead, OnHopeless, OnUnfinished, MayGoOn};
 
 use crate::ending::may_go_on;
+use crate::limits::{MAX_FIELDS, MAX_HEAD};
 use httparse::Status;
 use httparse::spans::{HeaderSpan, RequestSpans, parse_request};
-
-const MAX_HEAD: usize = 8_192;
 
 /// What stands at the front of the bytes.
 pub enum Front {
@@ -22,7 +21,7 @@ pub enum Front {
 }
 
 /// Looks for a head at the front of the bytes.
-pub fn find_head(bytes: &[u8], fields: &mut [HeaderSpan; 64]) -> Front
+pub fn find_head(bytes: &[u8], fields: &mut [HeaderSpan; MAX_FIELDS]) -> Front
     ensures head { IfHead result (λ spans. (h : RequestHead) × Begins bytes.now h (drop spans.len bytes.now) × IsRequestAt (take max_head bytes.now) fields.new spans h
         × IsRequestWithin (take max_head bytes.now) fields.new spans) }
     ensures unfinished { OnUnfinished result ((length bytes.now < max_head) × HasNoRequest bytes.now × MayGoOn bytes.now) }

@@ -16,6 +16,7 @@ mod head;
 mod inbox;
 mod law;
 mod length;
+mod limits;
 mod looking;
 mod receive;
 mod reply;

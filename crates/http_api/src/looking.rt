@@ -10,6 +10,7 @@ ghost use Rattle.http_api.specs.inside.Looking.{AsksFor, IfHeading, IfRefused, O
 
 use crate::framing::{Framing, asks_to_close, framing_of};
 use crate::head::{Front, find_head, first_bytes};
+use crate::limits::MAX_FIELDS;
 use crate::routing::call_of;
 use httparse::spans::{EMPTY_HEADER_SPAN, HeaderSpan, RequestSpans};
 use matchit::Router;
@@ -81,7 +82,7 @@ pub fn look(routes: &Router<Call>, bytes: &[u8]) -> Looked
     ensures refused { IfRefused result (λ why. NoRequest bytes.now (refusal_text why) Asked) }
     ensures partial { OnPartial result ((length bytes.now < max_head) × Waits bytes.now) }
 {
-    let mut fields = [EMPTY_HEADER_SPAN; 64];
+    let mut fields = [EMPTY_HEADER_SPAN; MAX_FIELDS];
     match find_head(bytes, &mut fields) {
         Front::Head(spans) => what_it_asks(routes, first_bytes(bytes), spans, &fields),
         Front::Unfinished => Looked::Partial,

@@ -11,6 +11,7 @@ ghost use Rattle.tracked_io.specs.Tracking.{FailsWith, Writes};
 
 use crate::End;
 use crate::inbox::Inbox;
+use crate::limits::MAX_HEAD;
 use crate::looking::{Heading, Looked, Refused, look};
 use crate::reply::put_reply;
 use matchit::Router;
@@ -18,8 +19,6 @@ use names::Call;
 use std::io;
 use std::io::{Read, Write};
 use tracked_io::{TrackedReader, TrackedWriter};
-
-const MAX_HEAD: usize = 8_192;
 
 const MALFORMED: &[u8] = b"{\"error\":{\"code\":1,\"name\":\"Malformed\"}}";
 

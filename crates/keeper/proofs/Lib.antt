@@ -5,6 +5,7 @@ pub mod Configuring
 pub mod Checking
 pub mod Reading
 pub mod Expanding
+pub mod Grouping
 pub mod Watching
 pub mod CatchingUp
 pub mod Trimming

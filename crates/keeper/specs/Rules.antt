@@ -1,7 +1,7 @@
 -- What the desk may answer to a call, and what it holds after that.
 use Rattle.std.specs.Prelude.{ℕ, ◌≡◌, List, Option}
 use Rattle.names.specs.declared.call.Call.{Call}
-use Rattle.names.specs.declared.call.Call.TheVariants.{Write, Config, Check, Read, Expand, Watch, Trim, CatchUp, State}
+use Rattle.names.specs.declared.call.Call.TheVariants.{Write, Config, Check, Read, Expand, Leopard, Watch, Trim, CatchUp, State}
 use Rattle.tables.specs.declared.tables.Tables.{Ghosts}
 use Rattle.keeper_core.specs.Posts.{Posts}
 use Rattle.bodies.specs.Replies.{Says, no_route_data}
@@ -10,6 +10,7 @@ use Rattle.keeper.specs.calls.Config.{ConfigStep}
 use Rattle.keeper.specs.calls.Check.{CheckStep}
 use Rattle.keeper.specs.calls.Read.{ReadStep}
 use Rattle.keeper.specs.calls.Expand.{ExpandStep}
+use Rattle.keeper.specs.calls.Groups.{GroupsStep}
 use Rattle.keeper.specs.calls.Watch.{WatchStep}
 use Rattle.keeper.specs.calls.Trim.{TrimStep}
 use Rattle.keeper.specs.calls.CatchUp.{CatchUpStep}
@@ -23,6 +24,7 @@ DeskStep g old Config body told new = ConfigStep g old body told new
 DeskStep g old Check body told new = CheckStep old body told new
 DeskStep g old Read body told new = ReadStep old body told new
 DeskStep g old Expand body told new = ExpandStep old body told new
+DeskStep g old Leopard body told new = GroupsStep old body told new
 DeskStep g old Watch body told new = WatchStep old body told new
 DeskStep g old Trim body told new = TrimStep g old body told new
 DeskStep g old CatchUp body told new = CatchUpStep g old body told new

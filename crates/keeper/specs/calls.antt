@@ -4,6 +4,7 @@ pub mod Config
 pub mod Check
 pub mod Read
 pub mod Expand
+pub mod Groups
 pub mod Watch
 pub mod Trim
 pub mod CatchUp

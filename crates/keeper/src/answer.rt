@@ -8,6 +8,7 @@ use crate::calls::catch_up::answer_catch_up;
 use crate::calls::check::answer_check;
 use crate::calls::configuring::answer_config;
 use crate::calls::expanding::answer_expand;
+use crate::calls::grouping::answer_groups;
 use crate::calls::reading::answer_read;
 use crate::calls::state::answer_state;
 use crate::calls::trim::answer_trim;
@@ -40,6 +41,7 @@ pub fn answer_on<T: Tables + Drop, R: Wait + Drop>(
         Call::Check => answer_check(alloc, desk, session, body),
         Call::Read => answer_read(alloc, desk, session, body),
         Call::Expand => answer_expand(alloc, desk, session, body),
+        Call::Leopard => answer_groups(alloc, desk, session, body),
         Call::Watch => answer_watch(alloc, desk, session, body),
         Call::Trim => answer_trim(alloc, desk, session, body),
         Call::CatchUp => answer_catch_up(alloc, desk, session, body),

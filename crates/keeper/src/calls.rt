@@ -4,6 +4,7 @@ pub(crate) mod catch_up;
 pub(crate) mod check;
 pub(crate) mod configuring;
 pub(crate) mod expanding;
+pub(crate) mod grouping;
 pub(crate) mod reading;
 pub(crate) mod refusing;
 pub(crate) mod state;

@@ -1,5 +1,5 @@
 -- A change, from the readiness for it on.
-use Rattle.std.proofs.Common.{◌≡◌, Bool, true, false, List, [], ◌∷◌, ◌++◌, ◌<◌, ◌≤◌, ℕ, refl, ap, sym, ◌∙◌, subst, true≢false}
+use Rattle.std.proofs.Common.{◌≡◌, Bool, true, false, List, [], ◌∷◌, ◌++◌, ◌<◌, ◌≤◌, ℕ, refl, ap, sym, ◌∙◌, subst, arith, true≢false}
 use Rattle.std.specs.Prelude.{Result, Ok, Err, IfOk, IfErr, IsErrAnd, OnOk, Option, Some, None}
 use Rattle.names.specs.declared.limits.TheConstants.{MAX_CATCH_UP}
 use Rattle.names.specs.declared.tuple.Tuple.{Tuple}
@@ -27,10 +27,18 @@ use Rattle.tables.proofs.Lasting.{lasts_self}
 use Rattle.keeper_core.specs.TableChanges.{TableChange, Adds, Raises, changed, CanChange}
 use Rattle.keeper_core.specs.Posts.{Posts, ShowsMore, SameTables, PostsStep, newest_posted}
 use Rattle.published.specs.Receipts.{ReceiptFacts}
-use Rattle.keeper_core.specs.Changes.{Tells, TellsShown, IsStored, WriteAccepted, ConfigAccepted, CatchUpAccepted, TrimAccepted, trim_raises, CatchUpJudged, IsCommitOfWrite, IsRaiseTo, IsNoChange, MayLeave, Touches, leaves_alone, adds_one, Refuses, IsRefused}
-use Rattle.keeper_core.specs.inside.Posting.{IsMemory}
+use Rattle.keeper_core.specs.Changes.{Tells, TellsShown, IsStored, WriteAccepted, ConfigAccepted, CatchUpAccepted, TrimAccepted, trim_raises, CatchUpJudged, IsCommitOfWrite, IsRaiseTo, IsNoChange, MayLeave, Touches, leaves_alone, adds_one, Refuses, IsRefused, IsUnopposed}
+use Rattle.keeper_core.specs.inside.Posting.{NoCause}
 use Rattle.published.proofs.Prefixes.{prefix_trans}
-use Rattle.keeper_core.proofs.Judged.{write_reopens, write_faults, floor_reopens, floor_faults}
+use Rattle.keeper_core.proofs.Judged.{write_reopens, write_faults, write_wants, floor_reopens, floor_faults, floor_wants}
+
+-- a cause is none
+pub unlike : {o : Option Refusal} → o ≡ None → IsUnopposed (λ why. o ≡ Some why)
+unlike none why is = absurd (cc (sym none ∙ is))
+
+few_unopposed : (commits : ℕ) → commits ≤ MAX_CATCH_UP → IsUnopposed (CatchUpJudged commits)
+few_unopposed commits few Malformed many = absurd (omega (arith, few, many))
+few_unopposed commits few _ judged = absurd judged
 
 tuple_or_limit : (o : Option Tuple) (b : Bool) (why : Refusal) → or_else (in_the_way o) (refused_if Full b) ≡ Some why → ((t : Tuple) → ¬ (TupleInTheWay t ≡ why)) → ¬ (Full ≡ why) → ⊥
 tuple_or_limit (Some t) b why is way full = way t (cc is)
@@ -39,6 +47,9 @@ tuple_or_limit None false why is way full = absurd (cc is)
 
 config_reopens : (n : Newest) (config : Configured) → ¬ (ConfigRefused n config Reopen)
 config_reopens n config is = tuple_or_limit _ _ Reopen is (λ t same. absurd (cc same)) (λ same. absurd (cc same))
+
+config_wants : (n : Newest) (config : Configured) → ¬ (ConfigRefused n config Memory)
+config_wants n config is = tuple_or_limit _ _ Memory is (λ t same. absurd (cc same)) (λ same. absurd (cc same))
 
 config_faults : (n : Newest) (config : Configured) → ¬ (ConfigRefused n config StoreFault)
 config_faults n config is = tuple_or_limit _ _ StoreFault is (λ t same. absurd (cc same)) (λ same. absurd (cc same))
@@ -65,15 +76,22 @@ module _ {T : Type 0} (g : Ghosts T) (old mid : Posts T) (more : ShowsMore old m
       (subst (λ (e : Refusal). IsRefused g old made judged e mid) (sym is.0) (refused_early made judged Reopen (is.1, same.1 ∙ is.1, same.2, same.0)))
 
   module _ (works : old.failed ≡ false) where
-    judged_cause : (judged : Refusal → Type 0) (why : Refusal) → ¬ (judged Reopen) → ¬ (judged StoreFault) → judged why → Refuses g old judged why mid
-    judged_cause judged Reopen asks fails is = absurd (asks is)
-    judged_cause judged StoreFault asks fails is = absurd (fails is)
-    judged_cause judged Memory asks fails is = (works, same.1 ∙ works, same.2, is)
-    judged_cause judged _ asks fails is = (works, same.1 ∙ works, same.2, same.0, is)
+    judged_cause : (judged : Refusal → Type 0) (why : Refusal) → ¬ (judged Reopen) → ¬ (judged StoreFault) → ¬ (judged Memory) → judged why → Refuses g old judged why mid
+    judged_cause judged Reopen asks fails wants is = absurd (asks is)
+    judged_cause judged StoreFault asks fails wants is = absurd (fails is)
+    judged_cause judged Memory asks fails wants is = absurd (wants is)
+    judged_cause judged _ asks fails wants is = (works, same.1 ∙ works, same.2, same.0, is)
 
     -- it was judged, and refused
-    pub refused_judged : (made : TableChange → Type 0) (judged : Refusal → Type 0) (why : Refusal) → ¬ (judged Reopen) → ¬ (judged StoreFault) → judged why → IsRefused g old made judged why mid
-    refused_judged made judged why asks fails is = refused_early made judged why (judged_cause judged why asks fails is)
+    pub refused_judged : (made : TableChange → Type 0) (judged : Refusal → Type 0) (why : Refusal) → ¬ (judged Reopen) → ¬ (judged StoreFault) → ¬ (judged Memory) → judged why → IsRefused g old made judged why mid
+    refused_judged made judged why asks fails wants is = refused_early made judged why (judged_cause judged why asks fails wants is)
+
+    -- there was no memory, and nothing speaks against it
+    pub early_memory : {A : Type 0} (made : TableChange → Type 0) (judged : Refusal → Type 0) (r : Result A Refusal) (why : Refusal) → IsErrAnd r (λ e. e ≡ why) → why ≡ Memory → IsUnopposed judged
+        → IfErr r (λ e. IsRefused g old made judged e mid)
+    early_memory made judged r why was is unopposed =
+        refused_exit (λ e. IsRefused g old made judged e mid) r why was
+        (subst (λ (e : Refusal). IsRefused g old made judged e mid) (sym is) (refused_early made judged Memory (works, same.1 ∙ works, same.2, unopposed)))
 
     -- a configuration is refused for a tuple in the way, or for a limit
     pub config_refused : {A : Type 0} (r : Result A Refusal) (config : Configured) (why : Refusal) → IsErrAnd r (λ e. e ≡ why)
@@ -81,12 +99,15 @@ module _ {T : Type 0} (g : Ghosts T) (old mid : Posts T) (more : ShowsMore old m
         → IfErr r (λ e. IsRefused g old (λ change. change ≡ Adds (Config config)) (ConfigRefused (newest_posted old) config) e mid)
     config_refused r config why was is =
         refused_exit (λ e. IsRefused g old (λ change. change ≡ Adds (Config config)) (ConfigRefused (newest_posted old) config) e mid) r why was
-        (refused_judged (λ change. change ≡ Adds (Config config)) (ConfigRefused (newest_posted old) config) why (config_reopens (newest_posted old) config) (config_faults (newest_posted old) config)
+        (refused_judged (λ change. change ≡ Adds (Config config)) (ConfigRefused (newest_posted old) config) why (config_reopens (newest_posted old) config) (config_faults (newest_posted old) config) (config_wants (newest_posted old) config)
         (subst (λ (steps : List Step). ConfigRefused (newest_of (standing steps).kept) config why) more.posted is))
 
     -- no more was posted since
     pub still_accepted : (write : Write Zookie) → AcceptsWrite (standing mid.posted).kept write → AcceptsWrite (standing old.posted).kept write
     still_accepted write accepted = subst (λ (steps : List Step). AcceptsWrite (standing steps).kept write) more.posted accepted
+
+    pub config_still : (config : Configured) → config_cause (newest_posted mid) config ≡ Option.None → config_cause (newest_posted old) config ≡ Option.None
+    config_still config accepted = subst (λ (steps : List Step). config_cause (newest_of (standing steps).kept) config ≡ Option.None) more.posted accepted
 
     -- a write is refused for its operations or its conditions
     pub write_refused : {A : Type 0} (r : Result A Refusal) (write : Write Zookie) (why : Refusal) → IsErrAnd r (λ e. e ≡ why)
@@ -96,12 +117,8 @@ module _ {T : Type 0} (g : Ghosts T) (old mid : Posts T) (more : ShowsMore old m
         let made = IsCommitOfWrite (standing old.posted).kept write in
         let judged = RefusesWrite (standing old.posted).kept write in
         refused_exit (λ e. IsRefused g old made judged e mid) r why was
-        (refused_judged made judged why (write_reopens (standing old.posted).kept write) (write_faults (standing old.posted).kept write)
+        (refused_judged made judged why (write_reopens (standing old.posted).kept write) (write_faults (standing old.posted).kept write) (write_wants (standing old.posted).kept write)
         (subst (λ (steps : List Step). RefusesWrite (standing steps).kept write why) more.posted is))
-
-    refuses_floor : (stood : Standing) (zookie : Zookie) (why : Refusal) → floor_cause stood zookie ≡ Some why → RefusesFloor stood zookie why
-    refuses_floor stood zookie Memory is = tt
-    refuses_floor stood zookie _ is = is
 
     -- a floor is refused for its zookie, or a cursor
     pub floor_refused : {A : Type 0} (r : Result A Refusal) (zookie : Zookie) (why : Refusal) → IsErrAnd r (λ e. e ≡ why) → floor_cause (standing mid.posted) zookie ≡ Some why
@@ -109,8 +126,8 @@ module _ {T : Type 0} (g : Ghosts T) (old mid : Posts T) (more : ShowsMore old m
     floor_refused r zookie why was is =
         let stood = standing old.posted in
         refused_exit (λ e. IsRefused g old (IsRaiseTo stood zookie) (RefusesFloor stood zookie) e mid) r why was
-        (refused_judged (IsRaiseTo stood zookie) (RefusesFloor stood zookie) why (floor_reopens stood zookie) (floor_faults stood zookie)
-        (refuses_floor stood zookie why (subst (λ (steps : List Step). floor_cause (standing steps) zookie ≡ Some why) more.posted is)))
+        (refused_judged (IsRaiseTo stood zookie) (RefusesFloor stood zookie) why (floor_reopens stood zookie) (floor_faults stood zookie) (floor_wants stood zookie)
+        (subst (λ (steps : List Step). floor_cause (standing steps) zookie ≡ Some why) more.posted is))
 
     -- too many commits at once
     pub too_many : (commits : ℕ) → MAX_CATCH_UP < commits → IsRefused g old IsNoChange (CatchUpJudged commits) Malformed mid
@@ -167,7 +184,7 @@ module _ {T : Type 0} (g : Ghosts T) (old mid : Posts T) (more : ShowsMore old m
       config_accepted config (Ok receipt) accepted posts tells stored =
           record {
             works = works;
-            accepted = subst (λ (steps : List Step). config_cause (newest_of (standing steps).kept) config ≡ Option.None) more.posted accepted;
+            accepted = config_still config accepted;
             posts = posts_on (Commit (Config config)) posts;
             stored = stored_on stored;
             tells = tells;
@@ -183,18 +200,18 @@ module _ {T : Type 0} (g : Ghosts T) (old mid : Posts T) (more : ShowsMore old m
       caught_up value receipt part commits (Err why) few posts tables sound moved tells = tt
 
       -- there was no room for its step
-      pub not_caught_up : {A : Type 0} (commits : ℕ) (r : Result A Refusal) → IfErr r (λ why. (why ≡ Memory) × (new ≡ mid)) → IfErr r (λ why. IsRefused g old IsNoChange (CatchUpJudged commits) why new)
-      not_caught_up commits (Ok p) is = tt
-      not_caught_up commits (Err why) is =
+      pub not_caught_up : {A : Type 0} (commits : ℕ) (r : Result A Refusal) → commits ≤ MAX_CATCH_UP → IfErr r (λ why. (why ≡ Memory) × (new ≡ mid)) → IfErr r (λ why. IsRefused g old IsNoChange (CatchUpJudged commits) why new)
+      not_caught_up commits (Ok p) few is = tt
+      not_caught_up commits (Err why) few is =
           subst (λ (d : Posts T). IsRefused g old IsNoChange (CatchUpJudged commits) why d) (sym is.1)
-          (subst (λ (e : Refusal). IsRefused g old IsNoChange (CatchUpJudged commits) e mid) (sym is.0) (refused_early IsNoChange (CatchUpJudged commits) Memory (works, same.1 ∙ works, same.2, tt)))
+          (subst (λ (e : Refusal). IsRefused g old IsNoChange (CatchUpJudged commits) e mid) (sym is.0) (refused_early IsNoChange (CatchUpJudged commits) Memory (works, same.1 ∙ works, same.2, few_unopposed commits few)))
 
-      cause_on : (judged : Refusal → Type 0) (why : Refusal) → judged Memory → Refuses g mid IsMemory why new → Refuses g old judged why new
+      cause_on : (judged : Refusal → Type 0) (why : Refusal) → IsUnopposed judged → Refuses g mid NoCause why new → Refuses g old judged why new
       cause_on judged Reopen memory cause = absurd (true≢false (sym cause.0 ∙ same.1 ∙ works))
       cause_on judged StoreFault memory cause =
           (works, cause.1, cause.2 ∙ ap one_more same.2, subst (λ (t : T). IsOpen (g.device t) → HasFailed (g.device t) (g.device new.tables)) same.0 cause.3)
       cause_on judged Memory memory cause = (works, cause.1, cause.2 ∙ same.2, memory)
-      cause_on judged _ memory cause = absurd (cc (cause.4))
+      cause_on judged _ memory cause = absurd cause.4
 
       leaves_on : (change : TableChange) → MayLeave g mid change new → MayLeave g old change new
       leaves_on change may =
@@ -208,8 +225,8 @@ module _ {T : Type 0} (g : Ghosts T) (old mid : Posts T) (more : ShowsMore old m
       touches_on made change asked (leaves_alone alone) = leaves_alone (alone ∙ same.0)
       touches_on made change asked (adds_one c is may) = adds_one c (subst made (sym is) asked) (leaves_on c may)
 
-      refused_on : (made : TableChange → Type 0) (change : TableChange) (judged : Refusal → Type 0) (why : Refusal) → made change → judged Memory
-          → IsRefused g mid (λ c. c ≡ change) IsMemory why new → IsRefused g old made judged why new
+      refused_on : (made : TableChange → Type 0) (change : TableChange) (judged : Refusal → Type 0) (why : Refusal) → made change → IsUnopposed judged
+          → IsRefused g mid (λ c. c ≡ change) NoCause why new → IsRefused g old made judged why new
       refused_on made change judged why asked memory refused =
           record {
             shows = shows_on refused.shows;
@@ -219,8 +236,8 @@ module _ {T : Type 0} (g : Ghosts T) (old mid : Posts T) (more : ShowsMore old m
           }
 
       -- it could not be stored
-      pub refuses_on : {A : Type 0} (made : TableChange → Type 0) (change : TableChange) (judged : Refusal → Type 0) (r : Result A Refusal) → made change → judged Memory
-          → IfErr r (λ why. IsRefused g mid (λ c. c ≡ change) IsMemory why new) → IfErr r (λ why. IsRefused g old made judged why new)
+      pub refuses_on : {A : Type 0} (made : TableChange → Type 0) (change : TableChange) (judged : Refusal → Type 0) (r : Result A Refusal) → made change → IsUnopposed judged
+          → IfErr r (λ why. IsRefused g mid (λ c. c ≡ change) NoCause why new) → IfErr r (λ why. IsRefused g old made judged why new)
       refuses_on made change judged (Ok a) asked memory refused = tt
       refuses_on made change judged (Err why) asked memory refused = refused_on made change judged why asked memory refused
 
@@ -243,6 +260,6 @@ module _ {T : Type 0} (g : Ghosts T) (old mid : Posts T) (more : ShowsMore old m
         trim_accepted value receipt (Err why) above posts stored told tells = tt
 
         -- it could not be stored
-        pub trim_refused : {A : Type 0} (r : Result A Refusal) → IfErr r (λ why. IsRefused g mid (λ c. c ≡ Raises zookie.rev) IsMemory why new)
+        pub trim_refused : {A : Type 0} (r : Result A Refusal) → IfErr r (λ why. IsRefused g mid (λ c. c ≡ Raises zookie.rev) NoCause why new)
             → IfErr r (λ why. IsRefused g old (IsRaiseTo (standing old.posted) zookie) (RefusesFloor (standing old.posted) zookie) why new)
-        trim_refused r refused = refuses_on (IsRaiseTo (standing old.posted) zookie) (Raises zookie.rev) (RefusesFloor (standing old.posted) zookie) r (still_fits, refl) tt refused
+        trim_refused r refused = refuses_on (IsRaiseTo (standing old.posted) zookie) (Raises zookie.rev) (RefusesFloor (standing old.posted) zookie) r (still_fits, refl) (unlike still_fits) refused

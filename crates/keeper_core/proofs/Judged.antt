@@ -1,11 +1,11 @@
--- No write and no floor is refused for what the tables did.
+-- No write and no floor is refused for what the tables did, or for want of memory.
 use Rattle.std.proofs.Common.{◌≡◌, ℕ, Bool, true, false, not, List, map, refl, ap, sym, ◌∙◌, true≢false}
 use Rattle.std.specs.Prelude.{Option, Some, None}
 use Rattle.std.specs.List.{list_any}
 use Rattle.names.specs.declared.write.Condition.{Condition}
 use Rattle.names.specs.declared.write.Write.{Write}
 use Rattle.names.specs.declared.refusal.Refusal.{Refusal}
-use Rattle.names.specs.declared.refusal.Refusal.TheVariants.{Malformed, UnknownRelation, TypeRefused, TwiceInOneWrite, ForeignZookie, Future, Expired, ConditionFailed, AlreadyThere, NotThere, Full, InUse, StoreFault, Reopen}
+use Rattle.names.specs.declared.refusal.Refusal.TheVariants.{Malformed, UnknownRelation, TypeRefused, TwiceInOneWrite, ForeignZookie, Future, Expired, ConditionFailed, AlreadyThere, NotThere, Full, InUse, Memory, StoreFault, Reopen}
 use Rattle.meaning.specs.Verdict.{or_else, refused_if, at_place, first_from, is_in_range, is_unknown, is_untyped, is_twice, inserts_again, deletes_nothing, is_full, event_of}
 use Rattle.zookie.specs.declared.Zookie.{Zookie}
 use Rattle.rows.specs.Retained.{Retained, newest, newest_of}
@@ -13,20 +13,21 @@ use Rattle.verdict.specs.Verdict.{verdict, condition_cause, are_few, is_foreign,
 use Rattle.shown.specs.Standing.{Standing}
 use Rattle.shown.specs.Raising.{floor_cause, RefusesFloor}
 
-abbrev is_of_tables : Refusal → Bool
-is_of_tables StoreFault = true
-is_of_tables Reopen = true
-is_of_tables _ = false
+abbrev is_of_machine : Refusal → Bool
+is_of_machine Memory = true
+is_of_machine StoreFault = true
+is_of_machine Reopen = true
+is_of_machine _ = false
 
-module _ (why : Refusal) (tables : is_of_tables why ≡ true) where
-  other : (cause : Refusal) → is_of_tables cause ≡ false → Some cause ≡ Some why → ⊥
-  other cause plain is = let same : cause ≡ why = cc is in true≢false (sym tables ∙ sym (ap is_of_tables same) ∙ plain)
+module _ (why : Refusal) (machine : is_of_machine why ≡ true) where
+  other : (cause : Refusal) → is_of_machine cause ≡ false → Some cause ≡ Some why → ⊥
+  other cause plain is = let same : cause ≡ why = cc is in true≢false (sym machine ∙ sym (ap is_of_machine same) ∙ plain)
 
-  if_other : (cause : Refusal) (b : Bool) → is_of_tables cause ≡ false → refused_if cause b ≡ Some why → ⊥
+  if_other : (cause : Refusal) (b : Bool) → is_of_machine cause ≡ false → refused_if cause b ≡ Some why → ⊥
   if_other cause true plain is = other cause plain is
   if_other cause false plain is = absurd (cc is)
 
-  place_other : (cause : ℕ → Refusal) (o : Option ℕ) → ((i : ℕ) → is_of_tables (cause i) ≡ false) → at_place cause o ≡ Some why → ⊥
+  place_other : (cause : ℕ → Refusal) (o : Option ℕ) → ((i : ℕ) → is_of_machine (cause i) ≡ false) → at_place cause o ≡ Some why → ⊥
   place_other cause (Some i) plain is = other (cause i) (plain i) is
   place_other cause None plain is = absurd (cc is)
 
@@ -63,6 +64,12 @@ write_reopens r write is = no_verdict Reopen refl r write is
 
 pub write_faults : (r : Retained) (write : Write Zookie) → RefusesWrite r write StoreFault → ⊥
 write_faults r write is = no_verdict StoreFault refl r write is
+
+pub write_wants : (r : Retained) (write : Write Zookie) → RefusesWrite r write Memory → ⊥
+write_wants r write is = no_verdict Memory refl r write is
+
+pub floor_wants : (s : Standing) (zookie : Zookie) → RefusesFloor s zookie Memory → ⊥
+floor_wants s zookie is = no_floor_cause Memory refl s zookie is
 
 pub floor_reopens : (s : Standing) (zookie : Zookie) → RefusesFloor s zookie Reopen → ⊥
 floor_reopens s zookie is = no_floor_cause Reopen refl s zookie is

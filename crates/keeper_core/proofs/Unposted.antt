@@ -14,18 +14,21 @@ use Rattle.published.proofs.Prefixes.{prefix_self}
 use Rattle.keeper_core.specs.declared.latched_tables.LatchedTables.{LatchedTables}
 use Rattle.keeper_core.specs.TableChanges.{TableChange, changed, CanChange}
 use Rattle.keeper_core.specs.Posts.{Posts, ShowsMore}
-use Rattle.keeper_core.specs.Changes.{Touches, leaves_alone, adds_one, Refuses, IsRefused}
+use Rattle.keeper_core.specs.Changes.{Touches, leaves_alone, adds_one, Refuses, IsRefused, IsUnopposed}
 use Rattle.keeper_core.specs.inside.Latching.{IsLatched, IsUnstored}
-use Rattle.keeper_core.specs.inside.Posting.{IsMemory}
+use Rattle.keeper_core.specs.inside.Posting.{NoCause}
 use Rattle.keeper_core.proofs.Changed.{refused_exit, lasts_same}
+
+nothing_speaks : IsUnopposed NoCause
+nothing_speaks why cause = absurd cause
 
 module _ {T : Type 0} (g : Ghosts T) where
   -- a desk over these tables, with this publication
   abbrev pub seen : LatchedTables T → Publishing → Posts T
   seen t p = record { tables = t.tables; book = p.book; posted = p.posted; shown = p.shown; failed = t.failed; faults = g.count t.tables; seats = p.seats }
 
-  latched_cause : (was is : LatchedTables T) (p q : Publishing) (why : Refusal) → was.failed ≡ false → IsLatched g was why is → Refuses g (seen was p) IsMemory why (seen is q)
-  latched_cause was is p q Memory works latched = (works, latched.0, latched.1, refl)
+  latched_cause : (was is : LatchedTables T) (p q : Publishing) (why : Refusal) → was.failed ≡ false → IsLatched g was why is → Refuses g (seen was p) NoCause why (seen is q)
+  latched_cause was is p q Memory works latched = (works, latched.0, latched.1, nothing_speaks)
   latched_cause was is p q StoreFault works latched = (works, latched.0, latched.1, latched.2)
   latched_cause was is p q _ works latched = absurd latched
 
@@ -44,11 +47,11 @@ module _ {T : Type 0} (g : Ghosts T) where
     }
 
     -- there was no room
-    pub no_room : {A : Type 0} (r : Result A Refusal) (made : TableChange → Type 0) → IsErrAnd r (λ e. e ≡ Memory) → IfErr r (λ e. IsRefused g d made IsMemory e (seen was q))
+    pub no_room : {A : Type 0} (r : Result A Refusal) (made : TableChange → Type 0) → IsErrAnd r (λ e. e ≡ Memory) → IfErr r (λ e. IsRefused g d made NoCause e (seen was q))
     no_room r made exit =
-        refused_exit (λ e. IsRefused g d made IsMemory e (seen was q)) r Memory exit
-        (subst (λ (s : Posts T). IsRefused g s made IsMemory Memory (seen was q)) view
-        (record { shows = shows was; cause = (here, here, refl, refl); touches = leaves_alone refl; lasts = lasts_same g was.tables was.tables refl }))
+        refused_exit (λ e. IsRefused g d made NoCause e (seen was q)) r Memory exit
+        (subst (λ (s : Posts T). IsRefused g s made NoCause Memory (seen was q)) view
+        (record { shows = shows was; cause = (here, here, refl, nothing_speaks); touches = leaves_alone refl; lasts = lasts_same g was.tables was.tables refl }))
 
     touches : (is : LatchedTables T) (change kept : TableChange) → kept ≡ change → CanChange own.kept kept
         → (is.tables ≡ was.tables) ⊎ ((rs : List Retained) → g.leaves was.tables rs → g.leaves is.tables (changed own.kept kept ∷ rs))
@@ -62,8 +65,8 @@ module _ {T : Type 0} (g : Ghosts T) where
     -- it could not be stored
     pub not_stored : {A : Type 0} (r : Result A Refusal) (why : Refusal) (is : LatchedTables T) (change kept : TableChange) → IsErrAnd r (λ e. e ≡ why)
         → kept ≡ change → CanChange own.kept kept → IsUnstored g own.kept kept was why is → Lasts (g.device was.tables) (g.device is.tables)
-        → IfErr r (λ e. IsRefused g d (λ made. made ≡ change) IsMemory e (seen is q))
+        → IfErr r (λ e. IsRefused g d (λ made. made ≡ change) NoCause e (seen is q))
     not_stored r why is change kept exit copied can unstored lasts =
-        refused_exit (λ e. IsRefused g d (λ made. made ≡ change) IsMemory e (seen is q)) r why exit
-        (subst (λ (s : Posts T). IsRefused g s (λ made. made ≡ change) IsMemory why (seen is q)) view
+        refused_exit (λ e. IsRefused g d (λ made. made ≡ change) NoCause e (seen is q)) r why exit
+        (subst (λ (s : Posts T). IsRefused g s (λ made. made ≡ change) NoCause why (seen is q)) view
         (record { shows = shows is; cause = latched_cause was is p q why here unstored.latched; touches = touches is change kept copied can unstored.touched; lasts = lasts }))

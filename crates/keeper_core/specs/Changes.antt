@@ -106,10 +106,9 @@ pub record TrimAccepted {T : Type 0} (g : Ghosts T)
   pub told : floor ≡ (standing new.posted).kept.floor
   pub tells : TellsShown receipt new
 
--- too many commits at once, or no memory
+-- too many commits at once
 abbrev pub CatchUpJudged : ℕ → Refusal → Type 0
 CatchUpJudged commits Malformed = MAX_CATCH_UP < commits
-CatchUpJudged commits Memory = Unit {0}
 CatchUpJudged commits _ = ⊥
 
 -- the commit is that of the operations
@@ -143,8 +142,13 @@ pub data Touches {T : Type 0}
   adds_one : (change : TableChange)
       → made change → MayLeave g old change new → Touches g old made new
 
+-- nothing speaks against the change
+abbrev pub IsUnopposed : (Refusal → Type 0) → Type 0
+IsUnopposed judged = (why : Refusal) → ¬ (judged why)
+
 -- Why a change was refused, where `judged` says why it would be on the posted steps. After a fault every
--- change asks to open the tables again. A fault is one only where the device failed meanwhile.
+-- change asks to open the tables again. A fault is one only where the device failed meanwhile. Want of memory is told only
+-- of a change that nothing speaks against: to judge one takes none.
 abbrev pub Refuses : {T : Type 0}
     → Ghosts T → Posts T → (Refusal → Type 0) → Refusal → Posts T → Type 0
 Refuses g old judged Reopen new =
@@ -154,7 +158,7 @@ Refuses g old judged StoreFault new =
     (old.failed ≡ false) × (new.failed ≡ true) × (new.faults ≡ one_more old.faults)
     × (IsOpen (g.device old.tables) → HasFailed (g.device old.tables) (g.device new.tables))
 Refuses g old judged Memory new =
-    (old.failed ≡ false) × (new.failed ≡ false) × (new.faults ≡ old.faults) × judged Memory
+    (old.failed ≡ false) × (new.failed ≡ false) × (new.faults ≡ old.faults) × IsUnopposed judged
 Refuses g old judged why new =
     (old.failed ≡ false) × (new.failed ≡ false) × (new.faults ≡ old.faults)
     × (new.tables ≡ old.tables) × judged why

@@ -7,7 +7,7 @@ use Rattle.meaning.specs.Verdict.{Newest}
 use Rattle.rows.specs.Retained.{Retained, newest_of}
 use Rattle.rows.specs.Loads.{retained_of}
 use Rattle.rows.specs.declared.loaded.Loaded.{Loaded}
-use Rattle.tables.specs.Device.{IsClean, Lasts, HasFailed}
+use Rattle.tables.specs.Device.{IsClean, IsOpen, Lasts, HasFailed}
 use Rattle.tables.specs.declared.tables.Tables.{Ghosts}
 use Rattle.shown.specs.declared.step.Step.{Step}
 use Rattle.shown.specs.declared.step.Step.TheVariants.{Open}
@@ -47,15 +47,18 @@ pub record Agrees {T : Type 0} (g : Ghosts T) (failed : Bool) (tables : T) (r : 
   pub leaves : g.leaves tables (r ∷ map (changed r) more)
 
 -- The one posted step opens tables with a history that they hold. Where the device has returned what was
--- written, it is the one that they held before.
+-- written, it is one that they held before, and no other than each that they held.
 abbrev pub OpensWith : {T : Type 0} → Ghosts T → T → Posts T → Type 0
 OpensWith g tables d =
     (loaded : Loaded) × (d.posted ≡ Open loaded ∷ []) × g.holds d.tables (retained_of loaded)
+    × (IsClean (g.device d.tables) → g.holds tables (retained_of loaded))
     × ((r : Retained) → g.holds tables r → IsClean (g.device d.tables) → retained_of loaded ≡ r)
 
--- tables that were given and come back hold and leave what they did
+-- Tables that were given and come back hold and leave what they did. As long as they are open and the device has returned
+-- what was written, they hold nothing else.
 pub record ComesBack {T : Type 0} (g : Ghosts T) (given back : T) : Type 0 where
   pub holds : (r : Retained) → g.holds given r → g.holds back r
+  pub only : (r : Retained) → g.holds back r → IsClean (g.device back) → IsOpen (g.device back) → g.holds given r
   pub leaves : (rs : List Retained) → g.leaves given rs → g.leaves back rs
   pub lasts : Lasts (g.device given) (g.device back)
 

@@ -15,6 +15,8 @@ ghost use Rattle.shown.specs.Raising.{floor_cause, RefusesFloor};
 ghost use Rattle.expand.specs.declared.limits.TheConstants.{MAX_DEPTH};
 ghost use Rattle.shown.specs.Answers.{IsAnswer, IsRefusal};
 ghost use Rattle.shown.specs.Expanding.{IsTree, IsTreeRefusal};
+ghost use Rattle.leopard.specs.Exprs.{query_of};
+ghost use Rattle.shown.specs.Grouping.{AreGroups, IsGroupsRefusal};
 ghost use Rattle.shown.specs.Paging.{IsPage, IsPageRefusal};
 ghost use Rattle.shown.specs.Watching.{IsWatched, WatchRefused};
 ghost use Rattle.tables.specs.Device.{IsOpen};
@@ -25,13 +27,14 @@ ghost use Rattle.published.specs.Known.{Begins};
 ghost use Rattle.keeper_core.specs.TableChanges.{Adds, Raises};
 ghost use Rattle.keeper_core.specs.Posts.{Agrees, OpensWith, ComesBack, FailsToLoad, SameTables, ShowsMore, PostsStep, newest_posted, shown_by};
 ghost use Rattle.keeper_core.specs.Changes.{Tells, TellsShown, IsStored, WriteAccepted, ConfigAccepted, CatchUpAccepted, TrimAccepted, IsRefused, IsCommitOfWrite, IsRaiseTo, IsNoChange, CatchUpJudged, receipt_at};
-ghost use Rattle.keeper_core.specs.inside.Posting.{IsMemory};
+ghost use Rattle.keeper_core.specs.inside.Posting.{NoCause};
 
 use crate::latched_tables::{LatchedTables, load};
 use crate::opening::publish_first;
 use crate::storing::{store, store_floor};
 use config::Config;
 use expand::Tree;
+use leopard::Expr;
 use names::limits::MAX_CATCH_UP;
 use names::{Commit, Items, Node, Object, Part, Refusal, State, Tuple, Write};
 use published::{Opened, Publication, Receipt, Session};
@@ -283,6 +286,22 @@ impl<T: Tables + Drop, R: Wait + Drop> Desk<T, R> {
         self.publication.shown().read(consistency, asked)
     }
 
+    /// The first so many groups that the expression means, at a shown revision that is as fresh as is asked.
+    pub fn groups(
+        &self,
+        consistency: &Consistency,
+        expr: &Expr,
+        limit: u32,
+    ) -> Result<Answer<Items<Node>>, Refused>
+        ensures ok { IfOk result
+            (AreGroups (standing self.now.shown) consistency.now (query_of expr.now) limit) }
+        ensures err { IfErr result
+            (IsGroupsRefusal (standing self.now.shown) consistency.now (query_of expr.now) limit) }
+        ensures beginning { IsPrefix self.now.shown self.now.posted }
+    {
+        self.publication.shown().groups(consistency, expr, limit)
+    }
+
     /// The events on tuples of the namespaces, of so many shown commits above the cursor's revision, or of as many as there
     /// are.
     pub fn watch(
@@ -382,7 +401,7 @@ impl<T: Tables + Drop, R: Wait + Drop> Desk<T, R> {
         ensures tells { IfOk result (λ receipt. Tells receipt self.new) }
         ensures stored { OnOk result (IsStored T.Tables self.old self.new) }
         ensures err { IfErr result (λ why.
-            IsRefused T.Tables self.old (λ made. made ≡ Adds commit) IsMemory why self.new) }
+            IsRefused T.Tables self.old (λ made. made ≡ Adds commit) NoCause why self.new) }
         ensures seats { self.new.seats ≡ self.old.seats }
     {
         let kept = KeptCommit::of(self.alloc, &commit)?;
@@ -425,7 +444,7 @@ impl<T: Tables + Drop, R: Wait + Drop> Desk<T, R> {
             posted.value ≡ (standing self.new.posted).kept.floor) }
         ensures tells { IfOk result (λ posted. TellsShown posted.receipt self.new) }
         ensures err { IfErr result (λ why.
-            IsRefused T.Tables self.old (λ made. made ≡ Raises floor) IsMemory why self.new) }
+            IsRefused T.Tables self.old (λ made. made ≡ Raises floor) NoCause why self.new) }
         ensures seats { self.new.seats ≡ self.old.seats }
     {
         self.publication.reserve()?;

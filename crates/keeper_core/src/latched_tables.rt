@@ -115,6 +115,8 @@ pub(crate) fn load<T: Tables>(tables: &mut T, alloc: Global) -> Result<Loaded, R
     ensures agrees { IfOk result (λ loaded. Agrees T.Tables false tables.new (retained_of loaded)) }
     ensures settled { IfOk result (λ loaded. T.leaves tables.new (retained_of loaded ∷ [])) }
     ensures open { OnOk result (IsOpen (T.device tables.new)) }
+    ensures found { IfOk result (λ loaded. IsClean (T.device tables.new)
+        → T.holds tables.old (retained_of loaded)) }
     ensures same { (r : Retained) → T.holds tables.old r → IsClean (T.device tables.new)
         → IfOk result (λ loaded. retained_of loaded ≡ r) }
     ensures back { ComesBack T.Tables tables.old tables.new }

@@ -6,6 +6,8 @@ ghost use Rattle.shown.specs.Standing.{standing, state_of};
 ghost use Rattle.expand.specs.declared.limits.TheConstants.{MAX_DEPTH};
 ghost use Rattle.shown.specs.Answers.{IsAnswer, IsRefusal};
 ghost use Rattle.shown.specs.Expanding.{IsTree, IsTreeRefusal};
+ghost use Rattle.leopard.specs.Exprs.{query_of};
+ghost use Rattle.shown.specs.Grouping.{AreGroups, IsGroupsRefusal};
 ghost use Rattle.shown.specs.Paging.{IsPage, IsPageRefusal};
 ghost use Rattle.shown.specs.Watching.{IsWatched, WatchRefused};
 ghost use Rattle.published.specs.Known.{Known, Begins};
@@ -17,6 +19,7 @@ use crate::receipt::Receipt;
 use crate::rule::{CopyReader, Seeing};
 use core::mem::replace_with;
 use expand::Tree;
+use leopard::Expr;
 use names::{Items, Node, Object, Refusal, State, Tuple};
 use rows::Tupleset;
 use shown::{Answer, Refused};
@@ -201,6 +204,55 @@ impl Session {
         Some((number, tuples))
     }
 
+    /// The first so many groups that the expression means, at the revision that the consistency chooses.
+    pub fn groups(
+        &mut self,
+        consistency: &Consistency,
+        expr: &Expr,
+        limit: u32,
+    ) -> Result<Answer<Items<Node>>, Refused>
+        ensures ok { IfOk result
+            (AreGroups (standing self.new.steps) consistency.now (query_of expr.now) limit) }
+        ensures err { IfErr result (IsRefusedIn self.old self.new
+            (IsGroupsRefusal (standing self.new.steps) consistency.now (query_of expr.now) limit)) }
+        ensures later { Begins self.old self.new }
+    {
+        match self.groups_in_store(consistency, expr, limit) {
+            Some((_, groups)) => groups,
+            None => Err(no_publication()),
+        }
+    }
+
+    /// The same groups, beside the number of the store, for the zookie of the answer. There is none where the publication
+    /// is gone.
+    pub fn groups_in_store(
+        &mut self,
+        consistency: &Consistency,
+        expr: &Expr,
+        limit: u32,
+    ) -> Option<(u64, Result<Answer<Items<Node>>, Refused>)>
+        ensures number { IfSome result (λ told.
+            told.0 ≡ (standing self.new.steps).kept.number) }
+        ensures ok { IfSome result (λ told. IfOk told.1
+            (AreGroups (standing self.new.steps) consistency.now (query_of expr.now) limit)) }
+        ensures err { IfSome result (λ told. IfErr told.1
+            (IsGroupsRefusal (standing self.new.steps) consistency.now (query_of expr.now) limit)) }
+        ensures none { IfNone result (self.new ≡ self.old) }
+        ensures later { Begins self.old self.new }
+    {
+        let question = GroupsQuestion {
+            consistency,
+            expr,
+            limit,
+        };
+        let (groups, number, prefix) = replace_with(&mut self.reader, question, look_at_groups)?;
+        if !self.known.begins(&prefix) {
+            return None;
+        }
+        self.known = prefix;
+        Some((number, groups))
+    }
+
     /// The events on tuples of the namespaces, of so many commits above the cursor's revision, or of as many as there are.
     pub fn watch(
         &mut self,
@@ -321,6 +373,14 @@ struct TuplesQuestion<'a> {
     asked: &'a Tupleset,
 }
 
+// Which groups a session asks for.
+#[derive(Drop)]
+struct GroupsQuestion<'a> {
+    consistency: &'a Consistency,
+    expr: &'a Expr,
+    limit: u32,
+}
+
 // Which page of events a session asks for.
 #[derive(Drop)]
 struct PageQuestion<'a> {
@@ -424,6 +484,36 @@ fn look_at_tuples(
             let number = copy.shown.number();
             let prefix = copy.prefix.again();
             (reading.leave(), Some((tuples, number, prefix)))
+        }
+        Err(reader) => (reader, None),
+    }
+}
+
+fn look_at_groups(
+    reader: CopyReader,
+    question: GroupsQuestion<'_>,
+) -> (
+    CopyReader,
+    Option<(Result<Answer<Items<Node>>, Refused>, u64, StepPrefix)>,
+)
+    ensures seen { IfSome result.1 (λ seen.
+        KnowsNoMore (view reader.place) seen.2 × (view result.0.place ≡ Some seen.2)) }
+    ensures number { IfSome result.1 (λ seen. seen.1 ≡ (standing seen.2.steps).kept.number) }
+    ensures ok { IfSome result.1 (λ seen. IfOk seen.0
+        (AreGroups (standing seen.2.steps) question.entry.consistency.now (query_of question.entry.expr.now) question.entry.limit)) }
+    ensures err { IfSome result.1 (λ seen. IfErr seen.0
+        (IsGroupsRefusal (standing seen.2.steps) question.entry.consistency.now (query_of question.entry.expr.now) question.entry.limit)) }
+    ensures refused { IfNone result.1 (view result.0.place ≡ view reader.place) }
+{
+    match reader.enter_as::<Seeing>() {
+        Ok(reading) => {
+            let copy = reading.get();
+            let groups = copy
+                .shown
+                .groups(question.consistency, question.expr, question.limit);
+            let number = copy.shown.number();
+            let prefix = copy.prefix.again();
+            (reading.leave(), Some((groups, number, prefix)))
         }
         Err(reader) => (reader, None),
     }

@@ -2,7 +2,7 @@
 use Rattle.std.specs.Prelude.{◌≡◌, List, Bool, true, false, not, ◌&&◌, Some}
 use Rattle.names.specs.declared.write.Op.{Op}
 use Rattle.names.specs.declared.refusal.Refusal.{Refusal}
-use Rattle.names.specs.declared.refusal.Refusal.TheVariants.{UnknownRelation, Memory}
+use Rattle.names.specs.declared.refusal.Refusal.TheVariants.{UnknownRelation}
 use Rattle.meaning.specs.Verdict.{Newest, is_delete, write_cause, config_cause}
 use Rattle.meaning.specs.Config.{Configured}
 use Rattle.meaning.specs.TupleSet as set
@@ -25,11 +25,9 @@ abbrev pub says_unknown : Refusal → Bool
 says_unknown UnknownRelation = true
 says_unknown _ = false
 
--- the first cause; or there was no memory
+-- this is the first cause
 abbrev pub WriteRefused : Newest → List Op → Refusal → Type 0
-WriteRefused newest ops Memory = Unit {0}
 WriteRefused newest ops why = write_cause newest ops ≡ Some why
 
 abbrev pub ConfigRefused : Newest → Configured → Refusal → Type 0
-ConfigRefused newest config Memory = Unit {0}
 ConfigRefused newest config why = config_cause newest config ≡ Some why

@@ -18,7 +18,7 @@ impl Rows {
     {
         match commit {
             Commit::Tuples(events) => self.refuses_events(events.as_slice()),
-            Commit::Config(config) => self.refuses_config(config),
+            Commit::Config(config) => Ok(self.refuses_config(config)),
         }
     }
 
@@ -32,11 +32,11 @@ impl Rows {
         Ok(self.write_cause(&ops).is_some())
     }
 
-    fn refuses_config(&self, config: &Config) -> Result<bool, AllocError>
-        ensures { IfOk result (λ yes. yes ≡ is_some (config_cause (newest_of self.now) config.now)) }
+    fn refuses_config(&self, config: &Config) -> bool
+        ensures { result ≡ is_some (config_cause (newest_of self.now) config.now) }
     {
-        let tuple = self.tuple_in_the_way(config)?;
-        Ok(tuple.is_some() || self.newest() + 1 > MAX_REV)
+        let tuple = self.tuple_in_the_way(config);
+        tuple.is_some() || self.newest() + 1 > MAX_REV
     }
 }
 

@@ -270,10 +270,10 @@ impl Rows {
     }
 
     /// The first current tuple that the configuration does not admit.
-    pub(crate) fn tuple_in_the_way(&self, config: &Config) -> Result<Option<Tuple>, AllocError>
-        ensures { IfOk result (λ o. o ≡ find (refuses config.now) (set.items (newest_of self.now).held.tuples)) }
+    pub(crate) fn tuple_in_the_way(&self, config: &Config) -> Option<Tuple>
+        ensures { result ≡ find (refuses config.now) (set.items (newest_of self.now).held.tuples) }
     {
-        self.tuples.first_refused(self.alloc, config)
+        self.tuples.first_refused(config)
     }
 
     /// The configuration at a revision.

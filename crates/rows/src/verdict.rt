@@ -16,7 +16,7 @@ use names::{Op, OpKind, Refusal};
 
 impl Rows {
     /// Why the operations are refused at the newest revision, if they are: the first cause, each looked
-    /// for over the whole write before the next.
+    /// for over the whole write before the next. It takes no memory.
     pub fn verdict(&self, ops: &[Op]) -> Result<(), Refusal>
         ensures ok { OnOk result (IsAccepted (newest_of self.now) ops.now) }
         ensures err { IfErr result (WriteRefused (newest_of self.now) ops.now) }
@@ -27,12 +27,13 @@ impl Rows {
         }
     }
 
-    /// Why a configuration is refused at the newest revision, if it is.
+    /// Why a configuration is refused at the newest revision, if it is. It takes no memory: the first tuple in the way is
+    /// read from its text.
     pub fn config_verdict(&self, config: &Config) -> Result<(), Refusal>
         ensures ok { OnOk result (config_cause (newest_of self.now) config.now ≡ None) }
         ensures err { IfErr result (ConfigRefused (newest_of self.now) config.now) }
     {
-        if let Some(tuple) = self.tuple_in_the_way(config)? {
+        if let Some(tuple) = self.tuple_in_the_way(config) {
             return Err(Refusal::TupleInTheWay(tuple));
         }
         if self.newest() + 1 > MAX_REV {

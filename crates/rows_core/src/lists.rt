@@ -81,8 +81,8 @@ impl VersionMap {
     }
 
     /// The first tuple, of those whose last version is a put, that the configuration does not admit.
-    pub fn first_refused(&self, alloc: Global, config: &Config) -> Result<Option<Tuple>, AllocError>
-        ensures found { IfOk result (λ o. o ≡ find (refuses config.now) (newest_tuples self.now)) }
+    pub fn first_refused(&self, config: &Config) -> Option<Tuple>
+        ensures found { result ≡ find (refuses config.now) (newest_tuples self.now) }
         ensures ordered { IsStrictlySortedBy tuple_cmp (keys self.now) }
     {
         let texts = self.texts();
@@ -90,11 +90,11 @@ impl VersionMap {
             if versions.is_there() {
                 let tuple = TupleRef::of(text).tuple();
                 if !config.allows(&tuple) {
-                    return Ok(Some(tuple));
+                    return Some(tuple);
                 }
             }
         }
-        Ok(None)
+        None
     }
 }
 

@@ -24,14 +24,14 @@ use Rattle.runs.specs.Connections.{HasServed}
 use Rattle.runs.specs.Over.{over, Begins, BeginsIn, EndedOver, OpenedOver, GoesOn}
 
 pub ended_over : {S : Type 0} (g : Ghosts S) (tables back : Store S g) (From : Retained → Type 0) (left : Held S) (input : List ℕ) (Did : Posts (Store S g) → Posts (Store S g) → Type 0)
-    → left ≡ connection back → ((loaded : Loaded) → ((r : Retained) → KeepsHistory g (connection tables) r → HasCleanDisk (state g left) → retained_of loaded ≡ r) → HasCleanDisk (state g left) → From (retained_of loaded))
+    → left ≡ connection back → ((loaded : Loaded) → KeepsHistory g (connection tables) (retained_of loaded) → ((r : Retained) → KeepsHistory g (connection tables) r → retained_of loaded ≡ r) → From (retained_of loaded))
     → Ended (over g) tables input Did back → EndedOver g From input Did left
 ended_over {S} g tables back From left input Did same begins e = record {
   loaded = e.loaded;
   first = e.first;
   last = e.last;
   opened = e.opened;
-  begins = begins e.loaded (λ r held clean. e.same r held (subst (λ (c : Held S). HasCleanDisk (state g c)) same clean));
+  begins = λ clean. let still = subst (λ (c : Held S). HasCleanDisk (state g c)) same clean in begins e.loaded (e.found still) (λ r held. e.same r held still);
   did = e.did;
   keeps = λ works. subst (λ (c : Held S). KeepsHistory g c (kept_by e.last)) (sym same) (e.agrees.holds works);
   more = e.agrees.more;
@@ -42,15 +42,15 @@ ended_over {S} g tables back From left input Did same begins e = record {
 
 -- a desk over tables was opened over their connection
 pub opened_over : {S : Type 0} (g : Ghosts S) (tables : Store S g) (desk : Posts (Store S g)) (From : Retained → Type 0)
-    → ((loaded : Loaded) → ((r : Retained) → KeepsHistory g (connection tables) r → HasCleanDisk (state g (connection desk.tables)) → retained_of loaded ≡ r) → HasCleanDisk (state g (connection desk.tables)) → From (retained_of loaded))
+    → ((loaded : Loaded) → KeepsHistory g (connection tables) (retained_of loaded) → ((r : Retained) → KeepsHistory g (connection tables) r → retained_of loaded ≡ r) → From (retained_of loaded))
     → Began (over g) tables desk → HasServed (over g) desk [] desk → OpenedOver g From desk
 opened_over g tables desk From begins began ready = record {
   loaded = began.posted.0;
   opened = record { posted = began.posted.1; shown = began.shown; works = began.works };
-  begins = begins began.posted.0 (λ r held clean. began.posted.3 r held clean);
+  begins = λ clean. begins began.posted.0 (began.posted.3 clean) (λ r held. began.posted.4 r held clean);
   ready = ready;
 }
 
 pub goes_on : (image : Image) (rs : List Retained) (loaded : Loaded) (posted : List Step) → HoldsOneOf image rs → BeginsIn image None (retained_of loaded) → posted ≡ Open loaded ∷ [] → GoesOn rs posted
 goes_on image rs loaded posted holds begins opened =
-    ∥∥₁_map holds (λ one. (one.0, one.1, ap standing opened ∙ ap after_opening (begins one.0 one.2)))
+    ∥∥₁_map holds (λ one. (one.0, one.1, ap standing opened ∙ ap after_opening (begins.1 one.0 one.2)))

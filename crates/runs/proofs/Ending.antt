@@ -41,7 +41,8 @@ module _ {T : Type 0} (g : Ghosts T) (weaker : Weaker g) (tables : T) (first las
     first = first;
     last = last;
     opened = record { posted = began.posted.1; shown = began.shown; works = began.works };
-    same = λ r held clean. began.posted.3 r held (clean_before (g.device first.tables) (g.device left) (lasts_to (IsAskedIn (lines_of input)) h) clean);
+    found = λ clean. began.posted.3 (clean_before (g.device first.tables) (g.device left) (lasts_to (IsAskedIn (lines_of input)) h) clean);
+    same = λ r held clean. began.posted.4 r held (clean_before (g.device first.tables) (g.device left) (lasts_to (IsAskedIn (lines_of input)) h) clean);
     did = did;
     given = closed.given;
     agrees = record {

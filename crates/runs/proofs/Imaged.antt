@@ -29,6 +29,7 @@ use Rattle.store_core.specs.Format.{schema, no_schema}
 use Rattle.store_core.specs.Steps.{HasNone}
 use Rattle.store.specs.History.{TreesHold, KeepsHistory, LeavesHistory, device_below}
 use Rattle.runs.specs.Files.{FindsHistories, ImageHolds, HoldsBase, AreTheirs, IsFoundIn, IsUnopened, IsRefusedFor}
+use Rattle.runs.proofs.Carried.{shows_it}
 use Rattle.runs.specs.Over.{LeavesRefused, CannotBegin, IsDeserved, AreBlank, CannotBeginIn, LeavesConnection, LeavesRefusedIn, HasFailedOver, IsDeservedIn}
 
 -- ---- files that were opened
@@ -70,7 +71,8 @@ module _ {D : Type 0} {g : disk.Ghosts D} (image : Image) (conn : Held (FileStor
     was_clean clean = clean_before (device_below over_files conn) (device_below over_files left) lasts clean
 
     pub leaves_in : (store : Option ℕ) → LeavesRefused over_files conn store left → LeavesConnection image store left
-    leaves_in None leaves = λ r holds. (leaves.0 r (found r holds), leaves.1 (r ∷ []) (leaves_found r holds))
+    leaves_in None leaves =
+        (λ r holds. (leaves.0 r (found r holds), leaves.1 (r ∷ []) (leaves_found r holds)), λ r keeps clean is_open. shows_it image conn sees (was_clean clean) r (leaves.2 r keeps clean is_open))
     leaves_in (Some number) leaves = λ clean trees may. theirs_or_new number trees (was_clean clean) (leaves clean trees may)
 
     has_failed : HasFailed (device_below over_files conn) (device_below over_files left) → HasFailed sound_device (device_below over_files left)

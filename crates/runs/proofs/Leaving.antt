@@ -31,6 +31,7 @@ use Rattle.keeper.specs.calls.Config.{ConfigStep, config_invalid, config_accepte
 use Rattle.keeper.specs.calls.Check.{CheckStep, check_malformed, check_bad_zookie, check_answered, check_refused, check_unread}
 use Rattle.keeper.specs.calls.Read.{ReadStep, read_malformed, read_bad_zookie, read_answered, read_refused, read_unread}
 use Rattle.keeper.specs.calls.Expand.{ExpandStep, expand_malformed, expand_bad_zookie, expand_answered, expand_refused, expand_unread}
+use Rattle.keeper.specs.calls.Groups.{GroupsStep, groups_malformed, groups_bad_zookie, groups_answered, groups_refused, groups_unread}
 use Rattle.keeper.specs.calls.Watch.{WatchStep, watch_malformed, watch_bad_zookie, watch_answered, watch_refused, watch_unread}
 use Rattle.keeper.specs.calls.Trim.{TrimStep, trim_malformed, trim_bad_zookie, trim_accepted, trim_refused, trim_unread}
 use Rattle.keeper.specs.calls.CatchUp.{CatchUpStep, catch_up_malformed, catch_up_accepted, catch_up_refused, catch_up_unread}
@@ -140,6 +141,13 @@ module _ {T : Type 0} (g : Ghosts T) (weaker : Weaker g) (P : TableChange → Ty
   after_expand old body told new (expand_refused consistency node depth why at asks is says only) h = shows_only old new only h
   after_expand old body told new (expand_unread none same) h = same_desk old new same h
 
+  after_groups : (old : Posts T) (body : List ℕ) (told : Option (ℕ × List ℕ)) (new : Posts T) → GroupsStep old body told new → HasLeft g P start old → HasLeft g P start new
+  after_groups old body told new (groups_malformed asks says same) h = same_desk old new same h
+  after_groups old body told new (groups_bad_zookie asks says same) h = same_desk old new same h
+  after_groups old body told new (groups_answered consistency asked limit rev found asks is says only) h = shows_only old new only h
+  after_groups old body told new (groups_refused consistency asked limit why at asks is says only) h = shows_only old new only h
+  after_groups old body told new (groups_unread none same) h = same_desk old new same h
+
   after_watch : (old : Posts T) (body : List ℕ) (told : Option (ℕ × List ℕ)) (new : Posts T) → WatchStep old body told new → HasLeft g P start old → HasLeft g P start new
   after_watch old body told new (watch_malformed asks says same) h = same_desk old new same h
   after_watch old body told new (watch_bad_zookie asks says same) h = same_desk old new same h
@@ -176,7 +184,7 @@ module _ {T : Type 0} (g : Ghosts T) (weaker : Weaker g) (P : TableChange → Ty
   after_step_of old call.Read body told new asked s h = after_read old body told new s h
   after_step_of old call.Expand body told new asked s h = after_expand old body told new s h
   after_step_of old call.Watch body told new asked s h = after_watch old body told new s h
-  after_step_of old call.Leopard body told new asked s h = same_desk old new s.1 h
+  after_step_of old call.Leopard body told new asked s h = after_groups old body told new s h
   after_step_of old call.Hot body told new asked s h = same_desk old new s.1 h
   after_step_of old call.Trim body told new asked s h = after_trim old body told new asked s h
   after_step_of old call.Rebuild body told new asked s h = same_desk old new s.1 h

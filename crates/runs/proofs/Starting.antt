@@ -37,9 +37,9 @@ module _ {S : Type 0} (g : Ghosts S) (conn : Held S) where
   same_device : (other : Held S) → other ≡ conn → Lasts (device_below g conn) (device_below g other)
   same_device other same = subst (λ (c : Held S). Lasts (device_below g conn) (device_below g c)) (sym same) (lasts_self (device_below g conn))
 
-  pub begins : (store : Option ℕ) (started : Held S) → StartsFrom g conn store started → (x : Retained) → ((r : Retained) → KeepsHistory g started r → x ≡ r) → Begins g conn store x
-  begins None started from x is = λ held keeps. is held (subst (λ (c : Held S). KeepsHistory g c held) (sym from) keeps)
-  begins (Some number) started from x is = is (empty_store number) from.keeps
+  pub begins : (store : Option ℕ) (started : Held S) → StartsFrom g conn store started → (x : Retained) → KeepsHistory g started x → ((r : Retained) → KeepsHistory g started r → x ≡ r) → Begins g conn store x
+  begins None started from x kept is = (subst (λ (c : Held S). KeepsHistory g c x) from kept, λ held keeps. is held (subst (λ (c : Held S). KeepsHistory g c held) (sym from) keeps))
+  begins (Some number) started from x kept is = is (empty_store number) from.keeps
 
   pub started_lasts : (store : Option ℕ) (started : Held S) → StartsFrom g conn store started → Lasts (device_below g conn) (device_below g started)
   started_lasts None started from = same_device started from
@@ -58,7 +58,7 @@ module _ {S : Type 0} (g : Ghosts S) (conn : Held S) where
 
   pub failed_leaves : (store : Option ℕ) (why : TablesError) (left : Held S) → FailsToStart g conn store why left → LeavesRefused g conn store left
   failed_leaves None why left fails =
-      (λ r keeps. subst (λ (c : Held S). KeepsHistory g c r) (sym fails.1) keeps, λ rs leaves. subst (λ (c : Held S). LeavesHistory g c rs) (sym fails.1) leaves)
+      (λ r keeps. subst (λ (c : Held S). KeepsHistory g c r) (sym fails.1) keeps, λ rs leaves. subst (λ (c : Held S). LeavesHistory g c rs) (sym fails.1) leaves, λ r keeps clean is_open. subst (λ (c : Held S). KeepsHistory g c r) fails.1 keeps)
   failed_leaves (Some number) why left fails = crash_leaves number left fails.0
 
   only_new : (number : ℕ) (trees : Trees) → ((r : Retained) × IsOneOf (empty_store number ∷ []) r × TreesHold trees r) → TreesHold trees (empty_store number)
@@ -69,8 +69,11 @@ module _ {S : Type 0} (g : Ghosts S) (conn : Held S) where
       new (inr none) = absurd none
 
   pub back_leaves : Settles g → (store : Option ℕ) (tables back : Store S g) → StartsFrom g conn store (connection tables) → ComesBack (over g) tables back → LeavesRefused g conn store (connection back)
-  back_leaves settles None tables back from comes =
-      (λ r keeps. comes.holds r (subst (λ (c : Held S). KeepsHistory g c r) (sym from) keeps), λ rs leaves. comes.leaves rs (subst (λ (c : Held S). LeavesHistory g c rs) (sym from) leaves))
+  back_leaves settles None tables back from comes = (
+    λ r keeps. comes.holds r (subst (λ (c : Held S). KeepsHistory g c r) (sym from) keeps),
+    λ rs leaves. comes.leaves rs (subst (λ (c : Held S). LeavesHistory g c rs) (sym from) leaves),
+    λ r keeps clean is_open. subst (λ (c : Held S). KeepsHistory g c r) from (comes.only r keeps clean is_open),
+  )
   back_leaves settles (Some number) tables back from comes = λ clean trees may.
       inr (only_new number trees (comes.leaves (empty_store number ∷ []) (leaves_settled tables settles (empty_store number) from.keeps from.stands) clean trees may))
 

@@ -26,6 +26,15 @@ HoldsAmong trees rs = (r : Retained) × IsOneOf rs r × TreesHold trees r
 abbrev pub ImageHolds : Image → Retained → Type 0
 ImageHolds image r = (trees : Trees) × HoldsDatabase image trees × TreesHold trees r
 
+-- these trees are what any opening of the two files finds
+pub record AreTheirs (image : Image) (trees : Trees) : Type 0 where
+  pub holds : (held : Trees) → HoldsDatabase image held → trees ≡ held
+  pub reads : AreFoundIn image trees
+
+-- what any opening of the two files finds holds the history
+abbrev pub ImageShows : Image → Retained → Type 0
+ImageShows image r = (trees : Trees) × AreTheirs image trees × TreesHold trees r
+
 -- the two files hold one of these histories
 abbrev pub HoldsOneOf : Image → List Retained → Type 0
 HoldsOneOf image rs = ∥ ((r : Retained) × IsOneOf rs r × ImageHolds image r) ∥₁
@@ -44,11 +53,6 @@ Remains {D} g = Result (Held (FileStore D g)) (Option (Leftover D g))
 -- the two files hold this database
 abbrev pub HoldsBase : Image → Database → Type 0
 HoldsBase image db = HoldsDatabase image db.trees × IsDatabase db
-
--- these trees are what any opening of the two files finds
-pub record AreTheirs (image : Image) (trees : Trees) : Type 0 where
-  pub holds : (held : Trees) → HoldsDatabase image held → trees ≡ held
-  pub reads : AreFoundIn image trees
 
 -- A connection that was just opened over two files is open, and sees their database, which a crash leaves. An empty file gives
 -- one with no table.

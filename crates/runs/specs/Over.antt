@@ -14,7 +14,7 @@ use Rattle.sqlite.specs.Files.{file_state, over_files}
 use Rattle.rows.specs.Retained.{Retained, empty_store}
 use Rattle.rows.specs.Loads.{retained_of}
 use Rattle.rows.specs.declared.loaded.Loaded.{Loaded}
-use Rattle.tables.specs.Device.{HasFailed, IsClean, sound_device}
+use Rattle.tables.specs.Device.{HasFailed, IsClean, IsOpen, sound_device}
 use Rattle.tables.specs.Leaving.{IsOneOf}
 use Rattle.tables.specs.declared.tables.Tables as tables
 use Rattle.shown.specs.declared.step.Step.{Step}
@@ -25,10 +25,10 @@ use Rattle.http_api.specs.Text.{lines_of}
 use Rattle.store_core.specs.Format.{schema}
 use Rattle.store_core.specs.Leaves.{IsBlank}
 use Rattle.store_core.specs.Steps.{HasNone}
-use Rattle.store.specs.History.{TreesHold, KeepsHistory, LeavesHistory, device_below}
+use Rattle.store.specs.History.{TreesHold, KeepsHistory, LeavesHistory, KeptBefore, device_below}
 use Rattle.store.specs.StoreParts.{connection, faults}
 use Rattle.store.specs.declared.store.Store.{Store}
-use Rattle.runs.specs.Files.{ImageHolds, HoldsOneOf, HoldsBase, AreTheirs, Remains, IsUnopened, IsRefusedFor}
+use Rattle.runs.specs.Files.{ImageHolds, ImageShows, HoldsOneOf, HoldsBase, AreTheirs, Remains, IsUnopened, IsRefusedFor}
 use Rattle.runs.specs.Runs.{IsOpened, IsAskedIn, kept_by}
 use Rattle.runs.specs.Connections.{HasServed}
 
@@ -45,14 +45,15 @@ over {S} g = record {
 abbrev pub listed : tables.Ghosts Retained
 listed = record { holds = λ t r. t ≡ r; leaves = λ t rs. IsOneOf rs t; device = λ t. sound_device; count = λ t. 0 }
 
--- the history that a run begins with: that of a new store with this number, or the one that the connection holds
+-- the history that a run begins with: that of a new store with this number, or one that the connection holds, and no other
+-- than each that it holds
 abbrev pub Begins : {S : Type 0} → Ghosts S → Held S → Option ℕ → Retained → Type 0
-Begins g conn None r = (held : Retained) → KeepsHistory g conn held → r ≡ held
+Begins g conn None r = KeepsHistory g conn r × ((held : Retained) → KeepsHistory g conn held → r ≡ held)
 Begins g conn (Some number) r = r ≡ empty_store number
 
 -- the same of two files
 abbrev pub BeginsIn : Image → Option ℕ → Retained → Type 0
-BeginsIn image None r = (held : Retained) → ImageHolds image held → r ≡ held
+BeginsIn image None r = ImageShows image r × ((held : Retained) → ImageHolds image held → r ≡ held)
 BeginsIn image (Some number) r = r ≡ empty_store number
 
 -- A desk was opened on a history from which a run begins, and did this for the input. The connection that is left holds the
@@ -77,13 +78,13 @@ pub record OpenedOver {S : Type 0} (g : Ghosts S) (From : Retained → Type 0) (
   pub begins : HasCleanDisk (state g (connection desk.tables)) → From (retained_of loaded)
   pub ready : HasServed (over g) desk [] desk
 
--- Tables over a connection. Where they hold one history and no other, it is one from which a run begins.
+-- Tables over a connection. Where they hold a history and no other, it is one from which a run begins.
 abbrev pub TablesOver : {S : Type 0} (g : Ghosts S) → (Retained → Type 0) → Store S g → Type 0
-TablesOver g From tables = (r : Retained) → ((held : Retained) → KeepsHistory g (connection tables) held → r ≡ held) → From r
+TablesOver g From tables = (r : Retained) → KeepsHistory g (connection tables) r → ((held : Retained) → KeepsHistory g (connection tables) held → r ≡ held) → From r
 
--- What a refusal leaves. Tables that were there hold and leave what they did. Of new ones a crash leaves nothing, or a new store.
+-- What a refusal leaves. Tables that were there hold and leave what they did, and hold nothing else. Of new ones a crash leaves nothing, or a new store.
 abbrev pub LeavesRefused : {S : Type 0} → Ghosts S → Held S → Option ℕ → Held S → Type 0
-LeavesRefused g conn None left = ((r : Retained) → KeepsHistory g conn r → KeepsHistory g left r) × ((rs : List Retained) → LeavesHistory g conn rs → LeavesHistory g left rs)
+LeavesRefused g conn None left = ((r : Retained) → KeepsHistory g conn r → KeepsHistory g left r) × ((rs : List Retained) → LeavesHistory g conn rs → LeavesHistory g left rs) × KeptBefore g conn left
 LeavesRefused g conn (Some number) left = HasCleanDisk (state g left) → (trees : Trees) → (state g left).may_leave trees → (state g conn).may_leave trees ⊎ TreesHold trees (empty_store number)
 
 -- Where a run cannot begin: there is a table already in which a new store is to be made, or the tables are not those of the format.
@@ -108,10 +109,11 @@ abbrev pub CannotBeginIn : Image → Option ℕ → Type 0
 CannotBeginIn image None = (length image.db ≡ 0) ⊎ ((db : Database) × HoldsBase image db × (db.schema ≢ schema))
 CannotBeginIn image (Some number) = (db : Database) × HoldsBase image db × (¬ HasNone db)
 
--- What a refusal leaves of a connection over two files. The history that they held is held, and left; of new tables a crash
--- leaves what was there, or a new store.
+-- What a refusal leaves of a connection over two files. The history that they held is held, and left, and one that is held is
+-- one that they held; of new tables a crash leaves what was there, or a new store.
 abbrev pub LeavesConnection : {D : Type 0} {g : disk.Ghosts D} → Image → Option ℕ → Held (FileStore D g) → Type 0
-LeavesConnection image None conn = (r : Retained) → ImageHolds image r → KeepsHistory over_files conn r × LeavesHistory over_files conn (r ∷ [])
+LeavesConnection image None conn = ((r : Retained) → ImageHolds image r → KeepsHistory over_files conn r × LeavesHistory over_files conn (r ∷ []))
+    × ((r : Retained) → KeepsHistory over_files conn r → IsClean (device_below over_files conn) → IsOpen (device_below over_files conn) → ImageShows image r)
 LeavesConnection image (Some number) conn = HasCleanDisk (file_state conn) → (trees : Trees) → (file_state conn).may_leave trees → AreTheirs image trees ⊎ TreesHold trees (empty_store number)
 
 -- What a refusal leaves of two files: a connection; else, where they could not be opened, what `sqlite` says; else the system

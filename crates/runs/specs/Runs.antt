@@ -95,13 +95,15 @@ pub record CutBy {T R W : Type 0} (g : Ghosts T) (contents : W → Option (List 
 
 -- ---- what is left
 
--- A desk was opened on what the tables held, did this for the input, and gave the tables back. They hold the history of the
+-- A desk was opened on what the tables held, as far as the device has returned what was written: a history that they held,
+-- and no other than each that they held. It did this for the input, and gave the tables back. They hold the history of the
 -- posted steps; what is left of them holds it, perhaps with one change more that a line asked for.
 pub record Ended {T : Type 0} (g : Ghosts T) (tables : T) (input : List ℕ) (Did : Posts T → Posts T → Type 0) (left : T) : Type 0 where
   pub loaded : Loaded
   pub first : Posts T
   pub last : Posts T
   pub opened : IsOpened loaded first
+  pub found : IsClean (g.device left) → g.holds tables (retained_of loaded)
   pub same : (r : Retained) → g.holds tables r → IsClean (g.device left) → retained_of loaded ≡ r
   pub did : Did first last
   pub given : left ≡ last.tables

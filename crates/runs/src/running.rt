@@ -51,8 +51,8 @@ pub fn run<T: Tables + Drop, H: Wait + Drop, R: Read, W: Write>(
     ensures read_failed { reader.new.failed ≡ is_read_fault result.0 }
     ensures write_failed { writer.new.failed ≡ is_write_fault result.0 }
 
-    // Nothing was read or written, and the tables hold and leave what they did. They are at fault only where the
-    // device failed, or where they hold no history.
+    // Nothing was read or written, and the tables hold and leave what they did, and hold nothing else. They are at fault only
+    // where the device failed, or where they hold no history.
     ensures refused { IfErr result.0 (λ fault. (why : Refusal) → fault ≡ Refused why
         → (reader.new ≡ reader.old) × (writer.new ≡ writer.old) × ComesBack T.Tables tables result.1) }
     ensures caused { IfErr result.0 (λ fault. fault ≡ Refused StoreFault → IsOpen (T.device tables)

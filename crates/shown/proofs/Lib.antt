@@ -1,10 +1,1 @@
-pub mod Putting
-pub mod Raising
-pub mod Waiting
-pub mod Happened
-pub mod Rising
-pub mod InOrder
-pub mod Finding
-pub mod Limits
-pub mod Opening
 pub mod Watching

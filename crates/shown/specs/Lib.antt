@@ -4,7 +4,5 @@ pub mod Answers
 pub mod Expanding
 pub mod Watching
 pub mod Paging
-pub mod World
-pub mod WorldParts
-pub mod Runs
+pub mod Grouping
 pub mod inside

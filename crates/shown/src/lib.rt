@@ -2,19 +2,10 @@
 //! change is judged on it.
 #![tactic(auto)]
 
-mod admitted;
 mod answer;
-mod copies;
-mod event;
-mod law;
 mod shown;
 mod step;
-mod within;
-mod world;
 
 pub use answer::{Answer, Refused};
-pub use event::{Event, Outcome, Posting, Question};
-pub use law::{answers_rise, opens_what_is_within, posts_stored, trims_keep_what_they_retain};
 pub use shown::Shown;
 pub use step::Step;
-pub use world::World;

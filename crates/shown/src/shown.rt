@@ -20,12 +20,19 @@ ghost use Rattle.shown.specs.Answers.{IsAskedAt, IsAnswer, IsRefusal};
 ghost use Rattle.shown.specs.Expanding.{IsTreeOf, IsTree, IsTreeRefusal};
 ghost use Rattle.shown.specs.Watching.{IsWatched, WatchRefused};
 ghost use Rattle.shown.specs.Paging.{IsPage, IsPageRefusal};
+ghost use Rattle.leopard.specs.Answers.{AreFirst};
+ghost use Rattle.leopard.specs.Causes.{IsAnswerable, AskCause};
+ghost use Rattle.leopard.specs.Exprs.{query_of};
+ghost use Rattle.leopard.specs.Groups.{Means};
+ghost use Rattle.leopard.specs.Query.{is_allowed};
+ghost use Rattle.shown.specs.Grouping.{AreGroups, IsGroupsRefusal};
 
 use crate::answer::{Answer, Refused};
 use crate::step::Step;
 use config::Config;
 use decide::Nothing;
 use expand::Tree;
+use leopard::Expr;
 use names::{Items, Node, Object, Op, Part, Refusal, State, Tuple, Write};
 use rows::{Loaded, Rows, Tupleset, what_follows_has_room};
 use std::alloc::{AllocError, Global};
@@ -101,7 +108,7 @@ impl Shown {
     }
 
     /// Why the floor cannot be raised to a zookie's revision, if it cannot: the zookie is another store's, its revision
-    /// is above the newest, or above a cursor. One at or below the floor is no cause.
+    /// is above the newest, or above a cursor. One at or below the floor is no cause. It takes no memory.
     pub fn judge_floor(&self, floor: &Zookie) -> Result<(), Refusal>
         ensures ok { OnOk result (floor_cause self.now floor.now ≡ None) }
         ensures err { IfErr result (λ why. floor_cause self.now floor.now ≡ Some why) }
@@ -309,7 +316,61 @@ impl Shown {
         }
     }
 
-    /// Why a write is refused at the newest revision, if it is.
+    /// The first so many groups that the expression means, in the order of nodes, at the revision that the consistency
+    /// chooses. It is `Malformed` where the expression or the limit is larger than allowed, which is looked at first, and
+    /// `UnknownRelation` or `NotIndexed` where the closure of a group is asked for whose relation is not there, or is not
+    /// indexed.
+    pub fn groups(
+        &self,
+        consistency: &Consistency,
+        expr: &Expr,
+        limit: u32,
+    ) -> Result<Answer<Items<Node>>, Refused>
+        ensures ok { IfOk result (AreGroups self.now consistency.now (query_of expr.now) limit) }
+        ensures err { IfErr result
+            (IsGroupsRefusal self.now consistency.now (query_of expr.now) limit) }
+    {
+        if !expr.is_allowed(limit) {
+            return Err(Refused {
+                why: Refusal::Malformed,
+                at: None,
+            });
+        }
+        let newest = self.rows.newest();
+        if let Err(why) = consistency.judge(self.rows.number(), self.rows.floor(), newest) {
+            return Err(Refused { why, at: None });
+        }
+        let rev = consistency.choose(newest, self.index);
+        match self.groups_at(rev, expr, limit) {
+            Ok(groups) => Ok(Answer {
+                rev,
+                value: Items::of(groups),
+            }),
+            Err(why) => {
+                let at = match &why {
+                    Refusal::Memory => None,
+                    _ => Some(rev),
+                };
+                Err(Refused { why, at })
+            }
+        }
+    }
+
+    /// The first so many groups of the expression at a retained revision.
+    fn groups_at(&self, rev: u64, expr: &Expr, limit: u32) -> Result<Vec<Node>, Refusal>
+        requires { IsRetained self.now.kept rev }
+        ensures ok { OnOk result
+            (IsAnswerable (snap_at self.now.kept rev).config (query_of expr.now) limit) }
+        ensures groups { IfOk result (λ v.
+            AreFirst limit (Means (snap_at self.now.kept rev) (query_of expr.now)) v.items) }
+        ensures err { IfErr result
+            (AskCause (snap_at self.now.kept rev).config (query_of expr.now) limit) }
+    {
+        let view = self.rows.at(rev);
+        leopard::groups_at(self.alloc, &view, expr, limit)
+    }
+
+    /// Why a write is refused at the newest revision, if it is. It takes no memory.
     pub fn judge_write(&self, write: &Write<Zookie>) -> Result<(), Refusal>
         ensures ok { OnOk result (AcceptsWrite self.now.kept write.now) }
         ensures accepted { OnOk result (IsAccepted (newest_of self.now.kept) write.now.ops) }
@@ -318,7 +379,7 @@ impl Shown {
         verdict::judge(&self.rows, write)
     }
 
-    /// Why operations are refused at the newest revision, if they are.
+    /// Why operations are refused at the newest revision, if they are. It takes no memory.
     pub fn judge(&self, ops: &[Op]) -> Result<(), Refusal>
         ensures ok { OnOk result (IsAccepted (newest_of self.now.kept) ops.now) }
         ensures err { IfErr result (WriteRefused (newest_of self.now.kept) ops.now) }
@@ -326,7 +387,7 @@ impl Shown {
         self.rows.verdict(ops)
     }
 
-    /// Why a configuration is refused, if it is.
+    /// Why a configuration is refused, if it is. It takes no memory.
     pub fn judge_config(&self, config: &Config) -> Result<(), Refusal>
         ensures ok { OnOk result (config_cause (newest_of self.now.kept) config.now ≡ None) }
         ensures err { IfErr result (ConfigRefused (newest_of self.now.kept) config.now) }

@@ -24,7 +24,7 @@ use Rattle.store_core.specs.Numbered.{IsNumbered, AreNumbered, AreNumberedTo}
 use Rattle.store_core.specs.Tables.{Contents, Holds}
 use Rattle.store_core.specs.Steps.{Alters, Stores, Stays, Undoes, LeavesAtMost, MayStore}
 use Rattle.store.specs.Written.{IsHistory}
-use Rattle.store.specs.History.{TreesHold, HasCommitted, KeepsHistory, KeepsOn, LeavesHistory, LeavesAlone, HoldNext, LeavesNext, HoldTrimmed, LeavesTrimmed, IsSettled, device_of}
+use Rattle.store.specs.History.{TreesHold, HasCommitted, KeepsHistory, KeepsOn, LeavesHistory, LeavesAlone, HoldNext, LeavesNext, HoldTrimmed, LeavesTrimmed, KeptBefore, IsSettled, device_of}
 
 pub clean_before : (old new : State) (P : Trees → Type 0) → Survives old new P → HasCleanDisk new → HasCleanDisk old
 clean_before old new P survives clean = omega (arith, survives.clean, clean)
@@ -170,6 +170,20 @@ module _ {S : Type 0} (g : Ghosts S) where
       let still = same clean in
       carried (state g old) (state g new) r (keeps (clean_before (state g old) (state g new) P survives clean) still.0.was_open) still.0.now_is still.0.committed_is
 
+  -- ---- what is kept after a call was kept before
+
+  -- what an unchanged connection keeps, it kept
+  pub kept_same : (old new : Held S) → (HasCleanDisk (state g new) → IsUnchanged (state g old) (state g new)) → KeptBefore g old new
+  kept_same old new same r keeps clean is_open was_clean was_open =
+      let still = same clean in
+      carried (state g new) (state g old) r (keeps clean (is_open clean)) (sym still.0.now_is) (sym still.0.committed_is)
+
+  -- and so does one on which nothing was done but outside a transaction
+  pub kept_undone : (old new : Held S) → IsSettled g old → Undoes g old new → KeptBefore g old new
+  kept_undone old new settled undone r keeps clean is_open was_clean was_open =
+      let back = undone clean (is_open clean) in
+      carried (state g new) (state g old) r (keeps clean (is_open clean)) (settled was_open ∙ sym back.now) (sym back.committed)
+
   pub keeps_twice : (a b c : Held S) → KeepsOn g a b → KeepsOn g b c → KeepsOn g a c
   keeps_twice a b c one two r keeps = two r (one r keeps)
 
@@ -209,7 +223,7 @@ failed_in_two a b c E P first second call (inr asked) was_open clean =
       | inr more ↦ omega (arith, more, second.counts)
     ]
 
-clean_or_not : (clean : Bool) → (doubt clean ≡ 0) ⊎ (doubt clean ≡ 0 → ⊥)
+pub clean_or_not : (clean : Bool) → (doubt clean ≡ 0) ⊎ (doubt clean ≡ 0 → ⊥)
 unfolding doubt
 clean_or_not true = inl refl
 clean_or_not false = inr (λ e. omega (arith, e))

@@ -83,6 +83,10 @@ IsFaultOfDevice g old new why = why ≡ refusals.Fault → IsTrue (state g old).
 abbrev pub FindsHistory : {S : Type 0} → Ghosts S → Held S → Held S → Result Loaded TablesError → Type 0
 FindsHistory g old new result = (r : Retained) → KeepsHistory g old r → HasCleanDisk (state g new) → IfOk result (λ l. retained_of l ≡ r)
 
+-- what an open connection keeps then, it kept before, loaded or refused: tables that held no history hold none
+abbrev pub KeptBefore : {S : Type 0} → Ghosts S → Held S → Held S → Type 0
+KeptBefore g old new = (r : Retained) → KeepsHistory g new r → IsClean (device_below g new) → IsOpen (device_below g new) → KeepsHistory g old r
+
 -- it is a fault only where the device failed, or where they hold no history
 abbrev pub HasNoneOrFailed : {S : Type 0} → Ghosts S → Held S → Held S → Result Loaded TablesError → Type 0
 HasNoneOrFailed g old new result = result ≡ Err refusals.Fault → IsOpen (device_below g old)

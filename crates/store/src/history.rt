@@ -10,10 +10,10 @@ ghost use Rattle.sqlite.specs.declared.error.ErrorCode.TheVariants.{OutOfMemory}
 ghost use Rattle.names.specs.declared.commit.Commit.TheVariants as kinds;
 ghost use Rattle.rows.specs.Loads.{IsWithin, retained_of};
 ghost use Rattle.rows.specs.Retained.{empty_store};
-ghost use Rattle.tables.specs.Device.{HasFailed, IsOpen};
+ghost use Rattle.tables.specs.Device.{HasFailed, IsClean, IsOpen};
 ghost use Rattle.tables.specs.Storing.{CanStore, CanTrim};
 ghost use Rattle.store.specs.inside.Asking.{told_as};
-ghost use Rattle.store.specs.History.{KeepsHistory, KeepsOn, LeavesAlone, LeavesAtMostNew, LeavesNext, LeavesTrimmed, FindsHistory, HasNoneOrFailed, HasFailedIf, IsSettled, Commits, Trims, device_below};
+ghost use Rattle.store.specs.History.{KeepsHistory, KeepsOn, LeavesAlone, LeavesAtMostNew, LeavesNext, LeavesTrimmed, FindsHistory, KeptBefore, HasNoneOrFailed, HasFailedIf, IsSettled, Commits, Trims, device_below};
 
 use crate::reading::read;
 use crate::texts::events_of;
@@ -211,12 +211,15 @@ pub(crate) fn load_history<S: Alter>(
     ensures idle { conn.new.in_transaction ≡ false }
     ensures held { IfOk result (λ l. KeepsHistory S.Store conn.new (retained_of l)) }
     ensures open { OnOk result (IsOpen (device_below S.Store conn.new)) }
+    ensures found { IfOk result (λ l. IsClean (device_below S.Store conn.new) → KeepsHistory S.Store conn.old (retained_of l)) }
     ensures same { FindsHistory S.Store conn.old conn.new result }
     ensures within { IfOk result IsWithin }
     ensures kept { KeepsOn S.Store conn.old conn.new }
+    ensures only { KeptBefore S.Store conn.old conn.new }
     ensures quiet { LeavesAlone S.Store conn.old conn.new }
     ensures caused { HasNoneOrFailed S.Store conn.old conn.new result }
 {
+    see_settled(conn);
     let stored = match load(alloc, conn) {
         Ok(stored) => stored,
         Err(error) => return Err(why(conn, &error)),

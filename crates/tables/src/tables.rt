@@ -35,13 +35,17 @@ pub trait Tables {
     // How often they refused for another cause than memory.
     ghost count: { Self → ℕ };
 
-    /// All that the tables hold. They refuse with `Fault` also where they hold no history.
+    /// All that the tables hold. They refuse with `Fault` also where they hold no history, and are not mended: whatever
+    /// they hold afterwards, they held before.
     fn load(&mut self, alloc: Global) -> Result<Loaded, TablesError>
         ensures held { IfOk result (λ loaded. holds self.new (retained_of loaded)) }
         ensures within { IfOk result IsWithin }
         ensures open { OnOk result (IsOpen (device self.new)) }
+        ensures found { IfOk result (λ loaded. IsClean (device self.new) → holds self.old (retained_of loaded)) }
         ensures same { (r : Retained) → holds self.old r → IsClean (device self.new)
             → IfOk result (λ loaded. retained_of loaded ≡ r) }
+        ensures only { (r : Retained) → holds self.new r → IsClean (device self.new) → IsOpen (device self.new)
+            → holds self.old r }
         ensures kept { (r : Retained) → holds self.old r → holds self.new r }
         ensures left { (rs : List Retained) → leaves self.old rs → leaves self.new rs }
         ensures lasts { Lasts (device self.old) (device self.new) }

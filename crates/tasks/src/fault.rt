@@ -4,10 +4,8 @@ ghost use Rattle.tasks.specs.Faults.{fault_status};
 
 use names::Refusal;
 use std::alloc::AllocError;
-use std::fmt;
-use std::fmt::{Display, Formatter};
 
-/// Why the program ends before its work is done. Its text is the line on standard error.
+/// Why the program ends before its work is done.
 #[derive(Debug, Drop)]
 pub enum Fault {
     /// The command line is none of the program's.
@@ -33,27 +31,6 @@ impl Fault {
             Fault::CannotRead => 1,
             Fault::CannotWrite => 1,
             Fault::CannotListen => 1,
-        }
-    }
-}
-
-impl Display for Fault {
-    ghost use Rattle.std.specs.Prelude.{Some};
-    ghost use Rattle.tasks.specs.Faults.{fault_text};
-
-    ghost output = { λ f. Some (fault_text f) };
-
-    fn fmt<W: fmt::Write>(&self, f: &mut Formatter<W>) -> fmt::Result {
-        match self {
-            Fault::CommandLine => f.write_str("zanz: bad command line"),
-            Fault::Refused(refusal) => {
-                let number = refusal.number();
-                let name = refusal.name();
-                write!(f, "zanz: refused {number} {name}")
-            }
-            Fault::CannotRead => f.write_str("zanz: cannot read"),
-            Fault::CannotWrite => f.write_str("zanz: cannot write"),
-            Fault::CannotListen => f.write_str("zanz: cannot listen"),
         }
     }
 }

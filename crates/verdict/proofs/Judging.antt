@@ -6,7 +6,7 @@ use Rattle.names.specs.declared.write.Op.{Op}
 use Rattle.names.specs.declared.write.Condition.{Condition}
 use Rattle.names.specs.declared.write.Write.{Write}
 use Rattle.names.specs.declared.refusal.Refusal.{Refusal}
-use Rattle.names.specs.declared.refusal.Refusal.TheVariants.{Malformed, UnknownRelation, TypeRefused, TwiceInOneWrite, ForeignZookie, Future, Expired, ConditionFailed, AlreadyThere, NotThere, Full, Memory}
+use Rattle.names.specs.declared.refusal.Refusal.TheVariants.{Malformed, UnknownRelation, TypeRefused, TwiceInOneWrite, ForeignZookie, Future, Expired, ConditionFailed, AlreadyThere, NotThere, Full}
 use Rattle.meaning.specs.Verdict.{or_else, refused_if, at_place, first_from, is_in_range, is_unknown, is_untyped, is_twice, inserts_again, deletes_nothing, is_full, event_of, write_cause}
 use Rattle.zookie.specs.declared.Zookie.{Zookie}
 use Rattle.rows.specs.Retained.{Retained, newest, newest_of}
@@ -33,6 +33,14 @@ unlike cause why other is = by (comes_after why) (sym (let same : cause ≡ why 
     by : (b : Bool) → b ≡ not b → ⊥
     by true h = true≢false h
     by false h = true≢false (sym h)
+
+not_true : (b : Bool) → not b ≡ true → b ≡ false
+not_true true is = absurd (true≢false (sym is))
+not_true false is = refl
+
+not_false : (b : Bool) → not b ≡ false → b ≡ true
+not_false true is = refl
+not_false false is = absurd (true≢false is)
 
 none : {A : Type 0} (x : A) → Some x ≡ None → ⊥
 none x is = absurd (cc is)
@@ -114,10 +122,6 @@ module _ (r : Retained) (write : Write Zookie) where
       let n = newest_of r in
       of_presence (first_from (inserts_again n.held.tuples) 0 write.ops) (first_from (deletes_nothing n.held.tuples) 0 write.ops) (is_full n (map event_of write.ops))
 
-  refused : (why : Refusal) → verdict r write ≡ Some why → RefusesWrite r write why
-  refused Memory is = tt
-  refused _ is = is
-
   -- more conditions than there may be
   pub too_many : MAX_CONDITIONS < length write.conditions → RefusesWrite r write Malformed
   too_many many = malformed (not (is_in_range write.ops)) (not (are_few write.conditions)) _ (grind (arith, many))
@@ -127,11 +131,10 @@ module _ (r : Retained) (write : Write Zookie) where
     not_many = grind (arith, few)
 
     early_cause : (why : Refusal) → not (comes_after why) ≡ true → WriteRefused (newest_of r) write.ops why → RefusesWrite r write why
-    early_cause Memory early was = tt
-    early_cause _ early was =
+    early_cause why early was =
         let n = newest_of r in let ops = write.ops in
         stays (not (is_in_range ops)) (not (are_few write.conditions)) (list_any (is_unknown n.held.config) ops) (list_any (is_untyped n.held.config) ops) (is_twice ops)
-        presence (or_else (condition_cause r write.conditions) presence) _ not_many (presence_after _ _ _ _ (cc early)) was
+        presence (or_else (condition_cause r write.conditions) presence) why not_many (presence_after _ _ _ why (not_true (comes_after why) early)) was
 
     pub before : (j : Result (Unit {0}) Refusal) → comes_before j ≡ true → IfErr j (WriteRefused (newest_of r) write.ops) → IfErr j (RefusesWrite r write)
     before (Ok u) early was = tt
@@ -157,8 +160,7 @@ module _ (r : Retained) (write : Write Zookie) where
         presence (or_else (condition_cause r write.conditions) presence) why not_many later is
 
     none_before : (why : Refusal) → not (comes_after why) ≡ false → WriteRefused (newest_of r) write.ops why → Whole (Some why)
-    none_before Memory late was = absurd (true≢false late)
-    none_before why late was = later_cause why (cc late) was
+    none_before why late was = later_cause why (not_false (comes_after why) late) was
 
     by_conditions : {found : Option Refusal} → Whole found → (cause : Option Refusal) → condition_cause r write.conditions ≡ cause → verdict r write ≡ or_else cause presence
     by_conditions d cause is = d.whole ∙ ap (λ (o : Option Refusal). or_else o presence) is
@@ -166,8 +168,8 @@ module _ (r : Retained) (write : Write Zookie) where
     -- refused for its conditions
     pub failed : (j : Result (Unit {0}) Refusal) (why : Refusal) → comes_before j ≡ false → OnOk j (IsAccepted (newest_of r) write.ops) → IfErr j (WriteRefused (newest_of r) write.ops)
         → condition_cause r write.conditions ≡ Some why → RefusesWrite r write why
-    failed (Ok u) why late ok err is = refused why (by_conditions (none_early ok) (Some why) is)
-    failed (Err e) why late ok err is = refused why (by_conditions (none_before e late err) (Some why) is)
+    failed (Ok u) why late ok err is = by_conditions (none_early ok) (Some why) is
+    failed (Err e) why late ok err is = by_conditions (none_before e late err) (Some why) is
 
     -- its conditions hold
     pub passed_ok : (j : Result (Unit {0}) Refusal) → OnOk j (IsAccepted (newest_of r) write.ops) → condition_cause r write.conditions ≡ None → OnOk j (verdict r write ≡ None)
@@ -176,4 +178,4 @@ module _ (r : Retained) (write : Write Zookie) where
 
     pub passed_err : (j : Result (Unit {0}) Refusal) → comes_before j ≡ false → IfErr j (WriteRefused (newest_of r) write.ops) → condition_cause r write.conditions ≡ None → IfErr j (RefusesWrite r write)
     passed_err (Ok u) late err is = tt
-    passed_err (Err e) late err is = let d = none_before e late err in refused e (by_conditions d None is ∙ d.left)
+    passed_err (Err e) late err is = let d = none_before e late err in by_conditions d None is ∙ d.left

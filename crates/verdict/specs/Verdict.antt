@@ -6,7 +6,7 @@ use Rattle.names.specs.declared.write.Condition.{Condition}
 use Rattle.names.specs.declared.write.Condition.TheVariants.{Exists, Absent, Unchanged}
 use Rattle.names.specs.declared.write.Write.{Write}
 use Rattle.names.specs.declared.refusal.Refusal.{Refusal}
-use Rattle.names.specs.declared.refusal.Refusal.TheVariants.{Malformed, UnknownRelation, TypeRefused, TwiceInOneWrite, ForeignZookie, Future, Expired, ConditionFailed, AlreadyThere, NotThere, Full, Memory}
+use Rattle.names.specs.declared.refusal.Refusal.TheVariants.{Malformed, UnknownRelation, TypeRefused, TwiceInOneWrite, ForeignZookie, Future, Expired, ConditionFailed, AlreadyThere, NotThere, Full}
 use Rattle.meaning.specs.TupleSet as set
 use Rattle.meaning.specs.Verdict.{or_else, refused_if, at_place, first_from, is_in_range, is_unknown, is_untyped, is_twice, inserts_again, deletes_nothing, is_full, event_of}
 use Rattle.zookie.specs.declared.Zookie.{Zookie}
@@ -69,7 +69,6 @@ verdict r write =
 abbrev pub AcceptsWrite : Retained → Write Zookie → Type 0
 AcceptsWrite r write = verdict r write ≡ None
 
--- the first cause; or there was no memory
+-- this is the first cause
 abbrev pub RefusesWrite : Retained → Write Zookie → Refusal → Type 0
-RefusesWrite r write Memory = Unit {0}
 RefusesWrite r write why = verdict r write ≡ Some why

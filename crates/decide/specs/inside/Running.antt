@@ -11,7 +11,7 @@ use Rattle.decide.specs.declared.search.Search.{Search}
 use Rattle.decide.specs.declared.search.Opened.{Opened}
 use Rattle.decide.specs.inside.Under.{Under}
 use Rattle.decide.specs.inside.Reads.{IsKept}
-use Rattle.decide.specs.inside.Searches.{Stands, IsStacked, Waits}
+use Rattle.decide.specs.inside.Searches.{Stands, IsStacked, Waits, AreFalling}
 
 -- a member for which the number does not wait
 abbrev pub IsHope : Snap → Object → Search → ℕ → ℕ → Node → Type 0
@@ -27,6 +27,8 @@ pub record IsRunning (S : Snap) (u : Object) (s : Search) (but : Option ℕ) : T
   pub stack_there : (i : ℕ) (e : Opened) → Stands s i e → e.level < length s.stacks.items
   pub waiting_there : (i w : ℕ) (e : Opened) → Stands s i e → Contains e.waiting.items w → w < length s.opened.items
   pub stacked_there : (l i : ℕ) → IsStacked s l i → i < length s.opened.items
+  pub leveled : (l i : ℕ) (e : Opened) → IsStacked s l i → Stands s i e → e.level ≡ l
+  pub falling : AreFalling s.frames.items
   pub right : (i : ℕ) (e : Opened) → Stands s i e → e.sure ≡ true → Under S u (suc e.level) e.node
   pub kept : (i : ℕ) (e : Opened) → Stands s i e → IsKept S u e
   pub covered : (i : ℕ) (e : Opened) → Stands s i e → e.sure ≡ false → (but ≡ Some i → ⊥) → IsStacked s e.level i ⊎ IsStuck S u s i e

@@ -1,9 +1,10 @@
 -- What stands in a search: the nodes that were opened, who waits for them, and which are to be looked at.
-use Rattle.std.specs.Prelude.{◌≡◌, ◌<◌, ◌⊎◌, ◌++◌, ◌∷◌, [], ℕ, List, false, Contains, Vec, None, length, slice_index_or, slice_set}
+use Rattle.std.specs.Prelude.{◌≡◌, ◌<◌, ◌⊎◌, ◌++◌, ◌∷◌, [], ℕ, List, false, Contains, Vec, None, length, count_by, slice_index_or, slice_set}
 use Rattle.std.specs.Global.{Global}
 use Rattle.names.specs.declared.node.Node.{Node}
 use Rattle.decide.specs.declared.search.Search.{Search}
 use Rattle.decide.specs.declared.search.Opened.{Opened}
+use Rattle.decide.specs.declared.search.Frame.{Frame}
 
 -- the node with the number was opened
 abbrev pub Stands : Search → ℕ → Opened → Type 0
@@ -26,11 +27,25 @@ pub record IsMore (e f : Opened) : Type 0 where
   pub sure : f.sure ≡ e.sure
   pub waiting : (i : ℕ) → Contains e.waiting.items i → Contains f.waiting.items i
 
--- nodes were opened, or others wait, or are to be looked at
+-- what was opened, who waits, and what is to be looked at is so still
+pub record Keeps (s t : Search) : Type 0 where
+  pub stands : (i : ℕ) (e : Opened) → Stands s i e → (f : Opened) × Stands t i f × IsMore e f
+  pub stacked : (l i : ℕ) → IsStacked s l i → IsStacked t l i
+  pub long : length t.stacks.items ≡ length s.stacks.items
+
+-- how many nodes are known to have the user
+abbrev pub sures : Search → ℕ
+sures s = count_by (λ e. e.sure) s.opened.items
+
+-- Nodes were opened, or others wait: nothing is to be looked at again, and of no node more is known.
 pub record Grew (s t : Search) : Type 0 where
   pub stands : (i : ℕ) (e : Opened) → Stands s i e → (f : Opened) × Stands t i f × IsMore e f
   pub stacked : (l i : ℕ) → IsStacked s l i → IsStacked t l i
   pub long : length t.stacks.items ≡ length s.stacks.items
+  pub frames : t.frames.items ≡ s.frames.items
+  pub sures : sures t ≡ sures s
+  pub rises : (length s.opened.items < length t.opened.items)
+      ⊎ ((t.stacks.items ≡ s.stacks.items) × (length t.opened.items ≡ length s.opened.items))
 
 -- the node has the number
 abbrev pub IsNodeAt : Search → Node → ℕ → Type 0
@@ -51,14 +66,29 @@ abbrev pub Opens : Search → Search → Node → (level place number : ℕ) →
 Opens s t n k p i =
     (e : Opened) × (t.opened.items ≡ s.opened.items ++ e ∷ []) × (e.node ≡ n) × (e.level ≡ k) × (e.place ≡ p) × (e.sure ≡ false)
     × (e.waiting.items ≡ []) × (e.own ≡ None) × (e.parents ≡ None) × (i ≡ length s.opened.items) × Pushes s.stacks.items t.stacks.items k i
+    × (t.frames.items ≡ s.frames.items)
 
 -- there is a stack for the node's level
 abbrev pub IsThere : Search → ℕ → Type 0
 IsThere s i = (e : Opened) → Stands s i e → e.level < length s.stacks.items
+
+-- the frame stands, so many above the first
+abbrev pub IsFrame : List Frame → ℕ → Frame → Type 0
+IsFrame frames i f = (i < length frames) × (slice_index_or frames i f ≡ f)
+
+-- each frame is of a lower level than those before it
+abbrev pub AreFalling : List Frame → Type 0
+AreFalling frames = (i j : ℕ) (f g : Frame) → i < j → IsFrame frames i f → IsFrame frames j g → g.level < f.level
+
+-- the number's level is below that of each frame
+abbrev pub IsLowest : Search → ℕ → Type 0
+IsLowest s n = (i : ℕ) (e : Opened) (f : Frame) → Stands s n e → IsFrame s.frames.items i f → e.level < f.level
 
 -- the numbers are to be looked at
 pub record Wakes (s t : Search) (waiting : List ℕ) : Type 0 where
   pub long : length t.stacks.items ≡ length s.stacks.items
   pub stays : (l i : ℕ) → IsStacked s l i → IsStacked t l i
   pub woken : (w : ℕ) (e : Opened) → Contains waiting w → Stands s w e → IsStacked t e.level w
-  pub only : (l i : ℕ) → IsStacked t l i → IsStacked s l i ⊎ Contains waiting i
+  pub only : (l i : ℕ) → IsStacked t l i
+      → IsStacked s l i ⊎ (Contains waiting i × ((e : Opened) → Stands s i e → e.level ≡ l))
+  pub falling : AreFalling s.frames.items → AreFalling t.frames.items

@@ -1,8 +1,6 @@
--- Why a change is not posted.
-use Rattle.std.specs.Prelude.{◌≡◌}
+-- Why a change is not posted that was judged and accepted.
 use Rattle.names.specs.declared.refusal.Refusal.{Refusal}
-use Rattle.names.specs.declared.refusal.Refusal.TheVariants.{Memory}
 
--- want of memory alone
-abbrev pub IsMemory : Refusal → Type 0
-IsMemory why = why ≡ Memory
+-- nothing speaks against it any more
+abbrev pub NoCause : Refusal → Type 0
+NoCause why = ⊥

@@ -1,6 +1,9 @@
 use Rattle.std.proofs.Common.{Some, sym, ◌∙◌}
 use Rattle.std.proofs.lemmas.Bool.{false≢true}
 use Rattle.decide.proofs.Turns.{waiting_all_there, member_given, no_member_stuck, number_here}
+use Rattle.decide.proofs.Elements.{holds_some}
+use Rattle.decide.proofs.SearchLemmas.{grew_refl}
+use Rattle.decide.proofs.Turning.{turned_none, turned_given}
 use Rattle.decide.proofs.deciding.look.Goals as goal
 
 pub give-requires-clause-there : goal.give-requires-clause-there
@@ -23,3 +26,18 @@ step-requires-clause-asking g c = record {
   running = c.requires.running;
   number = number_here c.args.source.now.view.now c.args.source.now.user.now c.args.search.now c.args.number c.level_of-level.result c.in_ok-node.node c.requires.number c.in_ok-node.ensures c.level_of-level.ensures;
 }
+
+pub step-requires-clause-unsure : goal.step-requires-clause-unsure
+step-requires-clause-unsure g c e at = c.is_sure.ensures e at ∙ c.if-is_sure.false
+
+pub returns-then-is_sure-clause-turned : goal.returns-then-is_sure-clause-turned
+returns-then-is_sure-clause-turned g c = turned_none c.args.search.now
+
+pub returns-in-Some-false-clause-turned : goal.returns-in-Some-false-clause-turned
+returns-in-Some-false-clause-turned g c = turned_none c.args.search.now
+
+pub returns-in_ok-give-in-Some-true-clause-turned : goal.returns-in_ok-give-in-Some-true-clause-turned
+returns-in_ok-give-in-Some-true-clause-turned g c =
+    let s = c.args.search.now in
+    let (e, at) = holds_some s.opened.items c.args.number c.requires.number in
+    turned_given s s (grew_refl s) c.args.number e c.give.new.self at (c.is_sure.ensures e at ∙ c.if-is_sure.false) c.in_ok-give-in-Some-true.ensures.long c.in_ok-give-in-Some-true.ensures.sures

@@ -7,7 +7,8 @@ use Rattle.decide.specs.inside.Asked.{Counts, IsLeft}
 use Rattle.decide.specs.inside.Given.{Gave}
 use Rattle.decide.proofs.SearchLemmas.{grew_refl, grew_trans}
 use Rattle.decide.proofs.Parts.{some_at, each_at, each_left, each_none}
-use Rattle.decide.proofs.Found.{goes_more, some_more, union_found, asking_subtracted, asking_back, without_gave}
+use Rattle.std.proofs.lemmas.Bool.{false≢true}
+use Rattle.decide.proofs.Found.{goes_more, some_more, union_found, unfinished_grows, asking_subtracted, asking_back, without_gave}
 use Rattle.decide.proofs.rewrites.+gives.Goals.{some_gives-in-No, some_gives-in-Later}
 use Rattle.decide.proofs.rewrites.+gives.Goals as goal
 
@@ -25,6 +26,9 @@ each_gives-returns-in-No-clause-found t c = λ all.
 
 pub each_gives-returns-in-Later-clause-goes_on : goal.each_gives-returns-in-Later-clause-goes_on
 each_gives-returns-in-Later-clause-goes_on t c = goes_more c.args.source.now.view.now c.args.source.now.user.now c.args.asking.now c.args.search.now c.loop-part.search c.gives.new.search c.loop-part.invariant.1 c.in_ok-gives.ensures.goes_on
+
+pub each_gives-returns-in-Later-clause-found : goal.each_gives-returns-in-Later-clause-found
+each_gives-returns-in-Later-clause-found t c = subst (Gave c.args.source.now.view.now c.args.source.now.user.now c.gives.new.search c.args.asking.now (form_of c.part-item.result)) c.in-Later.is c.in_ok-gives.ensures.found
 
 pub each_gives-loop-part-preserved : goal.each_gives-loop-part-preserved
 each_gives-loop-part-preserved t c = (
@@ -46,7 +50,7 @@ each_gives-returns-clause-found t c = c.loop-part.invariant.2
     c.args.parts.now c.loop-part.part-index (omega (arith, c.loop-part-test.false)))
 
 pub some_gives-loop-part-init : goal.some_gives-loop-part-init
-some_gives-loop-part-init t c = (c.requires.asking, grew_refl c.args.search.now, λ e w g h. h)
+some_gives-loop-part-init t c = (c.requires.asking, grew_refl c.args.search.now, λ e w g h. h, λ e. absurd (false≢true e))
 
 pub some_gives-returns-in-Yes-clause-goes_on : goal.some_gives-returns-in-Yes-clause-goes_on
 some_gives-returns-in-Yes-clause-goes_on t c = goes_more c.args.source.now.view.now c.args.source.now.user.now c.args.asking.now c.args.search.now c.loop-part.search c.gives.new.search c.loop-part.invariant.1 c.in_ok-gives.ensures.goes_on
@@ -67,6 +71,10 @@ some_gives-loop-part-preserved t c = (
         (subst (Gave c.args.source.now.view.now c.args.source.now.user.now c.gives.new.search c.args.asking.now (form_of c.part-item.result)) w.in-No.is c.in_ok-gives.ensures.found)
     | some_gives-in-Later w ↦ λ e. cc
   ],
+  elim c.match-branch-2.branch [
+    | some_gives-in-No w ↦ λ e. unfinished_grows c.loop-part.search c.gives.new.search c.args.asking.now.level c.in_ok-gives.ensures.goes_on.grew (c.loop-part.invariant.3 (sym w.later-is ∙ e))
+    | some_gives-in-Later w ↦ λ e. subst (Gave c.args.source.now.view.now c.args.source.now.user.now c.gives.new.search c.args.asking.now (form_of c.part-item.result)) w.in-Later.is c.in_ok-gives.ensures.found
+  ],
 )
 
 pub some_gives-returns-clause-goes_on : goal.some_gives-returns-clause-goes_on
@@ -75,7 +83,7 @@ some_gives-returns-clause-goes_on t c = record { asking = c.loop-part.invariant.
 pub some_gives-returns-clause-found : goal.some_gives-returns-clause-found
 some_gives-returns-clause-found t c =
     subst (Gave c.args.source.now.view.now c.args.source.now.user.now c.loop-part.search c.args.asking.now (Union (rewrite_forms c.args.parts.now))) (sym c.no_or_later.ensures)
-    (union_found c.args.source.now.view.now c.args.source.now.user.now c.args.asking.now c.loop-part.search c.args.parts.now c.loop-part.later c.loop-part.part-index (omega (arith, c.loop-part-test.false)) c.loop-part.invariant.2)
+    (union_found c.args.source.now.view.now c.args.source.now.user.now c.args.asking.now c.loop-part.search c.args.parts.now c.loop-part.later c.loop-part.part-index (omega (arith, c.loop-part-test.false)) c.loop-part.invariant.2 c.loop-part.invariant.3)
 
 pub gives-returns-in_ok-found-in-Yes-clause-goes_on : goal.gives-returns-in_ok-found-in-Yes-clause-goes_on
 gives-returns-in_ok-found-in-Yes-clause-goes_on t c = goes_more c.args.source.now.view.now c.args.source.now.user.now c.args.asking.now c.args.search.now c.gives.new.search c.without.new.search c.in_ok-gives-in-Exclusion.ensures.goes_on.grew c.in_ok-found-in-Yes.ensures.goes_on

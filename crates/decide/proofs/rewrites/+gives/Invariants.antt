@@ -1,4 +1,5 @@
-use Rattle.std.proofs.Common.{◌≡◌, false, drop}
+use Rattle.std.proofs.Common.{◌≡◌, true, false, drop}
+use Rattle.decide.specs.inside.Ending.{IsUnfinished}
 use Rattle.meaning.specs.Membership.{SomeGives, EachGives}
 use Rattle.config_core.specs.Forms.{rewrite_forms}
 use Rattle.decide.specs.inside.Under.{Under}
@@ -22,3 +23,4 @@ invariant-some_gives-loop-part l =
     × (l.later ≡ false → (w : Search) → Grew l.search w
     → SomeGives l.source.view.now l.source.user.now l.asking.node.now (rewrite_forms l.parts) (IsLeft l.source.view.now l.source.user.now w l.asking) (Under l.source.view.now l.source.user.now l.asking.level)
     → SomeGives l.source.view.now l.source.user.now l.asking.node.now (rewrite_forms (drop l.part-index l.parts)) (IsLeft l.source.view.now l.source.user.now w l.asking) (Under l.source.view.now l.source.user.now l.asking.level))
+    × (l.later ≡ true → IsUnfinished l.search l.asking.level)

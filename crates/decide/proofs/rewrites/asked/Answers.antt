@@ -1,7 +1,7 @@
 use Rattle.std.proofs.Common.{◌∙◌, subst}
 use Rattle.std.specs.Prelude.{Some, IfSome}
 use Rattle.decide.specs.inside.Asked.{IsCounted}
-use Rattle.decide.proofs.Found.{goes_on, counted_sure, counted_waits, counted_settled}
+use Rattle.decide.proofs.Found.{goes_on, counted_sure, counted_waits, counted_settled, counted_unfinished}
 use Rattle.decide.proofs.SearchLemmas.{grew_trans}
 use Rattle.decide.proofs.rewrites.asked.Goals as goal
 
@@ -41,7 +41,7 @@ returns-then-is_settled-clause-found c =
     counted_settled view c.args.source.now.user.now a t c.args.node.now c.in-Some.number c.level_of-level.result c.in_ok-number.ensures.goes_on.asking
     c.if-asking.false counted c.level_of-level.ensures
     (λ e st. c.is_sure.ensures e st ∙ c.if-is_sure.false)
-    (c.is_settled.ensures c.if-is_settled.true)
+    (c.is_settled.ensures.yes c.if-is_settled.true)
 
 pub returns-clause-goes_on : goal.returns-clause-goes_on
 returns-clause-goes_on c =
@@ -51,3 +51,11 @@ returns-clause-goes_on c =
     goes_on view c.args.source.now.user.now a c.args.search.now c.wait-2.new.self c.requires.asking
     (grew_trans c.args.search.now c.number_of.new.search c.wait-2.new.self went.grew c.in_ok-wait-2.ensures.grew)
     (c.in_ok-wait-2.ensures.running view c.args.source.now.user.now (Some a.number) went.asking.number.1.0 went.asking.running)
+
+pub returns-clause-found : goal.returns-clause-found
+returns-clause-found c =
+    let view = c.args.source.now.view.now in
+    let a = c.args.asking.now in
+    let t = c.number_of.new.search in
+    let counted : IsCounted view t a c.args.node.now c.in-Some.number = subst (λ o. IfSome o (IsCounted view t a c.args.node.now)) c.in-Some.is c.in_ok-number.ensures.some in
+    counted_unfinished view t c.wait-2.new.self a c.args.node.now c.in-Some.number c.level_of-level.result c.if-asking.false counted c.level_of-level.ensures (c.is_settled.ensures.no c.if-is_settled.false) c.in_ok-wait-2.ensures.grew

@@ -1,6 +1,6 @@
 use Rattle.std.proofs.Common.{◌<◌, ◌≤◌, subst, arith}
 use Rattle.std.specs.Prelude.{Some}
-use Rattle.decide.proofs.Found.{goes_on, too_high, no_relation, opened_at, opened_counts, asker_there, high_low}
+use Rattle.decide.proofs.Found.{goes_refl, goes_on, too_high, no_relation, opened_at, opened_counts, asker_there, high_low}
 use Rattle.decide.proofs.Opening.{opens_grew, opens_number, opens_running}
 use Rattle.decide.proofs.rewrites.number_of.Goals as goal
 
@@ -66,3 +66,18 @@ returns-clause-some c =
       c.level_at-level.ensures.at m stands,
       subst (λ h. level < h) c.high-2.ensures c.if-level-high.false,
     )
+
+pub returns-then-level_of-high-clause-goes_on : goal.returns-then-level_of-high-clause-goes_on
+returns-then-level_of-high-clause-goes_on c = goes_refl c.args.source.now.view.now c.args.source.now.user.now c.args.asking.now c.args.search.now c.requires.asking
+
+pub returns-in-Ok-clause-goes_on : goal.returns-in-Ok-clause-goes_on
+returns-in-Ok-clause-goes_on c = goes_refl c.args.source.now.view.now c.args.source.now.user.now c.args.asking.now c.args.search.now c.requires.asking
+
+pub returns-in_default-clause-goes_on : goal.returns-in_default-clause-goes_on
+returns-in_default-clause-goes_on c = goes_refl c.args.source.now.view.now c.args.source.now.user.now c.args.asking.now c.args.search.now c.requires.asking
+
+pub returns-then-level-high-clause-goes_on : goal.returns-then-level-high-clause-goes_on
+returns-then-level-high-clause-goes_on c = goes_refl c.args.source.now.view.now c.args.source.now.user.now c.args.asking.now c.args.search.now c.requires.asking
+
+pub level_at-level-requires-clause-place : goal.level_at-level-requires-clause-place
+level_at-level-requires-clause-place c = (c.in-Some.ensures.some c.args.source.now.user.now (Some c.args.asking.now.number) c.requires.asking.running).within

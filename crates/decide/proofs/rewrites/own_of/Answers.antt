@@ -6,6 +6,7 @@ use Rattle.meaning.specs.Config.{Has, rel_of}
 use Rattle.meaning.specs.Membership.{HasOne, HasSet}
 use Rattle.meaning.specs.Snap.{Snap}
 use Rattle.decide.proofs.Found.{goes_read}
+use Rattle.decide.specs.inside.Reads.{AreOwn}
 use Rattle.decide.proofs.rewrites.own_of.Goals as goal
 
 pub returns-in-Some-clause-goes_on : goal.returns-in-Some-clause-goes_on
@@ -38,3 +39,9 @@ returns-clause-some c =
       only = subst (λ (S : Snap). (m : Node) → Contains sets m → HasSet S n m) same c.in_ok-sets.ensures.only;
       all = subst (λ (S : Snap). (m : Node) → HasSet S n m → Has S.config (rel_of m) → Contains sets m) same c.in_ok-sets.ensures.all;
     }
+
+pub returns-in-Some-clause-some : goal.returns-in-Some-clause-some
+returns-in-Some-clause-some c =
+    let number = c.requires.asking.number in
+    let of_it = c.in-Some.ensures.own c.args.source.now.view.now c.args.source.now.user.now (Some c.args.asking.now.number) c.requires.asking.running number.0 number.1 in
+    subst (λ n. AreOwn c.args.source.now.view.now c.args.source.now.user.now n c.in-Some.sets.items) number.2 of_it

@@ -1,4 +1,5 @@
-use Rattle.std.proofs.Common.{◌≡◌, false}
+use Rattle.std.proofs.Common.{◌≡◌, true, false}
+use Rattle.decide.specs.inside.Ending.{IsUnfinished}
 use Rattle.decide.specs.inside.Asked.{IsAsking}
 use Rattle.decide.specs.inside.Searches.{Grew}
 use Rattle.decide.proofs.Found.{IsNoneBefore}
@@ -10,3 +11,4 @@ invariant-loop-node l =
     IsAsking l.source.view.now l.source.user.now l.search l.asking
     × Grew l.fn.search l.search
     × (l.later ≡ false → IsNoneBefore l.source.view.now l.source.user.now l.asking l.search l.nodes l.node-index)
+    × (l.later ≡ true → IsUnfinished l.search l.asking.level)

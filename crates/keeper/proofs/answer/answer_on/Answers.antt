@@ -1,4 +1,4 @@
-use Rattle.names.specs.declared.call.Call.TheVariants.{Write, Config, Check, Read, Expand, Watch, Trim, CatchUp, State}
+use Rattle.names.specs.declared.call.Call.TheVariants.{Write, Config, Check, Read, Expand, Leopard, Watch, Trim, CatchUp, State}
 use Rattle.keeper.proofs.Answering.{step_of}
 use Rattle.keeper.proofs.answer.answer_on.Goals as goal
 
@@ -16,6 +16,9 @@ returns-in-Read-clause-step g c = step_of g.T.Tables c.args.desk.now _ Read _ _ 
 
 pub returns-in-Expand-clause-step : goal.returns-in-Expand-clause-step
 returns-in-Expand-clause-step g c = step_of g.T.Tables c.args.desk.now _ Expand _ _ _ c.in-Expand.is c.answer_expand.ensures.step
+
+pub returns-in-Leopard-clause-step : goal.returns-in-Leopard-clause-step
+returns-in-Leopard-clause-step g c = step_of g.T.Tables c.args.desk.now _ Leopard _ _ _ c.in-Leopard.is c.answer_groups.ensures.step
 
 pub returns-in-Watch-clause-step : goal.returns-in-Watch-clause-step
 returns-in-Watch-clause-step g c = step_of g.T.Tables c.args.desk.now _ Watch _ _ _ c.in-Watch.is c.answer_watch.ensures.step

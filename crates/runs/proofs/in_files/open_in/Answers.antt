@@ -8,7 +8,7 @@ use Rattle.runs.proofs.Imaged.{cannot_begin, deserved_in, deserved_unopened, is_
 use Rattle.runs.proofs.in_files.open_in.Goals as goal
 
 pub returns-in-Ok-open_over-clause-ok : goal.returns-in-Ok-open_over-clause-ok
-returns-in-Ok-open_over-clause-ok g c = opened_in (image_at g.P.Start) c.in-Ok.conn c.in-Ok.ensures.found c.args.store _ c.in-Ok-open_over.ensures.ok
+returns-in-Ok-open_over-clause-ok g c = opened_in (image_at g.P.Start) c.in-Ok.conn c.in-Ok.ensures.sees c.in-Ok.ensures.found c.args.store _ c.in-Ok-open_over.ensures.ok
 
 pub returns-in-Ok-open_over-clause-begun : goal.returns-in-Ok-open_over-clause-begun
 returns-in-Ok-open_over-clause-begun g c = λ cannot clean. c.in-Ok-open_over.ensures.taken

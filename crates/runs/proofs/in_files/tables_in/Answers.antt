@@ -9,9 +9,9 @@ use Rattle.runs.proofs.Starting.{begins, failed_deserved, failed_lasts, failed_l
 use Rattle.runs.proofs.in_files.tables_in.Goals as goal
 
 pub returns-in-Ok-tables_over-clause-ok : goal.returns-in-Ok-tables_over-clause-ok
-returns-in-Ok-tables_over-clause-ok g c = λ r only.
-    begins_in (image_at g.P.Start) c.in-Ok.conn c.in-Ok.ensures.found c.args.store r
-    (begins over_files c.in-Ok.conn c.args.store (connection c.in-Ok-tables_over.tables) c.in-Ok-tables_over.ensures.ok r only)
+returns-in-Ok-tables_over-clause-ok g c = λ r keeps only.
+    begins_in (image_at g.P.Start) c.in-Ok.conn c.in-Ok.ensures.sees c.in-Ok.ensures.found c.args.store r
+    (begins over_files c.in-Ok.conn c.args.store (connection c.in-Ok-tables_over.tables) c.in-Ok-tables_over.ensures.ok r keeps only)
 
 pub returns-in-Ok-tables_over-clause-begun : goal.returns-in-Ok-tables_over-clause-begun
 returns-in-Ok-tables_over-clause-begun g c = λ cannot clean.

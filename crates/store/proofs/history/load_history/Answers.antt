@@ -10,10 +10,11 @@ use Rattle.rows.specs.Retained.{newest}
 use Rattle.store_core.specs.Numbered.{AreNumberedTo}
 use Rattle.store_core.specs.Tables.{Holds}
 use Rattle.store.specs.Refused.{IsHistoryOf}
-use Rattle.store.specs.History.{KeepsHistory}
+use Rattle.tables.specs.Device.{IsClean, IsOpen}
+use Rattle.store.specs.History.{KeepsHistory, device_below}
 use Rattle.store.proofs.Deserving.{if_both, on_ok}
 use Rattle.store.proofs.Leading.{can_load}
-use Rattle.store.proofs.Leaving.{clean_before, survives_quiet, numbered_more, committed_with, holds_now, keeps_same, keeps_stays, keeps_undone, keeps_twice, failed_in_two, failed_or_none}
+use Rattle.store.proofs.Leaving.{clean_before, survives_quiet, numbered_more, committed_with, holds_now, keeps_same, keeps_stays, keeps_undone, keeps_twice, kept_same, kept_undone, undoes_settled, undoes_twice, failed_in_two, failed_or_none}
 use Rattle.store.proofs.Once.{history_same}
 use Rattle.store.proofs.history.load_history.Goals as goal
 
@@ -26,7 +27,7 @@ returns-clause-held g c =
     let same = c.in-Ok.ensures.same clean f.1.schema_is in
     let now_is = same.0.now_is in
     let last = (c.in-Ok.ensures.last clean f.1.schema_is).numbered in
-    committed_with new f.0 (retained_of l) (sym (c.see_settled.ensures.settled is_open)) (subst (λ (d : Database). Holds d f.0) (sym now_is) f.1) (c.see_settled.ensures.live is_open).0 (is f.0 f.2)
+    committed_with new f.0 (retained_of l) (sym (c.see_settled-2.ensures.settled is_open)) (subst (λ (d : Database). Holds d f.0) (sym now_is) f.1) (c.see_settled-2.ensures.live is_open).0 (is f.0 f.2)
     (numbered_more c.in-Ok.stored.last_rowid (256 * newest (retained_of l)) new.now.trees most (subst (λ (t : Trees). AreNumberedTo c.in-Ok.stored.last_rowid t) (sym (ap (λ (d : Database). d.trees) now_is)) last)))
     c.read.ensures.is_history c.read.ensures.numbered
 
@@ -47,6 +48,16 @@ returns-clause-same g c = λ r keeps clean.
 pub returns-clause-kept : goal.returns-clause-kept
 returns-clause-kept g c = keeps_same g.S.Store c.args.conn.now c.load.new.conn (λ _. ⊥) c.load.ensures.crash (λ clean. let f = c.in-Ok.ensures.found clean in c.in-Ok.ensures.same clean f.1.schema_is)
 
+pub returns-clause-only : goal.returns-clause-only
+returns-clause-only g c = kept_same g.S.Store c.args.conn.now c.load.new.conn (λ clean. let f = c.in-Ok.ensures.found clean in c.in-Ok.ensures.same clean f.1.schema_is)
+
+pub returns-clause-found : goal.returns-clause-found
+returns-clause-found g c =
+    let new = c.load.new.conn in
+    let stands : IsOpen (device_below g.S.Store new) = λ clean. let f = c.in-Ok.ensures.found clean in (c.in-Ok.ensures.same clean f.1.schema_is).0.is_open in
+    IfOk-weaker c.read.result (λ l. KeepsHistory g.S.Store new (retained_of l)) (λ l. IsClean (device_below g.S.Store new) → KeepsHistory g.S.Store c.args.conn.now (retained_of l))
+    (λ l keeps clean. returns-clause-only g c (retained_of l) keeps clean stands) (returns-clause-held g c)
+
 pub returns-clause-caused : goal.returns-clause-caused
 returns-clause-caused g c = λ is was.
     let old = state g.S.Store c.args.conn.now in
@@ -62,6 +73,12 @@ pub returns-in-Err-clause-kept : goal.returns-in-Err-clause-kept
 returns-in-Err-clause-kept g c =
     keeps_twice g.S.Store c.args.conn.now c.load.new.conn c.why.new.conn (keeps_stays g.S.Store c.args.conn.now c.load.new.conn (λ _. ⊥) c.load.ensures.crash c.load.ensures.undone)
     (keeps_undone g.S.Store c.load.new.conn c.why.new.conn (λ _. ⊥) c.why.ensures.quiet c.why.ensures.undone)
+
+pub returns-in-Err-clause-only : goal.returns-in-Err-clause-only
+returns-in-Err-clause-only g c =
+    let before = undoes_settled g.S.Store c.args.conn.now c.load.new.conn c.see_settled.ensures.settled c.load.ensures.undone in
+    kept_undone g.S.Store c.args.conn.now c.why.new.conn c.see_settled.ensures.settled
+    (undoes_twice g.S.Store c.args.conn.now c.load.new.conn c.why.new.conn (λ _. ⊥) c.why.ensures.quiet before c.why.ensures.undone)
 
 pub returns-in-Err-clause-quiet : goal.returns-in-Err-clause-quiet
 returns-in-Err-clause-quiet g c = survives_quiet (state g.S.Store c.args.conn.now) (state g.S.Store c.load.new.conn) (state g.S.Store c.why.new.conn) (λ _. ⊥) c.load.ensures.crash c.why.ensures.quiet

@@ -6,7 +6,7 @@ use Rattle.decide.specs.declared.search.Opened.{Opened}
 use Rattle.decide.specs.declared.search.Search.{Search}
 use Rattle.decide.specs.inside.Searches.{IsStacked}
 use Rattle.decide.proofs.Elements.{Holds, holds_same, holds_stored}
-use Rattle.decide.proofs.Giving.{Gave, gave_numbers, gave_running, stored_before, stored_after}
+use Rattle.decide.proofs.Giving.{Gave, gave_numbers, gave_running, gave_sures, as_long, stored_before, stored_after}
 use Rattle.decide.proofs.search.Search.give.Goals as goal
 use Rattle.decide.proofs.search.Search.give.Goals.{After-deref, After-drop-waiting-2}
 
@@ -78,7 +78,13 @@ gave c =
       woken = λ w g waits standing.
           let (h, now, level) = stored_after xs c.args.number (before c) (emptied c) (stood c) refl w g standing in
           subst (λ k. IsStacked (given c) k w) level (wakes.woken w h (subst (λ ys. Contains ys w) (sym (waited c)) waits) now);
-      only = λ l j on. ⊎_elim inl (λ woken. inr (subst (λ ys. Contains ys j) (waited c) woken)) (wakes.only l j on);
+      only = λ l j on. ⊎_elim inl
+          (λ (woken, level). inr (
+            subst (λ ys. Contains ys j) (waited c) woken,
+            λ g standing. let (h, now, same) = stored_after xs c.args.number (before c) (emptied c) (stood c) refl j g standing in sym same ∙ level h now,
+          ))
+          (wakes.only l j on);
+      falling = wakes.falling;
     }
 
 pub returns-clause-numbers : goal.returns-clause-numbers
@@ -86,3 +92,9 @@ returns-clause-numbers c i k n = gave_numbers c.args.self.now (given c) c.args.n
 
 pub returns-clause-running : goal.returns-clause-running
 returns-clause-running c S u has = gave_running c.args.self.now (given c) c.args.number (before c) (after c) (gave c) S u (has (before c) (stood c))
+
+pub returns-clause-long : goal.returns-clause-long
+returns-clause-long c = as_long c.args.self.now (given c) c.args.number (before c) (after c) (gave c)
+
+pub returns-clause-sures : goal.returns-clause-sures
+returns-clause-sures c e at unsure = gave_sures c.args.self.now (given c) c.args.number (before c) (after c) (gave c) e at unsure

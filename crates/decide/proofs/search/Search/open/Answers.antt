@@ -16,4 +16,5 @@ returns c = (
   refl,
   search rules,
   (c.index_mut.result.now, c.push-2.new.self, sym c.index_mut.ensures.value, c.in_ok-push-2.ensures.items, refl),
+  refl,
 )

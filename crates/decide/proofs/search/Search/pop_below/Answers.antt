@@ -1,4 +1,4 @@
-use Rattle.std.proofs.Common.{rules, ◌≡◌, ◌<◌, ◌≤◌, ◌-◌, ℕ, List, length, get_or, set, ap, ◌∙◌, sym, subst, ⊎_elim, arith, inl, inr}
+use Rattle.std.proofs.Common.{rules, ◌≡◌, ◌<◌, ◌≤◌, ◌-◌, ◌++◌, ◌∷◌, [], ℕ, List, length, get_or, set, ap, ◌∙◌, sym, subst, ⊎_elim, arith, inl, inr}
 use Rattle.std.specs.Prelude.{Vec, Contains}
 use Rattle.std.specs.Option.{option_to_list}
 use Rattle.std.specs.Global.{Global}
@@ -7,6 +7,9 @@ use Rattle.std.proofs.lemmas.List.{length-set}
 use Rattle.decide.proofs.Elements.{Holds, holds_same, nothing_in}
 use Rattle.decide.proofs.Pushing.{IsOn}
 use Rattle.decide.proofs.Popping.{popped_before, popped_here, popped_rest, if_some}
+use Rattle.decide.specs.declared.search.Frame.{Frame}
+use Rattle.decide.specs.inside.Ending.{left_on}
+use Rattle.decide.proofs.Counting.{left_popped}
 use Rattle.decide.proofs.search.Search.pop_below.Goals as goal
 
 stood : (xs ys : List (Vec ℕ Global)) (left : ℕ) (v : Vec ℕ Global) → left ≤ length ys → 0 < left
@@ -40,6 +43,7 @@ loop-left-preserved c = record {
   frames = c.loop-left.invariant.frames;
   stacks = c.loop-left.invariant.stacks;
   there = omega (arith, c.loop-left.invariant.there);
+  low = omega (arith, c.loop-left.invariant.low);
   empty = λ k i above below on. ⊎_elim
       (λ less.
       let (v, lt, read, at) = on in
@@ -59,3 +63,25 @@ returns-clause-stacked c l i on = subst (λ xs. IsOn xs l i) c.loop-left.invaria
 
 pub returns-clause-empty : goal.returns-clause-empty
 returns-clause-empty c l i below on = c.loop-left.invariant.empty l i (omega arith) below on
+
+pub returns-then-not-is_empty-clause-below : goal.returns-then-not-is_empty-clause-below
+returns-then-not-is_empty-clause-below c = if_some c.pop.result _ (λ n is.
+    let one = ap option_to_list is in
+    let some : 0 < c.loop-left.left = c.loop-left-test.true in (
+      c.loop-left.left - 1,
+      omega (arith, some, c.loop-left.invariant.low),
+      popped_here c.args.self.now.stacks.items (c.loop-left.left - 1) c.index_mut.result.now c.pop.new.self (option_to_list c.pop.result) (stood c.loop-left.self.stacks.items c.args.self.now.stacks.items c.loop-left.left c.index_mut.result.now c.loop-left.invariant.there c.loop-left-test.true c.index_mut.ensures.value c.loop-left.invariant.stacks) c.pop.ensures.items n one,
+    ))
+
+pub returns-then-not-is_empty-clause-ends : goal.returns-then-not-is_empty-clause-ends
+returns-then-not-is_empty-clause-ends c = if_some c.pop.result _ (λ n is.
+    let old = c.args.self.now.stacks.items in
+    let k = c.loop-left.left - 1 in
+    let last : c.index_mut.result.now.items ≡ c.pop.new.self.items ++ n ∷ [] = c.pop.ensures.items ∙ ap (λ o. c.pop.new.self.items ++ option_to_list o) is in
+    let less : left_on (set old k c.pop.new.self) c.args.self.now.frames.items < left_on old c.args.self.now.frames.items =
+    left_popped old c.args.self.now.frames.items k c.index_mut.result.now c.pop.new.self n (stood c.loop-left.self.stacks.items old c.loop-left.left c.index_mut.result.now c.loop-left.invariant.there c.loop-left-test.true c.index_mut.ensures.value c.loop-left.invariant.stacks) last in
+    let stacks : left_on (set c.loop-left.self.stacks.items k c.pop.new.self) c.loop-left.self.frames.items ≡ left_on (set old k c.pop.new.self) c.loop-left.self.frames.items =
+    ap (λ xs. left_on (set xs k c.pop.new.self) c.loop-left.self.frames.items) c.loop-left.invariant.stacks in
+    let frames : left_on (set old k c.pop.new.self) c.loop-left.self.frames.items ≡ left_on (set old k c.pop.new.self) c.args.self.now.frames.items =
+    ap (λ (v : Vec Frame Global). left_on (set old k c.pop.new.self) v.items) c.loop-left.invariant.frames in
+    omega (arith, less, stacks, frames))

@@ -5,9 +5,10 @@ use Rattle.decide.proofs.search.Search.pop_below.Given as goal
 abbrev pub invariant-loop-left : goal.invariant-loop-left
 invariant-loop-left l = record {
   opened : l.self.opened.items ≡ l.fn.self.opened.items;
-  frames : l.self.frames.items ≡ l.fn.self.frames.items;
+  frames : l.self.frames ≡ l.fn.self.frames;
   stacks : l.self.stacks.items ≡ l.fn.self.stacks.items;
   there : l.left ≤ length l.fn.self.stacks.items;
+  low : l.left ≤ l.level;
   empty : (k i : ℕ) → l.left ≤ k → k < l.level → IsStacked l.fn.self k i → ⊥;
 }
 

@@ -1,9 +1,9 @@
 use Rattle.std.proofs.Common.{rules, ◌≡◌, ◌++◌, ◌∷◌, [], true, ap, refl, sym, ◌∙◌, subst}
 use Rattle.std.proofs.lemmas.List.Elements.{Contains-append_left, Contains-push}
 use Rattle.std.specs.Prelude.{Contains, nat_eq}
-use Rattle.std.specs.List.{list_any}
 use Rattle.decide.specs.declared.search.Opened.{Opened}
 use Rattle.decide.specs.inside.Searches.{IsMore}
+use Rattle.std.specs.List.{list_any}
 use Rattle.decide.proofs.Elements.{Holds, holds_same, holds_stored, contains_any}
 use Rattle.decide.proofs.SearchLemmas.{grew_refl}
 use Rattle.decide.proofs.Replacing.{replaced_grew, waiting_running}
@@ -32,7 +32,7 @@ more c = record {
 }
 
 pub returns-clause-grew : goal.returns-clause-grew
-returns-clause-grew c = replaced_grew c.args.self.now _ c.args.number (before c) (after c) (stood c) (more c) refl refl
+returns-clause-grew c = replaced_grew c.args.self.now _ c.args.number (before c) (after c) (stood c) (more c) refl refl refl
 
 pub returns-clause-waits : goal.returns-clause-waits
 returns-clause-waits c e at unsure =
@@ -49,7 +49,7 @@ returns-clause-waits c e at unsure =
 
 pub returns-clause-running : goal.returns-clause-running
 returns-clause-running c S u but there =
-    waiting_running c.args.self.now _ c.args.number (before c) (after c) (stood c) (more c) refl refl refl refl c.args.asker (pushed c) there S u but
+    waiting_running c.args.self.now _ c.args.number (before c) (after c) (stood c) (more c) refl refl refl refl refl c.args.asker (pushed c) there S u but
 
 pub returns-then-contains-clause-grew : goal.returns-then-contains-clause-grew
 returns-then-contains-clause-grew c = grew_refl c.args.self.now

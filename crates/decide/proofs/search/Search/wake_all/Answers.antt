@@ -30,7 +30,7 @@ loop-asker-preserved c =
     let (e, at) = holds_some c.args.self.now.opened.items number asked.0 in
     let now : Holds c.loop-asker.self.opened.items number e = subst (λ xs. Holds xs number e) (sym c.loop-asker.invariant.opened) at in
     let lt = asked.1 e at in
-    let one = wakes_one c.args.self.now c.loop-asker.self c.wake.new.self (take c.loop-asker.asker-index c.args.waiting.now) number e c.loop-asker.invariant.wakes at (omega (arith, lt, c.loop-asker.invariant.wakes.long)) (c.in_ok-wake.ensures.stacked e now) in
+    let one = wakes_one c.args.self.now c.loop-asker.self c.wake.new.self (take c.loop-asker.asker-index c.args.waiting.now) number e c.loop-asker.invariant.wakes at (omega (arith, lt, c.loop-asker.invariant.wakes.long)) (c.in_ok-wake.ensures.stacked e now) c.in_ok-wake.ensures.falling in
     let next : c.loop-asker.asker-index + 1 ≡ suc c.loop-asker.asker-index = omega arith in
     record {
       opened = c.in_ok-wake.ensures.opened ∙ c.loop-asker.invariant.opened;

@@ -1,4 +1,4 @@
-use Rattle.names.specs.declared.call.Call.TheVariants.{Write, Config, Check, Read, Expand, Watch, Trim, CatchUp}
+use Rattle.names.specs.declared.call.Call.TheVariants.{Write, Config, Check, Read, Expand, Leopard, Watch, Trim, CatchUp}
 use Rattle.front.proofs.Changed.{step_of}
 use Rattle.front.proofs.front.Front.answer.Goals as goal
 
@@ -16,6 +16,9 @@ returns-in-Read g c = step_of g.T.Tables c.args.self.now c.args.call Read c.args
 
 pub returns-in-Expand : goal.returns-in-Expand
 returns-in-Expand g c = step_of g.T.Tables c.args.self.now c.args.call Expand c.args.body.now _ c.expand.new.self c.in-Expand.is c.expand.ensures
+
+pub returns-in-Leopard : goal.returns-in-Leopard
+returns-in-Leopard g c = step_of g.T.Tables c.args.self.now c.args.call Leopard c.args.body.now _ c.groups.new.self c.in-Leopard.is c.groups.ensures
 
 pub returns-in-Watch : goal.returns-in-Watch
 returns-in-Watch g c = step_of g.T.Tables c.args.self.now c.args.call Watch c.args.body.now _ c.watch.new.self c.in-Watch.is c.watch.ensures

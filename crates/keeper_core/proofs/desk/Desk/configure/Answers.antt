@@ -1,7 +1,7 @@
 use Rattle.std.proofs.Common.{refl}
 use Rattle.names.specs.declared.commit.Commit.TheVariants.{Config as ConfigCommit}
 use Rattle.keeper_core.specs.TableChanges.{Adds}
-use Rattle.keeper_core.proofs.Changed.{not_ready, config_accepted, config_refused, refuses_on}
+use Rattle.keeper_core.proofs.Changed.{unlike, not_ready, config_accepted, config_refused, config_still, refuses_on}
 use Rattle.keeper_core.proofs.desk.Desk.configure.Goals as goal
 
 pub returns-in_err-make_ready-clause-err : goal.returns-in_err-make_ready-clause-err
@@ -17,7 +17,8 @@ returns-clause-ok g c =
 pub returns-clause-err : goal.returns-clause-err
 returns-clause-err g c =
     let ready = c.in_ok-make_ready.ensures in
-    refuses_on g.T.Tables c.args.self.now c.make_ready.new.self ready.more ready.same ready.ok c.post.new.self _ (Adds (ConfigCommit c.args.config)) _ c.post.result refl tt c.post.ensures.err
+    refuses_on g.T.Tables c.args.self.now c.make_ready.new.self ready.more ready.same ready.ok c.post.new.self _ (Adds (ConfigCommit c.args.config)) _ c.post.result refl
+    (unlike (config_still g.T.Tables c.args.self.now c.make_ready.new.self ready.more ready.same ready.ok c.args.config c.in_ok-judge_config.ensures.ok)) c.post.ensures.err
 
 pub returns-in_err-judge_config-clause-err : goal.returns-in_err-judge_config-clause-err
 returns-in_err-judge_config-clause-err g c =

@@ -2,7 +2,7 @@ use Rattle.std.proofs.Common.{refl}
 use Rattle.names.specs.declared.commit.Commit.TheVariants.{Tuples}
 use Rattle.keeper_core.specs.TableChanges.{Adds}
 use Rattle.keeper_core.specs.Posts.{newest_posted}
-use Rattle.keeper_core.proofs.Changed.{not_ready, write_accepted, write_refused, still_accepted, refuses_on}
+use Rattle.keeper_core.proofs.Changed.{unlike, not_ready, write_accepted, write_refused, still_accepted, early_memory, refuses_on}
 use Rattle.keeper_core.proofs.desk.Desk.write.Goals as goal
 
 pub returns-in_err-make_ready-clause-err : goal.returns-in_err-make_ready-clause-err
@@ -31,4 +31,10 @@ returns-clause-err g c =
     let ready = c.in_ok-make_ready.ensures in
     let accepted = still_accepted g.T.Tables c.args.self.now c.make_ready.new.self ready.more ready.same ready.ok c.args.write c.in_ok-judge_write.ensures.ok in
     refuses_on g.T.Tables c.args.self.now c.make_ready.new.self ready.more ready.same ready.ok c.post.new.self _ (Adds (Tuples c.in_ok-events.events)) _ c.post.result
-    (accepted, (c.in_ok-events.events, c.in_ok-events.ensures.ok, refl)) tt c.post.ensures.err
+    (accepted, (c.in_ok-events.events, c.in_ok-events.ensures.ok, refl)) (unlike accepted) c.post.ensures.err
+
+pub returns-in_err-events-clause-err : goal.returns-in_err-events-clause-err
+returns-in_err-events-clause-err g c =
+    let ready = c.in_ok-make_ready.ensures in
+    let accepted = still_accepted g.T.Tables c.args.self.now c.make_ready.new.self ready.more ready.same ready.ok c.args.write c.in_ok-judge_write.ensures.ok in
+    early_memory g.T.Tables c.args.self.now c.make_ready.new.self ready.more ready.same ready.ok _ _ c.from_residual-in_err-events.result c.in_err-events.field-0.0 c.from_residual-in_err-events.ensures.1 c.in_err-events.ensures.err (unlike accepted)

@@ -1,7 +1,6 @@
 use Rattle.std.proofs.Common.{List, ap, sym, ◌∙◌, refl}
 use Rattle.std.specs.Prelude.{not}
 use Rattle.std.specs.List.{find}
-use Rattle.std.proofs.lemmas.Result.{IfOk-weaker}
 use Rattle.names.specs.declared.tuple.Tuple.{Tuple}
 use Rattle.meaning.specs.TupleSet as set
 use Rattle.meaning.specs.Admits.{admits}
@@ -18,6 +17,5 @@ returns c =
     let s = c.self.inside in
     let r : Retained = as_retained s.number s.floor s.config s.tuples s.commits.items in
     let items = items_by s.tuples (after_commits r.base r.commits).tuples is_there refl c.first_refused.ensures.ordered (newest_these r s.tuples c.self.invariant.versions) in
-    IfOk-weaker c.first_refused.result _ _
-    (λ o is. is ∙ ap (λ (ts : List Tuple). find (λ t. not (admits c.args.config.now t)) ts) (sym items ∙ ap (λ (x : Retained). set.items (newest_of x).held.tuples) c.self.view_is))
     c.first_refused.ensures.found
+    ∙ ap (λ (ts : List Tuple). find (λ t. not (admits c.args.config.now t)) ts) (sym items ∙ ap (λ (x : Retained). set.items (newest_of x).held.tuples) c.self.view_is)

@@ -23,3 +23,6 @@ returns-clause-same c = λ r is clean.
     let loaded = is_loaded s.number c.floor-floor.result s.base c.at-view.result c.in-Ok-again.config c.of.result c.of-2.result s.commits.items c.floor-floor.ensures c.at-view.ensures (c.in-Ok-again.ensures ∙ c.config.ensures.config)
     (c.of.ensures ∙ c.in-Ok-tuples.ensures) (c.of-2.ensures ∙ (c.in-Ok.ensures ∙ c.deref.ensures.value)) in
     ap retained_of loaded ∙ retained_loaded s.number s.base s.commits.items ∙ c.self.view_is ∙ is
+
+pub returns-clause-found : goal.returns-clause-found
+returns-clause-found c = λ clean. returns-clause-held c

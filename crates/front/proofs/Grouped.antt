@@ -1,0 +1,58 @@
+-- What a session's answers to questions about groups tell.
+use Rattle.std.proofs.Common.{◌≡◌, ℕ, List, refl, sym, subst}
+use Rattle.std.specs.Prelude.{Option, option_map, Result, Ok, Err, IfOk, IfErr}
+use Rattle.names.specs.declared.refusal.Refusal.{Refusal}
+use Rattle.names.specs.declared.refusal.Refusal.TheVariants.{Malformed, BadZookie, Memory}
+use Rattle.names.specs.declared.node.Node.{Node}
+use Rattle.zookie.specs.Text.{zookie_text}
+use Rattle.zookie.specs.declared.consistency.Consistency.{Consistency}
+use Rattle.leopard.specs.Exprs.{query_of}
+use Rattle.leopard.specs.Query.{Query}
+use Rattle.shown.specs.declared.answer.Answer.{Answer}
+use Rattle.shown.specs.declared.answer.Refused.{Refused}
+use Rattle.shown.specs.declared.step.Step.{Step}
+use Rattle.shown.specs.Standing.{standing}
+use Rattle.shown.specs.Grouping.{AreGroups, IsGroupsRefusal}
+use Rattle.published.specs.Known.{Known, Begins}
+use Rattle.published.proofs.Rules.{begins_self, begins_trans}
+use Rattle.bodies.specs.Grouping.{AsksGroups, GroupsBodyCause, groups_data}
+use Rattle.bodies.specs.Replies.{Says, SaysRefusal, SaysRefusalAt}
+use Rattle.front.specs.declared.groups.AskedGroups.{AskedGroups}
+use Rattle.front.specs.declared.groups.AskedGroups.TheVariants.{Told, NotYet}
+use Rattle.front.specs.Groups.{GroupsTold, told_groups, told_no_groups, GroupsFrom, groups_malformed, groups_bad_zookie, groups_asked, groups_unread, AreGroupsAsked}
+
+-- the body asks for no groups
+pub groups_unasked : (old : Known) (body : List ℕ) (why : Refusal) (told : Option (ℕ × List ℕ)) → GroupsBodyCause body why → SaysRefusal told why → GroupsFrom old body told old
+groups_unasked old body Malformed told cause says = groups_malformed cause says refl
+groups_unasked old body BadZookie told cause says = groups_bad_zookie cause says refl
+groups_unasked old body Memory told cause says = groups_unread says refl
+groups_unasked old body _ told cause says = absurd cause
+
+-- the question was asked, of a store with this number
+pub grouped_told : (steps : List Step) (consistency : Consistency) (asked : Query) (limit number : ℕ) (found : Result (Answer (List Node)) Refused) (told : Option (ℕ × List ℕ))
+    → number ≡ (standing steps).kept.number
+    → IfOk found (AreGroups (standing steps) consistency asked limit) → IfErr found (IsGroupsRefusal (standing steps) consistency asked limit)
+    → IfOk found (λ groups. Says told 200 (groups_data groups.value (zookie_text number groups.rev)))
+    → IfErr found (λ refused. SaysRefusalAt told refused.why (option_map (zookie_text number) refused.at))
+    → GroupsTold steps consistency asked limit told
+grouped_told steps consistency asked limit number (Ok groups) told is ok err says denies =
+    told_groups groups.rev groups.value ok (subst (λ (n : ℕ). Says told 200 (groups_data groups.value (zookie_text n groups.rev))) is says)
+grouped_told steps consistency asked limit number (Err refused) told is ok err says denies =
+    told_no_groups refused.why refused.at err (subst (λ (n : ℕ). SaysRefusalAt told refused.why (option_map (zookie_text n) refused.at)) is denies)
+
+-- the steps that are known only go on
+pub groups_later : (old : Known) (body : List ℕ) (told : Option (ℕ × List ℕ)) (new : Known) → GroupsFrom old body told new → Begins old new
+groups_later old body told new (groups_malformed none says same) = subst (Begins old) (sym same) (begins_self old)
+groups_later old body told new (groups_bad_zookie none says same) = subst (Begins old) (sym same) (begins_self old)
+groups_later old body told new (groups_asked consistency asked limit asks is later) = later
+groups_later old body told new (groups_unread none same) = subst (Begins old) (sym same) (begins_self old)
+
+pub groups_asked_later : (old : Known) (body : List ℕ) (asked : AskedGroups) (new : Known) → AreGroupsAsked old body asked new → Begins old new
+groups_asked_later old body (Told reply) new is = groups_later old body _ new is
+groups_asked_later old body (NotYet question) new is = is.1
+
+-- the question was asked once more
+pub groups_asked_again : (old mid more : Known) (body : List ℕ) (told : Option (ℕ × List ℕ)) (new : Known) (consistency : Consistency) (asked : Query) (limit : ℕ)
+    → AsksGroups body consistency asked limit → Begins old mid → Begins mid more → Begins more new → GroupsTold new.steps consistency asked limit told → GroupsFrom old body told new
+groups_asked_again old mid more body told new consistency asked limit asks first second third is =
+    groups_asked consistency asked limit asks is (begins_trans old mid new first (begins_trans mid more new second third))

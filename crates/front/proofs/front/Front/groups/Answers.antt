@@ -1,0 +1,22 @@
+use Rattle.std.proofs.Common.{subst, sym}
+use Rattle.names.specs.Calls.{told}
+use Rattle.leopard.specs.Exprs.{query_of}
+use Rattle.published.specs.Known.{Known, Begins}
+use Rattle.front.specs.Groups.{GroupsFrom}
+use Rattle.front.proofs.Grouped.{groups_asked_again}
+use Rattle.front.proofs.front.Front.groups.Goals as goal
+use Rattle.front.proofs.front.Front.groups.Goals.{in-Union-1, in-Intersection-1, in-Exclusion-1, in-Member2Group-1}
+
+pub returns-in-NotYet : goal.returns-in-NotYet
+returns-in-NotYet g c =
+    let q = c.in-NotYet.question in
+    let From = λ (k : Known). GroupsFrom c.args.self.now c.args.body.now (told c.groups_again.result) k in
+    let asked = groups_asked_again c.args.self.now c.ask_for_groups.new.self c.refresh.new.self c.args.body.now _ c.groups_again.new.session q.consistency (query_of q.expr) q.limit
+    c.in-NotYet.ensures.0 c.in-NotYet.ensures.1 c.refresh.ensures.kept
+    (subst (λ (k : Known). Begins k c.groups_again.new.session) c.self.view_is c.groups_again.ensures.later) c.groups_again.ensures.told in
+    elim c.match-question.branch [
+      | in-Union-1 w ↦ subst From (sym w.self-is) asked
+      | in-Intersection-1 w ↦ subst From (sym w.self-is) asked
+      | in-Exclusion-1 w ↦ subst From (sym w.self-is) asked
+      | in-Member2Group-1 w ↦ subst From (sym w.self-is) asked
+    ]

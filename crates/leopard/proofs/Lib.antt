@@ -1,0 +1,12 @@
+pub mod Arcs
+pub mod Computing
+pub mod Expressions
+pub mod First
+pub mod Gather
+pub mod Indexed
+pub mod Leftover
+pub mod Meeting
+pub mod Named
+pub mod Nodes
+pub mod Pages
+pub mod Walking

@@ -1,0 +1,7 @@
+pub mod Query
+pub mod Groups
+pub mod Answers
+pub mod Causes
+pub mod Exprs
+pub mod Law
+pub mod inside

@@ -1,7 +1,0 @@
-use Rattle.std.proofs.Common.{◌≡◌, drop}
-use Rattle.shown.specs.World.{are_admitted}
-use Rattle.shown.proofs.admitted.are_admitted.Given as goal
-
--- what is left decides
-abbrev pub invariant-loop-commit : goal.invariant-loop-commit
-invariant-loop-commit l = are_admitted l.snapshot (drop l.commit-index l.commits) ≡ are_admitted l.initial.snapshot l.commits

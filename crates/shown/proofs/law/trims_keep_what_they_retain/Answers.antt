@@ -1,5 +1,0 @@
-use Rattle.shown.proofs.Raising.{keeps_retained}
-use Rattle.shown.proofs.law.trims_keep_what_they_retain.Goals as goal
-
-pub returns : goal.returns
-returns c = keeps_retained

@@ -1,7 +1,0 @@
-use Rattle.std.proofs.Common.{◌≡◌, drop}
-use Rattle.shown.specs.World.{is_rising}
-use Rattle.shown.proofs.within.is_rising.Given as goal
-
--- what is left decides
-abbrev pub invariant-loop-i : goal.invariant-loop-i
-invariant-loop-i l = is_rising (drop l.i l.tuples) ≡ is_rising l.tuples

@@ -1,5 +1,0 @@
-use Rattle.shown.proofs.Waiting.{shown_room}
-use Rattle.shown.proofs.world.World.publish.Goals as goal
-
-pub standing_of-requires : goal.standing_of-requires
-standing_of-requires c = shown_room _ c.self.inside.posted.items c.deref.result.now c.self.inside.waiting.items c.deref.ensures.value c.self.invariant.room
