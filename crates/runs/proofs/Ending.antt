@@ -7,8 +7,8 @@ use Rattle.rows.specs.Loads.{retained_of}
 use Rattle.tables.specs.Device.{IsClean, Lasts}
 use Rattle.tables.specs.declared.tables.Tables.{Ghosts}
 use Rattle.tables.proofs.Lasting.{lasts_self, lasts_trans, clean_before}
-use Rattle.keeper_core.specs.TableChanges.{TableChange, changed, CanChange}
-use Rattle.keeper_core.specs.Posts.{Posts, Agrees, ComesBack}
+use Rattle.desk.specs.TableChanges.{TableChange, changed, CanChange}
+use Rattle.desk.specs.Posts.{Posts, Agrees, ComesBack}
 use Rattle.keeper.specs.Rules.{DeskStep}
 use Rattle.http_api.specs.Text.{lines_of}
 use Rattle.http_api.specs.Machine.{Run}

@@ -21,9 +21,9 @@ use Rattle.shown.specs.declared.step.Step.{Step}
 use Rattle.shown.specs.declared.step.Step.TheVariants.{Take}
 use Rattle.shown.specs.Standing.{Standing, standing, nothing, after_step, after_take}
 use Rattle.std.proofs.lemmas.List.Sums.{fold-append}
-use Rattle.keeper_core.specs.TableChanges.{TableChange, Adds, Raises, changed, CanChange}
-use Rattle.keeper_core.specs.Posts.{Posts}
-use Rattle.keeper_core.specs.Changes.{IsStored, IsTrimmed, trim_raises, trim_stays, IsCommitOfWrite, IsRaiseTo, IsRefused, Touches, leaves_alone, adds_one}
+use Rattle.desk.specs.TableChanges.{TableChange, Adds, Raises, changed, CanChange}
+use Rattle.desk.specs.Posts.{Posts}
+use Rattle.desk.specs.Changes.{IsStored, IsTrimmed, trim_raises, trim_stays, IsCommitOfWrite, IsRaiseTo, IsRefused, Touches, leaves_alone, adds_one}
 use Rattle.keeper.specs.Rules.{DeskStep}
 use Rattle.keeper.specs.Showing.{OnlyShows}
 use Rattle.keeper.specs.calls.Write.{WriteStep, write_malformed, write_bad_zookie, write_accepted, write_refused, write_unread}

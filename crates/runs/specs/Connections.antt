@@ -5,8 +5,8 @@ use Rattle.names.specs.declared.call.Call.{Call}
 use Rattle.httparse.specs.Grammar.{RequestHead}
 use Rattle.tables.specs.Device.{Lasts}
 use Rattle.tables.specs.declared.tables.Tables.{Ghosts}
-use Rattle.keeper_core.specs.TableChanges.{TableChange, changed, CanChange}
-use Rattle.keeper_core.specs.Posts.{Posts}
+use Rattle.desk.specs.TableChanges.{TableChange, changed, CanChange}
+use Rattle.desk.specs.Posts.{Posts}
 use Rattle.keeper.specs.Rules.{DeskStep}
 use Rattle.http_api.specs.declared.end.End.{End}
 use Rattle.http_api.specs.Machine.{Step}
