@@ -3,8 +3,8 @@ ghost use Rattle.std.specs.Prelude.{IfOk};
 ghost use Rattle.published.specs.Known.{Begins};
 ghost use Rattle.desk.specs.Posts.{shown_by};
 
+use answers::Answers;
 use desk::Desk;
-use http_api::Answers;
 use keeper::answer_on;
 use names::{Call, Refusal, Reply};
 use published::{Opened, Session};

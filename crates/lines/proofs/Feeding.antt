@@ -3,8 +3,9 @@ use Rattle.std.proofs.Common.{◌≡◌, ◌≢◌, ℕ, ◌++◌, List, [], ◌
 use Rattle.std.proofs.lemmas.Grind.{flat_map-append}
 use Rattle.std.proofs.lemmas.List.{append-nil}
 use Rattle.std.specs.List.{AllByRecursion, flat_map}
-use Rattle.http_api.specs.Text.{lines_of, ended, HasNoEnd}
-use Rattle.http_api.specs.Machine.{Step, Answers, Run, Fed}
+use Rattle.lines.specs.Text.{lines_of, ended, HasNoEnd}
+use Rattle.answers.specs.Machine.{Step}
+use Rattle.lines.specs.Machine.{Answers, Run, Fed}
 
 -- a run goes on by one line
 pub run_more : {S : Type 0} (step : Step S) (lines : List (List ℕ)) (s : S) (text : List ℕ) (t : S) (line more : List ℕ) (u : S)

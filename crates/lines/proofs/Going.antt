@@ -8,11 +8,12 @@ use Rattle.std.proofs.Math.Seq.{take-append_seam}
 use Rattle.names.specs.declared.limits.TheConstants.{MAX_BODY_LEN}
 use Rattle.names.specs.declared.call.Call.{Call}
 use Rattle.names.specs.Calls.{call_of}
-use Rattle.http_api.specs.Text.{lines_of, word_of, body_of, ended, HasNoEnd}
+use Rattle.lines.specs.Text.{lines_of, word_of, body_of, ended, HasNoEnd}
 use Rattle.lines.specs.PendingLine.{PendingLine, pending_of, with_byte}
-use Rattle.http_api.specs.Machine.{Step, IsAnswer, Answers, Run, Fed}
+use Rattle.answers.specs.Machine.{Step}
+use Rattle.lines.specs.Machine.{IsAnswer, Answers, Run, Fed}
 use Rattle.tracked_io.specs.Wrote.{Wrote, WroteSome}
-use Rattle.http_api.specs.Served.{Served, Cut}
+use Rattle.lines.specs.Served.{Served, Cut}
 use Rattle.lines.specs.Going.{AnswersPending, Going, CutShort}
 use Rattle.lines.proofs.Keeping.{pending_more, fits_pending, whole_when_fits, call_pending, empty_from_pending}
 use Rattle.lines.proofs.Feeding.{run_more, fed_none, fed_byte, fed_line, lines_of_fed, lines_of_rest}

@@ -3,7 +3,7 @@ use Rattle.std.proofs.Common.{◌≡◌, ℕ, zero, suc, ◌<◌, ◌≤◌, ◌
 use Rattle.std.proofs.lemmas.List.{length-take, take_all}
 use Rattle.std.specs.Cmp.Lexicographic.{pointwise}
 use Rattle.names.specs.Calls.{call_of}
-use Rattle.http_api.specs.Text.{word_of, body_of}
+use Rattle.lines.specs.Text.{word_of, body_of}
 use Rattle.lines.specs.PendingLine.{pending_of, has_space, push_below, with_byte, word_room, body_room}
 
 take_nil : (n : ℕ) → take {A = ℕ} n [] ≡ []

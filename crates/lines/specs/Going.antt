@@ -1,12 +1,13 @@
 -- A loop over lines that has come so far.
 use Rattle.std.specs.Prelude.{ℕ, ◌≡◌, ◌++◌, List, length, nat_le, Option, Result, MatchResult}
 use Rattle.std.specs.List.{AllByRecursion, flat_map}
-use Rattle.http_api.specs.Text.{ended, HasNoEnd}
+use Rattle.lines.specs.Text.{ended, HasNoEnd}
 use Rattle.names.specs.declared.limits.TheConstants.{MAX_BODY_LEN}
 use Rattle.names.specs.Calls.{call_of}
-use Rattle.http_api.specs.Machine.{Step, IsAnswer, Run}
+use Rattle.answers.specs.Machine.{Step}
+use Rattle.lines.specs.Machine.{IsAnswer, Run}
 use Rattle.tracked_io.specs.Wrote.{WroteSome}
-use Rattle.http_api.specs.Served.{Paused, Served, Cut}
+use Rattle.lines.specs.Served.{Paused, Served, Cut}
 use Rattle.lines.specs.PendingLine.{PendingLine, pending_of}
 use Rattle.tracked_io.specs.Tracking.{TrackedWriting}
 

@@ -1,7 +1,7 @@
 -- What is pending of a line that has not ended: no more than decides its answer.
 use Rattle.std.specs.Prelude.{ℕ, ◌+◌, ◌==◌, ◌||◌, ◌++◌, List, [], ◌∷◌, length, Bool, true, false, if◌then◌else◌, nat_lt, take}
 use Rattle.names.specs.declared.limits.TheConstants.{MAX_BODY_LEN}
-use Rattle.http_api.specs.Text.{word_of, body_of}
+use Rattle.lines.specs.Text.{word_of, body_of}
 
 -- the beginnings of its word and of its body, and whether there was a space
 pub record PendingLine : Type 0 where

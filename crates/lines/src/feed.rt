@@ -5,7 +5,7 @@ ghost use Rattle.tracked_io.specs.Tracking.{FailsWith, Writes};
 
 use crate::pending::Pending;
 use crate::put::put_reply;
-use http_api::Answers;
+use answers::Answers;
 use std::io;
 use std::io::Write;
 use tracked_io::{TrackedWriter, put};

@@ -1,7 +1,7 @@
 //! The line of a reply, as it is written.
 ghost use Rattle.std.specs.Prelude.{Some};
 ghost use Rattle.names.specs.Calls.{told};
-ghost use Rattle.http_api.specs.Text.{reply_line};
+ghost use Rattle.lines.specs.Text.{reply_line};
 ghost use Rattle.tracked_io.specs.Tracking.{FailsWith, Writes};
 
 use itoa::Buffer;

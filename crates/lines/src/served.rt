@@ -1,12 +1,12 @@
 //! The loop.
 ghost use Rattle.std.specs.Prelude.{ℕ, ◌≡◌, ◌≢◌, List, true, false};
-ghost use Rattle.http_api.specs.Served.{Served, Paused, Cut, PausedAtEachRead};
-ghost use Rattle.http_api.specs.Ends.{is_read_fault, is_write_fault};
+ghost use Rattle.lines.specs.Served.{Served, Paused, Cut, PausedAtEachRead};
+ghost use Rattle.answers.specs.Ends.{is_read_fault, is_write_fault};
 ghost use Rattle.tracked_io.specs.Tracking.{Reads, ReadsAll};
 
 use crate::feed::{feed_all, finish};
 use crate::pending::Pending;
-use http_api::{Answers, End};
+use answers::{Answers, End};
 use std::alloc::Global;
 use std::io::{Read, Write};
 use tracked_io::{TrackedReader, TrackedWriter};

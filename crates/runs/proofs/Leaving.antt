@@ -35,8 +35,8 @@ use Rattle.keeper.specs.calls.Groups.{GroupsStep, groups_malformed, groups_bad_z
 use Rattle.keeper.specs.calls.Watch.{WatchStep, watch_malformed, watch_bad_zookie, watch_answered, watch_refused, watch_unread}
 use Rattle.keeper.specs.calls.Trim.{TrimStep, trim_malformed, trim_bad_zookie, trim_accepted, trim_refused, trim_unread}
 use Rattle.keeper.specs.calls.CatchUp.{CatchUpStep, catch_up_malformed, catch_up_accepted, catch_up_refused, catch_up_unread}
-use Rattle.http_api.specs.Text.{word_of, body_of}
-use Rattle.http_api.specs.Machine.{IsAnswer, Run}
+use Rattle.lines.specs.Text.{word_of, body_of}
+use Rattle.lines.specs.Machine.{IsAnswer, Run}
 use Rattle.runs.specs.Runs.{kept_by, AsksChange, LineAsks, IsAskedIn}
 use Rattle.runs.specs.inside.Leaving.{HasLeft}
 use Rattle.tables.proofs.Lasting.{lasts_trans}

@@ -8,8 +8,8 @@ use Rattle.tables.specs.declared.tables.Tables.{Ghosts}
 use Rattle.desk.specs.TableChanges.{TableChange, changed, CanChange}
 use Rattle.desk.specs.Posts.{Posts}
 use Rattle.keeper.specs.Rules.{DeskStep}
-use Rattle.http_api.specs.declared.end.End.{End}
-use Rattle.http_api.specs.Machine.{Step}
+use Rattle.answers.specs.declared.end.End.{End}
+use Rattle.answers.specs.Machine.{Step}
 use Rattle.http_api.specs.Routes.{route_of}
 use Rattle.http_api.specs.Connection.{HasRequest, Next, Text}
 use Rattle.http_api.specs.Talks.{Talked, TalkedSoFar, TalkCut}

@@ -21,7 +21,7 @@ use Rattle.shown.specs.declared.step.Step.{Step}
 use Rattle.shown.specs.Standing.{standing, after_opening}
 use Rattle.desk.specs.TableChanges.{TableChange, changed, CanChange}
 use Rattle.desk.specs.Posts.{Posts}
-use Rattle.http_api.specs.Text.{lines_of}
+use Rattle.lines.specs.Text.{lines_of}
 use Rattle.sqlite_tables.specs.Format.{schema}
 use Rattle.sqlite_tables.specs.Leaves.{IsBlank}
 use Rattle.sqlite_tables.specs.Steps.{HasNone}

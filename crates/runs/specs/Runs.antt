@@ -22,8 +22,8 @@ use Rattle.desk.specs.TableChanges.{TableChange, Adds, Raises}
 use Rattle.desk.specs.Posts.{Posts, Agrees, OpensWith, ComesBack}
 use Rattle.desk.specs.Changes.{IsCommitOf}
 use Rattle.keeper.specs.Rules.{DeskStep}
-use Rattle.http_api.specs.Text.{lines_of, word_of, body_of}
-use Rattle.http_api.specs.Served.{Served, Paused, Cut, PausedAtEachRead}
+use Rattle.lines.specs.Text.{lines_of, word_of, body_of}
+use Rattle.lines.specs.Served.{Served, Paused, Cut, PausedAtEachRead}
 use Rattle.tracked_io.specs.Tracking.{TrackedReading, TrackedWriting}
 use Rattle.command_line.specs.declared.fault.Fault.{Fault}
 use Rattle.command_line.specs.declared.fault.Fault.TheVariants.{CannotRead, CannotWrite}

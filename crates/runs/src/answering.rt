@@ -8,8 +8,8 @@ ghost use Rattle.desk.specs.Posts.{Agrees, ComesBack, FailsToLoad, SameTables, S
 ghost use Rattle.runs.specs.Runs.{Began, kept_by};
 ghost use Rattle.runs.specs.Connections.{HasServed};
 
+use answers::Answers;
 use desk::Desk;
-use http_api::Answers;
 use keeper::answer_on;
 use names::{Call, Refusal, Reply};
 use published::{Opened, Session};

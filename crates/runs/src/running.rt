@@ -10,8 +10,8 @@ ghost use Rattle.runs.specs.inside.Leaving.{Answered};
 ghost use Rattle.runs.specs.Runs.{ServedBy, PausedBy, CutBy, Ended, is_read_fault, is_write_fault};
 
 use crate::answering::Answering;
+use answers::End;
 use command_line::Fault;
-use http_api::End;
 use lines::lines;
 use names::Refusal;
 use std::alloc::Global;

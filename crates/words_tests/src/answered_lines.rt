@@ -1,6 +1,6 @@
 //! Lines over readers and writers that are slow, are interrupted, or fail.
 
-use http_api::{Answers, End};
+use answers::{Answers, End};
 use lines::lines;
 use names::{Call, Reply};
 use std::alloc::{AllocError, Global};

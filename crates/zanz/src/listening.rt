@@ -6,8 +6,9 @@ ghost use Rattle.tracked_io.specs.Wrote.{WroteSome};
 ghost use Rattle.runs.specs.Connections.{StaysServing};
 ghost use Rattle.zanz.specs.Listening.{Announced, BeganAnnounced, listening_line};
 
+use answers::End;
 use command_line::Fault;
-use http_api::{End, routes};
+use http_api::routes;
 use matchit::Router;
 use names::{Call, Refusal};
 use runs::{Answering, talk};

@@ -1,7 +1,7 @@
 -- What was read is answered so far, and nothing failed.
 use Rattle.std.proofs.Common.{ℕ, ◌≡◌, ◌-◌, ◌^◌, List, false}
 use Rattle.tracked_io.specs.Waiting.{Waited}
-use Rattle.http_api.specs.Served.{Paused}
+use Rattle.lines.specs.Served.{Paused}
 use Rattle.std.specs.Io.KnownBytes.{Consumes}
 use Rattle.lines.specs.Going.{Going}
 use Rattle.lines.proofs.served.lines.Given as goal
