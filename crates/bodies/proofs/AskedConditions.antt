@@ -7,7 +7,7 @@ use Rattle.serde_json.specs.Data.{Data, Items}
 use Rattle.serde_json.specs.Find.{as_array}
 use Rattle.serde_json.specs.View.{view, items_view}
 use Rattle.serde_json.specs.declared.value.Value.{Value}
-use Rattle.config_core.specs.Objects.{is_text, text_at}
+use Rattle.config_text.specs.Objects.{is_text, text_at}
 use Rattle.names.specs.Refusals.{IsMalformed}
 use Rattle.names.specs.declared.tuple.Tuple.{Tuple}
 use Rattle.names.specs.declared.write.Condition.{Condition}

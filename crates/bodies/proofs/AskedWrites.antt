@@ -3,8 +3,8 @@ use Rattle.std.proofs.Common.{◌≡◌, ℕ, true, List, ◌∷◌, [], subst}
 use Rattle.std.specs.Prelude.{codes}
 use Rattle.serde_json.specs.Data.{Data}
 use Rattle.serde_json.specs.Find.{get}
-use Rattle.config_core.specs.Objects.{has_only}
-use Rattle.config_core.specs.Reading.{Reads}
+use Rattle.config_text.specs.Objects.{has_only}
+use Rattle.config_text.specs.Reading.{Reads}
 use Rattle.names.specs.Refusals.{ReadCause}
 use Rattle.names.specs.declared.write.Op.{Op}
 use Rattle.names.specs.declared.write.Condition.{Condition}

@@ -8,7 +8,7 @@ use Rattle.serde_json.specs.View.{view, items_view}
 use Rattle.serde_json.specs.declared.value.Value.{Value}
 use Rattle.names.specs.declared.write.Op.{Op}
 use Rattle.names.specs.declared.part.Part.{Part}
-use Rattle.config_core.specs.Reading.{Reads}
+use Rattle.config_text.specs.Reading.{Reads}
 use Rattle.bodies.specs.Requests.{items_at, CatchUpOf, AsksCatchUp}
 use Rattle.bodies.specs.Writing.{AsksOp, AskOps, OpsOf}
 use Rattle.bodies.proofs.Bytes.{same_read}

@@ -5,7 +5,7 @@ use Rattle.serde_json.specs.Data.{item}
 use Rattle.serde_json.specs.View.{view, items_view, items_of}
 use Rattle.serde_json.specs.Written.{has_float, items_have_float}
 use Rattle.serde_json.specs.declared.value.Value.{Value}
-use Rattle.config_core.proofs.Written.{take_whole}
+use Rattle.config_text.proofs.Written.{take_whole}
 use Rattle.expand.specs.declared.tree.Tree.{Tree}
 use Rattle.expand.specs.UsersetTree.{UsersetTree, UsersetTrees, Opened, One, Closed, Union, Intersection, Exclusion, none, more}
 use Rattle.expand.specs.Viewed.{tree_of, trees_of}

@@ -9,7 +9,7 @@ use Rattle.names.specs.declared.node.Node.{Node}
 use Rattle.names.specs.declared.object.Object.{Object}
 use Rattle.zookie.specs.declared.Zookie.{Zookie}
 use Rattle.serde_json.specs.Data.{Data}
-use Rattle.config_core.specs.Reading.{Reads}
+use Rattle.config_text.specs.Reading.{Reads}
 use Rattle.bodies.specs.Requests.{HasZookieText, IsZookieOf, AtCause, CheckOf, CheckCause}
 use Rattle.bodies.specs.Expanding.{ExpandOf, ExpandBodyCause}
 use Rattle.bodies.specs.Paging.{ReadOf, ReadBodyCause}

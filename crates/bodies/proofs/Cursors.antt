@@ -6,8 +6,8 @@ use Rattle.names.specs.declared.refusal.Refusal.{Refusal}
 use Rattle.names.specs.declared.refusal.Refusal.TheVariants.{Malformed, BadZookie, Memory}
 use Rattle.zookie.specs.declared.Zookie.{Zookie}
 use Rattle.serde_json.specs.Data.{Data}
-use Rattle.config_core.specs.Objects.{text_at}
-use Rattle.config_core.specs.Reading.{Reads}
+use Rattle.config_text.specs.Objects.{text_at}
+use Rattle.config_text.specs.Reading.{Reads}
 use Rattle.watch.specs.declared.watched.Namespaces.{Namespaces}
 use Rattle.bodies.specs.Requests.{IsZookieOf}
 use Rattle.bodies.specs.Watching.{WatchOf, CursorCause, WatchBodyCause}

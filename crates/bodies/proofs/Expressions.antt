@@ -11,7 +11,7 @@ use Rattle.serde_json.specs.Find.{as_str, as_array}
 use Rattle.serde_json.specs.View.{view, items_view, members_view}
 use Rattle.serde_json.specs.declared.value.Value.{Value, Array}
 use Rattle.serde_json.proofs.Views.{Entry, members_len-members_view, view-Array}
-use Rattle.config_core.specs.Objects.{is_text}
+use Rattle.config_text.specs.Objects.{is_text}
 use Rattle.leopard.specs.Query.{Query, Queries, Member2Group, Group2Group, Union, Intersection, Exclusion, none, more}
 use Rattle.leopard.specs.Exprs.{query_of, part_queries}
 use Rattle.leopard.specs.declared.expr.Expr.{Expr}

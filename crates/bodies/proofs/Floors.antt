@@ -4,7 +4,7 @@ use Rattle.std.specs.Prelude.{Option, Some, None, codes}
 use Rattle.names.specs.declared.refusal.Refusal.{Refusal}
 use Rattle.names.specs.declared.refusal.Refusal.TheVariants.{Malformed, BadZookie}
 use Rattle.serde_json.specs.Data.{Data}
-use Rattle.config_core.specs.Reading.{Reads}
+use Rattle.config_text.specs.Reading.{Reads}
 use Rattle.bodies.specs.Requests.{only_text}
 use Rattle.bodies.specs.Trimming.{FloorCause, HasFloorText, TrimBodyCause}
 use Rattle.bodies.proofs.Bytes.{same_read}

@@ -7,8 +7,8 @@ use Rattle.serde_json.specs.Find.{get}
 use Rattle.serde_json.specs.View.{view, items_view, items_of}
 use Rattle.serde_json.specs.Written.{has_float, items_have_float}
 use Rattle.serde_json.specs.declared.value.Value.{Value}
-use Rattle.config_core.specs.Reading.{Reads}
-use Rattle.config_core.proofs.Written.{take_whole}
+use Rattle.config_text.specs.Reading.{Reads}
+use Rattle.config_text.proofs.Written.{take_whole}
 use Rattle.names.specs.Refusals.{ReadCause}
 use Rattle.names.specs.Spelling.{node_text}
 use Rattle.names.specs.declared.node.Node.{Node}

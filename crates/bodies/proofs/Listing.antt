@@ -5,7 +5,7 @@ use Rattle.serde_json.specs.Data.{string, item}
 use Rattle.serde_json.specs.View.{view, items_view, items_of}
 use Rattle.serde_json.specs.Written.{has_float, items_have_float}
 use Rattle.serde_json.specs.declared.value.Value.{Value}
-use Rattle.config_core.proofs.Written.{take_whole}
+use Rattle.config_text.proofs.Written.{take_whole}
 use Rattle.names.specs.Spelling.{tuple_text}
 use Rattle.names.specs.declared.tuple.Tuple.{Tuple}
 use Rattle.bodies.specs.Paging.{tuples_data, page_data}

@@ -2,8 +2,8 @@
 use Rattle.std.specs.Prelude.{ℕ, ◌≡◌, ◌≤◌, true, List, [], ◌∷◌, Some, codes}
 use Rattle.serde_json.specs.Data.{Data}
 use Rattle.serde_json.specs.Find.{get}
-use Rattle.config_core.specs.Objects.{has_only, text_at}
-use Rattle.config_core.specs.Reading.{Reads}
+use Rattle.config_text.specs.Objects.{has_only, text_at}
+use Rattle.config_text.specs.Reading.{Reads}
 use Rattle.names.specs.Spelling.{SpellsNode}
 use Rattle.names.specs.declared.node.Node.{Node}
 use Rattle.names.specs.declared.refusal.Refusal.{Refusal}

@@ -2,8 +2,8 @@
 use Rattle.std.specs.Prelude.{ℕ, ◌≡◌, ◌≤◌, true, IsTrue, List, [], ◌∷◌, Option, Some, None, option_and_then, codes}
 use Rattle.serde_json.specs.Data.{Data, string, array, object, Items, no_items, item, no_members, member}
 use Rattle.serde_json.specs.Find.{get, as_str, as_number, as_u64}
-use Rattle.config_core.specs.Objects.{has_only, text_at}
-use Rattle.config_core.specs.Reading.{Reads}
+use Rattle.config_text.specs.Objects.{has_only, text_at}
+use Rattle.config_text.specs.Reading.{Reads}
 use Rattle.names.specs.Names.{is_name, is_id}
 use Rattle.names.specs.Spelling.{SpellsSubject, SpellsTuple, tuple_text}
 use Rattle.names.specs.declared.tuple.Tuple.{Tuple}

@@ -3,8 +3,8 @@ use Rattle.std.specs.Prelude.{ℕ, ◌≡◌, ◌⊎◌, ◌<◌, ◌≤◌, ◌
 use Rattle.serde_json.specs.Data.{Data, Items}
 use Rattle.serde_json.specs.Find.{get, as_str, as_array, as_number, as_u64}
 use Rattle.names.specs.declared.limits.TheConstants.{MAX_CATCH_UP}
-use Rattle.config_core.specs.Objects.{is_text, has_only, text_at}
-use Rattle.config_core.specs.Reading.{Reads}
+use Rattle.config_text.specs.Objects.{is_text, has_only, text_at}
+use Rattle.config_text.specs.Reading.{Reads}
 use Rattle.names.specs.Spelling.{SpellsNode, SpellsObject}
 use Rattle.names.specs.declared.node.Node.{Node}
 use Rattle.names.specs.declared.object.Object.{Object}

@@ -1,7 +1,7 @@
 -- What the body of a `trim` asks, by what `serde_json` reads from it.
 use Rattle.std.specs.Prelude.{◌≡◌, List, ℕ, Option, Some, None, codes}
 use Rattle.serde_json.specs.Data.{Data}
-use Rattle.config_core.specs.Reading.{Reads}
+use Rattle.config_text.specs.Reading.{Reads}
 use Rattle.names.specs.declared.refusal.Refusal.{Refusal}
 use Rattle.names.specs.declared.refusal.Refusal.TheVariants.{Malformed, BadZookie, Memory}
 use Rattle.zookie.specs.declared.Zookie.{Zookie}

@@ -8,7 +8,7 @@ ghost use Rattle.bodies.specs.Writing.{IsOfTuple, IsOfTupleSince, ConditionsOf, 
 ghost use Rattle.bodies.specs.inside.Conditions.{AsksCondition, AsksBadly, IsNoCondition, Asks, Cause};
 
 use crate::requests::zookie_of;
-use config_core::{has_only_members, text_at};
+use config_text::{has_only_members, text_at};
 use names::{Condition, Items, Refusal, Tuple};
 use serde_json::Value;
 use std::alloc::Global;

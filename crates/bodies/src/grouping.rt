@@ -12,7 +12,7 @@ ghost use Rattle.bodies.specs.Grouping.{GroupsOf, IsOfNoGroups, AsksGroups, Grou
 use crate::exprs::read_expr;
 use crate::replies::say;
 use crate::requests::{consistency_of, number_of, read_value};
-use config_core::has_only_members;
+use config_text::has_only_members;
 use leopard::Expr;
 use leopard::limits::MAX_GROUPS;
 use names::{Node, Refusal, Reply};

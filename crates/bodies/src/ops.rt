@@ -4,7 +4,7 @@ ghost use Rattle.serde_json.specs.View.{view, items_view};
 ghost use Rattle.names.specs.Refusals.{IsMalformed, ReadCause};
 ghost use Rattle.bodies.specs.Writing.{IsKind, AsksOp, AskOps};
 
-use config_core::{has_only_members, text_at};
+use config_text::{has_only_members, text_at};
 use names::{Op, OpKind, Refusal, Tuple};
 use serde_json::Value;
 use std::alloc::Global;

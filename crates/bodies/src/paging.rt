@@ -14,7 +14,7 @@ ghost use Rattle.bodies.specs.Paging.{SpellsName, SpellsId, SpellsIfThere, IsLim
 
 use crate::replies::say;
 use crate::requests::{consistency_of, read_value};
-use config_core::{has_only_members, text_at};
+use config_text::{has_only_members, text_at};
 use names::{Name, ObjectId, Refusal, Reply, Subject, Tuple};
 use rows::{MAX_PAGE, Tupleset};
 use serde_json::{Value, json};

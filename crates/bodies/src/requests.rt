@@ -5,11 +5,11 @@ ghost use Rattle.serde_json.specs.Find.{get};
 ghost use Rattle.serde_json.specs.View.{view, items_view};
 ghost use Rattle.names.specs.Refusals.{IsMalformed, ReadCause};
 ghost use Rattle.names.specs.declared.refusal.Refusal.TheVariants.{BadZookie};
-ghost use Rattle.config_core.specs.Reading.{Reads};
+ghost use Rattle.config_text.specs.Reading.{Reads};
 ghost use Rattle.bodies.specs.Requests.{items_at, number_at, only_text, IsZookieOf, AsksAt, AtCause, CheckOf, IsOfNoCheck, AsksCheck, CheckCause, IsPart, CatchUpOf, IsOfNoCatchUp, AsksCatchUp, AsksNoCatchUp};
 ghost use Rattle.bodies.specs.Expanding.{ExpandOf, IsOfNoExpand, AsksExpand, ExpandBodyCause};
 
-use config_core::{has_only_members, text_at};
+use config_text::{has_only_members, text_at};
 use expand::MAX_DEPTH;
 use names::limits::MAX_CATCH_UP;
 use names::{Node, Object, Part, Refusal};

@@ -3,13 +3,13 @@ ghost use Rattle.std.specs.Prelude.{◌≡◌, List, ℕ, Some, IfOk, IfErr, cod
 ghost use Rattle.serde_json.specs.Find.{get};
 ghost use Rattle.serde_json.specs.View.{view, items_view};
 ghost use Rattle.names.specs.Refusals.{IsMalformed, ReadCause};
-ghost use Rattle.config_core.specs.Objects.{text_at as text_in};
+ghost use Rattle.config_text.specs.Objects.{text_at as text_in};
 ghost use Rattle.bodies.specs.Requests.{IsZookieText};
 ghost use Rattle.bodies.specs.Watching.{AsksName, AskNames, IsNameList, AsksNamespaces, WatchOf, IsOfNoWatch, CursorCause, AsksWatch, WatchBodyCause};
 ghost use Rattle.watch.specs.declared.watched.Namespaces.{Namespaces as AskedNamespaces};
 
 use crate::requests::{number_of, read_value, zookie_of};
-use config_core::{has_only_members, text_at};
+use config_text::{has_only_members, text_at};
 use names::{Items, Name, Refusal};
 use serde_json::Value;
 use std::alloc::Global;

@@ -8,7 +8,7 @@ ghost use Rattle.bodies.specs.inside.Conditions.{AsksWriteOf, WriteCause};
 use crate::conditions::conditions_of;
 use crate::ops::read_ops;
 use crate::requests::{items_of, read_value};
-use config_core::has_only_members;
+use config_text::has_only_members;
 use names::limits::MAX_OPS;
 use names::{Items, Op, Refusal, Write};
 use serde_json::Value;

@@ -16,8 +16,8 @@ use Rattle.strata.specs.declared.graph.Step.{Step}
 use Rattle.strata.specs.Graph.{HasStep, NoneBack, Walk, here, onward}
 use Rattle.strata.specs.Graph as signed
 use Rattle.strata.proofs.Bounds.{path_few}
-use Rattle.config_core.specs.Order.{IsOrdered}
-use Rattle.config_core.specs.Spelling.{AreNamed, IsNamed}
+use Rattle.config_text.specs.Order.{IsOrdered}
+use Rattle.config_text.specs.Spelling.{AreNamed, IsNamed}
 use Rattle.config.specs.Cycles.{IsChain, EndsApart, IsCertificate}
 use Rattle.config.specs.inside.Graph.{nowhere, relation_at, name_at, IsGraph, step_by_name}
 use Rattle.config.specs.Levels.{AreLevels}

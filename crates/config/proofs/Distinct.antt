@@ -10,7 +10,7 @@ use Rattle.std.proofs.lemmas.List.{get_or-map, length-map}
 use Rattle.std.proofs.lemmas.Map.Keys.{Less-from_sorted}
 use Rattle.names.specs.declared.relation.RelationName.{RelationName}
 use Rattle.meaning.specs.Config.{Configured, Defined}
-use Rattle.config_core.specs.Order.{name_cmp, relation_cmp, IsOrdered}
+use Rattle.config_text.specs.Order.{name_cmp, relation_cmp, IsOrdered}
 use Rattle.config.specs.inside.Graph.{nowhere, name_at}
 
 turned : (o : Ordering) → o ≡ ordering_reverse o → o ≡ Equal

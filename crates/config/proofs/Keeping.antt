@@ -13,11 +13,11 @@ use Rattle.names.specs.declared.limits.TheConstants.{MAX_CONFIG_LEN, MAX_NAMESPA
 use Rattle.meaning.specs.Form.{Form, Forms, This, Computed, TupleTo, Union, Intersection, Exclusion, none, more}
 use Rattle.meaning.specs.Config.{Configured, Defined, IsWhole, AreWhole, IsSome, empty_config}
 use Rattle.meaning.proofs.Lists.{contains_none}
-use Rattle.config_core.specs.Canonical.{config_data}
-use Rattle.config_core.specs.Order.{name_cmp, relation_cmp}
-use Rattle.config_core.specs.Reading.{Describes, IsWritable}
-use Rattle.config_core.specs.Size.{form_nodes, form_depth, is_some, has_parts, all_have_parts}
-use Rattle.config_core.specs.Spelling.{IsName, IsNamed}
+use Rattle.config_text.specs.Canonical.{config_data}
+use Rattle.config_text.specs.Order.{name_cmp, relation_cmp}
+use Rattle.config_text.specs.Reading.{Describes, IsWritable}
+use Rattle.config_text.specs.Size.{form_nodes, form_depth, is_some, has_parts, all_have_parts}
+use Rattle.config_text.specs.Spelling.{IsName, IsNamed}
 use Rattle.config.specs.Causes.{Accepts}
 use Rattle.config.specs.Invariant.{IsConfig}
 use Rattle.config.specs.Valid.{is_small, is_within}

@@ -3,12 +3,12 @@ use Rattle.std.proofs.Common.{◌≡◌, ℕ, ◌<◌, ◌≤◌, List, [], leng
 use Rattle.std.specs.Prelude.{Contains, map, ◌↔◌}
 use Rattle.std.proofs.lemmas.List.{get_or-map, length-map}
 use Rattle.std.proofs.lemmas.List.Elements.{Contains-get_or}
-use Rattle.config_core.specs.declared.relation.Relation.{Relation}
+use Rattle.config_text.specs.declared.relation.Relation.{Relation}
 use Rattle.strata.specs.declared.graph.Step.{Step}
 use Rattle.meaning.specs.Config.{Configured, Defined, Has, StepsTo}
 use Rattle.meaning.proofs.Lists.{contains_map, contains_none}
-use Rattle.config_core.specs.Forms.{form_of, defined_of}
-use Rattle.config_core.specs.Parts.{configured}
+use Rattle.config_text.specs.Forms.{form_of, defined_of}
+use Rattle.config_text.specs.Parts.{configured}
 use Rattle.config.specs.inside.Graph.{nowhere, relation_at, name_at, IsStep, Adds, IsGraph}
 
 pub at_place : (ns : List (List ℕ)) (rs : List Relation) (k : ℕ) (r : Relation) → k < length rs → r ≡ get_or rs k r → relation_at (configured ns rs) k ≡ defined_of r

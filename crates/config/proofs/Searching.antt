@@ -20,10 +20,10 @@ use Rattle.meaning.specs.Admits.{admits, declares, is_relation}
 use Rattle.meaning.proofs.KnownRelations.{relation_is, is_itself}
 use Rattle.meaning.proofs.AdmitsLemmas.{told_admitted}
 use Rattle.meaning.proofs.Lists.{contains_map_back}
-use Rattle.config_core.specs.declared.relation.Relation.{Relation}
-use Rattle.config_core.specs.Forms.{defined_of}
-use Rattle.config_core.specs.Order.{name_cmp, relation_cmp, IsOrdered}
-use Rattle.config_core.specs.Parts.{configured}
+use Rattle.config_text.specs.declared.relation.Relation.{Relation}
+use Rattle.config_text.specs.Forms.{defined_of}
+use Rattle.config_text.specs.Order.{name_cmp, relation_cmp, IsOrdered}
+use Rattle.config_text.specs.Parts.{configured}
 use Rattle.config.specs.Places.{StandsAt}
 use Rattle.config.specs.inside.Graph.{nowhere, relation_at}
 use Rattle.config.proofs.Distinct.{same_relation, names_apart}

@@ -6,7 +6,7 @@ use Rattle.names.specs.declared.cause.Cause.TheVariants.{Size, Json, Shape, Name
 use Rattle.names.specs.declared.refusal.Refusal.{Refusal}
 use Rattle.names.specs.declared.refusal.Refusal.TheVariants.{ConfigRefused, Memory}
 use Rattle.meaning.specs.Config.{Configured}
-use Rattle.config_core.specs.Reading.{Describes, IsReadingCause}
+use Rattle.config_text.specs.Reading.{Describes, IsReadingCause}
 use Rattle.config.specs.Valid.{IsValid, cause_of}
 use Rattle.config.specs.Cycles.{IsCertificate}
 

@@ -2,9 +2,9 @@
 use Rattle.std.specs.Prelude.{ℕ, ◌<◌, ◌≤◌, ◌^◌, List, All, IsTrue, length}
 use Rattle.names.specs.declared.limits.TheConstants.{MAX_CONFIG_LEN}
 use Rattle.meaning.specs.Config.{Configured}
-use Rattle.config_core.specs.Canonical.{config_text}
-use Rattle.config_core.specs.Order.{IsOrdered}
-use Rattle.config_core.specs.Size.{has_parts}
+use Rattle.config_text.specs.Canonical.{config_text}
+use Rattle.config_text.specs.Order.{IsOrdered}
+use Rattle.config_text.specs.Size.{has_parts}
 use Rattle.config.specs.Levels.{AreLevels}
 use Rattle.config.specs.Valid.{IsValid}
 

@@ -12,9 +12,9 @@ use Rattle.meaning.specs.Form as form
 use Rattle.meaning.specs.Levels.{IsLevel}
 use Rattle.meaning.specs.Config.{Configured, Defined, Step, relation_in}
 use Rattle.meaning.specs.Admits.{is_relation, is_type, has_relation}
-use Rattle.config_core.specs.Canonical.{is_this}
-use Rattle.config_core.specs.Size.{form_nodes, form_depth}
-use Rattle.config_core.specs.Spelling.{AreNamed}
+use Rattle.config_text.specs.Canonical.{is_this}
+use Rattle.config_text.specs.Size.{form_nodes, form_depth}
+use Rattle.config_text.specs.Spelling.{AreNamed}
 
 -- so many nodes and so deep a rewrite are allowed
 abbrev pub is_small_form : Form → Bool

@@ -5,13 +5,13 @@ ghost use Rattle.std.specs.Cmp.Lexicographic.{pointwise};
 ghost use Rattle.names.specs.declared.relation.SubjectType.{SubjectType};
 ghost use Rattle.meaning.specs.Config.{relation_in};
 ghost use Rattle.meaning.specs.Admits.{is_relation, is_type};
-ghost use Rattle.config_core.specs.Forms.{form_of, rewrite_forms, defined_of};
-ghost use Rattle.config_core.specs.Parts.{configured, parts_of};
+ghost use Rattle.config_text.specs.Forms.{form_of, rewrite_forms, defined_of};
+ghost use Rattle.config_text.specs.Parts.{configured, parts_of};
 ghost use Rattle.config.specs.Valid.{is_small, is_within, has_namespace, has_type, have_types, is_twice, types_stand, uses_this, some_use_this, types_used, is_indexed_relation, form_indexable, forms_indexable, types_indexed, is_indexable, cause_of};
 
 use crate::rewrites::{all_compute, all_have_tuplesets};
 use crate::sizes::is_small;
-use config_core::{Parts, Relation, Rewrite};
+use config_text::{Parts, Relation, Rewrite};
 use names::limits::{MAX_NAMESPACES, MAX_RELATIONS, MAX_TYPES};
 use names::{Cause, Name, SubjectType};
 

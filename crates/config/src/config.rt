@@ -3,14 +3,14 @@ ghost use Rattle.std.specs.Prelude.{◌≡◌, ◌&&◌, ◌<◌, ◌^◌, All, 
 ghost use Rattle.std.specs.List.{list_any};
 ghost use Rattle.meaning.specs.Admits.{is_relation, declares};
 ghost use Rattle.meaning.specs.Config.{rel_of};
-ghost use Rattle.config_core.specs.Canonical.{config_text};
-ghost use Rattle.config_core.specs.Forms.{defined_of};
-ghost use Rattle.config_core.specs.Parts.{configured};
+ghost use Rattle.config_text.specs.Canonical.{config_text};
+ghost use Rattle.config_text.specs.Forms.{defined_of};
+ghost use Rattle.config_text.specs.Parts.{configured};
 ghost use Rattle.config.specs.Invariant.{IsShort};
 
 use crate::causes::first_cause;
 use crate::levels::levels_of;
-use config_core::{Parts, Relation, read_configuration, text_of};
+use config_text::{Parts, Relation, read_configuration, text_of};
 use names::limits::MAX_CONFIG_LEN;
 use names::{Name, Node, Refusal, Tuple};
 use std::alloc::{AllocError, Global};
@@ -28,7 +28,7 @@ pub struct Config {
 impl Model for Config {
     ghost use Rattle.meaning.specs.Config.{Configured};
     ghost use Rattle.meaning.specs.inside.Codes.{coded_config};
-    ghost use Rattle.config_core.specs.Parts.{configured};
+    ghost use Rattle.config_text.specs.Parts.{configured};
     ghost use Rattle.config.specs.Invariant.{IsConfig};
 
     ghost Value = { Configured };
@@ -47,7 +47,7 @@ impl Config {
     ghost use Rattle.config.specs.Levels.{AreLevels};
     ghost use Rattle.config.specs.Places.{StandsAt};
     ghost use Rattle.config.specs.Valid.{IsValid};
-    ghost use Rattle.config_core.specs.Order.{IsOrdered};
+    ghost use Rattle.config_text.specs.Order.{IsOrdered};
     ghost use Rattle.config.specs.Causes.{Accepts, ConfigCause};
     ghost use Rattle.config.specs.Refused.{AdmitCause};
 

@@ -1,11 +1,11 @@
 //! The graph of a configuration: its relations by their places, and their steps.
 ghost use Rattle.std.specs.Prelude.{◌≡◌, ◌<◌, ◌≤◌, ◌↔◌, IsTrue, IfOk, OnOk, length};
 ghost use Rattle.names.specs.declared.limits.TheConstants.{MAX_RELATIONS};
-ghost use Rattle.config_core.specs.Parts.{parts_of};
+ghost use Rattle.config_text.specs.Parts.{parts_of};
 ghost use Rattle.config.specs.inside.Graph.{IsStep, IsBetween, Adds, IsGraph};
 
 use crate::steps::steps_to;
-use config_core::Parts;
+use config_text::Parts;
 use std::alloc::{AllocError, Global};
 use strata::{Graph, Step};
 

@@ -1,14 +1,14 @@
 //! The levels of a configuration's relations, or a cycle of them.
 ghost use Rattle.std.specs.Prelude.{◌≡◌, ◌<◌, ◌^◌, All, IfOk, IfErr, None, length, map};
-ghost use Rattle.config_core.specs.Order.{IsOrdered};
-ghost use Rattle.config_core.specs.Parts.{parts_of};
-ghost use Rattle.config_core.specs.Spelling.{AreNamed};
+ghost use Rattle.config_text.specs.Order.{IsOrdered};
+ghost use Rattle.config_text.specs.Parts.{parts_of};
+ghost use Rattle.config_text.specs.Spelling.{AreNamed};
 ghost use Rattle.config.specs.inside.Graph.{step_by_name, LevelsRefused};
 ghost use Rattle.config.specs.Levels.{AreLevels};
 ghost use Rattle.config.specs.Valid.{cause_of};
 
 use crate::graph::graph_of;
-use config_core::Parts;
+use config_text::Parts;
 use names::{Cause, CycleStep, Items, Refusal};
 use std::alloc::{AllocError, Global};
 use strata::{Answer, Step, levels};

@@ -11,4 +11,4 @@ mod sizes;
 mod steps;
 
 pub use config::Config;
-pub use config_core::{Relation, Rewrite};
+pub use config_text::{Relation, Rewrite};

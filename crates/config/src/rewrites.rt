@@ -3,13 +3,13 @@ ghost use Rattle.std.specs.Prelude.{◌≡◌, map};
 ghost use Rattle.std.specs.List.{list_all};
 ghost use Rattle.meaning.specs.Config.{relation_in};
 ghost use Rattle.meaning.specs.Admits.{is_relation};
-ghost use Rattle.config_core.specs.Canonical.{is_this};
-ghost use Rattle.config_core.specs.Forms.{form_of, rewrite_forms, defined_of};
-ghost use Rattle.config_core.specs.Parts.{configured};
+ghost use Rattle.config_text.specs.Canonical.{is_this};
+ghost use Rattle.config_text.specs.Forms.{form_of, rewrite_forms, defined_of};
+ghost use Rattle.config_text.specs.Parts.{configured};
 ghost use Rattle.config.specs.Valid.{form_computes, forms_compute, computes, names_none, some_has, is_parental, is_tupleset, tuplesets_fit, all_tuplesets_fit, has_tuplesets};
 
 use crate::causes::has_relation;
-use config_core::{Relation, Rewrite};
+use config_text::{Relation, Rewrite};
 use names::{Name, SubjectType};
 
 #[cycle(computes)]

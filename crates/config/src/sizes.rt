@@ -1,10 +1,10 @@
 //! How large rewrites are.
 ghost use Rattle.std.specs.Prelude.{◌≡◌, ◌+◌, ◌<◌, ◌≤◌, ◌↔◌, IsTrue, IfSome, IfNone, nat_le};
-ghost use Rattle.config_core.specs.Forms.{form_of, rewrite_forms};
-ghost use Rattle.config_core.specs.Size.{form_nodes, forms_nodes, form_depth, forms_depth};
+ghost use Rattle.config_text.specs.Forms.{form_of, rewrite_forms};
+ghost use Rattle.config_text.specs.Size.{form_nodes, forms_nodes, form_depth, forms_depth};
 ghost use Rattle.config.specs.Valid.{is_small_form};
 
-use config_core::Rewrite;
+use config_text::Rewrite;
 use names::limits::{MAX_REWRITE_DEPTH, MAX_REWRITE_NODES};
 
 /// What is left of so many nodes without those of the rewrite, if it has no more.

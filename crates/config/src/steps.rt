@@ -2,10 +2,10 @@
 ghost use Rattle.std.specs.Prelude.{◌≡◌, ◌↔◌, IsTrue, Contains};
 ghost use Rattle.names.specs.declared.relation.RelationName.{RelationName};
 ghost use Rattle.meaning.specs.Config.{Has, Leads, StepsTo, SomeStepsTo, relation_in, object_type, node_type};
-ghost use Rattle.config_core.specs.Forms.{form_of, rewrite_forms, defined_of};
-ghost use Rattle.config_core.specs.Parts.{parts_of};
+ghost use Rattle.config_text.specs.Forms.{form_of, rewrite_forms, defined_of};
+ghost use Rattle.config_text.specs.Parts.{parts_of};
 
-use config_core::{Parts, Relation, Rewrite};
+use config_text::{Parts, Relation, Rewrite};
 use names::{Name, RelationName, SubjectType};
 
 /// Whether the type is that of the relation's nodes.

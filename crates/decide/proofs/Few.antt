@@ -13,7 +13,7 @@ use Rattle.meaning.specs.TupleSet as set
 use Rattle.meaning.specs.Snap.{Snap, set_of}
 use Rattle.meaning.specs.Membership.{HasOne, HasSet}
 use Rattle.meaning.proofs.TupleSets.{objects_total}
-use Rattle.rows_core.specs.Named.{objects_in, nodes_in}
+use Rattle.versions.specs.Named.{objects_in, nodes_in}
 use Rattle.tuple_keys.specs.Named.{is_at, is_of, user_tuple}
 use Rattle.rows.proofs.Naming.{contains_kept, kept_contains, of_node, is_of_itself, named_object, object_named, named_node, node_named}
 use Rattle.decide.specs.declared.facts.Named.{Named}

@@ -6,9 +6,9 @@ use Rattle.names.specs.declared.node.Node.{Node}
 use Rattle.meaning.specs.Snap.{Snap}
 use Rattle.meaning.specs.Config.{IsAt, Has, rel_of}
 use Rattle.meaning.specs.Form.{Form, This, Computed, TupleTo, Union, Exclusion}
-use Rattle.config_core.specs.declared.rewrite.Rewrite.{Rewrite}
-use Rattle.config_core.specs.declared.relation.Relation.{Relation}
-use Rattle.config_core.specs.Forms.{form_of, rewrite_forms, defined_of}
+use Rattle.config_text.specs.declared.rewrite.Rewrite.{Rewrite}
+use Rattle.config_text.specs.declared.relation.Relation.{Relation}
+use Rattle.config_text.specs.Forms.{form_of, rewrite_forms, defined_of}
 use Rattle.decide.proofs.Parts.{some_left, some_none}
 use Rattle.meaning.specs.Membership.{Gives, SomeGives}
 use Rattle.meaning.proofs.GivesLemmas.{gives_grows}

@@ -5,8 +5,8 @@ use Rattle.names.specs.declared.object.Object.{Object}
 use Rattle.names.specs.declared.node.Node.{Node}
 use Rattle.meaning.specs.Snap.{Snap}
 use Rattle.meaning.specs.Membership.{Gives, SomeGives, EachGives}
-use Rattle.config_core.specs.declared.rewrite.Rewrite.{Rewrite}
-use Rattle.config_core.specs.Forms.{form_of, rewrite_forms}
+use Rattle.config_text.specs.declared.rewrite.Rewrite.{Rewrite}
+use Rattle.config_text.specs.Forms.{form_of, rewrite_forms}
 
 plus_one : (k : ℕ) → suc k ≡ k + 1
 plus_one k = omega arith

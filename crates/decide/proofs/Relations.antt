@@ -10,8 +10,8 @@ use Rattle.meaning.specs.Levels.{IsLevel}
 use Rattle.meaning.specs.Membership.{Gives, RelationGives, HasOne}
 use Rattle.meaning.specs.Snap.{Snap}
 use Rattle.meaning.proofs.Lists.{contains_map, contains_map_back}
-use Rattle.config_core.specs.declared.relation.Relation.{Relation}
-use Rattle.config_core.specs.Forms.{defined_of, form_of}
+use Rattle.config_text.specs.declared.relation.Relation.{Relation}
+use Rattle.config_text.specs.Forms.{defined_of, form_of}
 use Rattle.config.specs.Levels.{AreLevels}
 use Rattle.config.specs.Places.{StandsAt}
 use Rattle.decide.specs.inside.Reads.{AreNodesOf, node_with}

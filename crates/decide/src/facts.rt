@@ -8,14 +8,14 @@ ghost use Rattle.meaning.specs.TupleSet as set;
 ghost use Rattle.names.specs.Spelling.{IsNode};
 ghost use Rattle.names.specs.declared.node.Node.{Node};
 ghost use Rattle.names.specs.declared.object.Object.{Object};
-ghost use Rattle.rows_core.specs.Named.{objects_in, nodes_in};
+ghost use Rattle.versions.specs.Named.{objects_in, nodes_in};
 ghost use Rattle.tuple_keys.specs.Named.{user_tuple, is_at, is_of};
 ghost use Rattle.tuple_keys.specs.Spelled.{spelled_node};
 ghost use Rattle.decide.specs.inside.Reading.{AreNamed, AreRead, IsReadAt};
 
 use crate::numbers::{Numbers, key_of_object};
 use crate::source::node_of;
-use config_core::Rewrite;
+use config_text::Rewrite;
 use names::{Name, Node, Object};
 use rows::View;
 use std::alloc::{AllocError, Global};

@@ -5,7 +5,7 @@ ghost use Rattle.meaning.specs.Membership.{HasOne};
 ghost use Rattle.meaning.specs.Form.{This, Computed, TupleTo, Union, Intersection};
 ghost use Rattle.names.specs.declared.object.Object.{Object};
 ghost use Rattle.config.specs.Places.{StandsAt};
-ghost use Rattle.config_core.specs.Forms.{form_of, rewrite_forms};
+ghost use Rattle.config_text.specs.Forms.{form_of, rewrite_forms};
 ghost use Rattle.decide.specs.inside.Asked.{IsSource, IsAsking, IsCounted, IsLeft, GoesOn};
 ghost use Rattle.decide.specs.inside.Running.{IsRunning};
 ghost use Rattle.decide.specs.inside.Reads.{AreOwn, AreNodesOf};
@@ -15,7 +15,7 @@ use crate::asking::{Asking, Found};
 use crate::facts::Facts;
 use crate::search::{Parents, Search};
 use crate::source::{Source, node_of};
-use config_core::Rewrite;
+use config_text::Rewrite;
 use names::{Name, Node};
 use std::alloc::AllocError;
 

@@ -15,9 +15,9 @@ use Rattle.meaning.specs.Config.{rel_of}
 use Rattle.meaning.specs.Admits.{has_relation}
 use Rattle.std.specs.Global.{Global}
 use Rattle.tuple_keys.specs.Named.{is_of}
-use Rattle.config_core.specs.declared.rewrite.Rewrite.{Rewrite}
-use Rattle.config_core.specs.Forms.{form_of, rewrite_forms}
-use Rattle.config_core.proofs.ByItem.{drop_here, drop_past}
+use Rattle.config_text.specs.declared.rewrite.Rewrite.{Rewrite}
+use Rattle.config_text.specs.Forms.{form_of, rewrite_forms}
+use Rattle.config_text.proofs.ByItem.{drop_here, drop_past}
 use Rattle.expand.specs.declared.tree.Tree.{Tree}
 use Rattle.expand.specs.declared.walk.Walk.{Walk}
 use Rattle.expand.specs.UsersetTree.{UsersetTree, UsersetTrees, Union, tree_nodes, trees_nodes, trees}

@@ -5,9 +5,9 @@ use Rattle.expand.specs.inside.Walking.{all_nodes}
 use Rattle.std.proofs.Common.{⊎_elim}
 use Rattle.meaning.specs.Config.{Defined}
 use Rattle.meaning.proofs.Lists.{contains_cases, contains_none}
-use Rattle.config_core.specs.declared.rewrite.Rewrite.{Rewrite}
-use Rattle.config_core.specs.Forms.{form_of, rewrite_forms}
-use Rattle.config_core.specs.Size.{form_nodes, forms_nodes}
+use Rattle.config_text.specs.declared.rewrite.Rewrite.{Rewrite}
+use Rattle.config_text.specs.Forms.{form_of, rewrite_forms}
+use Rattle.config_text.specs.Size.{form_nodes, forms_nodes}
 
 -- more than three times the nodes of each rewrite
 abbrev pub step_of : List Defined → ℕ

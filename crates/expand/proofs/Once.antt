@@ -16,9 +16,9 @@ use Rattle.meaning.specs.Reads.{IsValid}
 use Rattle.meaning.proofs.AdmitsLemmas.{told_admitted}
 use Rattle.meaning.proofs.Lists.{contains_cases, contains_none}
 use Rattle.meaning.proofs.TupleSets.{contains_iff}
-use Rattle.config_core.specs.declared.relation.Relation.{Relation}
-use Rattle.config_core.specs.Forms.{defined_of}
-use Rattle.config_core.specs.Order.{relation_cmp}
+use Rattle.config_text.specs.declared.relation.Relation.{Relation}
+use Rattle.config_text.specs.Forms.{defined_of}
+use Rattle.config_text.specs.Order.{relation_cmp}
 use Rattle.config.specs.Levels.{AreLevels}
 use Rattle.config.proofs.Distinct.{same_relation}
 use Rattle.rows.specs.Retained.{AreAdmitted}

@@ -9,7 +9,7 @@ use Rattle.std.proofs.lemmas.Map.Views.{tells_apart}
 use Rattle.names.specs.Order.{node_cmp}
 use Rattle.names.specs.declared.node.Node.{Node}
 use Rattle.meaning.proofs.TupleSets.{exact_nodes, nodes_total}
-use Rattle.config_core.proofs.ByItem.{drop_here}
+use Rattle.config_text.proofs.ByItem.{drop_here}
 use Rattle.expand.specs.Tree.{is_among}
 
 -- the test of `==`

@@ -4,7 +4,7 @@ use Rattle.std.specs.Prelude.{Contains, cond}
 use Rattle.std.specs.List.{find, filter_map, cons_option}
 use Rattle.std.proofs.lemmas.List.{append_assoc}
 use Rattle.names.specs.declared.tuple.Tuple.{Tuple}
-use Rattle.config_core.proofs.ByItem.{drop_here}
+use Rattle.config_text.proofs.ByItem.{drop_here}
 use Rattle.names.specs.declared.node.Node.{Node}
 use Rattle.names.specs.declared.subject.Subject.{Subject}
 use Rattle.meaning.specs.Snap.{Snap}
@@ -12,9 +12,9 @@ use Rattle.meaning.specs.Config.{Configured, Defined, Has, rel_of}
 use Rattle.meaning.specs.Admits.{is_relation, has_relation}
 use Rattle.meaning.proofs.Lists.{contains_cases, contains_none}
 use Rattle.meaning.proofs.KnownRelations.{is_itself, has_known, not_known}
-use Rattle.config_core.specs.declared.relation.Relation.{Relation}
-use Rattle.config_core.specs.Forms.{form_of, defined_of}
-use Rattle.config_core.specs.Size.{form_nodes}
+use Rattle.config_text.specs.declared.relation.Relation.{Relation}
+use Rattle.config_text.specs.Forms.{form_of, defined_of}
+use Rattle.config_text.specs.Size.{form_nodes}
 use Rattle.config.specs.Places.{StandsAt}
 use Rattle.expand.specs.UsersetTree.{Opened, Closed}
 use Rattle.expand.specs.Tree.{node_with, parent, parent_of, filled, opened, definition_of, is_among, userset}

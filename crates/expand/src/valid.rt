@@ -3,7 +3,7 @@ ghost use Rattle.std.specs.Prelude.{◌≡◌, true};
 ghost use Rattle.meaning.specs.Reads.{IsValid};
 ghost use Rattle.expand.specs.inside.Rising.{is_below, is_rising};
 
-use config_core::Relation;
+use config_text::Relation;
 use rows::View;
 
 /// Whether the view's relations are in order, each once. Those of each configuration are, but no contract of it

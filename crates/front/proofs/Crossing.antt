@@ -6,13 +6,13 @@ use denote.Enum.Enum.{Enum}
 use denote.Struct.Declared as S
 use denote.Enum.Declared as E
 use Rattle.std.proofs.Crossing.{crosses, Vec-send, Vec-sync}
-use Rattle.config_core.proofs.rewrite.Rewrite.TheLaws.TheKnot.{crosses as rewrites_cross}
+use Rattle.config_text.proofs.rewrite.Rewrite.TheLaws.TheKnot.{crosses as rewrites_cross}
 use Rattle.names.proofs.name.Name.TheSendSync as Name
 use Rattle.names.proofs.relation.RelationName.TheSendSync as RelationName
 use Rattle.names.proofs.relation.SubjectType.TheSendSync as SubjectType
-use Rattle.rows_core.proofs.version_map.VersionMap.TheSendSync as VersionMap
-use Rattle.config_core.specs.contracts.rewrite.Rewrite as Rewrite
-use Rattle.config_core.specs.contracts.relation.Relation as Relation
+use Rattle.versions.proofs.version_map.VersionMap.TheSendSync as VersionMap
+use Rattle.config_text.specs.contracts.rewrite.Rewrite as Rewrite
+use Rattle.config_text.specs.contracts.relation.Relation as Relation
 use Rattle.names.proofs.tuple.Tuple.TheSendSync as Tuple
 use Rattle.config.specs.contracts.config.Config as Config
 use Rattle.tuple_keys.specs.contracts.kept_commit.KeptCommit as KeptCommit

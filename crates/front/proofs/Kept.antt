@@ -11,8 +11,8 @@ use Rattle.shown.specs.declared.step.Step.TheVariants.{Open}
 use Rattle.published.specs.Known.{Known, Begins}
 use Rattle.published.specs.Receipts.{ReceiptFacts}
 use Rattle.published.proofs.Prefixes.{prefix_self, prefix_trans}
-use Rattle.keeper_core.specs.Posts.{Posts, OpensWith, shown_by}
-use Rattle.keeper_core.specs.Changes.{CatchUpAccepted, CatchUpJudged, IsNoChange, IsRefused}
+use Rattle.desk.specs.Posts.{Posts, OpensWith, shown_by}
+use Rattle.desk.specs.Changes.{CatchUpAccepted, CatchUpJudged, IsNoChange, IsRefused}
 use Rattle.front.specs.Kept.{IsOpened, IsKnownIn, IsKept}
 
 opened_on : (xs ys : List Step) → IsOpened xs → IsPrefix xs ys → IsOpened ys

@@ -4,7 +4,7 @@ use Rattle.names.specs.declared.call.Call.{Call}
 use Rattle.names.specs.declared.call.Call.TheVariants.{Check, Read, Expand, Leopard, Watch, State}
 use Rattle.tables.specs.declared.tables.Tables.{Ghosts}
 use Rattle.published.specs.Known.{Known, Begins}
-use Rattle.keeper_core.specs.Posts.{Posts, shown_by}
+use Rattle.desk.specs.Posts.{Posts, shown_by}
 use Rattle.keeper.specs.Rules.{DeskStep}
 use Rattle.front.specs.Questions.{CheckFrom, StateFrom}
 use Rattle.front.specs.Tuples.{ReadFrom}

@@ -8,7 +8,7 @@ use Rattle.shown.specs.declared.step.Step.{Step}
 use Rattle.shown.specs.declared.step.Step.TheVariants.{Open}
 use Rattle.shown.specs.Standing.{standing}
 use Rattle.published.specs.Known.{Known}
-use Rattle.keeper_core.specs.Posts.{Posts, Agrees}
+use Rattle.desk.specs.Posts.{Posts, Agrees}
 
 -- the steps begin with an opening
 pub record IsOpened (steps : List Step) : Type 0 where

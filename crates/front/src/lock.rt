@@ -9,8 +9,8 @@ ghost use Rattle.bodies.specs.Writing.{AsksWrite};
 ghost use Rattle.tables.specs.Device.{IsOpen};
 ghost use Rattle.tables.specs.Opening.{CannotOpen};
 ghost use Rattle.published.specs.Known.{Begins};
-ghost use Rattle.keeper_core.specs.Posts.{ComesBack, FailsToLoad, SameTables, ShowsMore, shown_by};
-ghost use Rattle.keeper_core.specs.Changes.{CatchUpAccepted, CatchUpJudged, IsNoChange, IsRefused, TellsShown};
+ghost use Rattle.desk.specs.Posts.{ComesBack, FailsToLoad, SameTables, ShowsMore, shown_by};
+ghost use Rattle.desk.specs.Changes.{CatchUpAccepted, CatchUpJudged, IsNoChange, IsRefused, TellsShown};
 ghost use Rattle.keeper.specs.calls.Write.{WriteStep};
 ghost use Rattle.keeper.specs.calls.Config.{ConfigStep};
 ghost use Rattle.keeper.specs.calls.Trim.{TrimStep};
@@ -18,8 +18,8 @@ ghost use Rattle.keeper.specs.calls.CatchUp.{CatchUpStep};
 ghost use Rattle.front.specs.Kept.{IsKept, IsKnownIn, WereKept};
 
 use config::Config;
+use desk::{Desk, Posted};
 use keeper::{catch_up_on, configure_on, trim_on, write_on};
-use keeper_core::{Desk, Posted};
 use names::{Part, Refusal, Reply, Write};
 use published::{Naming, Opened, Receipt, Session};
 use std::alloc::Global;
@@ -36,8 +36,8 @@ pub struct KeptDesk<T: Tables + Drop, J: Naming, R: Wait + Drop> {
 }
 
 impl<T: Tables + Drop, J: Naming, R: Wait + Drop> Model for KeptDesk<T, J, R> {
-    ghost use Rattle.keeper_core.specs.Posts.{Posts};
-    ghost use Rattle.keeper_core.specs.inside.DeskCodes.{coded_posts};
+    ghost use Rattle.desk.specs.Posts.{Posts};
+    ghost use Rattle.desk.specs.inside.DeskCodes.{coded_posts};
     ghost use Rattle.front.specs.Kept.{IsKept as IsSound};
 
     ghost Value = { Posts T };

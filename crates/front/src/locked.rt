@@ -2,7 +2,7 @@
 ghost use Rattle.std.specs.Prelude.{◌≡◌};
 
 use crate::front::Front;
-use http_api::Answers;
+use answers::Answers;
 use names::{Call, Reply};
 use published::Naming;
 use std::marker::Model;

@@ -1,11 +1,11 @@
 //! A desk that its one caller holds.
 ghost use Rattle.std.specs.Prelude.{IfOk};
 ghost use Rattle.published.specs.Known.{Begins};
-ghost use Rattle.keeper_core.specs.Posts.{shown_by};
+ghost use Rattle.desk.specs.Posts.{shown_by};
 
-use http_api::Answers;
+use answers::Answers;
+use desk::Desk;
 use keeper::answer_on;
-use keeper_core::Desk;
 use names::{Call, Refusal, Reply};
 use published::{Opened, Session};
 use std::alloc::Global;
@@ -24,7 +24,7 @@ pub struct Lent<H: Wait + Drop> {
 impl<H: Wait + Drop> Model for Lent<H> {
     ghost use Rattle.published.specs.Known.{Begins, Known};
     ghost use Rattle.published.specs.inside.Codes.{coded_known};
-    ghost use Rattle.keeper_core.specs.Posts.{shown_by};
+    ghost use Rattle.desk.specs.Posts.{shown_by};
 
     ghost Value = { Known };
 

@@ -2,8 +2,8 @@
 ghost use Rattle.std.specs.Prelude.{◌≡◌};
 
 use crate::lent;
+use answers::Answers;
 use front::{Front, Keeper, Locked};
-use http_api::Answers;
 use names::{Call, Refusal, Reply};
 use published::{Naming, Opened};
 use std::alloc::{AllocError, Global};

@@ -2,10 +2,10 @@
 use Rattle.std.proofs.Common.{ℕ, ◌≡◌, Bool, true, List, refl, sym, subst}
 use Rattle.names.specs.declared.node.Node.{Node}
 use Rattle.meaning.specs.Snap.{Snap}
-use Rattle.region_core.specs.World.{has}
-use Rattle.region_core.specs.Walks.{Walk}
-use Rattle.region_core.specs.Walks as walks
-use Rattle.region_core.proofs.GroupLemmas as group
+use Rattle.least_sets.specs.World.{has}
+use Rattle.least_sets.specs.Walks.{Walk}
+use Rattle.least_sets.specs.Walks as walks
+use Rattle.least_sets.proofs.GroupLemmas as group
 use Rattle.graphs.specs.Graph.{AreIdsOf}
 use Rattle.graphs.specs.Groups.{IsGroupArc, GroupWalk, here, on, LeastIsClosure}
 

@@ -15,9 +15,9 @@ use Rattle.meaning.specs.Reads as reading
 use Rattle.meaning.proofs.LevelLemmas.{one_level}
 use Rattle.meaning.proofs.ReadsLemmas.{at_level, member_unfolds}
 use Rattle.meaning.proofs.RegionLemmas.{IsKnownAround, region_complete}
-use Rattle.region_core.specs.World.{Fact, Shape, Either, Both, Except, has, gives, arcs_of, plain_of, taken_of}
-use Rattle.region_core.specs.Least.{IsLevelled, IsLeastIn, Derived, outside, follows}
-use Rattle.region_core.proofs.Gives.{has_here, has_left, has_right, plain_named, taken_named}
+use Rattle.least_sets.specs.World.{Fact, Shape, Either, Both, Except, has, gives, arcs_of, plain_of, taken_of}
+use Rattle.least_sets.specs.Least.{IsLevelled, IsLeastIn, Derived, outside, follows}
+use Rattle.least_sets.proofs.Gives.{has_here, has_left, has_right, plain_named, taken_named}
 use Rattle.graphs.specs.Graph.{IsNone, IsShapeOf, IsAnyOf, IsEachOf, IsGraphOf, LeastIsMembership}
 
 any_find : (p : ℕ → Bool) (xs : List ℕ) → list_any p xs ≡ true → (x : ℕ) × (has xs x ≡ true) × (p x ≡ true)

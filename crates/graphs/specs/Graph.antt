@@ -8,8 +8,8 @@ use Rattle.meaning.specs.Form as form
 use Rattle.meaning.specs.Config.{Defined, Defines, Has, IsAt, rel_of}
 use Rattle.meaning.specs.Membership.{HasOne, HasSet, IsMember}
 use Rattle.meaning.specs.Reads.{IsValid}
-use Rattle.region_core.specs.World.{Fact, Shape, Own, AnyOf, Reads, Either, Both, Except, has, arcs_of}
-use Rattle.region_core.specs.Least.{IsLevelled, IsLeastIn}
+use Rattle.least_sets.specs.World.{Fact, Shape, Own, AnyOf, Reads, Either, Both, Except, has, arcs_of}
+use Rattle.least_sets.specs.Least.{IsLevelled, IsLeastIn}
 
 -- the ids are those of exactly the nodes for which P holds
 pub record AreIdsOf (nodes : ℕ → Node) (ids : List ℕ) (P : Node → Type 0) : Type 0 where

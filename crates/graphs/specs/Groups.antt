@@ -5,9 +5,9 @@ use Rattle.meaning.specs.Snap.{Snap}
 use Rattle.meaning.specs.Form.{Form, Forms, This, Computed, TupleTo, Union, Intersection, Exclusion, none, more}
 use Rattle.meaning.specs.Config.{Defined, Defines, rel_of}
 use Rattle.meaning.specs.Membership.{HasSet}
-use Rattle.region_core.specs.World.{has}
-use Rattle.region_core.specs.Least.{IsLeastIn}
-use Rattle.region_core.specs.Groups.{groups}
+use Rattle.least_sets.specs.World.{has}
+use Rattle.least_sets.specs.Least.{IsLeastIn}
+use Rattle.least_sets.specs.Groups.{groups}
 use Rattle.graphs.specs.Graph.{AreIdsOf}
 
 -- the computed userset of the relation c stands in the rewrite

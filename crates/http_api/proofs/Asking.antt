@@ -2,7 +2,7 @@
 use Rattle.std.proofs.Common.{◌≡◌, ℕ, List, length, drop, refl, sym, ap, subst, arith}
 use Rattle.std.proofs.lemmas.List.{length-append}
 use Rattle.httparse.specs.Grammar.{RequestHead, print_request}
-use Rattle.http_api.specs.declared.end.End.TheVariants.{Asked}
+use Rattle.answers.specs.declared.end.End.TheVariants.{Asked}
 use Rattle.http_api.specs.declared.looking.Refused.TheVariants.{Malformed, NoLength, TooLarge}
 use Rattle.http_api.specs.declared.looking.Looked.{Looked}
 use Rattle.http_api.specs.declared.looking.Looked.TheVariants.{Request, Refused as RefusedFor, Partial}

@@ -9,12 +9,12 @@ use Rattle.tracked_io.specs.Waiting.{Waited}
 use Rattle.tracked_io.specs.Wrote.{WroteSome}
 use Rattle.tracked_io.proofs.Waiting.{reads_none, reads_both, waited_none, waited_both, waited_as}
 use Rattle.tracked_io.proofs.Appending.{appends_none, appends_both, appends_kept, some_after}
-use Rattle.http_api.specs.declared.end.End.{End}
-use Rattle.http_api.specs.declared.end.End.TheVariants.{Closed, Asked, Broken, ReadFault, WriteFault, Memory}
+use Rattle.answers.specs.declared.end.End.{End}
+use Rattle.answers.specs.declared.end.End.TheVariants.{Closed, Asked, Broken, ReadFault, WriteFault, Memory}
 use Rattle.http_api.specs.declared.looking.Heading.{Heading}
 use Rattle.http_api.specs.declared.framing.Framing.TheVariants.{Sized}
-use Rattle.http_api.specs.Ends.{is_read_fault}
-use Rattle.http_api.specs.Machine.{Step}
+use Rattle.answers.specs.Ends.{is_read_fault}
+use Rattle.answers.specs.Machine.{Step}
 use Rattle.http_api.specs.Connection.{Next, stop, NoRequest, HasRequest, IsFew, Turn, Goes, Text, no_request}
 use Rattle.http_api.specs.Talks.{Talked, TalkCut}
 use Rattle.http_api.specs.inside.Looking.{HasHeading}

@@ -2,8 +2,8 @@
 use Rattle.std.proofs.Common.{◌≡◌, ℕ, zero, suc, ◌+◌, ◌++◌, Bool, true, false, List, [], refl, sym, ap, ◌∙◌, subst, arith, append_assoc, append-nil}
 use Rattle.httparse.specs.Grammar.{RequestHead}
 use Rattle.httparse.proofs.GrammarLemmas.{ReadsRequest-append}
-use Rattle.http_api.specs.declared.end.End.{End}
-use Rattle.http_api.specs.Machine.{Step}
+use Rattle.answers.specs.declared.end.End.{End}
+use Rattle.answers.specs.Machine.{Step}
 use Rattle.http_api.specs.Heads.{Begins}
 use Rattle.http_api.specs.Connection.{Next, stop, go_on, after, HasRequest, Turn, Goes, no_request, unknown, answered, no_memory}
 

@@ -9,9 +9,9 @@ use Rattle.httparse.specs.Grammar.{RequestHead}
 use Rattle.httparse.proofs.GrammarLemmas.{request_unique}
 use Rattle.http_api.specs.declared.framing.Framing.{Framing}
 use Rattle.http_api.specs.declared.framing.Framing.TheVariants.{Unclear, Missing, Sized}
-use Rattle.http_api.specs.declared.end.End.{End}
-use Rattle.http_api.specs.declared.end.End.TheVariants.{Closed, Asked, Broken}
-use Rattle.http_api.specs.Machine.{Step}
+use Rattle.answers.specs.declared.end.End.{End}
+use Rattle.answers.specs.declared.end.End.TheVariants.{Closed, Asked, Broken}
+use Rattle.answers.specs.Machine.{Step}
 use Rattle.http_api.specs.Heads.{Begins, IsHopeless, EndsInHead, framing_of, closes}
 use Rattle.http_api.specs.Routes.{route_of}
 use Rattle.http_api.specs.Replies.{reply_text, malformed, length_required, body_too_large, no_route}

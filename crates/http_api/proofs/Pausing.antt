@@ -9,9 +9,9 @@ use Rattle.tracked_io.specs.Waiting.{OneRead, with_read, Waited}
 use Rattle.tracked_io.specs.Wrote.{WroteSome}
 use Rattle.tracked_io.proofs.Waiting.{gave_waited, reads_none, reads_both, waited_none, waited_more, waited_both, waited_as}
 use Rattle.tracked_io.proofs.Appending.{appends_none, appends_kept, appends_both, some_after}
-use Rattle.http_api.specs.declared.end.End.{End}
-use Rattle.http_api.specs.declared.end.End.TheVariants.{Closed, Asked, Broken, ReadFault, WriteFault, Memory}
-use Rattle.http_api.specs.Ends.{is_read_fault, is_write_fault}
+use Rattle.answers.specs.declared.end.End.{End}
+use Rattle.answers.specs.declared.end.End.TheVariants.{Closed, Asked, Broken, ReadFault, WriteFault, Memory}
+use Rattle.answers.specs.Ends.{is_read_fault, is_write_fault}
 use Rattle.httparse.specs.Grammar.{RequestHead}
 use Rattle.http_api.specs.declared.looking.Heading.{Heading}
 use Rattle.http_api.specs.Heads.{Begins, max_head}

@@ -6,9 +6,9 @@ use Rattle.std.proofs.lemmas.List.{append-nil}
 use Rattle.tracked_io.specs.Tracking.{TrackedWriting}
 use Rattle.tracked_io.specs.Wrote.{Wrote}
 use Rattle.tracked_io.proofs.Appending.{appends_kept}
-use Rattle.http_api.specs.declared.end.End.{End}
-use Rattle.http_api.specs.declared.end.End.TheVariants.{Closed, Asked, Broken, ReadFault, WriteFault, Memory}
-use Rattle.http_api.specs.Machine.{Step}
+use Rattle.answers.specs.declared.end.End.{End}
+use Rattle.answers.specs.declared.end.End.TheVariants.{Closed, Asked, Broken, ReadFault, WriteFault, Memory}
+use Rattle.answers.specs.Machine.{Step}
 use Rattle.http_api.specs.Replies.{memory_text}
 use Rattle.http_api.specs.Connection.{stop, after, Turn}
 use Rattle.http_api.specs.inside.Settling.{IsSent, IsGivenUp, IsSettled}

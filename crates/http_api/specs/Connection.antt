@@ -4,9 +4,9 @@ use Rattle.names.specs.declared.call.Call.{Call}
 use Rattle.names.specs.declared.limits.TheConstants.{MAX_BODY_LEN}
 use Rattle.httparse.specs.Grammar.{RequestHead}
 use Rattle.http_api.specs.declared.framing.Framing.TheVariants.{Unclear, Missing, Sized}
-use Rattle.http_api.specs.declared.end.End.{End}
-use Rattle.http_api.specs.declared.end.End.TheVariants.{Closed, Asked, Broken, Memory}
-use Rattle.http_api.specs.Machine.{Step}
+use Rattle.answers.specs.declared.end.End.{End}
+use Rattle.answers.specs.declared.end.End.TheVariants.{Closed, Asked, Broken, Memory}
+use Rattle.answers.specs.Machine.{Step}
 use Rattle.http_api.specs.Heads.{Begins, IsHopeless, EndsInHead, framing_of, closes, max_head}
 use Rattle.http_api.specs.Routes.{route_of}
 use Rattle.http_api.specs.Replies.{reply_text, memory_text, malformed, length_required, body_too_large, no_route}

@@ -1,7 +1,3 @@
-pub mod Text
-pub mod Machine
-pub mod Served
-pub mod Ends
 pub mod Heads
 pub mod Routes
 pub mod Replies

@@ -2,9 +2,9 @@
 use Rattle.std.specs.Prelude.{◌≡◌, ◌⊎◌, List, [], Option, true, ℕ}
 use Rattle.names.specs.declared.call.Call.{Call}
 use Rattle.httparse.specs.Grammar.{EndsInTarget}
-use Rattle.http_api.specs.declared.end.End.{End}
-use Rattle.http_api.specs.declared.end.End.TheVariants.{Asked, Broken}
-use Rattle.http_api.specs.Machine.{Step}
+use Rattle.answers.specs.declared.end.End.{End}
+use Rattle.answers.specs.declared.end.End.TheVariants.{Asked, Broken}
+use Rattle.answers.specs.Machine.{Step}
 use Rattle.http_api.specs.Heads.{IsHopeless, CanBeHead}
 use Rattle.http_api.specs.Replies.{reply_text, malformed}
 use Rattle.http_api.specs.Connection.{stop, Text}

@@ -1,9 +1,9 @@
 -- What was read, answered and written when a connection ends.
 use Rattle.std.specs.Prelude.{ℕ, ◌⊎◌, List, Option}
 use Rattle.std.specs.Io.KnownBytes.{Appends}
-use Rattle.http_api.specs.declared.end.End.{End}
-use Rattle.http_api.specs.declared.end.End.TheVariants.{Closed, Broken}
-use Rattle.http_api.specs.Machine.{Step}
+use Rattle.answers.specs.declared.end.End.{End}
+use Rattle.answers.specs.declared.end.End.TheVariants.{Closed, Broken}
+use Rattle.answers.specs.Machine.{Step}
 use Rattle.tracked_io.specs.Wrote.{WroteSome}
 use Rattle.tracked_io.specs.Tracking.{TrackedReading, AtEachRead}
 use Rattle.http_api.specs.Connection.{Next, stop, Text, IsFew}

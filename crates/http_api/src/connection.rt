@@ -1,7 +1,7 @@
 //! One connection.
 ghost use Rattle.std.specs.Prelude.{ℕ, ◌≡◌, ◌⊎◌, List, [], true, false};
 ghost use Rattle.tracked_io.specs.Tracking.{Reads, ReadsAll};
-ghost use Rattle.http_api.specs.Ends.{is_read_fault, is_write_fault};
+ghost use Rattle.answers.specs.Ends.{is_read_fault, is_write_fault};
 ghost use Rattle.http_api.specs.Routes.{table};
 ghost use Rattle.http_api.specs.Talks.{Talked, TalkedSoFar, TalkCut, TalkedAtEachRead};
 ghost use Rattle.http_api.specs.inside.Held.{held};
@@ -12,7 +12,7 @@ use crate::inbox::Inbox;
 use crate::receive::receive;
 use crate::routing::routes;
 use crate::settle::settle;
-use crate::{Answers, End};
+use answers::{Answers, End};
 use matchit::Router;
 use names::Call;
 use std::alloc::Global;

@@ -4,7 +4,7 @@ ghost use Rattle.http_api.specs.Heads.{max_head};
 ghost use Rattle.http_api.specs.Connection.{NoRequest, IsFew, Text, stop};
 ghost use Rattle.http_api.specs.OneText.{IsDecided, AreOne};
 
-use crate::{Answers, End};
+use answers::{Answers, End};
 
 /// Where a request is refused for its head, at most 8,192 bytes were read for it: the head, and what came with it. So a
 /// body that is too large is not read.

@@ -2,7 +2,7 @@
 ghost use Rattle.std.specs.Prelude.{◌≡◌, ◌<◌, length};
 ghost use Rattle.httparse.specs.Grammar.{RequestHead};
 ghost use Rattle.httparse.specs.Spans.{IsRequestAt, IsRequestWithin, IsRequestOf};
-ghost use Rattle.http_api.specs.declared.end.End.TheVariants.{Asked};
+ghost use Rattle.answers.specs.declared.end.End.TheVariants.{Asked};
 ghost use Rattle.http_api.specs.Heads.{max_head};
 ghost use Rattle.http_api.specs.Routes.{table};
 ghost use Rattle.http_api.specs.Connection.{NoRequest};

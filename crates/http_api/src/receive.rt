@@ -9,11 +9,11 @@ ghost use Rattle.http_api.specs.inside.Looking.{HasHeading, refusal_text};
 ghost use Rattle.http_api.specs.inside.Receiving.{IsPause, ReadOn, Ended, EndsAfter, IsFewFor};
 ghost use Rattle.tracked_io.specs.Tracking.{FailsWith, Writes};
 
-use crate::End;
 use crate::inbox::Inbox;
 use crate::limits::MAX_HEAD;
 use crate::looking::{Heading, Looked, Refused, look};
 use crate::reply::put_reply;
+use answers::End;
 use matchit::Router;
 use names::Call;
 use std::io;

@@ -7,7 +7,7 @@ ghost use Rattle.http_api.specs.inside.Settling.{IsSent, IsGivenUp, Settles};
 
 use crate::looking::Heading;
 use crate::reply::{put_no_memory, put_reply};
-use crate::{Answers, End};
+use answers::{Answers, End};
 use names::Reply;
 use std::io;
 use std::io::Write;

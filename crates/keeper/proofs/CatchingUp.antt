@@ -8,9 +8,9 @@ use Rattle.zookie.specs.Text.{zookie_text}
 use Rattle.zookie.specs.declared.Zookie.{Zookie}
 use Rattle.names.specs.declared.part.Part.{Part}
 use Rattle.tables.specs.declared.tables.Tables.{Ghosts}
-use Rattle.keeper_core.specs.Posts.{Posts, ShowsMore, SameTables}
+use Rattle.desk.specs.Posts.{Posts, ShowsMore, SameTables}
 use Rattle.published.specs.Receipts.{ReceiptFacts}
-use Rattle.keeper_core.specs.Changes.{CatchUpAccepted, CatchUpJudged, IsNoChange, IsRefused}
+use Rattle.desk.specs.Changes.{CatchUpAccepted, CatchUpJudged, IsNoChange, IsRefused}
 use Rattle.bodies.specs.Requests.{AsksCatchUp}
 use Rattle.bodies.specs.Replies.{Says, SaysRefusal, cursor_data}
 use Rattle.keeper.proofs.Refreshing.{still_refused}

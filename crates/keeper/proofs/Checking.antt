@@ -10,7 +10,7 @@ use Rattle.zookie.specs.declared.consistency.Consistency.{Consistency}
 use Rattle.shown.specs.declared.step.Step.{Step}
 use Rattle.shown.specs.Standing.{standing}
 use Rattle.shown.specs.Answers.{IsChecked, CheckRefused}
-use Rattle.keeper_core.specs.Posts.{Posts}
+use Rattle.desk.specs.Posts.{Posts}
 use Rattle.bodies.specs.Requests.{AsksCheck, CheckCause}
 use Rattle.bodies.specs.Replies.{Says, SaysRefusal, SaysRefusalAt, answer_data}
 use Rattle.keeper.specs.Showing.{OnlyShows}

@@ -10,10 +10,10 @@ use Rattle.rows.specs.Judging.{ConfigRefused as ConfigJudged}
 use Rattle.zookie.specs.Text.{zookie_text}
 use Rattle.zookie.specs.declared.Zookie.{Zookie}
 use Rattle.tables.specs.declared.tables.Tables.{Ghosts}
-use Rattle.keeper_core.specs.TableChanges.{Adds}
-use Rattle.keeper_core.specs.Posts.{Posts, ShowsMore, SameTables, newest_posted}
+use Rattle.desk.specs.TableChanges.{Adds}
+use Rattle.desk.specs.Posts.{Posts, ShowsMore, SameTables, newest_posted}
 use Rattle.published.specs.Receipts.{ReceiptFacts}
-use Rattle.keeper_core.specs.Changes.{ConfigAccepted, IsRefused}
+use Rattle.desk.specs.Changes.{ConfigAccepted, IsRefused}
 use Rattle.bodies.specs.Replies.{Says, SaysRefusal, receipt_data}
 use Rattle.keeper.proofs.Refreshing.{still_refused}
 use Rattle.keeper.specs.calls.Config.{ConfigStep, config_invalid, config_accepted, config_refused, config_unread}

@@ -10,7 +10,7 @@ use Rattle.expand.specs.UsersetTree.{UsersetTree}
 use Rattle.shown.specs.declared.step.Step.{Step}
 use Rattle.shown.specs.Standing.{standing}
 use Rattle.shown.specs.Expanding.{IsExpanded, ExpandRefused}
-use Rattle.keeper_core.specs.Posts.{Posts}
+use Rattle.desk.specs.Posts.{Posts}
 use Rattle.bodies.specs.Expanding.{AsksExpand, ExpandBodyCause}
 use Rattle.bodies.specs.Replies.{Says, SaysRefusal, SaysRefusalAt}
 use Rattle.bodies.specs.Trees.{expanded_data}

@@ -10,7 +10,7 @@ use Rattle.leopard.specs.Query.{Query}
 use Rattle.shown.specs.declared.step.Step.{Step}
 use Rattle.shown.specs.Standing.{standing}
 use Rattle.shown.specs.Grouping.{IsGrouped, GroupsRefused}
-use Rattle.keeper_core.specs.Posts.{Posts}
+use Rattle.desk.specs.Posts.{Posts}
 use Rattle.bodies.specs.Grouping.{AsksGroups, GroupsBodyCause, groups_data}
 use Rattle.bodies.specs.Replies.{Says, SaysRefusal, SaysRefusalAt}
 use Rattle.keeper.specs.Showing.{OnlyShows}

@@ -10,7 +10,7 @@ use Rattle.rows.specs.declared.tupleset.Tupleset.{Tupleset}
 use Rattle.shown.specs.declared.step.Step.{Step}
 use Rattle.shown.specs.Standing.{standing}
 use Rattle.shown.specs.Paging.{IsRead, ReadRefused}
-use Rattle.keeper_core.specs.Posts.{Posts}
+use Rattle.desk.specs.Posts.{Posts}
 use Rattle.bodies.specs.Paging.{AsksRead, ReadBodyCause, page_data}
 use Rattle.bodies.specs.Replies.{Says, SaysRefusal, SaysRefusalAt}
 use Rattle.keeper.specs.Showing.{OnlyShows}

@@ -8,9 +8,9 @@ use Rattle.shown.specs.Standing.{standing}
 use Rattle.tables.specs.Device.{IsOpen, HasFailed, Lasts}
 use Rattle.tables.specs.declared.tables.Tables.{Ghosts}
 use Rattle.published.proofs.Prefixes.{prefix_self, prefix_trans}
-use Rattle.keeper_core.specs.TableChanges.{TableChange, changed}
-use Rattle.keeper_core.specs.Posts.{Posts, ShowsMore, SameTables}
-use Rattle.keeper_core.specs.Changes.{Touches, leaves_alone, adds_one, Refuses, IsRefused}
+use Rattle.desk.specs.TableChanges.{TableChange, changed}
+use Rattle.desk.specs.Posts.{Posts, ShowsMore, SameTables}
+use Rattle.desk.specs.Changes.{Touches, leaves_alone, adds_one, Refuses, IsRefused}
 use Rattle.keeper.specs.Showing.{OnlyShows}
 
 -- a desk that stayed as it was shows no less

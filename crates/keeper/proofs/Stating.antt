@@ -3,7 +3,7 @@ use Rattle.std.proofs.Common.{◌≡◌, ℕ, List, refl}
 use Rattle.std.specs.Prelude.{Option}
 use Rattle.names.specs.declared.state.State.{State}
 use Rattle.shown.specs.Standing.{standing, state_of}
-use Rattle.keeper_core.specs.Posts.{Posts}
+use Rattle.desk.specs.Posts.{Posts}
 use Rattle.bodies.specs.Replies.{Says, state_data}
 use Rattle.keeper.specs.calls.State.{StateStep}
 

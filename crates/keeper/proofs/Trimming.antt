@@ -10,8 +10,8 @@ use Rattle.tables.specs.declared.tables.Tables.{Ghosts}
 use Rattle.shown.specs.Standing.{standing}
 use Rattle.shown.specs.Raising.{RefusesFloor}
 use Rattle.published.specs.Receipts.{ReceiptFacts}
-use Rattle.keeper_core.specs.Posts.{Posts, ShowsMore, SameTables}
-use Rattle.keeper_core.specs.Changes.{TrimAccepted, IsTrimmed, trim_raises, trim_stays, IsRaiseTo, IsRefused}
+use Rattle.desk.specs.Posts.{Posts, ShowsMore, SameTables}
+use Rattle.desk.specs.Changes.{TrimAccepted, IsTrimmed, trim_raises, trim_stays, IsRaiseTo, IsRefused}
 use Rattle.bodies.specs.Trimming.{AsksTrim, TrimBodyCause}
 use Rattle.bodies.specs.Replies.{Says, SaysRefusal, floor_data}
 use Rattle.keeper.proofs.Refreshing.{still_refused}

@@ -9,7 +9,7 @@ use Rattle.watch.specs.declared.watched.Page.{Page}
 use Rattle.shown.specs.declared.step.Step.{Step}
 use Rattle.shown.specs.Standing.{standing}
 use Rattle.shown.specs.Watching.{IsWatched}
-use Rattle.keeper_core.specs.Posts.{Posts}
+use Rattle.desk.specs.Posts.{Posts}
 use Rattle.bodies.specs.Watching.{AsksWatch, WatchBodyCause}
 use Rattle.bodies.specs.Replies.{Says, SaysRefusal}
 use Rattle.bodies.specs.Pages.{page_data}

@@ -9,9 +9,9 @@ use Rattle.zookie.specs.declared.Zookie.{Zookie}
 use Rattle.verdict.specs.Verdict.{RefusesWrite}
 use Rattle.tables.specs.declared.tables.Tables.{Ghosts}
 use Rattle.shown.specs.Standing.{standing}
-use Rattle.keeper_core.specs.Posts.{Posts, ShowsMore, SameTables}
+use Rattle.desk.specs.Posts.{Posts, ShowsMore, SameTables}
 use Rattle.published.specs.Receipts.{ReceiptFacts}
-use Rattle.keeper_core.specs.Changes.{WriteAccepted, IsCommitOfWrite, IsRefused}
+use Rattle.desk.specs.Changes.{WriteAccepted, IsCommitOfWrite, IsRefused}
 use Rattle.bodies.specs.Writing.{AsksWrite, WriteBodyCause}
 use Rattle.bodies.specs.Replies.{Says, SaysRefusal, receipt_data}
 use Rattle.keeper.proofs.Refreshing.{still_refused}

@@ -2,7 +2,7 @@
 use Rattle.std.specs.Prelude.{ℕ, ◌≡◌, List}
 use Rattle.zookie.specs.Text.{zookie_text}
 use Rattle.shown.specs.Standing.{standing}
-use Rattle.keeper_core.specs.Posts.{Posts, ShowsMore, SameTables}
+use Rattle.desk.specs.Posts.{Posts, ShowsMore, SameTables}
 
 -- the zookie of a revision of the desk's store
 abbrev pub zookie_at : {T : Type 0} → Posts T → ℕ → List ℕ

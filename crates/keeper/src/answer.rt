@@ -1,7 +1,7 @@
 //! Calls by bytes.
 ghost use Rattle.names.specs.Calls.{told};
 ghost use Rattle.published.specs.Known.{Begins};
-ghost use Rattle.keeper_core.specs.Posts.{shown_by};
+ghost use Rattle.desk.specs.Posts.{shown_by};
 ghost use Rattle.keeper.specs.Rules.{DeskStep};
 
 use crate::calls::catch_up::answer_catch_up;
@@ -15,7 +15,7 @@ use crate::calls::trim::answer_trim;
 use crate::calls::watching::answer_watch;
 use crate::calls::write::answer_write;
 use bodies::replies::no_route;
-use keeper_core::Desk;
+use desk::Desk;
 use names::{Call, Reply};
 use published::Session;
 use std::alloc::Global;

@@ -11,8 +11,8 @@ use Rattle.meaning.specs.Snap.{Snap}
 use Rattle.meaning.specs.Admits.{is_relation}
 use Rattle.meaning.proofs.KnownRelations.{relation_is, is_itself}
 use Rattle.config.specs.Valid.{is_indexed, is_indexed_relation}
-use Rattle.config_core.specs.Forms.{defined_of}
-use Rattle.config_core.specs.declared.relation.Relation.{Relation}
+use Rattle.config_text.specs.Forms.{defined_of}
+use Rattle.config_text.specs.declared.relation.Relation.{Relation}
 use Rattle.leopard.specs.Groups.{MemberToGroup}
 use Rattle.leopard.specs.inside.Direct.{NamesIndexed}
 

@@ -1,6 +1,6 @@
 //! The computed usersets of a node.
 ghost use Rattle.std.specs.Prelude.{OnOk};
-ghost use Rattle.config_core.specs.Forms.{form_of, rewrite_forms};
+ghost use Rattle.config_text.specs.Forms.{form_of, rewrite_forms};
 ghost use Rattle.leopard.specs.inside.Asking.{Gains, IsComputed, IsSomeComputed};
 
 use config::Rewrite;

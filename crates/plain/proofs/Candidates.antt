@@ -8,7 +8,7 @@ use Rattle.meaning.proofs.Lists.{contains_none}
 use Rattle.meaning.specs.Config.{rel_of}
 use Rattle.names.specs.declared.object.Object.{Object}
 use Rattle.names.specs.declared.node.Node.{Node}
-use Rattle.config_core.specs.declared.relation.Relation.{Relation}
+use Rattle.config_text.specs.declared.relation.Relation.{Relation}
 use Rattle.plain.specs.declared.source.Source.{Source}
 use Rattle.plain.specs.inside.Candidates.{IsPlaced, GainsNodes, HasNodes}
 

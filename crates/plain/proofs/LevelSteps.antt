@@ -17,7 +17,7 @@ use Rattle.meaning.proofs.LevelLemmas.{one_level}
 use Rattle.meaning.proofs.Lists.{contains_map, contains_map_back, contains_none}
 use Rattle.meaning.proofs.TupleSets.{items_contain}
 use Rattle.config.specs.Forms.{defined_of}
-use Rattle.config_core.specs.declared.relation.Relation.{Relation}
+use Rattle.config_text.specs.declared.relation.Relation.{Relation}
 use Rattle.plain.specs.declared.source.Source.{Source}
 use Rattle.plain.specs.inside.Source.{snap_of, IsReady, IsOf}
 use Rattle.plain.specs.inside.Candidates.{IsPlaced, HasNodes}

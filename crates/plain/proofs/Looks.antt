@@ -11,7 +11,7 @@ use Rattle.meaning.specs.Membership.{Gives, RelationGives, IsUser}
 use Rattle.meaning.proofs.KnownRelations.{relation_is, is_itself}
 use Rattle.meaning.proofs.Lists.{contains_map, contains_map_back}
 use Rattle.meaning.proofs.TupleSets.{items_contain}
-use Rattle.config_core.specs.declared.relation.Relation.{Relation}
+use Rattle.config_text.specs.declared.relation.Relation.{Relation}
 use Rattle.config.specs.Forms.{defined_of, form_of}
 use Rattle.plain.specs.declared.source.Source.{Source}
 use Rattle.plain.specs.inside.Source.{snap_of, config_of, GrantsBy, Grants, LeadsBy, LeadsOn, Names}

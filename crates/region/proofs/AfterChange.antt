@@ -5,11 +5,11 @@ use Rattle.std.specs.Ordering.{nat_cmp, is_eq}
 use Rattle.std.specs.BTreeMap.{BTreeMap, get}
 use Rattle.std.proofs.lemmas.List.Folds.{list_any_more}
 use Rattle.std.proofs.lemmas.Bool.{or_cases, cases_Bool, or_left, or_right, and_parts, false≢true, eqb-true}
-use Rattle.region_core.specs.World.{Fact, has, arcs_of}
-use Rattle.region_core.specs.Least.{IsLeastIn, Derived, outside, follows}
-use Rattle.region_core.specs.Walks.{Walk, here, on, arc_of, IsTouched, IsReached}
-use Rattle.region_core.proofs.Gives.{gives_agree, plain_named, taken_named}
-use Rattle.region_core.proofs.Laws.{refresh}
+use Rattle.least_sets.specs.World.{Fact, has, arcs_of}
+use Rattle.least_sets.specs.Least.{IsLeastIn, Derived, outside, follows}
+use Rattle.least_sets.specs.Walks.{Walk, here, on, arc_of, IsTouched, IsReached}
+use Rattle.least_sets.proofs.Gives.{gives_agree, plain_named, taken_named}
+use Rattle.least_sets.proofs.Laws.{refresh}
 use Rattle.region.specs.declared.sets.Row.{Row}
 use Rattle.region.specs.declared.rule.Told.{Told}
 use Rattle.region.specs.Rules.{fact_of, shape_of}

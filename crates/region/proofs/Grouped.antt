@@ -3,7 +3,7 @@ use Rattle.std.proofs.Common.{ℕ, ◌≡◌, ◌+◌, Bool, true, false, ◌||�
 use Rattle.std.specs.Prelude.{Some}
 use Rattle.std.specs.List.{slice_get}
 use Rattle.std.proofs.lemmas.Bool.{cases_Bool, cases_lt, or_left, or_right, and_from, eq-eqb, eqb-true}
-use Rattle.region_core.specs.World.{has, arcs_of}
+use Rattle.least_sets.specs.World.{has, arcs_of}
 use Rattle.region.specs.declared.rule.Told.{Told}
 use Rattle.region.specs.Rules.{shape_of}
 use Rattle.region.specs.Steps.{AreNamed, AreGrouped}

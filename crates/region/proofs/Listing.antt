@@ -4,13 +4,13 @@ use Rattle.std.specs.Prelude.{Result, Ok, Err, OnOk, OnErr}
 use Rattle.std.specs.Ordering.{nat_cmp, is_eq}
 use Rattle.std.proofs.lemmas.List.{take_more}
 use Rattle.std.proofs.lemmas.Bool.{or_cases, eqb-true, false≢true}
-use Rattle.region_core.proofs.Gives.{has_cases}
+use Rattle.least_sets.proofs.Gives.{has_cases}
 use Rattle.std.specs.List.{list_any, IsDistinct}
 use Rattle.std.specs.BTreeMap.{is_at}
 use Rattle.std.specs.BTreeSet.{BTreeSet, contains}
-use Rattle.region_core.specs.World.{has}
-use Rattle.region_core.specs.Walks.{Adds}
-use Rattle.region_core.proofs.Found.{distinct_none, adds_push}
+use Rattle.least_sets.specs.World.{has}
+use Rattle.least_sets.specs.Walks.{Adds}
+use Rattle.least_sets.proofs.Found.{distinct_none, adds_push}
 use Rattle.region.specs.Nodes.{IsListOf}
 
 pub eq_is : (a b : ℕ) → is_eq (nat_cmp a b) ≡ nat_eq a b

@@ -4,10 +4,10 @@ use Rattle.std.specs.Prelude.{Some}
 use Rattle.std.specs.List.{slice_get}
 use Rattle.std.proofs.lemmas.Bool.{or_left, or_right, or_cases, eq-eqb, eqb-true, false≢true}
 use Rattle.region.specs.declared.rule.Told.{Told}
-use Rattle.region_core.specs.World.{Fact}
+use Rattle.least_sets.specs.World.{Fact}
 use Rattle.region.specs.Rules.{fact_of}
-use Rattle.region_core.specs.Steps.{free}
-use Rattle.region_core.proofs.Free.{free_le, free_lt}
+use Rattle.least_sets.specs.Steps.{free}
+use Rattle.least_sets.proofs.Free.{free_le, free_lt}
 use Rattle.region.specs.Steps.{rooms, Gains, Tells, is_told}
 
 pub some_eq : {x y : Told} → Some x ≡ Some y → x ≡ y

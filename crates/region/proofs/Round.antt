@@ -5,13 +5,13 @@ use Rattle.std.specs.List.{slice_get}
 use Rattle.std.proofs.lemmas.Bool.{eqb-true, cases_Bool, or_cases, or_left, or_right, false≢true}
 use Rattle.std.proofs.lemmas.List.{take_more, take_all}
 use Rattle.region.specs.declared.rule.Told.{Told}
-use Rattle.region_core.specs.World.{Fact, has, arcs_of}
+use Rattle.least_sets.specs.World.{Fact, has, arcs_of}
 use Rattle.region.specs.Rules.{fact_of, shape_of}
-use Rattle.region_core.specs.Steps.{IsStepAt, StepsTo, none, then, given}
+use Rattle.least_sets.specs.Steps.{IsStepAt, StepsTo, none, then, given}
 use Rattle.region.specs.Steps.{is_told, Tells, IsSettled, IsSettledAt, IsWaiting, AreNamed, AreGrouped, IsLook, passed, gained, rooms}
 use Rattle.region.proofs.Rooms.{rooms_lt, tells_at, told_at, same_told}
-use Rattle.region_core.proofs.Gives.{gives_agree, plain_named, taken_named, has_here, has_cases}
-use Rattle.region_core.proofs.StepLemmas.{step_grows, step_else}
+use Rattle.least_sets.proofs.Gives.{gives_agree, plain_named, taken_named, has_here, has_cases}
+use Rattle.least_sets.proofs.StepLemmas.{step_grows, step_else}
 
 -- a rule gives the same after a step at a node that it does not name
 given_stays : (t : Told) (fact : Fact) (n : ℕ) (b c : ℕ → ℕ → Bool) → IsStepAt fact n b c → has (arcs_of (shape_of t.rule)) n ≡ false

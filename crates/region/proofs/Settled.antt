@@ -2,10 +2,10 @@
 use Rattle.std.proofs.Common.{ℕ, ◌≡◌, ◌<◌, Bool, true, false, List, sym, ◌∙◌, ap, subst, arith}
 use Rattle.std.specs.Prelude.{Some}
 use Rattle.std.specs.List.{slice_get}
-use Rattle.region_core.specs.World.{Fact}
+use Rattle.least_sets.specs.World.{Fact}
 use Rattle.std.proofs.lemmas.Bool.{false≢true}
-use Rattle.region_core.specs.Steps.{given}
-use Rattle.region_core.proofs.Solved.{SolvedBelow}
+use Rattle.least_sets.specs.Steps.{given}
+use Rattle.least_sets.proofs.Solved.{SolvedBelow}
 use Rattle.region.specs.declared.rule.Told.{Told}
 use Rattle.region.specs.Rules.{fact_of}
 use Rattle.region.specs.Steps.{is_told, Tells, IsSettled}

@@ -5,9 +5,9 @@ use Rattle.std.specs.Bool.{MatchBool}
 use Rattle.std.specs.List.{list_any}
 use Rattle.std.proofs.lemmas.List.Folds.{list_any_more, list_any_at}
 use Rattle.std.proofs.lemmas.Bool.{or_cases, cases_Bool, or_left, or_right, and_parts, and_from, false≢true, eqb-true, eq-eqb, not_from_true, not_from_false, false_from_ne_true, or_from}
-use Rattle.region_core.specs.World.{Fact, Own, has, arcs_of}
-use Rattle.region_core.specs.Walks.{Adds, Walk, here, on, arc_of, IsReached, IsTouched}
-use Rattle.region_core.proofs.Found.{SearchAt, search_end}
+use Rattle.least_sets.specs.World.{Fact, Own, has, arcs_of}
+use Rattle.least_sets.specs.Walks.{Adds, Walk, here, on, arc_of, IsReached, IsTouched}
+use Rattle.least_sets.proofs.Found.{SearchAt, search_end}
 use Rattle.region.specs.declared.rule.Told.{Told}
 use Rattle.region.specs.Rules.{shape_of}
 use Rattle.region.specs.Steps.{is_told, Tells}

@@ -6,10 +6,10 @@ use Rattle.std.proofs.lemmas.Map.Keys.{IsDistinct-push}
 use Rattle.std.proofs.lemmas.List.{take_more, take_all}
 use Rattle.std.proofs.lemmas.List.Folds.{list_any-append, list_any_more}
 use Rattle.std.proofs.lemmas.Bool.{or_cases, cases_Bool, or_left, or_right, and_parts, and_from, false≢true, eqb-true, eq-eqb, not_from_false, false_from_ne_true}
-use Rattle.region_core.specs.World.{Fact, has}
-use Rattle.region_core.specs.Walks.{Adds, Walk, here, on, arc_of, IsTouched, IsReached}
-use Rattle.region_core.proofs.Gives.{has-append}
-use Rattle.region_core.proofs.Found.{SearchAt, search_none, search_more, search_end, distinct_none, has_at, has_take}
+use Rattle.least_sets.specs.World.{Fact, has}
+use Rattle.least_sets.specs.Walks.{Adds, Walk, here, on, arc_of, IsTouched, IsReached}
+use Rattle.least_sets.proofs.Gives.{has-append}
+use Rattle.least_sets.proofs.Found.{SearchAt, search_none, search_more, search_end, distinct_none, has_at, has_take}
 use Rattle.region.specs.declared.rule.Told.{Told}
 use Rattle.region.specs.Rules.{fact_of}
 use Rattle.region.specs.Steps.{is_told, Tells}

@@ -2,8 +2,8 @@
 use Rattle.std.specs.Prelude.{ℕ, ◌≡◌, Bool, Option, Some, None}
 use Rattle.std.specs.Ordering.{nat_cmp}
 use Rattle.std.specs.BTreeMap.{BTreeMap, get}
-use Rattle.region_core.specs.World.{Fact, has}
-use Rattle.region_core.specs.Walks.{arc_of}
+use Rattle.least_sets.specs.World.{Fact, has}
+use Rattle.least_sets.specs.Walks.{arc_of}
 use Rattle.region.specs.declared.sets.Row.{Row}
 use Rattle.region.specs.Tables.{arcs_or_none}
 

@@ -1,8 +1,8 @@
 -- What was gathered for a refresh.
 use Rattle.std.specs.Prelude.{ℕ, ◌≡◌, Bool, true, false, not, ◌&&◌, ◌||◌, ◌⊎◌, List, ◌++◌, map, nat_eq}
 use Rattle.std.specs.List.{IsDistinct}
-use Rattle.region_core.specs.World.{Fact, has}
-use Rattle.region_core.specs.Walks.{arc_of, IsReached, IsTouched}
+use Rattle.least_sets.specs.World.{Fact, has}
+use Rattle.least_sets.specs.Walks.{arc_of, IsReached, IsTouched}
 use Rattle.region.specs.declared.rule.Told.{Told}
 use Rattle.region.specs.Steps.{is_told, Tells}
 use Rattle.region.specs.Tables.{Rows, kept, arc_in}

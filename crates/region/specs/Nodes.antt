@@ -3,7 +3,7 @@ use Rattle.std.specs.Prelude.{ℕ, ◌≡◌, List, nat_eq}
 use Rattle.std.specs.Ordering.{nat_cmp}
 use Rattle.std.specs.List.{IsDistinct}
 use Rattle.std.specs.BTreeSet.{BTreeSet, contains}
-use Rattle.region_core.specs.World.{has}
+use Rattle.least_sets.specs.World.{has}
 
 -- the list has each node of the set once, and no other
 pub record IsListOf (list : List ℕ) (seen : BTreeSet ℕ) : Type 0 where

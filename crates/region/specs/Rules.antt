@@ -2,8 +2,8 @@
 use Rattle.region.specs.declared.rule.Rule.{Rule}
 use Rattle.region.specs.declared.rule.Rule.TheVariants.{Own, AnyOf, Reads, Either', Both', Except'}
 use Rattle.region.specs.declared.rule.Told.{Told}
-use Rattle.region_core.specs.World.{Shape, Fact}
-use Rattle.region_core.specs.World as world
+use Rattle.least_sets.specs.World.{Shape, Fact}
+use Rattle.least_sets.specs.World as world
 
 abbrev pub shape_of : Rule → Shape
 shape_of Own = world.Own

@@ -1,8 +1,8 @@
 -- What is kept of a world.
 use Rattle.std.specs.Prelude.{ℕ, ◌≡◌, true, List}
-use Rattle.region_core.specs.World.{Fact, has}
-use Rattle.region_core.specs.Least.{IsLeastIn}
-use Rattle.region_core.specs.Walks.{arc_of, IsReached}
+use Rattle.least_sets.specs.World.{Fact, has}
+use Rattle.least_sets.specs.Least.{IsLeastIn}
+use Rattle.least_sets.specs.Walks.{arc_of, IsReached}
 use Rattle.region.specs.declared.sets.Sets.{Sets}
 use Rattle.region.specs.Tables.{Rows, kept, arc_in, holds, IsClosed, IsBacked}
 

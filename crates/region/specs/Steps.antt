@@ -1,8 +1,8 @@
 -- Adding what is told of nodes, a node at a time, in any order.
 use Rattle.std.specs.Prelude.{◌⊎◌, ℕ, ◌+◌, ◌^◌, ◌≡◌, ◌<◌, Bool, true, false, ◌||◌, nat_eq, List, [], ◌∷◌, Some}
 use Rattle.std.specs.List.{list_any, slice_get}
-use Rattle.region_core.specs.World.{Fact, has, arcs_of}
-use Rattle.region_core.specs.Steps.{given, IsStepAt, free}
+use Rattle.least_sets.specs.World.{Fact, has, arcs_of}
+use Rattle.least_sets.specs.Steps.{given, IsStepAt, free}
 use Rattle.region.specs.declared.rule.Told.{Told}
 use Rattle.region.specs.Rules.{fact_of, shape_of}
 

@@ -1,8 +1,8 @@
 -- Which of the nodes that stay the roots no longer reach. No promise rests on it.
 use Rattle.std.specs.Prelude.{ℕ, ◌≡◌, Bool, true, not, ◌&&◌, ◌||◌, ◌⊎◌, List}
 use Rattle.std.specs.List.{list_any}
-use Rattle.region_core.specs.World.{has, arcs_of}
-use Rattle.region_core.specs.Walks.{IsReached}
+use Rattle.least_sets.specs.World.{has, arcs_of}
+use Rattle.least_sets.specs.Walks.{IsReached}
 use Rattle.region.specs.declared.rule.Told.{Told}
 use Rattle.region.specs.Rules.{shape_of}
 use Rattle.region.specs.Tables.{Rows, arc_in}

@@ -1,8 +1,8 @@
 -- A walk that asks. No promise rests on it.
 use Rattle.std.specs.Prelude.{ℕ, ◌≡◌, Bool, true, false, not, ◌&&◌, ◌||◌, List, ◌∷◌, [], ◌++◌, nat_eq}
 use Rattle.std.specs.List.{IsDistinct}
-use Rattle.region_core.specs.World.{Fact, has}
-use Rattle.region_core.specs.Walks.{Adds, arc_of, IsReached}
+use Rattle.least_sets.specs.World.{Fact, has}
+use Rattle.least_sets.specs.Walks.{Adds, arc_of, IsReached}
 use Rattle.region.specs.declared.rule.Told.{Told}
 use Rattle.region.specs.Rules.{fact_of}
 use Rattle.region.specs.Steps.{is_told, Tells}

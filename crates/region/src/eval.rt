@@ -2,7 +2,7 @@
 ghost use Rattle.std.specs.Prelude.{◌≡◌, ◌<◌, ◌^◌, ℕ, true, false, ◌||◌, ◌&&◌, IfOk, OnOk, IfSome, IfNone};
 ghost use Rattle.std.specs.List.{list_any};
 ghost use Rattle.std.specs.Option.{option_map};
-ghost use Rattle.region_core.specs.World.{has, gives, arcs_of};
+ghost use Rattle.least_sets.specs.World.{has, gives, arcs_of};
 ghost use Rattle.region.specs.Rules.{shape_of};
 ghost use Rattle.region.specs.Tables.{over, ids_or_none};
 

@@ -2,7 +2,7 @@
 ghost use Rattle.std.specs.Prelude.{◌≡◌, ℕ, true, false, ◌||◌, nat_eq, None, Some, is_some, cond, IfOk, OnOk};
 ghost use Rattle.std.specs.Ordering.{nat_cmp};
 ghost use Rattle.std.specs.BTreeMap.{get};
-ghost use Rattle.region_core.specs.World.{Fact, has, arcs_of};
+ghost use Rattle.least_sets.specs.World.{Fact, has, arcs_of};
 ghost use Rattle.region.specs.Rules.{shape_of};
 ghost use Rattle.region.specs.Tables.{row_of, over, listed};
 ghost use Rattle.region.specs.Steps.{is_told, Tells};

@@ -1,8 +1,8 @@
 //! Nodes in the order in which they were found.
 ghost use Rattle.std.specs.Prelude.{◌≡◌, ◌<◌, ◌^◌, ◌&&◌, ℕ, [], length, true, nat_eq, slice_index_or, OnOk, OnErr};
 ghost use Rattle.std.specs.List.{IsDistinct};
-ghost use Rattle.region_core.specs.World.{has};
-ghost use Rattle.region_core.specs.Walks.{Adds};
+ghost use Rattle.least_sets.specs.World.{has};
+ghost use Rattle.least_sets.specs.Walks.{Adds};
 
 use std::alloc::{AllocError, Global};
 use std::collections::BTreeSet;

@@ -1,7 +1,7 @@
 //! Asking for what a change touches or newly brings in.
 ghost use Rattle.std.specs.Prelude.{◌≡◌, ℕ, true, not, ◌&&◌, ◌||◌, ◌++◌, ◌∷◌, [], ◌⊎◌, nat_eq, List, IfOk, OnOk, OnErr};
-ghost use Rattle.region_core.specs.World.{Fact, has, arcs_of};
-ghost use Rattle.region_core.specs.Walks.{Adds, arc_of};
+ghost use Rattle.least_sets.specs.World.{Fact, has, arcs_of};
+ghost use Rattle.least_sets.specs.Walks.{Adds, arc_of};
 ghost use Rattle.region.specs.Sets.{IsWhole};
 ghost use Rattle.region.specs.Rules.{fact_of, shape_of};
 ghost use Rattle.region.specs.Gathered.{stays, IsGathered, IsAskedOnce, IsAskedSome};

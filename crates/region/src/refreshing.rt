@@ -1,8 +1,8 @@
 //! Refreshing what is kept, in its place.
 ghost use Rattle.std.specs.Prelude.{◌≡◌, ℕ, true, false, List, ◌⊎◌, OnOk, OnErr};
-ghost use Rattle.region_core.specs.World.{Fact, has};
-ghost use Rattle.region_core.specs.Least.{IsLevelled};
-ghost use Rattle.region_core.specs.Walks.{arc_of, IsReached};
+ghost use Rattle.least_sets.specs.World.{Fact, has};
+ghost use Rattle.least_sets.specs.Least.{IsLevelled};
+ghost use Rattle.least_sets.specs.Walks.{arc_of, IsReached};
 ghost use Rattle.region.specs.Tables.{kept, row_of, arc_in};
 ghost use Rattle.region.specs.Sets.{IsHeld, IsWhole};
 ghost use Rattle.region.specs.Steps.{is_told};

@@ -1,7 +1,7 @@
 //! What is kept.
 ghost use Rattle.std.specs.Prelude.{◌≡◌, ℕ, None};
 ghost use Rattle.std.specs.Option.{option_map};
-ghost use Rattle.region_core.specs.World.{has};
+ghost use Rattle.least_sets.specs.World.{has};
 ghost use Rattle.region.specs.Tables.{kept, arc_in, row_of, ids_or_none, listed};
 ghost use Rattle.region.specs.Sets.{IsWhole};
 

@@ -3,9 +3,9 @@
 ghost use Rattle.std.specs.Prelude.{◌≡◌, ℕ, ◌<◌, ◌≤◌, ◌^◌, Bool, true, false, ◌||◌, ◌&&◌, ◌⊎◌, nat_eq, length, Some, IfOk, OnOk, IfSome, IfNone};
 ghost use Rattle.std.specs.Bool.{MatchBool};
 ghost use Rattle.std.specs.List.{slice_get};
-ghost use Rattle.region_core.specs.World.{Fact, has, arcs_of};
-ghost use Rattle.region_core.specs.Least.{IsLevelled, IsLeastIn};
-ghost use Rattle.region_core.specs.Steps.{IsStepAt, StepsTo};
+ghost use Rattle.least_sets.specs.World.{Fact, has, arcs_of};
+ghost use Rattle.least_sets.specs.Least.{IsLevelled, IsLeastIn};
+ghost use Rattle.least_sets.specs.Steps.{IsStepAt, StepsTo};
 ghost use Rattle.region.specs.Rules.{fact_of, shape_of};
 ghost use Rattle.region.specs.Tables.{holds, over, listed, list_at};
 ghost use Rattle.region.specs.Steps.{is_told, Tells, IsSettledAt, IsSettled, Gains, IsWaiting, AreNamed, AreGrouped, IsLook, rooms};

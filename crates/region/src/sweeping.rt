@@ -2,8 +2,8 @@
 ghost use Rattle.std.specs.Prelude.{◌≡◌, ℕ, List, [], true, not, ◌&&◌, ◌||◌, IfOk, OnOk};
 ghost use Rattle.std.specs.Bool.{MatchBool};
 ghost use Rattle.std.specs.List.{list_any};
-ghost use Rattle.region_core.specs.World.{has};
-ghost use Rattle.region_core.specs.Walks.{Adds};
+ghost use Rattle.least_sets.specs.World.{has};
+ghost use Rattle.least_sets.specs.Walks.{Adds};
 ghost use Rattle.region.specs.Tables.{arc_in};
 ghost use Rattle.region.specs.Sets.{IsWhole};
 ghost use Rattle.region.specs.Sweeping.{IsLedTo, AreLoose, is_loose, supports, IsSupported, IsSwept};

@@ -1,7 +1,7 @@
 //! Which kept nodes a change touches. The walk goes backwards from the change, and over nothing else.
 ghost use Rattle.std.specs.Prelude.{◌≡◌, ℕ, true, ◌&&◌, IfOk, OnOk};
-ghost use Rattle.region_core.specs.World.{has};
-ghost use Rattle.region_core.specs.Walks.{Adds, IsTouched};
+ghost use Rattle.least_sets.specs.World.{has};
+ghost use Rattle.least_sets.specs.Walks.{Adds, IsTouched};
 ghost use Rattle.region.specs.Tables.{arc_in};
 ghost use Rattle.region.specs.Sets.{IsWhole};
 

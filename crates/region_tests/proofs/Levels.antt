@@ -4,9 +4,9 @@ use Rattle.std.specs.Prelude.{Result, Ok, Err, IfOk}
 use Rattle.std.proofs.Math.Nat.{mod-lt}
 use Rattle.std.proofs.lemmas.Bool.{or_cases, cases_Bool, false≢true, eqb-true, lt-ltb}
 use Rattle.std.proofs.lemmas.List.{take_more, map-append}
-use Rattle.region_core.specs.World.{AnyOf, Except, has, plain_of, taken_of}
-use Rattle.region_core.specs.Least.{IsLevelled}
-use Rattle.region_core.proofs.Gives.{has_cases}
+use Rattle.least_sets.specs.World.{AnyOf, Except, has, plain_of, taken_of}
+use Rattle.least_sets.specs.Least.{IsLevelled}
+use Rattle.least_sets.proofs.Gives.{has_cases}
 use Rattle.region_tests.specs.declared.table.Known.{Known}
 use Rattle.region_tests.specs.Known.{level_of, low, plain_by, shape_by, fact_by, world_of}
 

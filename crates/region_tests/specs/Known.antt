@@ -1,6 +1,6 @@
 -- What is known of the nodes of a test. The nodes below 256 are of level 0, and only these are named.
 use Rattle.std.specs.Prelude.{ℕ, ◌%◌, cond, nat_lt, nat_eq, List, [], ◌∷◌, map}
-use Rattle.region_core.specs.World.{Shape, Own, AnyOf, Reads, Either, Except, Fact}
+use Rattle.least_sets.specs.World.{Shape, Own, AnyOf, Reads, Either, Except, Fact}
 use Rattle.region_tests.specs.declared.table.Known.{Known}
 
 abbrev pub level_of : ℕ → ℕ

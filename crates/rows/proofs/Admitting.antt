@@ -22,8 +22,8 @@ use Rattle.meaning.proofs.Lists.{contains_cases, contains_none}
 use Rattle.meaning.proofs.TupleSets.{exact_tuples, contains_empty, contains_iff, contains_insert, contains_remove}
 use Rattle.rows.specs.Retained.{Retained, newest_of, AreAdmitted, IsAdmitted, with_commit, after_trim}
 use Rattle.rows.specs.Follows.{touch_of}
-use Rattle.rows_core.proofs.VersionRuns.{take_none}
-use Rattle.rows_core.proofs.Settling.{drop_none}
+use Rattle.versions.proofs.VersionRuns.{take_none}
+use Rattle.versions.proofs.Settling.{drop_none}
 
 -- ---- the snapshots of a history
 

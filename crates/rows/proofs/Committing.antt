@@ -17,16 +17,16 @@ use Rattle.meaning.specs.Snap.{Snap}
 use Rattle.meaning.specs.History.{History, after_kind, after_event, replay, after_commit, after_commits, rows_of, commit_rows, puts_in, puts_of_kind}
 use Rattle.meaning.proofs.TupleSets.{len_insert, len_remove}
 use Rattle.rows.specs.declared.config_at.ConfigAt.{ConfigAt}
-use Rattle.rows_core.specs.declared.change.Change.{Change}
+use Rattle.versions.specs.declared.change.Change.{Change}
 use Rattle.rows.specs.declared.loaded.Counts.{Counts}
 use Rattle.rows.specs.Retained.{Retained, newest, with_commit, HasRoom}
-use Rattle.rows_core.specs.Versions.{Entries, commit_versions, versions_at, versions_after, base_versions, is_there, AreVersions, GoesOn, HasThese, Changes}
+use Rattle.versions.specs.Versions.{Entries, commit_versions, versions_at, versions_after, base_versions, is_there, AreVersions, GoesOn, HasThese, Changes}
 use Rattle.rows.specs.Representation.{configs_after, as_retained, IsConsistent}
-use Rattle.rows_core.proofs.VersionRuns.{versions_push, based_last, last_of}
+use Rattle.versions.proofs.VersionRuns.{versions_push, based_last, last_of}
 use Rattle.rows.proofs.Admitting.{admitted_with, admitted_without}
 use Rattle.rows.proofs.ConfigsAt.{configs_push, configs_same}
-use Rattle.rows_core.proofs.Bases.{base_is}
-use Rattle.rows_core.proofs.Settling.{after_push}
+use Rattle.versions.proofs.Bases.{base_is}
+use Rattle.versions.proofs.Settling.{after_push}
 
 pub rows_push : (h : History) (c : Commit Configured) → rows_of (h ++ c ∷ []) ≡ rows_of h + commit_rows c
 rows_push [] c = omega arith

@@ -8,8 +8,8 @@ use Rattle.names.specs.declared.commit.Commit.TheVariants as kinds
 use Rattle.meaning.specs.Config.{Configured}
 use Rattle.meaning.specs.Snap.{Snap}
 use Rattle.meaning.specs.History.{History, after_commit, after_commits}
-use Rattle.rows_core.proofs.VersionRuns.{take_none}
-use Rattle.rows_core.proofs.Settling.{drop_none}
+use Rattle.versions.proofs.VersionRuns.{take_none}
+use Rattle.versions.proofs.Settling.{drop_none}
 use Rattle.rows.specs.declared.config_at.ConfigAt.{ConfigAt}
 use Rattle.rows.specs.Representation.{configs_after, config_from, config_after_settle, last_or, configs_above}
 

@@ -19,9 +19,9 @@ use Rattle.meaning.specs.History.{after_kind, after_event, replay, puts_in, puts
 use Rattle.meaning.specs.Verdict.{event_of, kind_of, is_delete, is_twice, is_full}
 use Rattle.meaning.proofs.TupleSets.{contains_items, len_items, len_insert, len_remove}
 use Rattle.rows.specs.Judging.{puts_tuple, adds_tuple, takes_tuple}
-use Rattle.rows_core.specs.Versions.{is_put}
-use Rattle.rows_core.proofs.VersionRuns.{after_one}
-use Rattle.rows_core.proofs.Bases.{same_turned}
+use Rattle.versions.specs.Versions.{is_put}
+use Rattle.versions.proofs.VersionRuns.{after_one}
+use Rattle.versions.proofs.Bases.{same_turned}
 
 abbrev counted : (Op → Bool) → List Op → ℕ
 counted p [] = 0

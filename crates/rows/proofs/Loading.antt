@@ -14,10 +14,10 @@ use Rattle.rows.specs.declared.loaded.Loaded.{Loaded}
 use Rattle.rows.specs.declared.loaded.Counts.{Counts}
 use Rattle.rows.specs.Retained.{newest_of, AreAdmitted, IsAdmitted, with_commit, HasRoom}
 use Rattle.rows.specs.Loads.{retained_of, loaded_to, IsWithin}
-use Rattle.rows_core.specs.Versions.{Entries, versions_at, base_versions}
+use Rattle.versions.specs.Versions.{Entries, versions_at, base_versions}
 use Rattle.rows.specs.Representation.{IsConsistent}
-use Rattle.rows_core.proofs.VersionRuns.{take_none}
-use Rattle.rows_core.proofs.Settling.{after_push, take_more}
+use Rattle.versions.proofs.VersionRuns.{take_none}
+use Rattle.versions.proofs.Settling.{after_push, take_more}
 use Rattle.rows.proofs.Admitting.{all_first, all_at, to_all, of_all}
 use Rattle.rows.proofs.Committing.{rows_push, length_push}
 

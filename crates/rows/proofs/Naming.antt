@@ -12,14 +12,14 @@ use Rattle.names.specs.declared.object.Object.{Object}
 use Rattle.names.specs.declared.node.Node.{Node}
 use Rattle.names.specs.declared.subject.Subject.{Subject}
 use Rattle.names.specs.declared.tuple.Tuple.{Tuple}
-use Rattle.config_core.specs.declared.relation.Relation.{Relation}
-use Rattle.config_core.specs.Forms.{defined_of}
+use Rattle.config_text.specs.declared.relation.Relation.{Relation}
+use Rattle.config_text.specs.Forms.{defined_of}
 use Rattle.meaning.specs.Config.{Configured, Defined, rel_of}
 use Rattle.meaning.specs.Snap.{one, set_of}
 use Rattle.meaning.proofs.Lists.{contains_here, contains_there, contains_cases, contains_none}
 use Rattle.meaning.proofs.TupleSets.{exact_nodes, nodes_total}
 use Rattle.tuple_keys.specs.Named.{is_of}
-use Rattle.rows_core.specs.Named.{objects_in, nodes_in}
+use Rattle.versions.specs.Named.{objects_in, nodes_in}
 use Rattle.tuple_keys.specs.Named.{user_tuple, without, object_in, node_in, is_within}
 use Rattle.rows.specs.Lookups.{IsOfNodes, DeclaresNodes, IsRepeated}
 use Rattle.names.specs.declared.relation.SubjectType.{SubjectType}

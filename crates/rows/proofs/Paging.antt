@@ -8,8 +8,8 @@ use Rattle.std.specs.declared.cmp.Ordering.{Ordering}
 use Rattle.std.specs.declared.cmp.Ordering.TheVariants.{Less, Equal, Greater}
 use Rattle.names.specs.Order.{object_cmp, tuple_cmp}
 use Rattle.names.specs.declared.tuple.Tuple.{Tuple}
-use Rattle.rows_core.specs.Ranges.{is_from}
-use Rattle.rows_core.proofs.Going.{first_all, first_enough}
+use Rattle.versions.specs.Ranges.{is_from}
+use Rattle.versions.proofs.Going.{first_all, first_enough}
 use Rattle.tuple_keys.proofs.Sameness.{both_then}
 use Rattle.tuple_keys.specs.Named.{is_at, is_of}
 use Rattle.tuple_keys.specs.Spelled.{spelled_objects, spelled_object, spelled_node, tuple_of}

@@ -4,9 +4,9 @@ use Rattle.names.specs.declared.tuple.Tuple.{Tuple}
 use Rattle.meaning.specs.TupleSet as set
 use Rattle.rows.specs.declared.config_at.ConfigAt.{ConfigAt}
 use Rattle.rows.specs.Retained.{Retained, snap_at}
-use Rattle.rows_core.specs.Versions.{Entries, versions_at, versions_after, stands, stands_from, AreVersions, IsRising, AreRising}
+use Rattle.versions.specs.Versions.{Entries, versions_at, versions_after, stands, stands_from, AreVersions, IsRising, AreRising}
 use Rattle.rows.specs.Representation.{configs_after, config_from}
-use Rattle.rows_core.proofs.VersionRuns.{snap_from, based_stands, history_rises}
+use Rattle.versions.proofs.VersionRuns.{snap_from, based_stands, history_rises}
 use Rattle.rows.proofs.ConfigsAt.{config_of}
 
 -- a revision is the floor and what is above it

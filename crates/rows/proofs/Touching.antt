@@ -11,9 +11,9 @@ use Rattle.names.specs.declared.commit.Commit.TheVariants as kinds
 use Rattle.meaning.specs.TupleSet as set
 use Rattle.meaning.specs.Config.{Configured}
 use Rattle.meaning.specs.History.{History}
-use Rattle.rows_core.specs.declared.version.Version.{Version}
+use Rattle.versions.specs.declared.version.Version.{Version}
 use Rattle.rows.specs.Retained.{Retained, touches, is_touched_after}
-use Rattle.rows_core.specs.Versions.{Entries, version_of, versions_in, commit_versions, versions_after, versions_at, base_versions, last_rev, last_rev_from, AreVersions}
+use Rattle.versions.specs.Versions.{Entries, version_of, versions_in, commit_versions, versions_after, versions_at, base_versions, last_rev, last_rev_from, AreVersions}
 use Rattle.rows.proofs.Retaining.{whole}
 
 rev_in : (n r : ℕ) (es : List Event) (q : Tuple) (later : List Version) → last_rev_from n (versions_in r es q ++ later) ≡ last_rev_from (cond (list_any (λ e. is_same_tuple q e.tuple) es) r n) later

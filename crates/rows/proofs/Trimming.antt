@@ -7,11 +7,11 @@ use Rattle.meaning.specs.History.{History, after_commit, after_commits, rows_of}
 use Rattle.rows.specs.declared.config_at.ConfigAt.{ConfigAt}
 use Rattle.rows.specs.declared.loaded.Counts.{Counts}
 use Rattle.rows.specs.Retained.{Retained, newest, spans_of, snap_at, after_trim}
-use Rattle.rows_core.specs.Versions.{Entries, commit_versions, versions_after, base_versions, AreVersions, AreVersionsFrom, IsLater}
+use Rattle.versions.specs.Versions.{Entries, commit_versions, versions_after, base_versions, AreVersions, AreVersionsFrom, IsLater}
 use Rattle.rows.specs.Representation.{config_after_settle, configs_above, configs_after, IsConsistent}
-use Rattle.rows_core.proofs.VersionRuns.{take_none}
-use Rattle.rows_core.proofs.Settling.{drop_none}
-use Rattle.rows_core.proofs.Bases.{based_after}
+use Rattle.versions.proofs.VersionRuns.{take_none}
+use Rattle.versions.proofs.Settling.{drop_none}
+use Rattle.versions.proofs.Bases.{based_after}
 use Rattle.rows.proofs.Admitting.{admitted_after_trim}
 use Rattle.rows.proofs.Committing.{tuples_within}
 use Rattle.rows.proofs.Retaining.{whole}

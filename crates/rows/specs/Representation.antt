@@ -5,7 +5,7 @@ use Rattle.names.specs.declared.commit.Commit.TheVariants as kinds
 use Rattle.meaning.specs.TupleSet as set
 use Rattle.meaning.specs.Config.{Configured}
 use Rattle.meaning.specs.History.{History, after_commits}
-use Rattle.rows_core.specs.Versions.{Entries, AreVersions, base_tuples}
+use Rattle.versions.specs.Versions.{Entries, AreVersions, base_tuples}
 use Rattle.rows.specs.declared.config_at.ConfigAt.{ConfigAt}
 use Rattle.rows.specs.declared.loaded.Counts.{Counts}
 use Rattle.rows.specs.Retained.{Retained, newest, spans_of, IsAdmitted}

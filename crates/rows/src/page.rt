@@ -6,9 +6,9 @@ ghost use Rattle.tuple_keys.specs.Texts.{IsStartOf};
 
 use crate::tupleset::Tupleset;
 use names::{Name, Node, Object, Subject, Tuple};
-use rows_core::Tuples;
 use std::alloc::{AllocError, Global};
 use tuple_keys::{Scratch, Start, SubjectRef, TupleRef};
+use versions::Tuples;
 
 /// What the texts of the tuples that are asked for begin with, as far as that is given.
 pub(crate) fn start_of(asked: &Tupleset) -> Result<Start, AllocError>

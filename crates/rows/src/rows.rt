@@ -5,9 +5,9 @@ ghost use Rattle.names.specs.declared.limits.TheConstants.{MAX_REV, MAX_ROWS};
 ghost use Rattle.names.specs.declared.tuple.Tuple.{Tuple};
 ghost use Rattle.meaning.specs.TupleSet as set;
 ghost use Rattle.rows.specs.Retained.{newest, empty_store, IsRetained, snap_at, spans_of, newest_of, with_commit, without_newest, after_trim, HasRoom, AreAdmitted, IsAdmitted, commits_between, is_touched_after, last_config};
-ghost use Rattle.rows_core.specs.Named.{objects_in, nodes_in};
+ghost use Rattle.versions.specs.Named.{objects_in, nodes_in};
 ghost use Rattle.tuple_keys.specs.Named.{user_tuple, is_within};
-ghost use Rattle.rows_core.specs.Versions.{refuses};
+ghost use Rattle.versions.specs.Versions.{refuses};
 ghost use Rattle.tuple_keys.specs.Named.{is_at, is_of};
 ghost use Rattle.rows.specs.Tuplesets.{page};
 ghost use Rattle.rows.specs.Loads.{retained_of, loaded_to, IsWithin};
@@ -20,10 +20,10 @@ use crate::tupleset::Tupleset;
 use crate::view::View;
 use config::Config;
 use names::{Commit, Event, Name, Node, Object, Tuple};
-use rows_core::VersionMap;
 use std::alloc::{AllocError, Global};
 use std::marker::Model;
 use tuple_keys::{KeptCommit, KeptEvents, TupleRef};
+use versions::VersionMap;
 
 /// The history from the floor on.
 #[derive(Drop)]

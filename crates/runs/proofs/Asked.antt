@@ -1,9 +1,10 @@
 -- The lines that were answered are lines of the input.
 use Rattle.std.proofs.Common.{◌≡◌, ℕ, List, [], ◌∷◌, ◌++◌, take, zero, suc, refl, sym, ap, subst, ◌∙◌, inl, inr}
-use Rattle.keeper_core.specs.TableChanges.{TableChange}
-use Rattle.http_api.specs.Text.{lines_of}
-use Rattle.http_api.specs.Machine.{Step, Fed}
-use Rattle.zanz_core.proofs.Feeding.{lines_of_fed}
+use Rattle.desk.specs.TableChanges.{TableChange}
+use Rattle.lines.specs.Text.{lines_of}
+use Rattle.answers.specs.Machine.{Step}
+use Rattle.lines.specs.Machine.{Fed}
+use Rattle.lines.proofs.Feeding.{lines_of_fed}
 use Rattle.runs.specs.Runs.{IsAskedIn}
 
 asked_before : (lines more : List (List ℕ)) (c : TableChange) → IsAskedIn lines c → IsAskedIn (lines ++ more) c

@@ -6,7 +6,7 @@ use Rattle.shown.specs.Standing.{standing}
 use Rattle.tables.specs.Device.{IsClean}
 use Rattle.tables.specs.declared.tables.Tables.{Ghosts}
 use Rattle.published.proofs.Prefixes.{prefix_whole, prefix_length}
-use Rattle.keeper_core.specs.Posts.{Posts, OpensWith, ComesBack, ShowsMore, SameTables}
+use Rattle.desk.specs.Posts.{Posts, OpensWith, ComesBack, ShowsMore, SameTables}
 use Rattle.runs.specs.Runs.{Began, kept_by}
 
 pub began_on : {T : Type 0} (g : Ghosts T) (tables : T) (d e : Posts T) → OpensWith g tables d → d.shown ≡ d.posted → d.failed ≡ false → g.leaves d.tables (kept_by d ∷ []) → ComesBack g tables d.tables

@@ -10,10 +10,10 @@ use Rattle.sqlite.specs.Files.{over_files, file_state}
 use Rattle.sqlite.specs.Held.{Held, state}
 use Rattle.names.specs.declared.refusal.Refusal.{Refusal}
 use Rattle.rows.specs.Retained.{Retained, empty_store}
-use Rattle.keeper_core.specs.Posts.{Posts}
+use Rattle.desk.specs.Posts.{Posts}
 use Rattle.store.specs.declared.store.Store.{Store}
-use Rattle.tasks.specs.declared.fault.Fault.{Fault}
-use Rattle.tasks.specs.declared.fault.Fault.TheVariants.{Refused, CannotRead, CannotWrite}
+use Rattle.command_line.specs.declared.fault.Fault.{Fault}
+use Rattle.command_line.specs.declared.fault.Fault.TheVariants.{Refused, CannotRead, CannotWrite}
 use Rattle.store.specs.History.{KeepsHistory}
 use Rattle.store.proofs.Leaving.{clean_or_not}
 use Rattle.runs.specs.Files.{FindsHistories, ImageShows, IsFoundIn}

@@ -13,8 +13,8 @@ use Rattle.shown.specs.declared.step.Step.{Step}
 use Rattle.shown.specs.declared.step.Step.TheVariants.{Open}
 use Rattle.shown.specs.Standing.{standing, after_opening}
 use Rattle.tables.specs.Leaving.{IsOneOf}
-use Rattle.keeper_core.specs.TableChanges.{changed}
-use Rattle.keeper_core.specs.Posts.{Posts}
+use Rattle.desk.specs.TableChanges.{changed}
+use Rattle.desk.specs.Posts.{Posts}
 use Rattle.store.specs.History.{KeepsHistory, LeavesHistory}
 use Rattle.store.specs.StoreParts.{connection}
 use Rattle.store.specs.declared.store.Store.{Store}

@@ -7,11 +7,11 @@ use Rattle.rows.specs.Loads.{retained_of}
 use Rattle.tables.specs.Device.{IsClean, Lasts}
 use Rattle.tables.specs.declared.tables.Tables.{Ghosts}
 use Rattle.tables.proofs.Lasting.{lasts_self, lasts_trans, clean_before}
-use Rattle.keeper_core.specs.TableChanges.{TableChange, changed, CanChange}
-use Rattle.keeper_core.specs.Posts.{Posts, Agrees, ComesBack}
+use Rattle.desk.specs.TableChanges.{TableChange, changed, CanChange}
+use Rattle.desk.specs.Posts.{Posts, Agrees, ComesBack}
 use Rattle.keeper.specs.Rules.{DeskStep}
-use Rattle.http_api.specs.Text.{lines_of}
-use Rattle.http_api.specs.Machine.{Run}
+use Rattle.lines.specs.Text.{lines_of}
+use Rattle.lines.specs.Machine.{Run}
 use Rattle.tracked_io.specs.Tracking.{TrackedReading, TrackedWriting}
 use Rattle.runs.specs.Runs.{Began, Ended, ServedBy, PausedBy, CutBy, IsAskedIn, kept_by}
 use Rattle.runs.specs.inside.Leaving.{HasLeft, Answered}

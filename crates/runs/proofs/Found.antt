@@ -12,8 +12,8 @@ use Rattle.sqlite.specs.Start.{FindsIn}
 use Rattle.sqlite.specs.Files.{HoldsDatabase, AreFoundIn}
 use Rattle.sqlite.proofs.ListingLemmas.{empty_is_sound}
 use Rattle.rows.specs.Retained.{Retained}
-use Rattle.store_core.specs.Format.{schema, no_schema}
-use Rattle.store_core.specs.Steps.{HasNone}
+use Rattle.sqlite_tables.specs.Format.{schema, no_schema}
+use Rattle.sqlite_tables.specs.Steps.{HasNone}
 use Rattle.store.specs.History.{TreesHold, HasCommitted}
 use Rattle.runs.specs.Files.{ImageHolds, HoldsBase, IsFoundIn}
 

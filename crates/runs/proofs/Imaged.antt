@@ -23,10 +23,10 @@ use Rattle.rows.specs.Retained.{Retained, empty_store}
 use Rattle.tables.specs.Device.{Device, HasFailed, IsClean, IsOpen, Lasts, sound_device}
 use Rattle.tables.specs.Leaving.{IsOneOf}
 use Rattle.tables.proofs.Lasting.{clean_before, failed_after, lasts_trans}
-use Rattle.tasks.specs.declared.fault.Fault.{Fault}
-use Rattle.tasks.specs.declared.fault.Fault.TheVariants.{Refused}
-use Rattle.store_core.specs.Format.{schema, no_schema}
-use Rattle.store_core.specs.Steps.{HasNone}
+use Rattle.command_line.specs.declared.fault.Fault.{Fault}
+use Rattle.command_line.specs.declared.fault.Fault.TheVariants.{Refused}
+use Rattle.sqlite_tables.specs.Format.{schema, no_schema}
+use Rattle.sqlite_tables.specs.Steps.{HasNone}
 use Rattle.store.specs.History.{TreesHold, KeepsHistory, LeavesHistory, device_below}
 use Rattle.runs.specs.Files.{FindsHistories, ImageHolds, HoldsBase, AreTheirs, IsFoundIn, IsUnopened, IsRefusedFor}
 use Rattle.runs.proofs.Carried.{shows_it}

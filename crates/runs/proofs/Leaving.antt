@@ -21,9 +21,9 @@ use Rattle.shown.specs.declared.step.Step.{Step}
 use Rattle.shown.specs.declared.step.Step.TheVariants.{Take}
 use Rattle.shown.specs.Standing.{Standing, standing, nothing, after_step, after_take}
 use Rattle.std.proofs.lemmas.List.Sums.{fold-append}
-use Rattle.keeper_core.specs.TableChanges.{TableChange, Adds, Raises, changed, CanChange}
-use Rattle.keeper_core.specs.Posts.{Posts}
-use Rattle.keeper_core.specs.Changes.{IsStored, IsTrimmed, trim_raises, trim_stays, IsCommitOfWrite, IsRaiseTo, IsRefused, Touches, leaves_alone, adds_one}
+use Rattle.desk.specs.TableChanges.{TableChange, Adds, Raises, changed, CanChange}
+use Rattle.desk.specs.Posts.{Posts}
+use Rattle.desk.specs.Changes.{IsStored, IsTrimmed, trim_raises, trim_stays, IsCommitOfWrite, IsRaiseTo, IsRefused, Touches, leaves_alone, adds_one}
 use Rattle.keeper.specs.Rules.{DeskStep}
 use Rattle.keeper.specs.Showing.{OnlyShows}
 use Rattle.keeper.specs.calls.Write.{WriteStep, write_malformed, write_bad_zookie, write_accepted, write_refused, write_unread}
@@ -35,8 +35,8 @@ use Rattle.keeper.specs.calls.Groups.{GroupsStep, groups_malformed, groups_bad_z
 use Rattle.keeper.specs.calls.Watch.{WatchStep, watch_malformed, watch_bad_zookie, watch_answered, watch_refused, watch_unread}
 use Rattle.keeper.specs.calls.Trim.{TrimStep, trim_malformed, trim_bad_zookie, trim_accepted, trim_refused, trim_unread}
 use Rattle.keeper.specs.calls.CatchUp.{CatchUpStep, catch_up_malformed, catch_up_accepted, catch_up_refused, catch_up_unread}
-use Rattle.http_api.specs.Text.{word_of, body_of}
-use Rattle.http_api.specs.Machine.{IsAnswer, Run}
+use Rattle.lines.specs.Text.{word_of, body_of}
+use Rattle.lines.specs.Machine.{IsAnswer, Run}
 use Rattle.runs.specs.Runs.{kept_by, AsksChange, LineAsks, IsAskedIn}
 use Rattle.runs.specs.inside.Leaving.{HasLeft}
 use Rattle.tables.proofs.Lasting.{lasts_trans}

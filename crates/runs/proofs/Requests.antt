@@ -6,12 +6,12 @@ use Rattle.httparse.specs.Grammar.{RequestHead}
 use Rattle.tables.specs.Device.{Device, Lasts}
 use Rattle.tables.specs.declared.tables.Tables.{Ghosts}
 use Rattle.tables.proofs.Lasting.{lasts_self}
-use Rattle.keeper_core.specs.TableChanges.{TableChange, CanChange}
-use Rattle.keeper_core.specs.Posts.{Posts}
+use Rattle.desk.specs.TableChanges.{TableChange, CanChange}
+use Rattle.desk.specs.Posts.{Posts}
 use Rattle.keeper.specs.Rules.{DeskStep}
-use Rattle.http_api.specs.declared.end.End.{End}
-use Rattle.http_api.specs.declared.end.End.TheVariants.{Closed, Asked, Broken, ReadFault, WriteFault, Memory}
-use Rattle.http_api.specs.Machine.{Step}
+use Rattle.answers.specs.declared.end.End.{End}
+use Rattle.answers.specs.declared.end.End.TheVariants.{Closed, Asked, Broken, ReadFault, WriteFault, Memory}
+use Rattle.answers.specs.Machine.{Step}
 use Rattle.http_api.specs.Connection.{Next, stop, go_on, after, HasRequest, Turn, no_request, unknown, answered, no_memory, Goes, Text}
 use Rattle.http_api.specs.Talks.{Talked, TalkedSoFar, TalkCut}
 use Rattle.runs.specs.Runs.{Began, kept_by}

@@ -14,11 +14,11 @@ use Rattle.tables.specs.declared.tables.TablesError.TheVariants as causes
 use Rattle.tables.proofs.Lasting.{lasts_self, lasts_trans, clean_before, failed_after}
 use Rattle.names.specs.declared.refusal.Refusal.{Refusal}
 use Rattle.names.specs.declared.refusal.Refusal.TheVariants.{Memory, StoreFault}
-use Rattle.tasks.specs.declared.fault.Fault.{Fault}
-use Rattle.tasks.specs.declared.fault.Fault.TheVariants.{Refused}
-use Rattle.keeper_core.specs.Posts.{ComesBack, FailsToLoad}
-use Rattle.store_core.specs.Format.{schema}
-use Rattle.store_core.specs.Leaves.{IsBlank}
+use Rattle.command_line.specs.declared.fault.Fault.{Fault}
+use Rattle.command_line.specs.declared.fault.Fault.TheVariants.{Refused}
+use Rattle.desk.specs.Posts.{ComesBack, FailsToLoad}
+use Rattle.sqlite_tables.specs.Format.{schema}
+use Rattle.sqlite_tables.specs.Leaves.{IsBlank}
 use Rattle.store.specs.History.{TreesHold, KeepsHistory, LeavesHistory, LeavesAtMostNew, IsFaultOfDevice, device_of, device_below}
 use Rattle.store.specs.StoreParts.{connection}
 use Rattle.store.specs.declared.store.Store.{Store}

@@ -5,11 +5,11 @@ use Rattle.names.specs.declared.call.Call.{Call}
 use Rattle.httparse.specs.Grammar.{RequestHead}
 use Rattle.tables.specs.Device.{Lasts}
 use Rattle.tables.specs.declared.tables.Tables.{Ghosts}
-use Rattle.keeper_core.specs.TableChanges.{TableChange, changed, CanChange}
-use Rattle.keeper_core.specs.Posts.{Posts}
+use Rattle.desk.specs.TableChanges.{TableChange, changed, CanChange}
+use Rattle.desk.specs.Posts.{Posts}
 use Rattle.keeper.specs.Rules.{DeskStep}
-use Rattle.http_api.specs.declared.end.End.{End}
-use Rattle.http_api.specs.Machine.{Step}
+use Rattle.answers.specs.declared.end.End.{End}
+use Rattle.answers.specs.Machine.{Step}
 use Rattle.http_api.specs.Routes.{route_of}
 use Rattle.http_api.specs.Connection.{HasRequest, Next, Text}
 use Rattle.http_api.specs.Talks.{Talked, TalkedSoFar, TalkCut}

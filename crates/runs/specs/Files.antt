@@ -13,7 +13,7 @@ use Rattle.sqlite.specs.Held.{Held}
 use Rattle.sqlite.specs.declared.error.Error.{Error}
 use Rattle.sqlite.specs.declared.file.Leftover.{Leftover}
 use Rattle.sqlite.specs.Files.{HoldsDatabase, AreFoundIn, IsNothing, image_of, faults_of, faults_left, IsFullLeft, IsCleanLeft, FailsToOpenFiles, LeavesFiles, over_files}
-use Rattle.store_core.specs.Steps.{HasNone}
+use Rattle.sqlite_tables.specs.Steps.{HasNone}
 use Rattle.store.specs.History.{TreesHold, KeepsHistory}
 use Rattle.rows.specs.Retained.{Retained}
 use Rattle.tables.specs.Leaving.{IsOneOf}

@@ -19,12 +19,12 @@ use Rattle.tables.specs.Leaving.{IsOneOf}
 use Rattle.tables.specs.declared.tables.Tables as tables
 use Rattle.shown.specs.declared.step.Step.{Step}
 use Rattle.shown.specs.Standing.{standing, after_opening}
-use Rattle.keeper_core.specs.TableChanges.{TableChange, changed, CanChange}
-use Rattle.keeper_core.specs.Posts.{Posts}
-use Rattle.http_api.specs.Text.{lines_of}
-use Rattle.store_core.specs.Format.{schema}
-use Rattle.store_core.specs.Leaves.{IsBlank}
-use Rattle.store_core.specs.Steps.{HasNone}
+use Rattle.desk.specs.TableChanges.{TableChange, changed, CanChange}
+use Rattle.desk.specs.Posts.{Posts}
+use Rattle.lines.specs.Text.{lines_of}
+use Rattle.sqlite_tables.specs.Format.{schema}
+use Rattle.sqlite_tables.specs.Leaves.{IsBlank}
+use Rattle.sqlite_tables.specs.Steps.{HasNone}
 use Rattle.store.specs.History.{TreesHold, KeepsHistory, LeavesHistory, KeptBefore, device_below}
 use Rattle.store.specs.StoreParts.{connection, faults}
 use Rattle.store.specs.declared.store.Store.{Store}

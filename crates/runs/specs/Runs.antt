@@ -18,15 +18,15 @@ use Rattle.tables.specs.Device.{IsClean}
 use Rattle.tables.specs.declared.tables.Tables.{Ghosts}
 use Rattle.shown.specs.declared.step.Step.TheVariants.{Open}
 use Rattle.shown.specs.Standing.{standing}
-use Rattle.keeper_core.specs.TableChanges.{TableChange, Adds, Raises}
-use Rattle.keeper_core.specs.Posts.{Posts, Agrees, OpensWith, ComesBack}
-use Rattle.keeper_core.specs.Changes.{IsCommitOf}
+use Rattle.desk.specs.TableChanges.{TableChange, Adds, Raises}
+use Rattle.desk.specs.Posts.{Posts, Agrees, OpensWith, ComesBack}
+use Rattle.desk.specs.Changes.{IsCommitOf}
 use Rattle.keeper.specs.Rules.{DeskStep}
-use Rattle.http_api.specs.Text.{lines_of, word_of, body_of}
-use Rattle.http_api.specs.Served.{Served, Paused, Cut, PausedAtEachRead}
+use Rattle.lines.specs.Text.{lines_of, word_of, body_of}
+use Rattle.lines.specs.Served.{Served, Paused, Cut, PausedAtEachRead}
 use Rattle.tracked_io.specs.Tracking.{TrackedReading, TrackedWriting}
-use Rattle.tasks.specs.declared.fault.Fault.{Fault}
-use Rattle.tasks.specs.declared.fault.Fault.TheVariants.{CannotRead, CannotWrite}
+use Rattle.command_line.specs.declared.fault.Fault.{Fault}
+use Rattle.command_line.specs.declared.fault.Fault.TheVariants.{CannotRead, CannotWrite}
 
 -- a desk that has just been opened on a history: all that it holds is shown
 pub record IsOpened {T : Type 0} (loaded : Loaded) (desk : Posts T) : Type 0 where

@@ -4,13 +4,13 @@ ghost use Rattle.published.specs.declared.publication.TheConstants.{MAX_SESSIONS
 ghost use Rattle.names.specs.declared.refusal.Refusal.TheVariants.{StoreFault};
 ghost use Rattle.tables.specs.Device.{IsOpen};
 ghost use Rattle.tables.specs.Opening.{CannotOpen};
-ghost use Rattle.keeper_core.specs.Posts.{Agrees, ComesBack, FailsToLoad, SameTables, ShowsMore};
+ghost use Rattle.desk.specs.Posts.{Agrees, ComesBack, FailsToLoad, SameTables, ShowsMore};
 ghost use Rattle.runs.specs.Runs.{Began, kept_by};
 ghost use Rattle.runs.specs.Connections.{HasServed};
 
-use http_api::Answers;
+use answers::Answers;
+use desk::Desk;
 use keeper::answer_on;
-use keeper_core::Desk;
 use names::{Call, Refusal, Reply};
 use published::{Opened, Session};
 use std::alloc::Global;
@@ -29,8 +29,8 @@ pub struct Answering<T: Tables + Drop, H: Wait + Drop> {
 
 impl<T: Tables + Drop, H: Wait + Drop> Model for Answering<T, H> {
     ghost use Rattle.published.specs.Known.{Begins};
-    ghost use Rattle.keeper_core.specs.Posts.{Posts, shown_by};
-    ghost use Rattle.keeper_core.specs.inside.DeskCodes.{coded_posts};
+    ghost use Rattle.desk.specs.Posts.{Posts, shown_by};
+    ghost use Rattle.desk.specs.inside.DeskCodes.{coded_posts};
 
     ghost Value = { Posts T };
 

@@ -5,8 +5,8 @@ ghost use Rattle.sqlite.specs.State.{HasCleanDisk};
 ghost use Rattle.sqlite.specs.Files.{file_state, over_files};
 ghost use Rattle.names.specs.declared.refusal.Refusal.TheVariants.{StoreFault};
 ghost use Rattle.tables.specs.Device.{Lasts, sound_device};
-ghost use Rattle.tasks.specs.declared.fault.Fault.TheVariants.{Refused};
-ghost use Rattle.tasks.specs.Faults.{IsRunFault};
+ghost use Rattle.command_line.specs.declared.fault.Fault.TheVariants.{Refused};
+ghost use Rattle.command_line.specs.Faults.{IsRunFault};
 ghost use Rattle.tracked_io.specs.Tracking.{Reads, ReadsAll};
 ghost use Rattle.store.specs.History.{device_below};
 ghost use Rattle.store.specs.StoreParts.{connection};
@@ -17,12 +17,12 @@ ghost use Rattle.runs.specs.Over.{over, BeginsIn, EndedOver, OpenedOver, TablesO
 use crate::answering::Answering;
 use crate::files::{Left, find};
 use crate::over::{fault_of, open_over, run_over, start as tables_over};
+use command_line::Fault;
 use names::Refusal;
 use sqlite::{Connection, Error, ErrorCode, FileFrom, FileStore, Leftover, Start};
 use std::io::{Read, Write};
 use std::sync::Wait;
 use store::Store;
-use tasks::Fault;
 use tracked_io::{TrackedReader, TrackedWriter};
 
 /// Answers lines from the store in the files at a path, of which `start` says what they hold, and hands on what

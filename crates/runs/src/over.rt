@@ -2,8 +2,8 @@
 ghost use Rattle.std.specs.Prelude.{ℕ, ◌≡◌, ◌≤◌, ◌<◌, ◌^◌, List, true, false, None, IfErr, IfOk, IfSome, IsErrAnd, OnOk, Err};
 ghost use Rattle.names.specs.declared.refusal.Refusal.TheVariants.{StoreFault};
 ghost use Rattle.tables.specs.Device.{IsOpen, Lasts};
-ghost use Rattle.tasks.specs.declared.fault.Fault.TheVariants.{Refused};
-ghost use Rattle.tasks.specs.Faults.{IsRunFault};
+ghost use Rattle.command_line.specs.declared.fault.Fault.TheVariants.{Refused};
+ghost use Rattle.command_line.specs.Faults.{IsRunFault};
 ghost use Rattle.tracked_io.specs.Tracking.{Reads, ReadsAll};
 ghost use Rattle.store.specs.History.{device_below};
 ghost use Rattle.store.specs.StoreParts.{connection};
@@ -13,6 +13,7 @@ ghost use Rattle.runs.specs.Over.{over, Begins, EndedOver, OpenedOver, LeavesRef
 
 use crate::answering::Answering;
 use crate::running::run;
+use command_line::Fault;
 use names::Refusal;
 use sqlite::{Alter, Connection};
 use std::alloc::Global;
@@ -20,7 +21,6 @@ use std::io::{Read, Write};
 use std::sync::Wait;
 use store::Store;
 use tables::TablesError;
-use tasks::Fault;
 use tracked_io::{TrackedReader, TrackedWriter};
 
 /// Answers lines from the store over a connection, and gives the connection back. With a number the tables of a

@@ -2,23 +2,23 @@
 ghost use Rattle.std.specs.Prelude.{ℕ, ◌≡◌, List, true, false, IfErr, OnOk};
 ghost use Rattle.names.specs.declared.refusal.Refusal.TheVariants.{StoreFault};
 ghost use Rattle.tables.specs.Device.{IsOpen, Lasts};
-ghost use Rattle.keeper_core.specs.Posts.{ComesBack, FailsToLoad};
-ghost use Rattle.tasks.specs.declared.fault.Fault.TheVariants.{Refused};
-ghost use Rattle.tasks.specs.Faults.{IsRunFault};
+ghost use Rattle.desk.specs.Posts.{ComesBack, FailsToLoad};
+ghost use Rattle.command_line.specs.declared.fault.Fault.TheVariants.{Refused};
+ghost use Rattle.command_line.specs.Faults.{IsRunFault};
 ghost use Rattle.tracked_io.specs.Tracking.{Reads, ReadsAll};
 ghost use Rattle.runs.specs.inside.Leaving.{Answered};
 ghost use Rattle.runs.specs.Runs.{ServedBy, PausedBy, CutBy, Ended, is_read_fault, is_write_fault};
 
 use crate::answering::Answering;
-use http_api::End;
+use answers::End;
+use command_line::Fault;
+use lines::lines;
 use names::Refusal;
 use std::alloc::Global;
 use std::io::{Read, Write};
 use std::sync::Wait;
 use tables::Tables;
-use tasks::Fault;
 use tracked_io::{TrackedReader, TrackedWriter};
-use zanz_core::lines;
 
 /// Answers lines from the store that these tables keep, and gives the tables back.
 pub fn run<T: Tables + Drop, H: Wait + Drop, R: Read, W: Write>(

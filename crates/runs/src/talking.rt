@@ -2,13 +2,14 @@
 ghost use Rattle.std.specs.Prelude.{ℕ, ◌≡◌, ◌⊎◌, List, true, false};
 ghost use Rattle.tracked_io.specs.Tracking.{Reads, ReadsAll};
 ghost use Rattle.keeper.specs.Rules.{DeskStep};
-ghost use Rattle.http_api.specs.Ends.{is_read_fault, is_write_fault};
+ghost use Rattle.answers.specs.Ends.{is_read_fault, is_write_fault};
 ghost use Rattle.http_api.specs.Routes.{table};
 ghost use Rattle.http_api.specs.Talks.{TalkedAtEachRead};
 ghost use Rattle.runs.specs.Connections.{Serves, TalkedBy, TalkedSoFarBy, TalkCutBy, StaysServing};
 
 use crate::answering::Answering;
-use http_api::{End, serve_by};
+use answers::End;
+use http_api::serve_by;
 use matchit::Router;
 use names::Call;
 use std::alloc::Global;

@@ -7,7 +7,7 @@ use Rattle.std.proofs.Crossing.{crosses}
 use Rattle.crossbeam_channel.proofs.channel.Sender.TheSendSync as Sender
 use Rattle.crossbeam_channel.proofs.channel.Receiver.TheSendSync as Receiver
 use Rattle.front.proofs.Crossing.{crosses_published, Session-send}
-use Rattle.keeper_core.specs.contracts.desk.Desk as Desk
+use Rattle.desk.specs.contracts.desk.Desk as Desk
 use Rattle.front.specs.contracts.lock.KeptDesk as KeptDesk
 use Rattle.front.specs.contracts.lock.Keeper as Keeper
 use Rattle.front.specs.contracts.front.Front as Front

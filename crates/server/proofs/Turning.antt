@@ -9,9 +9,9 @@ use Rattle.shown.specs.declared.step.Step.TheVariants.{Take}
 use Rattle.shown.specs.Standing.{Standing, standing, after_take, cursor_of, cursor_after}
 use Rattle.published.specs.Receipts.{ReceiptFacts}
 use Rattle.published.proofs.Prefixes.{prefix_trans}
-use Rattle.keeper_core.specs.Posts.{Posts, ShowsMore, SameTables, PostsStep}
-use Rattle.keeper_core.specs.Changes.{CatchUpAccepted, TellsShown, CatchUpJudged, IsNoChange}
-use Rattle.keeper_core.proofs.Standings.{standing_next}
+use Rattle.desk.specs.Posts.{Posts, ShowsMore, SameTables, PostsStep}
+use Rattle.desk.specs.Changes.{CatchUpAccepted, TellsShown, CatchUpJudged, IsNoChange}
+use Rattle.desk.proofs.Standings.{standing_next}
 use Rattle.keeper.proofs.Refreshing.{still_refused}
 use Rattle.server.specs.declared.turn.TheConstants.{TURN_COMMITS}
 use Rattle.server.specs.Turns.{TakesTurn, TurnRefused, index_refused, hot_refused}

@@ -1,9 +1,9 @@
 -- What connections do to the machine that answers their calls.
 use Rattle.std.specs.Prelude.{ℕ, ◌≡◌, ◌⊎◌, List, [], ◌∷◌, length, Option}
 use Rattle.std.specs.Iterator.{Drains}
-use Rattle.http_api.specs.declared.end.End.{End}
-use Rattle.http_api.specs.declared.end.End.TheVariants.{Closed, Broken, ReadFault, WriteFault, Memory}
-use Rattle.http_api.specs.Machine.{Step}
+use Rattle.answers.specs.declared.end.End.{End}
+use Rattle.answers.specs.declared.end.End.TheVariants.{Closed, Broken, ReadFault, WriteFault, Memory}
+use Rattle.answers.specs.Machine.{Step}
 use Rattle.http_api.specs.Connection.{Next, stop, Text}
 
 -- some input has a text, whose calls take the machine from s to t; this then becomes of the connection

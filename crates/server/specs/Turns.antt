@@ -5,8 +5,8 @@ use Rattle.names.specs.declared.refusal.Refusal.{Refusal}
 use Rattle.names.specs.declared.state.State.{State}
 use Rattle.tables.specs.declared.tables.Tables.{Ghosts}
 use Rattle.published.specs.Receipts.{ReceiptFacts}
-use Rattle.keeper_core.specs.Posts.{Posts}
-use Rattle.keeper_core.specs.Changes.{CatchUpAccepted, CatchUpJudged, IsNoChange, IsRefused}
+use Rattle.desk.specs.Posts.{Posts}
+use Rattle.desk.specs.Changes.{CatchUpAccepted, CatchUpJudged, IsNoChange, IsRefused}
 use Rattle.server.specs.declared.turn.TheConstants.{TURN_COMMITS}
 
 -- Each part took the commits of a turn, or as many as there were: the index first, then the hot table. This is where their

@@ -2,7 +2,7 @@
 ghost use Rattle.names.specs.Calls.{told};
 
 use crate::gate::Gate;
-use http_api::Answers;
+use answers::Answers;
 use names::{Call, Reply};
 use std::sync::atomic::{AtomicU64, Ordering};
 

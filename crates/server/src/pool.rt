@@ -1,12 +1,12 @@
 //! The threads of a server, and what hands connections to them.
 ghost use Rattle.std.specs.Iterator.{IsFinite};
-ghost use Rattle.http_api.specs.declared.end.End.{End};
+ghost use Rattle.answers.specs.declared.end.End.{End};
 ghost use Rattle.server.specs.Attending.{ServesEach};
 
 use crate::gate::Gate;
 use crate::stream::take_leave;
+use answers::End;
 use crossbeam_channel::{Receiver, Sender};
-use http_api::End;
 use std::alloc::Global;
 use std::net::{TcpListener, TcpStream};
 use std::sync::Wait;

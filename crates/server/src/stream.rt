@@ -3,7 +3,8 @@ ghost use Rattle.std.specs.Prelude.{◌≡◌, false, true, IfSome};
 ghost use Rattle.http_api.specs.Routes.{table};
 ghost use Rattle.server.specs.Attending.{Attended};
 
-use http_api::{Answers, End, serve_by};
+use answers::{Answers, End};
+use http_api::serve_by;
 use matchit::Router;
 use names::Call;
 use std::alloc::Global;

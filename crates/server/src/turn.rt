@@ -3,7 +3,7 @@ ghost use Rattle.std.specs.Prelude.{◌≡◌, IfOk, IfErr};
 ghost use Rattle.shown.specs.Standing.{standing, cursor_after};
 ghost use Rattle.published.specs.Known.{Begins};
 ghost use Rattle.published.specs.Receipts.{ReceiptFacts};
-ghost use Rattle.keeper_core.specs.Posts.{shown_by};
+ghost use Rattle.desk.specs.Posts.{shown_by};
 ghost use Rattle.server.specs.Turns.{TakesTurn, TurnRefused};
 
 use front::KeptDesk;

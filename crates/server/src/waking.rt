@@ -2,8 +2,8 @@
 ghost use Rattle.std.specs.Prelude.{◌≡◌};
 ghost use Rattle.names.specs.Calls.{told};
 
+use answers::Answers;
 use crossbeam_channel::Sender;
-use http_api::Answers;
 use names::{Call, Reply};
 use std::sync::Wait;
 

@@ -4,7 +4,7 @@ ghost use Rattle.http_api.specs.Routes.{table};
 
 use crate::pool::Serves;
 use crate::stream::serve_stream;
-use http_api::{Answers, End};
+use answers::{Answers, End};
 use matchit::Router;
 use names::Call;
 use std::alloc::Global;

@@ -2,7 +2,7 @@
 use denote.Param.Send.{IsSend, sendable}
 use Rattle.std.proofs.Crossing.{crosses}
 use Rattle.front.proofs.Crossing.{Config-send, KeptCommit-send}
-use Rattle.rows_core.proofs.version_map.VersionMap.TheSendSync as VersionMap
+use Rattle.versions.proofs.version_map.VersionMap.TheSendSync as VersionMap
 use Rattle.tables.specs.contracts.listed.Listed as Listed
 
 pub Listed-send : IsSend Listed.the_row

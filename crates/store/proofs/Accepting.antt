@@ -13,10 +13,10 @@ use Rattle.names.specs.declared.refusal.Refusal.{Refusal}
 use Rattle.names.specs.declared.refusal.Refusal.TheVariants as refusals
 use Rattle.meaning.specs.Config.{Configured, Defined, Step}
 use Rattle.meaning.specs.Levels.{Path, plain, subtracted, IsLevel}
-use Rattle.config_core.specs.Reading.{Describes}
-use Rattle.config_core.specs.Shape.{config_read}
-use Rattle.config_core.specs.Spelling.{Spells}
-use Rattle.config_core.specs.Texts.{ConfigTexts}
+use Rattle.config_text.specs.Reading.{Describes}
+use Rattle.config_text.specs.Shape.{config_read}
+use Rattle.config_text.specs.Spelling.{Spells}
+use Rattle.config_text.specs.Texts.{ConfigTexts}
 use Rattle.config.specs.Causes.{Accepts, IsCause, ConfigCause}
 use Rattle.config.specs.Cycles.{IsChain, IsCertificate}
 use Rattle.config.specs.Valid.{IsValid, cause_of, unless, types_stand, types_used, computes, has_tuplesets, is_indexable}

@@ -11,8 +11,8 @@ use Rattle.std.proofs.lemmas.Map.Lookups.{exact_bytes}
 use Rattle.std.proofs.lemmas.List.Elements.{All-nil, All-from_recursion}
 use Rattle.std.proofs.lemmas.List.Sorted.{IsPermutation-sym}
 use Rattle.std.proofs.lemmas.Slice.Eq.{bytes_eq-Decides}
-use Rattle.store_core.specs.Tables.{Entry}
-use Rattle.store_core.specs.Stored.{entry_cmp}
+use Rattle.sqlite_tables.specs.Tables.{Entry}
+use Rattle.sqlite_tables.specs.Stored.{entry_cmp}
 use Rattle.store.specs.Written.{Written, Pairwise, entry, entries_of}
 use Rattle.store.proofs.Picking.{In, same_bool, all_in}
 use Rattle.store.proofs.Apart.{Ordered, ordered}

@@ -10,7 +10,7 @@ use Rattle.rows.specs.Retained.{Retained, empty_store, newest, newest_of}
 use Rattle.rows.specs.Follows.{IsNext}
 use Rattle.tables.specs.Storing.{CanStore}
 use Rattle.tables.specs.declared.puts.Puts.{Puts}
-use Rattle.store_core.specs.Steps.{new_store}
+use Rattle.sqlite_tables.specs.Steps.{new_store}
 use Rattle.store.specs.Written.{Written, IsSpan, IsSound, IsConfigAt, IsHistory}
 use Rattle.store.proofs.Causes.{accepted, accepted_config}
 use Rattle.std.specs.FinMap as map

@@ -13,12 +13,12 @@ use Rattle.names.specs.declared.subject.Subject.{Subject}
 use Rattle.names.specs.declared.tuple.Tuple.{Tuple}
 use Rattle.names.specs.declared.commit.Event.{Event}
 use Rattle.tables.specs.declared.puts.Puts.{Puts}
-use Rattle.store_core.specs.declared.stored.SpanChange.{SpanChange}
-use Rattle.store_core.specs.declared.stored.StoredEvent as stored
-use Rattle.store_core.specs.Tables.{Span, ConfigRow, Entry, Contents, same_tuple}
-use Rattle.store_core.specs.Numbered.{IsShort, IsUpTo}
-use Rattle.store_core.specs.Caused.{spans_of}
-use Rattle.store_core.specs.Reading.{AreTexts, IsReadable}
+use Rattle.sqlite_tables.specs.declared.stored.SpanChange.{SpanChange}
+use Rattle.sqlite_tables.specs.declared.stored.StoredEvent as stored
+use Rattle.sqlite_tables.specs.Tables.{Span, ConfigRow, Entry, Contents, same_tuple}
+use Rattle.sqlite_tables.specs.Numbered.{IsShort, IsUpTo}
+use Rattle.sqlite_tables.specs.Caused.{spans_of}
+use Rattle.sqlite_tables.specs.Reading.{AreTexts, IsReadable}
 use Rattle.store.specs.Written.{Written, IsSpan, IsConfigAt, IsSound, IsWritten, Pairwise, span_of, config_row_of, entries_of}
 use Rattle.store.specs.inside.EventTexts.{event_texts, event_texts_in}
 use Rattle.store.proofs.Picking.{In, all_in}

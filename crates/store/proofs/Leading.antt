@@ -13,13 +13,13 @@ use Rattle.rows.specs.Retained.{Retained, newest, newest_of, with_commit, after_
 use Rattle.rows.proofs.Committing.{length_push}
 use Rattle.tables.specs.Storing.{IsNextAt, IsTrimTo, CanTrim}
 use Rattle.tables.specs.declared.puts.Puts.{Puts}
-use Rattle.store_core.specs.declared.stored.StoredEvent as stored
-use Rattle.store_core.specs.Caused.{CanConfigure, CanDrop, CanTake, IsBefore}
-use Rattle.store_core.specs.Reading.{CanLoad}
-use Rattle.store_core.specs.Numbered.{AreNumbered, IsUpTo}
-use Rattle.store_core.specs.Tables.{Contents}
-use Rattle.store_core.specs.Steps.{after_write, after_configure}
-use Rattle.store_core.specs.Steps as steps
+use Rattle.sqlite_tables.specs.declared.stored.StoredEvent as stored
+use Rattle.sqlite_tables.specs.Caused.{CanConfigure, CanDrop, CanTake, IsBefore}
+use Rattle.sqlite_tables.specs.Reading.{CanLoad}
+use Rattle.sqlite_tables.specs.Numbered.{AreNumbered, IsUpTo}
+use Rattle.sqlite_tables.specs.Tables.{Contents}
+use Rattle.sqlite_tables.specs.Steps.{after_write, after_configure}
+use Rattle.sqlite_tables.specs.Steps as steps
 use Rattle.store.specs.Written.{IsHistory, canonical}
 use Rattle.store.specs.inside.EventTexts.{event_texts, event_texts_in}
 use Rattle.store.specs.History.{HasCommitted}

@@ -19,10 +19,10 @@ use Rattle.rows.specs.Retained.{Retained, newest, with_commit, after_trim}
 use Rattle.tables.specs.Device.{HasFailed, Lasts}
 use Rattle.tables.specs.Storing.{IsNextAt, IsTrimTo}
 use Rattle.tables.specs.declared.puts.Puts.{Puts}
-use Rattle.store_core.specs.Format.{schema}
-use Rattle.store_core.specs.Numbered.{IsNumbered, AreNumbered, AreNumberedTo}
-use Rattle.store_core.specs.Tables.{Contents, Holds}
-use Rattle.store_core.specs.Steps.{Alters, Stores, Stays, Undoes, LeavesAtMost, MayStore}
+use Rattle.sqlite_tables.specs.Format.{schema}
+use Rattle.sqlite_tables.specs.Numbered.{IsNumbered, AreNumbered, AreNumberedTo}
+use Rattle.sqlite_tables.specs.Tables.{Contents, Holds}
+use Rattle.sqlite_tables.specs.Steps.{Alters, Stores, Stays, Undoes, LeavesAtMost, MayStore}
 use Rattle.store.specs.Written.{IsHistory}
 use Rattle.store.specs.History.{TreesHold, HasCommitted, KeepsHistory, KeepsOn, LeavesHistory, LeavesAlone, HoldNext, LeavesNext, HoldTrimmed, LeavesTrimmed, KeptBefore, IsSettled, device_of}
 

@@ -15,13 +15,13 @@ use Rattle.meaning.specs.Config.{Configured, Defined, empty_config}
 use Rattle.meaning.specs.History.{History}
 use Rattle.meaning.specs.Snap.{Snap}
 use Rattle.meaning.proofs.TupleSets.{same_tuples}
-use Rattle.config_core.specs.Reading.{Describes}
-use Rattle.config_core.specs.Shape.{config_read}
-use Rattle.config_core.specs.Texts.{RelationTexts, ConfigTexts}
-use Rattle.config_core.specs.Spelling.{Spells, IsNamed, defined_texts, configured_texts}
+use Rattle.config_text.specs.Reading.{Describes}
+use Rattle.config_text.specs.Shape.{config_read}
+use Rattle.config_text.specs.Texts.{RelationTexts, ConfigTexts}
+use Rattle.config_text.specs.Spelling.{Spells, IsNamed, defined_texts, configured_texts}
 use Rattle.config.specs.Causes.{Accepts}
 use Rattle.rows.specs.Retained.{Retained}
-use Rattle.store_core.specs.Tables.{Span, ConfigRow, Entry, Contents}
+use Rattle.sqlite_tables.specs.Tables.{Span, ConfigRow, Entry, Contents}
 use Rattle.store.specs.Written.{TupleSpan, ConfigAt, Written, IsSpan, IsConfigAt, IsSound, IsWritten, Pairwise, is_alive, is_moved, tuples_of, event_at, events_at, config_at, commit_of, commit_at, commits_above, last_up_to, config_up_to, are_distinct, history_of, span_of, config_row_of, entries_of, entry, canonical, IsHistory}
 use Rattle.store.proofs.Picking.{In, same_bool, found, any_in, all_in, pair_in}
 use Rattle.store.proofs.Living.{is_of, contains_of}

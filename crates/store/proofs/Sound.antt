@@ -16,12 +16,12 @@ use Rattle.meaning.proofs.TupleSets.{len_items, items_from_list}
 use Rattle.rows.specs.Retained.{Retained, spans_of, IsAdmitted}
 use Rattle.rows.specs.Loads.{retained_of, IsWithin}
 use Rattle.rows.specs.declared.loaded.Loaded.{Loaded}
-use Rattle.store_core.specs.Tables.{Contents, ConfigRow, Entry}
-use Rattle.store_core.specs.Stored.{span_in, config_row_in, entry_in, Loads}
-use Rattle.store_core.specs.declared.stored.Stored.{Stored}
-use Rattle.store_core.specs.declared.stored.StoredSpan.{StoredSpan}
-use Rattle.store_core.specs.declared.stored.StoredConfig.{StoredConfig}
-use Rattle.store_core.specs.declared.stored.StoredEntry.{StoredEntry}
+use Rattle.sqlite_tables.specs.Tables.{Contents, ConfigRow, Entry}
+use Rattle.sqlite_tables.specs.Stored.{span_in, config_row_in, entry_in, Loads}
+use Rattle.sqlite_tables.specs.declared.stored.Stored.{Stored}
+use Rattle.sqlite_tables.specs.declared.stored.StoredSpan.{StoredSpan}
+use Rattle.sqlite_tables.specs.declared.stored.StoredConfig.{StoredConfig}
+use Rattle.sqlite_tables.specs.declared.stored.StoredEntry.{StoredEntry}
 use Rattle.store.specs.Written.{TupleSpan, Written, IsSpan, IsConfigAt, IsSound, IsHistory, history_of, commits_above, brings_one, is_alive, span_of, config_row_of, entries_of}
 use Rattle.store.specs.inside.Reading.{as_span, as_config, as_written, current, IsHead, ArePlaced}
 use Rattle.store.specs.declared.parts.ReadSpan.{ReadSpan}

@@ -10,7 +10,7 @@ use Rattle.names.specs.Spelling.{IsTuple, IsSubject, subject_text, relation_part
 use Rattle.names.specs.declared.tuple.Tuple.{Tuple}
 use Rattle.names.specs.declared.subject.Subject.{Subject}
 use Rattle.names.proofs.Splitting.{is_other, lacks_refused}
-use Rattle.store_core.specs.Tables.{same_tuple}
+use Rattle.sqlite_tables.specs.Tables.{same_tuple}
 use Rattle.store.specs.Written.{TupleSpan, span_of}
 use Rattle.store.proofs.Picking.{same_bool}
 use Rattle.store.proofs.Living.{one_tuple}

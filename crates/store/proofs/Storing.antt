@@ -16,12 +16,12 @@ use Rattle.rows.specs.Follows.{IsNext}
 use Rattle.tables.specs.Storing.{IsNextAt, PutsAbsent}
 use Rattle.tables.specs.declared.puts.Puts.{Puts}
 use Rattle.tables.specs.declared.puts.Puts.TheVariants.{Absent, Any}
-use Rattle.store_core.specs.declared.stored.SpanChange.{SpanChange}
-use Rattle.store_core.specs.declared.stored.SpanChange.TheVariants.{Begins, BeginsAnew, Ends}
-use Rattle.store_core.specs.declared.stored.StoredEvent as stored
-use Rattle.store_core.specs.Stored as texts
-use Rattle.store_core.specs.Tables.{Span, Contents, after_close, with_value}
-use Rattle.store_core.specs.Steps.{after_change, after_event, after_events, after_write, after_configure}
+use Rattle.sqlite_tables.specs.declared.stored.SpanChange.{SpanChange}
+use Rattle.sqlite_tables.specs.declared.stored.SpanChange.TheVariants.{Begins, BeginsAnew, Ends}
+use Rattle.sqlite_tables.specs.declared.stored.StoredEvent as stored
+use Rattle.sqlite_tables.specs.Stored as texts
+use Rattle.sqlite_tables.specs.Tables.{Span, Contents, after_close, with_value}
+use Rattle.sqlite_tables.specs.Steps.{after_change, after_event, after_events, after_write, after_configure}
 use Rattle.store.specs.Written.{TupleSpan, Written, IsSpan, IsSound, IsWritten, IsHistory, Pairwise, history_of, span_of, config_row_of, entries_of, canonical}
 use Rattle.store.specs.inside.EventTexts.{change_of, event_texts, event_texts_in}
 use Rattle.store.proofs.Picking.{In, all_in}

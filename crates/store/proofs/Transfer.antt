@@ -16,12 +16,12 @@ use Rattle.names.specs.Spelling.{IsTuple}
 use Rattle.meaning.specs.Admits.{admits}
 use Rattle.meaning.specs.TupleSet as set
 use Rattle.rows.specs.Retained.{newest_of, spans_of}
-use Rattle.store_core.specs.Tables.{Span, ConfigRow, Entry, Contents, same_tuple}
-use Rattle.store_core.specs.Stored.{span_in, config_row_in, entry_in, config_cmp, Loads, IsInOrder}
-use Rattle.store_core.specs.declared.stored.Stored.{Stored}
-use Rattle.store_core.specs.declared.stored.StoredSpan.{StoredSpan}
-use Rattle.store_core.specs.declared.stored.StoredConfig.{StoredConfig}
-use Rattle.store_core.specs.declared.stored.StoredEntry.{StoredEntry}
+use Rattle.sqlite_tables.specs.Tables.{Span, ConfigRow, Entry, Contents, same_tuple}
+use Rattle.sqlite_tables.specs.Stored.{span_in, config_row_in, entry_in, config_cmp, Loads, IsInOrder}
+use Rattle.sqlite_tables.specs.declared.stored.Stored.{Stored}
+use Rattle.sqlite_tables.specs.declared.stored.StoredSpan.{StoredSpan}
+use Rattle.sqlite_tables.specs.declared.stored.StoredConfig.{StoredConfig}
+use Rattle.sqlite_tables.specs.declared.stored.StoredEntry.{StoredEntry}
 use Rattle.store.specs.Written.{TupleSpan, ConfigAt, Written, IsSpan, IsConfigAt, IsSound, IsWritten, Pairwise, is_alive, is_moved, is_one, is_before, are_apart, are_distinct, brings_one, config_at, last_up_to, config_up_to, history_of, span_of, config_row_of, entry, entries_of}
 use Rattle.store.specs.inside.Reading.{as_span, as_config, as_written, IsHead}
 use Rattle.store.specs.Refused.{IsOfSpan, IsOfConfig, AreOfHead, AreListed, IsListed, IsOfHistory}

@@ -20,8 +20,8 @@ use Rattle.rows.proofs.Committing.{tuples_within}
 use Rattle.rows.proofs.Trimming.{spans_split}
 use Rattle.tables.specs.Storing.{IsTrimTo}
 use Rattle.sqlite_trees.proofs.ListLemmas.{IsPermutation-filter}
-use Rattle.store_core.specs.Tables.{Contents, with_value}
-use Rattle.store_core.specs.Steps as steps
+use Rattle.sqlite_tables.specs.Tables.{Contents, with_value}
+use Rattle.sqlite_tables.specs.Steps as steps
 use Rattle.store.specs.Written.{TupleSpan, ConfigAt, Written, IsSpan, IsConfigAt, IsSound, IsWritten, IsHistory, Ends, Pairwise, is_alive, is_moved, tuples_of, is_put_at, event_at, events_at, config_at, commit_of, commit_at, commits_above, last_up_to, config_up_to, are_apart, are_distinct, is_one, brings_one, history_of, span_of, config_row_of, entries_of}
 use Rattle.store.proofs.Picking.{In, all_in, all_from}
 use Rattle.store.proofs.Living.{is_of, contains_of, alive_says, moved_says}

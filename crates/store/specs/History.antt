@@ -17,10 +17,10 @@ use Rattle.tables.specs.Storing.{IsNextAt, IsTrimTo}
 use Rattle.tables.specs.declared.puts.Puts.{Puts}
 use Rattle.tables.specs.declared.tables.TablesError.{TablesError}
 use Rattle.tables.specs.declared.tables.TablesError.TheVariants as refusals
-use Rattle.store_core.specs.Format.{schema}
-use Rattle.store_core.specs.Numbered.{AreNumbered}
-use Rattle.store_core.specs.Tables.{Contents, Holds}
-use Rattle.store_core.specs.Leaves.{IsBlank}
+use Rattle.sqlite_tables.specs.Format.{schema}
+use Rattle.sqlite_tables.specs.Numbered.{AreNumbered}
+use Rattle.sqlite_tables.specs.Tables.{Contents, Holds}
+use Rattle.sqlite_tables.specs.Leaves.{IsBlank}
 use Rattle.store.specs.Written.{IsHistory}
 
 -- trees that hold a history of the format

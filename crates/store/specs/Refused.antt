@@ -14,13 +14,13 @@ use Rattle.rows.specs.declared.loaded.Loaded.{Loaded}
 use Rattle.names.specs.declared.commit.Event.{Event}
 use Rattle.std.specs.List.{list_any}
 use Rattle.store.specs.inside.Moves.{moves}
-use Rattle.store_core.specs.Tables.{Contents}
-use Rattle.store_core.specs.Stored.{span_in, config_row_in, entry_in, Loads, IsInOrder}
-use Rattle.store_core.specs.declared.stored.TupleText.{TupleText}
-use Rattle.store_core.specs.declared.stored.StoredSpan.{StoredSpan}
-use Rattle.store_core.specs.declared.stored.StoredConfig.{StoredConfig}
-use Rattle.store_core.specs.declared.stored.StoredEntry.{StoredEntry}
-use Rattle.store_core.specs.declared.stored.Stored.{Stored}
+use Rattle.sqlite_tables.specs.Tables.{Contents}
+use Rattle.sqlite_tables.specs.Stored.{span_in, config_row_in, entry_in, Loads, IsInOrder}
+use Rattle.sqlite_tables.specs.declared.stored.TupleText.{TupleText}
+use Rattle.sqlite_tables.specs.declared.stored.StoredSpan.{StoredSpan}
+use Rattle.sqlite_tables.specs.declared.stored.StoredConfig.{StoredConfig}
+use Rattle.sqlite_tables.specs.declared.stored.StoredEntry.{StoredEntry}
+use Rattle.sqlite_tables.specs.declared.stored.Stored.{Stored}
 use Rattle.store.specs.Written.{TupleSpan, ConfigAt, Written, IsSpan, IsConfigAt, IsHistory, IsSound, Pairwise, are_apart, are_distinct, is_alive, is_moved, is_one, config_at, config_up_to, brings_one, span_of, config_row_of, entries_of}
 use Rattle.store.specs.inside.Reading.{as_span, as_config, as_written, Spells, IsHead}
 use Rattle.store.specs.declared.parts.ReadSpan.{ReadSpan}

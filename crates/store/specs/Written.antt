@@ -16,10 +16,10 @@ use Rattle.meaning.specs.Snap as snaps
 use Rattle.meaning.specs.TupleSet as set
 use Rattle.meaning.specs.Admits.{admits}
 use Rattle.meaning.specs.History.{History}
-use Rattle.config_core.specs.Canonical.{config_data}
+use Rattle.config_text.specs.Canonical.{config_data}
 use Rattle.config.specs.Causes.{Accepts}
 use Rattle.rows.specs.Retained.{Retained, newest_of, spans_of}
-use Rattle.store_core.specs.Tables.{Span, ConfigRow, Entry, Contents}
+use Rattle.sqlite_tables.specs.Tables.{Span, ConfigRow, Entry, Contents}
 
 -- revisions in which a tuple is there: from the one that added it to the one that removed it, or 0 while it still is
 pub record TupleSpan : Type 0 where

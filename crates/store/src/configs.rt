@@ -3,7 +3,7 @@ ghost use Rattle.std.specs.Prelude.{◌≡◌, ◌≤◌, ◌⊎◌, true, false
 ghost use Rattle.std.specs.Option.{option_copied};
 ghost use Rattle.meaning.specs.Admits.{admits};
 ghost use Rattle.meaning.specs.Config.{empty_config};
-ghost use Rattle.store_core.specs.Stored.{config_row_in};
+ghost use Rattle.sqlite_tables.specs.Stored.{config_row_in};
 ghost use Rattle.store.specs.Written.{IsConfigAt, config_row_of, config_at, config_up_to};
 ghost use Rattle.store.specs.inside.Following.{IsAdmitted, is_between};
 ghost use Rattle.store.specs.inside.Reading.{as_span, as_config, AreAscending, AreAdmitted};
@@ -13,8 +13,8 @@ use crate::parts::{Head, ReadConfig, ReadSpan};
 use crate::unread::Unread;
 use config::Config;
 use names::Tuple;
+use sqlite_tables::StoredConfig;
 use std::alloc::Global;
-use store_core::StoredConfig;
 
 fn read_config(alloc: Global, newest: u64, stored: &StoredConfig) -> Result<ReadConfig, Unread>
     ensures same { IfOk result (λ c. config_row_of (as_config c) ≡ config_row_in stored.now) }

@@ -1,14 +1,14 @@
 //! The values of the state.
 ghost use Rattle.std.specs.Prelude.{◌≡◌, ◌<◌, ℕ, map, length, false, IsTrue, IfSome, None, [], slice_index_or};
-ghost use Rattle.store_core.specs.Stored.{entry_in};
-ghost use Rattle.store_core.specs.declared.stored.StoredEntry.{StoredEntry};
+ghost use Rattle.sqlite_tables.specs.Stored.{entry_in};
+ghost use Rattle.sqlite_tables.specs.declared.stored.StoredEntry.{StoredEntry};
 ghost use Rattle.store.specs.Written.{entry, entries_of};
 ghost use Rattle.store.specs.inside.Reading.{as_written, IsHead};
 ghost use Rattle.store.specs.Refused.{AreOfHead};
 
 use crate::parts::Head;
 use names::limits::MAX_REV;
-use store_core::StoredEntry;
+use sqlite_tables::StoredEntry;
 
 const NUMBERS: u64 = 0x8000_0000_0000_0000;
 

@@ -1,8 +1,8 @@
 //! What is stored and read over a connection, as a history.
 ghost use Rattle.std.specs.Prelude.{◌≡◌, ◌≢◌, ◌⊎◌, ◌^◌, ◌<◌, ◌≤◌, false, None, IfOk, OnOk, OnErr, IsTrue, Err};
 ghost use Rattle.sqlite.specs.Disk.{MoreFaults};
-ghost use Rattle.store_core.specs.Leaves.{IsBlank};
-ghost use Rattle.store_core.specs.Steps.{Undoes};
+ghost use Rattle.sqlite_tables.specs.Leaves.{IsBlank};
+ghost use Rattle.sqlite_tables.specs.Steps.{Undoes};
 ghost use Rattle.sqlite.specs.Held.{state};
 ghost use Rattle.sqlite.specs.State.{HasCleanDisk, IsLive};
 ghost use Rattle.sqlite.specs.declared.error.Error.TheVariants.{SqliteFailure};
@@ -20,8 +20,8 @@ use crate::texts::events_of;
 use config::Config;
 use rows::Loaded;
 use sqlite::{Alter, Connection, Error, ErrorCode};
+use sqlite_tables::{Probe, ask, configure, create, load, trim, write};
 use std::alloc::Global;
-use store_core::{Probe, ask, configure, create, load, trim, write};
 use tables::{Puts, TablesError};
 use tuple_keys::{KeptCommit, KeptEvents};
 

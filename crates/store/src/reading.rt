@@ -3,7 +3,7 @@ ghost use Rattle.std.specs.Prelude.{◌≡◌, ◌≤◌, ◌*◌, false, nat_le
 ghost use Rattle.names.specs.declared.limits.TheConstants.{MAX_REV};
 ghost use Rattle.rows.specs.Loads.{retained_of, IsWithin};
 ghost use Rattle.rows.specs.Retained.{newest};
-ghost use Rattle.store_core.specs.Stored.{IsInOrder};
+ghost use Rattle.sqlite_tables.specs.Stored.{IsInOrder};
 ghost use Rattle.store.specs.Written.{history_of, IsConfigAt, IsSpan};
 ghost use Rattle.store.specs.inside.Reading.{as_span, as_config, as_written, current, IsHead, ArePlaced};
 ghost use Rattle.store.specs.Refused.{DeservedBy, IsWholeAbove, AreListed, AreSound, IsOfHistory, IsHistoryOf, IsTheHistoryOf, HasNoHistory};
@@ -18,8 +18,8 @@ use config::Config;
 use names::Items;
 use names::limits::MAX_TUPLES;
 use rows::Loaded;
+use sqlite_tables::Stored;
 use std::alloc::Global;
-use store_core::Stored;
 use tables::TablesError;
 
 // Whether the rows are enough for the revisions: each brings an event or a configuration.

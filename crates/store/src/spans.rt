@@ -1,7 +1,7 @@
 //! The spans of tuples, read.
 ghost use Rattle.std.specs.Prelude.{◌≡◌, ◌<◌, ◌≤◌, false, map, IsTrue, IfOk, IfErr, All, IsPermutation};
 ghost use Rattle.names.specs.Spelling.{IsTuple};
-ghost use Rattle.store_core.specs.Stored.{span_in};
+ghost use Rattle.sqlite_tables.specs.Stored.{span_in};
 ghost use Rattle.store.specs.Written.{Ends, IsSpan, span_of};
 ghost use Rattle.store.specs.inside.Following.{Precedes};
 ghost use Rattle.store.specs.inside.Reading.{as_span, AreInTurn, Spells};
@@ -11,9 +11,9 @@ use crate::parts::{Head, ReadSpan};
 use crate::tuple_key::TupleKey;
 use crate::unread::Unread;
 use names::{Name, Node, Object, ObjectId, Subject, Tuple};
+use sqlite_tables::{StoredSpan, TupleText};
 use std::alloc::Global;
 use std::cmp::Ordering;
-use store_core::{StoredSpan, TupleText};
 
 fn read_tuple(text: &TupleText) -> Result<Tuple, Unread>
     ensures same { IfOk result (Spells text.now) }

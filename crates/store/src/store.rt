@@ -4,8 +4,8 @@ ghost use Rattle.std.specs.Prelude.{◌≡◌, false, None};
 use crate::history::{load_history, make_tables, trim_tables, write_commit};
 use rows::Loaded;
 use sqlite::{Alter, Connection};
+use sqlite_tables::is_format;
 use std::alloc::Global;
-use store_core::is_format;
 use tables::{Puts, Tables, TablesError};
 use tuple_keys::KeptCommit;
 
@@ -22,9 +22,9 @@ pub struct Store<S: Alter> {
 impl<S: Alter + Drop> Store<S> {
     ghost use Rattle.std.specs.Prelude.{◌≡◌, ◌≢◌, ◌≤◌, ◌<◌, ◌^◌, false, None, IsErrAnd, IfErr, IfOk};
     ghost use Rattle.tables.specs.Device.{IsOpen};
-    ghost use Rattle.store_core.specs.Leaves.{IsBlank};
-    ghost use Rattle.store_core.specs.Reading.{HasFormat};
-    ghost use Rattle.store_core.specs.Steps.{Undoes};
+    ghost use Rattle.sqlite_tables.specs.Leaves.{IsBlank};
+    ghost use Rattle.sqlite_tables.specs.Reading.{HasFormat};
+    ghost use Rattle.sqlite_tables.specs.Steps.{Undoes};
     ghost use Rattle.store.specs.History.{KeepsHistory, LeavesAtMostNew, IsFaultOfDevice, device_below};
     ghost use Rattle.rows.specs.Retained.{empty_store};
     ghost use Rattle.store.specs.StoreParts.{connection, faults};

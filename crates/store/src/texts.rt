@@ -4,8 +4,8 @@ ghost use Rattle.names.specs.Spelling.{IsSubject, IsTuple, subject_text};
 ghost use Rattle.store.specs.inside.EventTexts.{change_of, event_texts, event_texts_in};
 
 use names::{Event, EventKind, Subject, Tuple};
+use sqlite_tables::{SpanChange, StoredEvent, TupleText};
 use std::alloc::{AllocError, Global};
-use store_core::{SpanChange, StoredEvent, TupleText};
 use tables::Puts;
 use tuple_keys::KeptEvents;
 

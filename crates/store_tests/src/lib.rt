@@ -1,4 +1,4 @@
-//! Tests of the tables over `sqlite`, `store_core`, by their public calls: what no run of the program shows.
+//! Tests of the tables over `sqlite`, `sqlite_tables`, by their public calls: what no run of the program shows.
 #![tactic(auto)]
 
 #[cfg(test)]

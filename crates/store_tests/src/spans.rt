@@ -2,11 +2,11 @@
 ghost use Rattle.std.specs.Prelude.{◌≡◌, false, IfOk};
 
 use sqlite::{Connection, Error, MemStore};
-use std::alloc::{AllocError, Global};
-use std::test::Fail;
-use store_core::{
+use sqlite_tables::{
     Probe, SpanChange, Stored, StoredEvent, TupleText, ask, configure, create, load, trim, write,
 };
+use std::alloc::{AllocError, Global};
+use std::test::Fail;
 
 fn event(alloc: Global, change: SpanChange, subject: &str) -> Result<StoredEvent, AllocError> {
     Ok(StoredEvent {

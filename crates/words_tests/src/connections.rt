@@ -1,6 +1,7 @@
 //! Connections over HTTP, whose input comes in pieces of any size.
 
-use http_api::{Answers, End, serve};
+use answers::{Answers, End};
+use http_api::serve;
 use names::{Call, Reply};
 use std::alloc::{AllocError, Global};
 use std::io;

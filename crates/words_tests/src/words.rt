@@ -1,6 +1,6 @@
 //! Orders, refusals that no call gives yet, and words.
 
-use http_api::End;
+use answers::End;
 use names::{Call, Items, Object, Refusal, Subject};
 use std::alloc::Global;
 use std::test::Fail;

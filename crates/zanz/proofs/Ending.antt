@@ -14,9 +14,9 @@ use Rattle.sqlite.specs.Files.{over_files}
 use Rattle.rows.specs.Retained.{Retained}
 use Rattle.store.specs.History.{KeepsHistory, LeavesHistory}
 use Rattle.tracked_io.specs.Tracking.{TrackedReading, TrackedWriting}
-use Rattle.tasks.specs.Faults.{fault_status}
-use Rattle.tasks.specs.declared.fault.Fault.{Fault}
-use Rattle.tasks.specs.declared.fault.Fault.TheVariants.{CommandLine, Refused, CannotRead, CannotWrite, CannotListen}
+use Rattle.command_line.specs.Faults.{fault_status}
+use Rattle.command_line.specs.declared.fault.Fault.{Fault}
+use Rattle.command_line.specs.declared.fault.Fault.TheVariants.{CommandLine, Refused, CannotRead, CannotWrite, CannotListen}
 use Rattle.runs.specs.Files.{Remains, HoldsOneOf, HoldsAmong}
 use Rattle.zanz.specs.Telling.{Tells}
 use Rattle.zanz.specs.Ends.{unbroken, untouched, Remnant, HoldWhatWasKept, IsClosed, EndsWith, IsUnbegun}

@@ -8,12 +8,12 @@ use Rattle.sqlite.specs.Files.{file_state, over_files}
 use Rattle.names.specs.declared.refusal.Refusal.TheVariants.{StoreFault}
 use Rattle.rows.specs.Retained.{Retained, empty_store}
 use Rattle.tables.specs.Device.{Lasts, sound_device}
-use Rattle.keeper_core.specs.Posts.{FailsToLoad}
+use Rattle.desk.specs.Posts.{FailsToLoad}
 use Rattle.store.specs.History.{device_below}
-use Rattle.tasks.specs.declared.fault.Fault.{Fault}
-use Rattle.tasks.specs.declared.fault.Fault.TheVariants.{Refused, CannotRead, CannotWrite}
-use Rattle.tasks.specs.declared.words.Place.{Place}
-use Rattle.tasks.specs.declared.words.Place.TheVariants.{Memory, New, There}
+use Rattle.command_line.specs.declared.fault.Fault.{Fault}
+use Rattle.command_line.specs.declared.fault.Fault.TheVariants.{Refused, CannotRead, CannotWrite}
+use Rattle.command_line.specs.declared.words.Place.{Place}
+use Rattle.command_line.specs.declared.words.Place.TheVariants.{Memory, New, There}
 use Rattle.tracked_io.specs.Tracking.{TrackedReading, TrackedWriting}
 use Rattle.runs.specs.Files.{Remains, IsFoundIn}
 use Rattle.runs.specs.Runs.{Ended}

@@ -5,12 +5,12 @@ use Rattle.sqlite_disk.specs.declared.Disk as disk
 use Rattle.sqlite_wal.specs.Recovery.{Image}
 use Rattle.names.specs.declared.refusal.Refusal.{Refusal}
 use Rattle.tracked_io.specs.Tracking.{TrackedReading, TrackedWriting}
-use Rattle.tasks.specs.Faults.{IsRunFault, fault_status}
-use Rattle.tasks.specs.declared.fault.Fault.{Fault}
-use Rattle.tasks.specs.declared.fault.Fault.TheVariants.{CommandLine, Refused, CannotRead, CannotWrite, CannotListen}
-use Rattle.tasks.specs.declared.words.Place.{Place}
-use Rattle.tasks.specs.declared.words.Task.{Task}
-use Rattle.tasks.specs.declared.words.Task.TheVariants.{Run, Serve, Config}
+use Rattle.command_line.specs.Faults.{IsRunFault, fault_status}
+use Rattle.command_line.specs.declared.fault.Fault.{Fault}
+use Rattle.command_line.specs.declared.fault.Fault.TheVariants.{CommandLine, Refused, CannotRead, CannotWrite, CannotListen}
+use Rattle.command_line.specs.declared.words.Place.{Place}
+use Rattle.command_line.specs.declared.words.Task.{Task}
+use Rattle.command_line.specs.declared.words.Task.TheVariants.{Run, Serve, Config}
 use Rattle.runs.specs.Files.{Remains}
 use Rattle.runs.specs.Runs.{is_read_fault, is_write_fault}
 use Rattle.zanz.specs.Listening.{Announced, StoppedServing}

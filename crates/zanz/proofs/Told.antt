@@ -8,8 +8,8 @@ use Rattle.names.specs.declared.refusal.Refusal.{Refusal}
 use Rattle.tracked_io.specs.Tracking.{FailsWith, TrackedWriting}
 use Rattle.tracked_io.specs.Wrote.{Wrote, WroteSome}
 use Rattle.tracked_io.proofs.Appending.{appends_both, some_after}
-use Rattle.tasks.specs.declared.fault.Fault.{Fault}
-use Rattle.tasks.specs.declared.fault.Fault.TheVariants.{Refused}
+use Rattle.command_line.specs.declared.fault.Fault.{Fault}
+use Rattle.command_line.specs.declared.fault.Fault.TheVariants.{Refused}
 use Rattle.zanz.specs.Telling.{fault_line, refusal_line, Tells}
 
 pub tells : {E T X : Type 0} (contents : E → Option (List ℕ)) (old new : TrackedWriting E) (fault : Fault) (r : Result T X) → Wrote r (contents old.inner) (contents new.inner) (fault_line fault) → FailsWith r old.failed new.failed → OnOk r (new.flushed ≡ true) → old.failed ≡ false → Tells contents old new fault

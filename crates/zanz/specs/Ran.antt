@@ -9,19 +9,19 @@ use Rattle.names.specs.declared.refusal.Refusal.TheVariants.{StoreFault}
 use Rattle.rows.specs.Retained.{Retained, empty_store}
 use Rattle.tables.specs.Device.{Lasts, sound_device}
 use Rattle.tables.specs.declared.tables.Tables as tables
-use Rattle.keeper_core.specs.Posts.{Posts}
+use Rattle.desk.specs.Posts.{Posts}
 use Rattle.store.specs.History.{device_below}
 use Rattle.tracked_io.specs.Tracking.{TrackedReading, TrackedWriting, Reads, ReadsAll}
 use Rattle.tracked_io.specs.Wrote.{WroteSome}
-use Rattle.tasks.specs.Faults.{fault_status, IsLineFault}
-use Rattle.tasks.specs.Report.{Reports}
-use Rattle.tasks.specs.Words.{OnServe}
-use Rattle.tasks.specs.declared.fault.Fault.{Fault}
-use Rattle.tasks.specs.declared.fault.Fault.TheVariants.{Refused, CannotRead, CannotWrite}
-use Rattle.tasks.specs.declared.words.Place.{Place}
-use Rattle.tasks.specs.declared.words.Place.TheVariants.{Memory, New, There}
-use Rattle.tasks.specs.declared.words.Task.{Task}
-use Rattle.tasks.specs.declared.words.Task.TheVariants.{Run, Config}
+use Rattle.command_line.specs.Faults.{fault_status, IsLineFault}
+use Rattle.command_line.specs.Report.{Reports}
+use Rattle.command_line.specs.Words.{OnServe}
+use Rattle.command_line.specs.declared.fault.Fault.{Fault}
+use Rattle.command_line.specs.declared.fault.Fault.TheVariants.{Refused, CannotRead, CannotWrite}
+use Rattle.command_line.specs.declared.words.Place.{Place}
+use Rattle.command_line.specs.declared.words.Place.TheVariants.{Memory, New, There}
+use Rattle.command_line.specs.declared.words.Task.{Task}
+use Rattle.command_line.specs.declared.words.Task.TheVariants.{Run, Config}
 use Rattle.runs.specs.Files.{Remains, IsFoundIn}
 use Rattle.runs.specs.Runs.{ServedBy, PausedBy, CutBy, Ended}
 use Rattle.runs.specs.Over.{over, listed, BeginsIn, EndedOver, CannotBeginIn, LeavesRefusedIn, IsDeservedIn}

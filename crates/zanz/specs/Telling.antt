@@ -3,8 +3,8 @@ use Rattle.std.specs.Prelude.{ℕ, ◌≡◌, ◌⊎◌, ◌++◌, true, false, 
 use Rattle.std.specs.Io.KnownBytes.{Appends}
 use Rattle.tracked_io.specs.Tracking.{TrackedWriting}
 use Rattle.tracked_io.specs.Wrote.{WroteSome}
-use Rattle.tasks.specs.Faults.{fault_text}
-use Rattle.tasks.specs.declared.fault.Fault.{Fault}
+use Rattle.command_line.specs.Faults.{fault_text}
+use Rattle.command_line.specs.declared.fault.Fault.{Fault}
 
 -- the line of a fault
 abbrev pub fault_line : Fault → List ℕ

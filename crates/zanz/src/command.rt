@@ -2,9 +2,9 @@
 ghost use Rattle.std.specs.Prelude.{◌≡◌, ◌≢◌, ◌≤◌, ◌<◌, ◌^◌, ◌⊎◌, true, false, None, Err, IfOk, IfErr, IfSome, IsTrue, OnOk, map, string_bytes};
 ghost use Rattle.std.specs.Vec.Iter.{into_iter_items};
 ghost use Rattle.sqlite_wal.specs.Files.{image_at};
-ghost use Rattle.tasks.specs.declared.fault.Fault.TheVariants.{Refused};
-ghost use Rattle.tasks.specs.Faults.{IsRunFault, IsLineFault};
-ghost use Rattle.tasks.specs.Words.{asks_to_serve, OnServe};
+ghost use Rattle.command_line.specs.declared.fault.Fault.TheVariants.{Refused};
+ghost use Rattle.command_line.specs.Faults.{IsRunFault, IsLineFault};
+ghost use Rattle.command_line.specs.Words.{asks_to_serve, OnServe};
 ghost use Rattle.runs.specs.Runs.{is_read_fault, is_write_fault};
 ghost use Rattle.zanz.specs.Listening.{Announced, BeganAnnounced, StoppedServing};
 ghost use Rattle.zanz.specs.Ran.{AreWhole, RanAt, RefusedAt, Reported, BeganReport, IsReport, DoneOf, StoppedOf, Obeyed, Stopped, all_lines, whole_lines, first_lines};
@@ -14,6 +14,7 @@ use crate::listening::serve;
 use crate::place::{is_number, is_there};
 use crate::sharing::{share, share_over, workers_of_machine};
 use crate::telling::tell;
+use command_line::{Fault, Place, Task, read_file, report_of, task_of};
 use names::Refusal;
 use runs::{Answering, Left, open_in, run, run_in, tables_in};
 use sqlite::Start;
@@ -27,7 +28,6 @@ use std::sync::Wait;
 use std::thread::Threads;
 use std::time::Clock;
 use tables::Listed;
-use tasks::{Fault, Place, Task, read_file, report_of, task_of};
 use tracked_io::{TrackedReader, TrackedWriter, say};
 
 // Prints what there is to say of a file's configuration, and answers the status that the process ends with.

@@ -6,7 +6,9 @@ ghost use Rattle.tracked_io.specs.Wrote.{WroteSome};
 ghost use Rattle.runs.specs.Connections.{StaysServing};
 ghost use Rattle.zanz.specs.Listening.{Announced, BeganAnnounced, listening_line};
 
-use http_api::{End, routes};
+use answers::End;
+use command_line::Fault;
+use http_api::routes;
 use matchit::Router;
 use names::{Call, Refusal};
 use runs::{Answering, talk};
@@ -18,7 +20,6 @@ use std::sync::Wait;
 use std::thread;
 use std::time::Duration;
 use tables::Tables;
-use tasks::Fault;
 use tracked_io::{TrackedWriter, say};
 
 // For how many milliseconds nothing is done after a failed accept: where no descriptors are left the next fails at once.

@@ -2,13 +2,13 @@
 ghost use Rattle.std.specs.Prelude.{◌≡◌, ◌≢◌, ◌≤◌, ◌<◌, ◌^◌, ◌↔◌, IsTrue, IsOk, IfOk, IfErr, Err};
 ghost use Rattle.std.specs.IoError.{error_kind};
 ghost use Rattle.names.specs.declared.refusal.Refusal.{Refusal};
-ghost use Rattle.tasks.specs.declared.fault.Fault.TheVariants.{Refused};
-ghost use Rattle.tasks.specs.Faults.{IsRunFault};
+ghost use Rattle.command_line.specs.declared.fault.Fault.TheVariants.{Refused};
+ghost use Rattle.command_line.specs.Faults.{IsRunFault};
 
+use command_line::Fault;
 use names::Refusal;
 use std::io;
 use std::io::ErrorKind;
-use tasks::Fault;
 
 /// Whether a store can have this number. The command line gives no other.
 pub fn is_number(store: u64) -> bool

@@ -3,15 +3,16 @@ ghost use Rattle.std.specs.Prelude.{◌≡◌, ◌≢◌, ◌≤◌, false, map,
 ghost use Rattle.std.specs.IoError.{error_kind};
 ghost use Rattle.std.specs.Vec.Iter.{into_iter_items};
 ghost use Rattle.sqlite_wal.specs.Files.{image_at};
-ghost use Rattle.tasks.specs.declared.fault.Fault.TheVariants.{Refused};
-ghost use Rattle.tasks.specs.Faults.{fault_status};
-ghost use Rattle.tasks.specs.Words.{asks_to_serve};
+ghost use Rattle.command_line.specs.declared.fault.Fault.TheVariants.{Refused};
+ghost use Rattle.command_line.specs.Faults.{fault_status};
+ghost use Rattle.command_line.specs.Words.{asks_to_serve};
 ghost use Rattle.zanz.specs.Ends.{EndsWith, IsUnbegun, unbroken, untouched};
 ghost use Rattle.zanz.specs.Ran.{AreWhole, Obeyed, Stopped};
 ghost use Rattle.zanz.specs.Telling.{Tells};
 
 use crate::command::command;
 use crate::telling::tell;
+use command_line::Fault;
 use names::Refusal;
 use runs::{Left, close};
 use sqlite::{FileFrom, FileStore, Start};
@@ -23,7 +24,6 @@ use std::net::{Net, TcpListener, TcpStream};
 use std::sync::Wait;
 use std::thread::Threads;
 use std::time::Clock;
-use tasks::Fault;
 use tracked_io::{TrackedReader, TrackedWriter};
 
 /// What is left of the files of a run: what closing them left; or what the work left, where they are not closed.

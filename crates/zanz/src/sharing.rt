@@ -1,9 +1,10 @@
 //! Listening for connections, and serving them by many workers.
 ghost use Rattle.std.specs.Prelude.{◌≡◌, ◌≢◌, true, false, IfErr, OnOk};
-ghost use Rattle.tasks.specs.Words.{AreWorkers};
+ghost use Rattle.command_line.specs.Words.{AreWorkers};
 ghost use Rattle.zanz.specs.Listening.{Announced, StoppedServing};
 
 use crate::listening::{announce, listen};
+use command_line::{Fault, MAX_WORKERS};
 use front::Keeper;
 use published::{Naming, Opened};
 use server::{Gate, run};
@@ -18,7 +19,6 @@ use std::thread::Threads;
 use std::time::Clock;
 use store::Store;
 use tables::Tables;
-use tasks::{Fault, MAX_WORKERS};
 use tracked_io::TrackedWriter;
 
 // How many workers there are where it is not known how many processors.

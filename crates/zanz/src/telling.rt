@@ -3,10 +3,10 @@ ghost use Rattle.std.specs.Prelude.{◌≡◌, true, false, OnOk};
 ghost use Rattle.tracked_io.specs.Tracking.{FailsWith, Writes};
 ghost use Rattle.zanz.specs.Telling.{Tells, fault_line, refusal_line, cause_text};
 
+use command_line::Fault;
 use itoa::Buffer;
 use std::io;
 use std::io::Write;
-use tasks::Fault;
 use tracked_io::{TrackedWriter, put, put_parts};
 
 /// Tells of a fault by a line.

@@ -1,9 +1,9 @@
 -- A configuration's relations in order, by namespace and then by name.
 use Rattle.std.specs.Prelude.{Bool, true, List, [], ◌∷◌, ◌&&◌}
 use Rattle.std.specs.Ordering.{is_lt}
-use Rattle.config_core.specs.declared.relation.Relation.{Relation}
-use Rattle.config_core.specs.Forms.{defined_of}
-use Rattle.config_core.specs.Order.{relation_cmp}
+use Rattle.config_text.specs.declared.relation.Relation.{Relation}
+use Rattle.config_text.specs.Forms.{defined_of}
+use Rattle.config_text.specs.Order.{relation_cmp}
 
 -- the relation is below the first of the others
 abbrev pub is_below : Relation → List Relation → Bool

@@ -1,7 +1,7 @@
 -- What was made of the room for nodes.
 use Rattle.std.specs.Prelude.{◌≡◌, ℕ, ◌+◌, ◌<◌, List, [], ◌∷◌}
 use Rattle.meaning.specs.Config.{Defined}
-use Rattle.config_core.specs.Size.{form_nodes}
+use Rattle.config_text.specs.Size.{form_nodes}
 use Rattle.names.specs.declared.refusal.Refusal.{Refusal}
 use Rattle.names.specs.declared.refusal.Refusal.TheVariants.{TooLarge, Memory}
 use Rattle.expand.specs.declared.tree.Tree.{Tree}

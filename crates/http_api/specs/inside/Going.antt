@@ -3,9 +3,9 @@ use Rattle.std.specs.Prelude.{ℕ, ◌≡◌, List, false, Option}
 use Rattle.std.specs.Io.KnownBytes.{Appends}
 use Rattle.tracked_io.specs.Tracking.{TrackedReading, TrackedWriting, Reads, ReadsAll}
 use Rattle.tracked_io.specs.Waiting.{Waited}
-use Rattle.http_api.specs.declared.end.End.{End}
-use Rattle.http_api.specs.declared.end.End.TheVariants.{Closed, Asked, Broken, ReadFault, WriteFault, Memory}
-use Rattle.http_api.specs.Machine.{Step}
+use Rattle.answers.specs.declared.end.End.{End}
+use Rattle.answers.specs.declared.end.End.TheVariants.{Closed, Asked, Broken, ReadFault, WriteFault, Memory}
+use Rattle.answers.specs.Machine.{Step}
 use Rattle.http_api.specs.Connection.{Goes}
 use Rattle.http_api.specs.Talks.{Talked, TalkedSoFar, TalkCut}
 

@@ -4,11 +4,11 @@ use Rattle.std.specs.Io.KnownBytes.{Appends, Keeps, IsAtEnd}
 use Rattle.tracked_io.specs.Tracking.{TrackedReading, TrackedWriting, Reads}
 use Rattle.tracked_io.specs.Waiting.{Waited}
 use Rattle.tracked_io.specs.Wrote.{WroteSome}
-use Rattle.http_api.specs.declared.end.End.{End}
-use Rattle.http_api.specs.declared.end.End.TheVariants.{Closed, Asked, Broken, ReadFault, WriteFault, Memory}
+use Rattle.answers.specs.declared.end.End.{End}
+use Rattle.answers.specs.declared.end.End.TheVariants.{Closed, Asked, Broken, ReadFault, WriteFault, Memory}
 use Rattle.http_api.specs.declared.looking.Heading.{Heading}
 use Rattle.http_api.specs.Heads.{max_head}
-use Rattle.http_api.specs.Ends.{is_read_fault, is_write_fault}
+use Rattle.answers.specs.Ends.{is_read_fault, is_write_fault}
 use Rattle.http_api.specs.Connection.{NoRequest, IsFew}
 
 -- the end of an input that stops

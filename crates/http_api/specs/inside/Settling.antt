@@ -4,10 +4,10 @@ use Rattle.std.specs.Io.KnownBytes.{Appends}
 use Rattle.httparse.specs.Grammar.{RequestHead}
 use Rattle.tracked_io.specs.Tracking.{TrackedWriting}
 use Rattle.tracked_io.specs.Wrote.{WroteSome}
-use Rattle.http_api.specs.declared.end.End.{End}
-use Rattle.http_api.specs.declared.end.End.TheVariants.{Closed, Asked, Broken, ReadFault, WriteFault, Memory}
+use Rattle.answers.specs.declared.end.End.{End}
+use Rattle.answers.specs.declared.end.End.TheVariants.{Closed, Asked, Broken, ReadFault, WriteFault, Memory}
 use Rattle.http_api.specs.declared.looking.Heading.{Heading}
-use Rattle.http_api.specs.Machine.{Step}
+use Rattle.answers.specs.Machine.{Step}
 use Rattle.http_api.specs.Replies.{memory_text}
 use Rattle.http_api.specs.Connection.{Next, stop, go_on, HasRequest, Turn}
 use Rattle.http_api.specs.inside.Looking.{IsHeading}

@@ -5,9 +5,9 @@ use Rattle.names.specs.declared.refusal.Refusal.TheVariants.{Malformed}
 use Rattle.zookie.specs.Text.{zookie_text}
 use Rattle.names.specs.declared.part.Part.{Part}
 use Rattle.tables.specs.declared.tables.Tables.{Ghosts}
-use Rattle.keeper_core.specs.Posts.{Posts}
+use Rattle.desk.specs.Posts.{Posts}
 use Rattle.published.specs.Receipts.{ReceiptFacts}
-use Rattle.keeper_core.specs.Changes.{CatchUpAccepted, CatchUpJudged, IsNoChange, IsRefused}
+use Rattle.desk.specs.Changes.{CatchUpAccepted, CatchUpJudged, IsNoChange, IsRefused}
 use Rattle.bodies.specs.Requests.{AsksCatchUp, AsksNoCatchUp}
 use Rattle.bodies.specs.Replies.{Says, SaysRefusal, cursor_data}
 

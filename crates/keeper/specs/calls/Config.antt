@@ -9,10 +9,10 @@ use Rattle.config.specs.Causes.{Accepts, IsCause}
 use Rattle.zookie.specs.Text.{zookie_text}
 use Rattle.rows.specs.Judging.{ConfigRefused as ConfigJudged}
 use Rattle.tables.specs.declared.tables.Tables.{Ghosts}
-use Rattle.keeper_core.specs.TableChanges.{Adds}
-use Rattle.keeper_core.specs.Posts.{Posts, newest_posted}
+use Rattle.desk.specs.TableChanges.{Adds}
+use Rattle.desk.specs.Posts.{Posts, newest_posted}
 use Rattle.published.specs.Receipts.{ReceiptFacts}
-use Rattle.keeper_core.specs.Changes.{ConfigAccepted, IsRefused}
+use Rattle.desk.specs.Changes.{ConfigAccepted, IsRefused}
 use Rattle.bodies.specs.Replies.{Says, SaysRefusal, receipt_data}
 
 -- `config`: the body is no valid configuration, for the first cause that applies; it is taken; or it is

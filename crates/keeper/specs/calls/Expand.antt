@@ -7,7 +7,7 @@ use Rattle.zookie.specs.declared.consistency.Consistency.{Consistency}
 use Rattle.expand.specs.UsersetTree.{UsersetTree}
 use Rattle.shown.specs.Standing.{standing}
 use Rattle.shown.specs.Expanding.{IsExpanded, ExpandRefused}
-use Rattle.keeper_core.specs.Posts.{Posts}
+use Rattle.desk.specs.Posts.{Posts}
 use Rattle.bodies.specs.Expanding.{AsksExpand, IsExpandForm, HasBadExpandZookie}
 use Rattle.bodies.specs.Replies.{Says, SaysRefusal, SaysRefusalAt}
 use Rattle.bodies.specs.Trees.{expanded_data}

@@ -7,7 +7,7 @@ use Rattle.zookie.specs.declared.consistency.Consistency.{Consistency}
 use Rattle.leopard.specs.Query.{Query}
 use Rattle.shown.specs.Standing.{standing}
 use Rattle.shown.specs.Grouping.{IsGrouped, GroupsRefused}
-use Rattle.keeper_core.specs.Posts.{Posts}
+use Rattle.desk.specs.Posts.{Posts}
 use Rattle.bodies.specs.Grouping.{AsksGroups, IsGroupsForm, HasBadGroupsZookie, groups_data}
 use Rattle.bodies.specs.Replies.{Says, SaysRefusal, SaysRefusalAt}
 use Rattle.keeper.specs.Showing.{zookie_at, OnlyShows}

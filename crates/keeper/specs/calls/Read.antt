@@ -7,7 +7,7 @@ use Rattle.zookie.specs.declared.consistency.Consistency.{Consistency}
 use Rattle.rows.specs.declared.tupleset.Tupleset.{Tupleset}
 use Rattle.shown.specs.Standing.{standing}
 use Rattle.shown.specs.Paging.{IsRead, ReadRefused}
-use Rattle.keeper_core.specs.Posts.{Posts}
+use Rattle.desk.specs.Posts.{Posts}
 use Rattle.bodies.specs.Paging.{AsksRead, IsReadForm, HasBadReadZookie, page_data}
 use Rattle.bodies.specs.Replies.{Says, SaysRefusal, SaysRefusalAt}
 use Rattle.keeper.specs.Showing.{zookie_at, OnlyShows}

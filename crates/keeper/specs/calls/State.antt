@@ -1,7 +1,7 @@
 -- What is answered to a `state`.
 use Rattle.std.specs.Prelude.{ℕ, ◌≡◌, List, Option}
 use Rattle.shown.specs.Standing.{standing, state_of}
-use Rattle.keeper_core.specs.Posts.{Posts}
+use Rattle.desk.specs.Posts.{Posts}
 use Rattle.bodies.specs.Replies.{Says, state_data}
 
 -- `state`: the numbers of the standing of the shown steps

@@ -8,8 +8,8 @@ use Rattle.tables.specs.declared.tables.Tables.{Ghosts}
 use Rattle.shown.specs.Standing.{standing}
 use Rattle.shown.specs.Raising.{RefusesFloor}
 use Rattle.published.specs.Receipts.{ReceiptFacts}
-use Rattle.keeper_core.specs.Posts.{Posts}
-use Rattle.keeper_core.specs.Changes.{TrimAccepted, IsRaiseTo, IsRefused}
+use Rattle.desk.specs.Posts.{Posts}
+use Rattle.desk.specs.Changes.{TrimAccepted, IsRaiseTo, IsRefused}
 use Rattle.bodies.specs.Trimming.{AsksTrim, IsNoTrimForm, HasBadFloor}
 use Rattle.bodies.specs.Replies.{Says, SaysRefusal, floor_data}
 

@@ -7,7 +7,7 @@ use Rattle.watch.specs.declared.watched.Namespaces.{Namespaces}
 use Rattle.watch.specs.declared.watched.Page.{Page}
 use Rattle.shown.specs.Standing.{standing}
 use Rattle.shown.specs.Watching.{IsWatched, WatchRefused}
-use Rattle.keeper_core.specs.Posts.{Posts}
+use Rattle.desk.specs.Posts.{Posts}
 use Rattle.bodies.specs.Watching.{AsksWatch, IsWatchForm, HasBadCursor}
 use Rattle.bodies.specs.Replies.{Says, SaysRefusal}
 use Rattle.bodies.specs.Pages.{page_data}

@@ -4,14 +4,14 @@ ghost use mathlib.Core.List.{IsPrefix};
 ghost use Rattle.names.specs.Calls.{told};
 ghost use Rattle.bodies.specs.Requests.{AsksCatchUp};
 ghost use Rattle.published.specs.Known.{Begins};
-ghost use Rattle.keeper_core.specs.Posts.{shown_by};
+ghost use Rattle.desk.specs.Posts.{shown_by};
 ghost use Rattle.keeper.specs.calls.CatchUp.{CatchUpStep};
 
 use crate::calls::refusing::refuse;
 use bodies::refusals::refusal;
 use bodies::replies::cursor;
 use bodies::requests::catch_up_body;
-use keeper_core::Desk;
+use desk::Desk;
 use names::{Part, Reply};
 use published::Session;
 use std::alloc::Global;

@@ -4,7 +4,7 @@ ghost use Rattle.names.specs.Calls.{told};
 ghost use Rattle.shown.specs.Standing.{standing};
 ghost use Rattle.shown.specs.Answers.{IsAnswer, IsRefusal};
 ghost use Rattle.published.specs.Known.{Begins};
-ghost use Rattle.keeper_core.specs.Posts.{shown_by};
+ghost use Rattle.desk.specs.Posts.{shown_by};
 ghost use Rattle.keeper.specs.Showing.{OnlyShows};
 ghost use Rattle.keeper.specs.calls.Check.{CheckStep};
 
@@ -13,7 +13,7 @@ use crate::calls::refusing::refused_question;
 use bodies::refusals::refusal;
 use bodies::replies::answer;
 use bodies::requests::check_body;
-use keeper_core::Desk;
+use desk::Desk;
 use names::{Node, Object, Reply};
 use published::Session;
 use shown::{Answer, Refused};

@@ -4,14 +4,14 @@ ghost use mathlib.Core.List.{IsPrefix};
 ghost use Rattle.names.specs.Calls.{told};
 ghost use Rattle.config.specs.Causes.{Accepts};
 ghost use Rattle.published.specs.Known.{Begins};
-ghost use Rattle.keeper_core.specs.Posts.{shown_by};
+ghost use Rattle.desk.specs.Posts.{shown_by};
 ghost use Rattle.keeper.specs.calls.Config.{ConfigStep};
 
 use crate::calls::refusing::refuse;
 use bodies::refusals::refusal;
 use bodies::replies::receipt;
 use config::Config;
-use keeper_core::Desk;
+use desk::Desk;
 use names::Reply;
 use published::Session;
 use std::alloc::Global;

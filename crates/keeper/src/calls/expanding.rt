@@ -5,7 +5,7 @@ ghost use Rattle.expand.specs.declared.limits.TheConstants.{MAX_DEPTH};
 ghost use Rattle.shown.specs.Standing.{standing};
 ghost use Rattle.shown.specs.Expanding.{IsTree, IsTreeRefusal};
 ghost use Rattle.published.specs.Known.{Begins};
-ghost use Rattle.keeper_core.specs.Posts.{shown_by};
+ghost use Rattle.desk.specs.Posts.{shown_by};
 ghost use Rattle.keeper.specs.Showing.{OnlyShows};
 ghost use Rattle.keeper.specs.calls.Expand.{ExpandStep};
 
@@ -14,8 +14,8 @@ use crate::calls::refusing::refused_question;
 use bodies::refusals::refusal;
 use bodies::requests::expand_body;
 use bodies::trees::expanded;
+use desk::Desk;
 use expand::Tree;
-use keeper_core::Desk;
 use names::{Node, Reply};
 use published::Session;
 use shown::{Answer, Refused};

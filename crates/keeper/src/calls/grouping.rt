@@ -5,7 +5,7 @@ ghost use Rattle.leopard.specs.Exprs.{query_of};
 ghost use Rattle.shown.specs.Standing.{standing};
 ghost use Rattle.shown.specs.Grouping.{AreGroups, IsGroupsRefusal};
 ghost use Rattle.published.specs.Known.{Begins};
-ghost use Rattle.keeper_core.specs.Posts.{shown_by};
+ghost use Rattle.desk.specs.Posts.{shown_by};
 ghost use Rattle.keeper.specs.Showing.{OnlyShows};
 ghost use Rattle.keeper.specs.calls.Groups.{GroupsStep};
 
@@ -13,7 +13,7 @@ use crate::asking::is_of_the_future;
 use crate::calls::refusing::refused_question;
 use bodies::grouping::{groups, groups_body};
 use bodies::refusals::refusal;
-use keeper_core::Desk;
+use desk::Desk;
 use leopard::Expr;
 use names::{Items, Node, Reply};
 use published::Session;

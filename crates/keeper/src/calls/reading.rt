@@ -4,7 +4,7 @@ ghost use Rattle.names.specs.Calls.{told};
 ghost use Rattle.shown.specs.Standing.{standing};
 ghost use Rattle.shown.specs.Paging.{IsPage, IsPageRefusal};
 ghost use Rattle.published.specs.Known.{Begins};
-ghost use Rattle.keeper_core.specs.Posts.{shown_by};
+ghost use Rattle.desk.specs.Posts.{shown_by};
 ghost use Rattle.keeper.specs.Showing.{OnlyShows};
 ghost use Rattle.keeper.specs.calls.Read.{ReadStep};
 
@@ -12,7 +12,7 @@ use crate::asking::is_of_the_future;
 use crate::calls::refusing::refused_question;
 use bodies::paging::{page, read_body};
 use bodies::refusals::refusal;
-use keeper_core::Desk;
+use desk::Desk;
 use names::{Items, Reply, Tuple};
 use published::Session;
 use rows::Tupleset;

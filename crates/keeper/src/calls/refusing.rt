@@ -4,10 +4,10 @@ ghost use Rattle.names.specs.Calls.{told};
 ghost use Rattle.zookie.specs.Text.{zookie_text};
 ghost use Rattle.bodies.specs.Replies.{SaysRefusal, SaysRefusalAt};
 ghost use Rattle.published.specs.Known.{Begins};
-ghost use Rattle.keeper_core.specs.Posts.{ShowsMore, SameTables, shown_by};
+ghost use Rattle.desk.specs.Posts.{ShowsMore, SameTables, shown_by};
 
 use bodies::refusals::{refusal, refusal_at};
-use keeper_core::Desk;
+use desk::Desk;
 use names::{Refusal, Reply};
 use published::Session;
 use shown::Refused;

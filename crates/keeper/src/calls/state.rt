@@ -3,7 +3,7 @@ ghost use Rattle.names.specs.Calls.{told};
 ghost use Rattle.keeper.specs.calls.State.{StateStep};
 
 use bodies::replies::state;
-use keeper_core::Desk;
+use desk::Desk;
 use names::Reply;
 use std::alloc::Global;
 use std::sync::Wait;

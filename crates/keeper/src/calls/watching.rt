@@ -4,7 +4,7 @@ ghost use Rattle.names.specs.Calls.{told};
 ghost use Rattle.shown.specs.Standing.{standing};
 ghost use Rattle.shown.specs.Watching.{IsWatched, WatchRefused};
 ghost use Rattle.published.specs.Known.{Begins};
-ghost use Rattle.keeper_core.specs.Posts.{shown_by};
+ghost use Rattle.desk.specs.Posts.{shown_by};
 ghost use Rattle.keeper.specs.Showing.{OnlyShows};
 ghost use Rattle.keeper.specs.calls.Watch.{WatchStep};
 
@@ -12,7 +12,7 @@ use crate::asking::page_is_of_the_future;
 use bodies::pages::watched;
 use bodies::refusals::refusal;
 use bodies::watching::watch_body;
-use keeper_core::Desk;
+use desk::Desk;
 use names::{Refusal, Reply};
 use published::Session;
 use std::alloc::Global;

@@ -4,14 +4,14 @@ ghost use mathlib.Core.List.{IsPrefix};
 ghost use Rattle.names.specs.Calls.{told};
 ghost use Rattle.bodies.specs.Writing.{AsksWrite};
 ghost use Rattle.published.specs.Known.{Begins};
-ghost use Rattle.keeper_core.specs.Posts.{shown_by};
+ghost use Rattle.desk.specs.Posts.{shown_by};
 ghost use Rattle.keeper.specs.calls.Write.{WriteStep};
 
 use crate::calls::refusing::refuse;
 use bodies::refusals::refusal;
 use bodies::replies::receipt;
 use bodies::writing::write_body;
-use keeper_core::Desk;
+use desk::Desk;
 use names::{Reply, Write};
 use published::Session;
 use std::alloc::Global;

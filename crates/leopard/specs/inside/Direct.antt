@@ -4,7 +4,7 @@ use Rattle.names.specs.declared.object.Object.{Object}
 use Rattle.names.specs.declared.node.Node.{Node}
 use Rattle.names.specs.declared.relation.RelationName.{RelationName}
 use Rattle.names.specs.declared.tuple.Tuple.{Tuple}
-use Rattle.config_core.specs.declared.relation.Relation.{Relation}
+use Rattle.config_text.specs.declared.relation.Relation.{Relation}
 use Rattle.meaning.specs.Config.{rel_of}
 use Rattle.meaning.specs.Snap.{Snap, one}
 use Rattle.meaning.specs.TupleSet as set

@@ -4,7 +4,7 @@ use Rattle.names.specs.declared.object.Object.{Object}
 use Rattle.names.specs.declared.node.Node.{Node}
 use Rattle.meaning.specs.Form.{This, TupleTo}
 use Rattle.meaning.specs.Membership.{Gives, SomeGives, EachGives, RelationGives}
-use Rattle.config_core.specs.declared.rewrite.Rewrite.{Rewrite}
+use Rattle.config_text.specs.declared.rewrite.Rewrite.{Rewrite}
 use Rattle.config.specs.Forms.{form_of, forms_of}
 use Rattle.plain.specs.declared.source.Source.{Source}
 use Rattle.plain.specs.inside.Source.{snap_of}

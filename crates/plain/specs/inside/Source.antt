@@ -8,7 +8,7 @@ use Rattle.meaning.specs.TupleSet as set
 use Rattle.meaning.specs.Admits.{is_relation}
 use Rattle.meaning.specs.Config.{Configured, Has, IsWhole}
 use Rattle.meaning.specs.Snap.{Snap, one}
-use Rattle.config_core.specs.declared.relation.Relation.{Relation}
+use Rattle.config_text.specs.declared.relation.Relation.{Relation}
 use Rattle.config.specs.Forms.{defined_of}
 use Rattle.config.specs.Levels.{AreLevels}
 use Rattle.plain.specs.declared.source.Source.{Source}

@@ -3,10 +3,10 @@ use Rattle.std.specs.Prelude.{ℕ, List, ◌∷◌, map}
 use Rattle.std.specs.List.{All}
 use Rattle.tables.specs.Device.{Device, Lasts}
 use Rattle.tables.specs.declared.tables.Tables.{Ghosts}
-use Rattle.keeper_core.specs.TableChanges.{TableChange, changed, CanChange}
-use Rattle.keeper_core.specs.Posts.{Posts}
+use Rattle.desk.specs.TableChanges.{TableChange, changed, CanChange}
+use Rattle.desk.specs.Posts.{Posts}
 use Rattle.keeper.specs.Rules.{DeskStep}
-use Rattle.http_api.specs.Machine.{Run}
+use Rattle.lines.specs.Machine.{Run}
 use Rattle.runs.specs.Runs.{kept_by}
 
 -- what is left holds the history of the posted steps, perhaps with one change more of which P is true; and the device has gone on

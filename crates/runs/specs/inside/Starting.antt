@@ -6,7 +6,7 @@ use Rattle.rows.specs.Retained.{empty_store}
 use Rattle.tables.specs.Device.{IsOpen}
 use Rattle.tables.specs.declared.tables.TablesError.{TablesError}
 use Rattle.tables.specs.declared.tables.TablesError.TheVariants.{Fault}
-use Rattle.store_core.specs.Format.{schema}
+use Rattle.sqlite_tables.specs.Format.{schema}
 use Rattle.store.specs.History.{KeepsHistory, LeavesAtMostNew, IsFaultOfDevice, device_below}
 
 -- the new tables of an open connection hold a store with no commit; and a crash meanwhile left nothing else

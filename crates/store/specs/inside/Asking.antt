@@ -1,8 +1,8 @@
 -- What is answered where a call wanted memory.
 use Rattle.tables.specs.declared.tables.TablesError.{TablesError}
 use Rattle.tables.specs.declared.tables.TablesError.TheVariants.{Memory, Fault}
-use Rattle.store_core.specs.declared.probe.Probe.{Probe}
-use Rattle.store_core.specs.declared.probe.Probe.TheVariants.{Open, Failed, NoMemory}
+use Rattle.sqlite_tables.specs.declared.probe.Probe.{Probe}
+use Rattle.sqlite_tables.specs.declared.probe.Probe.TheVariants.{Open, Failed, NoMemory}
 
 -- a connection that the device has shut is a fault
 abbrev pub told_as : Probe → TablesError

@@ -4,11 +4,11 @@ use Rattle.names.specs.declared.commit.EventKind.{EventKind}
 use Rattle.names.specs.declared.commit.EventKind.TheVariants.{Put, Del}
 use Rattle.tables.specs.declared.puts.Puts.{Puts}
 use Rattle.tables.specs.declared.puts.Puts.TheVariants.{Absent, Any}
-use Rattle.store_core.specs.declared.stored.SpanChange.{SpanChange}
-use Rattle.store_core.specs.declared.stored.SpanChange.TheVariants.{Begins, BeginsAnew, Ends}
-use Rattle.store_core.specs.declared.stored.StoredEvent as stored
-use Rattle.store_core.specs.Stored as texts
-use Rattle.store_core.specs.Tables.{Span}
+use Rattle.sqlite_tables.specs.declared.stored.SpanChange.{SpanChange}
+use Rattle.sqlite_tables.specs.declared.stored.SpanChange.TheVariants.{Begins, BeginsAnew, Ends}
+use Rattle.sqlite_tables.specs.declared.stored.StoredEvent as stored
+use Rattle.sqlite_tables.specs.Stored as texts
+use Rattle.sqlite_tables.specs.Tables.{Span}
 use Rattle.store.specs.Written.{span_of}
 
 -- a put ends no span where its tuple is not there

@@ -4,7 +4,7 @@ use Rattle.std.specs.List.{AllAdjacentBelow}
 use Rattle.names.specs.declared.limits.TheConstants.{MAX_REV}
 use Rattle.names.specs.Spelling.{subject_text}
 use Rattle.names.specs.declared.tuple.Tuple.{Tuple}
-use Rattle.store_core.specs.declared.stored.TupleText.{TupleText}
+use Rattle.sqlite_tables.specs.declared.stored.TupleText.{TupleText}
 use Rattle.store.specs.declared.parts.ReadSpan.{ReadSpan}
 use Rattle.store.specs.declared.parts.ReadConfig.{ReadConfig}
 use Rattle.store.specs.declared.parts.Head.{Head}

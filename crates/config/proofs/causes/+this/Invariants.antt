@@ -1,6 +1,6 @@
 use Rattle.std.proofs.Common.{◌≡◌, drop, map}
 use Rattle.config.specs.Valid.{some_use_this}
-use Rattle.config_core.specs.Forms.{form_of, forms_of}
+use Rattle.config_text.specs.Forms.{form_of, forms_of}
 use Rattle.config.proofs.causes.+this.Given as goal
 
 abbrev pub invariant-some_use_this-loop-part : goal.invariant-some_use_this-loop-part

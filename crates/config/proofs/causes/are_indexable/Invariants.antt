@@ -1,8 +1,8 @@
 use Rattle.std.proofs.Common.{◌≡◌, drop, map}
 use Rattle.std.specs.List.{list_all}
 use Rattle.config.specs.Valid.{is_indexable}
-use Rattle.config_core.specs.Parts.{configured}
-use Rattle.config_core.specs.Forms.{defined_of}
+use Rattle.config_text.specs.Parts.{configured}
+use Rattle.config_text.specs.Forms.{defined_of}
 use Rattle.config.proofs.causes.are_indexable.Given as goal
 
 abbrev pub invariant-loop-relation : goal.invariant-loop-relation

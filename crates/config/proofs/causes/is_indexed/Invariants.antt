@@ -1,7 +1,7 @@
 use Rattle.std.proofs.Common.{◌≡◌, ◌&&◌, drop, map}
 use Rattle.std.specs.List.{list_any}
 use Rattle.meaning.specs.Admits.{is_relation}
-use Rattle.config_core.specs.Forms.{defined_of}
+use Rattle.config_text.specs.Forms.{defined_of}
 use Rattle.config.proofs.causes.is_indexed.Given as goal
 
 abbrev pub invariant-loop-other : goal.invariant-loop-other

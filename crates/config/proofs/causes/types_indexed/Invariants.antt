@@ -1,7 +1,7 @@
 use Rattle.std.proofs.Common.{◌≡◌, drop}
 use Rattle.std.specs.List.{list_all}
 use Rattle.config.specs.Valid.{type_indexed}
-use Rattle.config_core.specs.Parts.{configured}
+use Rattle.config_text.specs.Parts.{configured}
 use Rattle.config.proofs.causes.types_indexed.Given as goal
 
 abbrev pub invariant-loop-declared : goal.invariant-loop-declared

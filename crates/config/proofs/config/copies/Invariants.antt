@@ -1,5 +1,5 @@
 use Rattle.std.proofs.Common.{◌≡◌, map, take}
-use Rattle.config_core.specs.Forms.{defined_of}
+use Rattle.config_text.specs.Forms.{defined_of}
 use Rattle.config.proofs.config.copies.Given as goal
 
 abbrev pub invariant-loop-relation : goal.invariant-loop-relation

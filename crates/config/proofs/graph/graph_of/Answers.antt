@@ -1,7 +1,7 @@
 use Rattle.std.proofs.Common.{◌≡◌, ◌≤◌, length, arith, map}
 use Rattle.std.proofs.lemmas.List.{length-map}
-use Rattle.config_core.specs.Forms.{defined_of}
-use Rattle.config_core.specs.Parts.{parts_of}
+use Rattle.config_text.specs.Forms.{defined_of}
+use Rattle.config_text.specs.Parts.{parts_of}
 use Rattle.config.proofs.Places.{graph_made}
 use Rattle.config.proofs.graph.graph_of.Goals as goal
 

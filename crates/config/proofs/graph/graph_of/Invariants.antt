@@ -1,5 +1,5 @@
 use Rattle.std.proofs.Common.{◌<◌, ◌*◌, []}
-use Rattle.config_core.specs.Parts.{parts_of}
+use Rattle.config_text.specs.Parts.{parts_of}
 use Rattle.config.specs.inside.Graph.{Adds}
 use Rattle.config.proofs.graph.graph_of.Given as goal
 

@@ -1,5 +1,5 @@
 use Rattle.std.proofs.Common.{◌≡◌, map, take}
-use Rattle.config_core.specs.Parts.{parts_of}
+use Rattle.config_text.specs.Parts.{parts_of}
 use Rattle.config.specs.inside.Graph.{step_by_name}
 use Rattle.config.proofs.levels.all_by_name.Given as goal
 

@@ -3,8 +3,8 @@ use Rattle.std.specs.Prelude.{Contains}
 use Rattle.std.proofs.lemmas.List.{length-map}
 use Rattle.std.proofs.lemmas.List.Elements.{Contains-get_or}
 use Rattle.strata.specs.Graph.{IsAnswer, AreLevels, IsCertificate}
-use Rattle.config_core.specs.Forms.{defined_of}
-use Rattle.config_core.specs.Parts.{parts_of}
+use Rattle.config_text.specs.Forms.{defined_of}
+use Rattle.config_text.specs.Parts.{parts_of}
 use Rattle.config.specs.Cycles as named
 use Rattle.config.specs.inside.Graph.{step_by_name}
 use Rattle.config.proofs.ByName.{levels_by_name, cycle_by_name, levels_small, certificate_within}

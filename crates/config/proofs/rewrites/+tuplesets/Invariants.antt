@@ -1,7 +1,7 @@
 use Rattle.std.proofs.Common.{◌≡◌, drop, map}
 use Rattle.config.specs.Valid.{all_tuplesets_fit}
-use Rattle.config_core.specs.Forms.{form_of, forms_of}
-use Rattle.config_core.specs.Parts.{configured}
+use Rattle.config_text.specs.Forms.{form_of, forms_of}
+use Rattle.config_text.specs.Parts.{configured}
 use Rattle.config.proofs.rewrites.+tuplesets.Given as goal
 
 abbrev pub invariant-all_tuplesets_fit-loop-part : goal.invariant-all_tuplesets_fit-loop-part

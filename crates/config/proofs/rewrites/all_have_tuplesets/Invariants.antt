@@ -1,8 +1,8 @@
 use Rattle.std.proofs.Common.{◌≡◌, drop, map}
 use Rattle.std.specs.List.{list_all}
 use Rattle.config.specs.Valid.{has_tuplesets}
-use Rattle.config_core.specs.Parts.{configured}
-use Rattle.config_core.specs.Forms.{defined_of}
+use Rattle.config_text.specs.Parts.{configured}
+use Rattle.config_text.specs.Forms.{defined_of}
 use Rattle.config.proofs.rewrites.all_have_tuplesets.Given as goal
 
 abbrev pub invariant-loop-relation : goal.invariant-loop-relation

@@ -1,8 +1,8 @@
 use Rattle.std.proofs.Common.{◌≡◌, ◌&&◌, drop, map}
 use Rattle.std.specs.List.{list_any}
 use Rattle.meaning.specs.Admits.{is_relation}
-use Rattle.config_core.specs.Parts.{configured}
-use Rattle.config_core.specs.Forms.{defined_of}
+use Rattle.config_text.specs.Parts.{configured}
+use Rattle.config_text.specs.Forms.{defined_of}
 use Rattle.config.specs.Valid.{is_parental}
 use Rattle.config.proofs.rewrites.is_tupleset.Given as goal
 

@@ -1,7 +1,7 @@
 use Rattle.std.proofs.Common.{◌≡◌, drop}
 use Rattle.std.specs.List.{list_any}
 use Rattle.meaning.specs.Admits.{has_relation}
-use Rattle.config_core.specs.Parts.{configured}
+use Rattle.config_text.specs.Parts.{configured}
 use Rattle.config.proofs.rewrites.some_has.Given as goal
 
 abbrev pub invariant-loop-declared : goal.invariant-loop-declared

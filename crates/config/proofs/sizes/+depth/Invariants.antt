@@ -1,7 +1,7 @@
 use Rattle.std.proofs.Common.{◌≤◌, drop, map}
 use Rattle.std.specs.Prelude.{◌↔◌}
-use Rattle.config_core.specs.Forms.{form_of, forms_of}
-use Rattle.config_core.specs.Size.{forms_depth}
+use Rattle.config_text.specs.Forms.{form_of, forms_of}
+use Rattle.config_text.specs.Size.{forms_depth}
 use Rattle.config.proofs.sizes.+depth.Given as goal
 
 abbrev pub invariant-are_shallow-loop-part : goal.invariant-are_shallow-loop-part

@@ -1,6 +1,6 @@
 use Rattle.std.proofs.Common.{◌≡◌, ◌+◌, drop, map}
-use Rattle.config_core.specs.Forms.{form_of, forms_of}
-use Rattle.config_core.specs.Size.{forms_nodes}
+use Rattle.config_text.specs.Forms.{form_of, forms_of}
+use Rattle.config_text.specs.Size.{forms_nodes}
 use Rattle.config.proofs.sizes.+nodes.Given as goal
 
 abbrev pub invariant-all_nodes_left-loop-part : goal.invariant-all_nodes_left-loop-part

@@ -1,5 +1,5 @@
 use Rattle.std.proofs.Common.{rules, arith, sym, ap, ◌≡◌, ◌<◌, length, get_or}
-use Rattle.config_core.specs.Forms.{defined_of}
+use Rattle.config_text.specs.Forms.{defined_of}
 use Rattle.config.proofs.StepLemmas.{leads_found, leads_none}
 use Rattle.config.proofs.steps.leads.Goals as goal
 

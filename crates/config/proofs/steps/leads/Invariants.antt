@@ -1,7 +1,7 @@
 use Rattle.std.proofs.Common.{◌≡◌, ℕ, ◌<◌, get_or}
 use Rattle.std.specs.Prelude.{Contains, None}
-use Rattle.config_core.specs.declared.relation.Relation.{Relation}
-use Rattle.config_core.specs.Forms.{defined_of}
+use Rattle.config_text.specs.declared.relation.Relation.{Relation}
+use Rattle.config_text.specs.Forms.{defined_of}
 use Rattle.config.proofs.steps.leads.Given as goal
 
 abbrev pub invariant-loop-other : goal.invariant-loop-other

@@ -4,7 +4,7 @@ use Rattle.std.proofs.Math.Dec.{eqb}
 use Rattle.tuple_keys.specs.Named.{is_of}
 use Rattle.tuple_keys.specs.Spelled.{spelled_node}
 use Rattle.tuple_keys.proofs.Spellings.{starts_of_node}
-use Rattle.rows_core.proofs.Going.{joined_starts}
+use Rattle.versions.proofs.Going.{joined_starts}
 use Rattle.decide.proofs.facts.is_of.Goals as goal
 
 pub returns-in-Some : goal.returns-in-Some

@@ -6,7 +6,7 @@ use Rattle.names.specs.declared.object.Object.{Object}
 use Rattle.meaning.specs.Membership.{HasOne}
 use Rattle.meaning.specs.TupleSet as set
 use Rattle.tuple_keys.specs.Named.{is_at, is_of}
-use Rattle.rows_core.specs.Named.{objects_in}
+use Rattle.versions.specs.Named.{objects_in}
 use Rattle.decide.specs.inside.Reads.{node_with}
 use Rattle.decide.specs.inside.Reading.{AreNamed}
 use Rattle.decide.proofs.Few.{few_objects}

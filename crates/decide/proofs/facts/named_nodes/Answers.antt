@@ -3,7 +3,7 @@ use Rattle.std.specs.Prelude.{filter}
 use Rattle.std.proofs.lemmas.List.{take_all}
 use Rattle.names.specs.declared.node.Node.{Node}
 use Rattle.names.specs.declared.tuple.Tuple.{Tuple}
-use Rattle.rows_core.specs.Named.{nodes_in}
+use Rattle.versions.specs.Named.{nodes_in}
 use Rattle.tuple_keys.specs.Named.{is_of, node_in}
 use Rattle.decide.proofs.Few.{picked_more}
 use Rattle.decide.proofs.facts.named_nodes.Goals as goal

@@ -1,6 +1,6 @@
 use Rattle.std.proofs.Common.{◌≡◌, take}
 use Rattle.std.specs.Prelude.{filter}
-use Rattle.rows_core.specs.Named.{nodes_in}
+use Rattle.versions.specs.Named.{nodes_in}
 use Rattle.tuple_keys.specs.Named.{is_of}
 use Rattle.decide.proofs.facts.named_nodes.Given as goal
 

@@ -3,7 +3,7 @@ use Rattle.std.specs.Prelude.{filter}
 use Rattle.std.proofs.lemmas.List.{take_all}
 use Rattle.names.specs.declared.object.Object.{Object}
 use Rattle.names.specs.declared.tuple.Tuple.{Tuple}
-use Rattle.rows_core.specs.Named.{objects_in}
+use Rattle.versions.specs.Named.{objects_in}
 use Rattle.tuple_keys.specs.Named.{is_of, object_in}
 use Rattle.decide.proofs.Few.{picked_more}
 use Rattle.decide.proofs.facts.named_objects.Goals as goal

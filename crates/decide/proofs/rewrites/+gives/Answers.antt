@@ -1,6 +1,6 @@
 use Rattle.std.proofs.Common.{◌≡◌, ◌∙◌, sym, subst, arith, rules}
-use Rattle.config_core.specs.declared.rewrite.Rewrite.{the_lemmas}
-use Rattle.config_core.specs.Forms.{form_of, rewrite_forms}
+use Rattle.config_text.specs.declared.rewrite.Rewrite.{the_lemmas}
+use Rattle.config_text.specs.Forms.{form_of, rewrite_forms}
 use Rattle.meaning.specs.Form.{Union, Exclusion}
 use Rattle.decide.specs.inside.Under.{Under}
 use Rattle.decide.specs.inside.Asked.{Counts, IsLeft}

@@ -1,7 +1,7 @@
 use Rattle.std.proofs.Common.{◌≡◌, true, false, drop}
 use Rattle.decide.specs.inside.Ending.{IsUnfinished}
 use Rattle.meaning.specs.Membership.{SomeGives, EachGives}
-use Rattle.config_core.specs.Forms.{rewrite_forms}
+use Rattle.config_text.specs.Forms.{rewrite_forms}
 use Rattle.decide.specs.inside.Under.{Under}
 use Rattle.decide.specs.declared.search.Search.{Search}
 use Rattle.decide.specs.inside.Searches.{Grew}

@@ -1,8 +1,8 @@
 use Rattle.std.proofs.Common.{◌≡◌, ◌∙◌, List, ap, take, arith, rules}
 use Rattle.names.specs.declared.node.Node.{Node}
 use Rattle.meaning.specs.Form.{TupleTo}
-use Rattle.config_core.specs.declared.rewrite.Rewrite.{the_lemmas as rewrites}
-use Rattle.config_core.specs.Forms.{form_of, rewrite_forms}
+use Rattle.config_text.specs.declared.rewrite.Rewrite.{the_lemmas as rewrites}
+use Rattle.config_text.specs.Forms.{form_of, rewrite_forms}
 use Rattle.expand.specs.declared.tree.Tree.{the_lemmas as tree_lemmas}
 use Rattle.expand.specs.Tree.{userset, leaf, subjects_of, parents_of, all_filled}
 use Rattle.expand.specs.UsersetTree.{Union, trees}

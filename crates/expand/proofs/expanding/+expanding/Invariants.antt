@@ -1,8 +1,8 @@
 use Rattle.std.proofs.Common.{◌+◌, ◌*◌, map, drop}
 use Rattle.names.specs.declared.tuple.Tuple.{Tuple}
-use Rattle.config_core.specs.declared.rewrite.Rewrite.{Rewrite}
-use Rattle.config_core.specs.Forms.{form_of, rewrite_forms}
-use Rattle.config_core.specs.Size.{form_nodes, forms_nodes}
+use Rattle.config_text.specs.declared.rewrite.Rewrite.{Rewrite}
+use Rattle.config_text.specs.Forms.{form_of, rewrite_forms}
+use Rattle.config_text.specs.Size.{form_nodes, forms_nodes}
 use Rattle.expand.specs.Tree.{userset, leaf, filled}
 use Rattle.expand.proofs.Making.{Making}
 use Rattle.expand.proofs.Measures.{step_of, steps}

@@ -1,7 +1,7 @@
 use Rattle.std.proofs.Common.{◌≡◌, ap, sym, subst, ◌∙◌, arith, Some}
 use Rattle.meaning.specs.Config.{Configured, Has, rel_of}
-use Rattle.config_core.specs.declared.relation.Relation.{Relation}
-use Rattle.config_core.specs.Forms.{defined_of}
+use Rattle.config_text.specs.declared.relation.Relation.{Relation}
+use Rattle.config_text.specs.Forms.{defined_of}
 use Rattle.config.proofs.Searching.{read_there}
 use Rattle.expand.specs.Tree.{definition_of}
 use Rattle.expand.proofs.Relations.{stands_defined, lacks_definition, closed_unknown, opened_known, stands_small}

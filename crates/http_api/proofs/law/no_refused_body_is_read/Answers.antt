@@ -3,8 +3,8 @@ use Rattle.httparse.specs.Grammar.{RequestHead}
 use Rattle.httparse.proofs.GrammarLemmas.{request_unique}
 use Rattle.http_api.specs.declared.framing.Framing.{Framing}
 use Rattle.http_api.specs.declared.framing.Framing.TheVariants.{Sized}
-use Rattle.http_api.specs.declared.end.End.{End}
-use Rattle.http_api.specs.declared.end.End.TheVariants.{Asked}
+use Rattle.answers.specs.declared.end.End.{End}
+use Rattle.answers.specs.declared.end.End.TheVariants.{Asked}
 use Rattle.http_api.specs.Heads.{Begins, framing_of, max_head}
 use Rattle.http_api.specs.Connection.{NoRequest, at_end, no_head, cut_in_head, unclear_length, no_length, too_large, cut_in_body, EndsInBody, IsFew}
 use Rattle.http_api.proofs.law.no_refused_body_is_read.Goals as goal

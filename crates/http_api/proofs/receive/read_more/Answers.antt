@@ -1,6 +1,6 @@
 use Rattle.std.proofs.Common.{sym, ap, ◌∙◌, [], inl, inr, refl, true≢false}
-use Rattle.http_api.specs.Ends.{is_read_fault, is_write_fault}
-use Rattle.http_api.specs.declared.end.End.TheVariants.{ReadFault, WriteFault}
+use Rattle.answers.specs.Ends.{is_read_fault, is_write_fault}
+use Rattle.answers.specs.declared.end.End.TheVariants.{ReadFault, WriteFault}
 use Rattle.std.proofs.KnownBytes.{Keeps-refl}
 use Rattle.tracked_io.proofs.Waiting.{gave_waited, waited_none}
 use Rattle.http_api.specs.inside.Receiving.{IsPause}

@@ -1,8 +1,8 @@
 use Rattle.std.proofs.Common.{◌≡◌, ◌+◌, List, drop, map, OnOk, sym, subst, arith, rules}
 use Rattle.std.proofs.lemmas.Result.{on_ok_weaker}
 use Rattle.meaning.specs.Form.{Form, Union, Intersection, Exclusion}
-use Rattle.config_core.specs.Forms.{form_of, forms_of, rewrite_forms}
-use Rattle.config_core.specs.declared.rewrite.Rewrite.{Rewrite, the_lemmas}
+use Rattle.config_text.specs.Forms.{form_of, forms_of, rewrite_forms}
+use Rattle.config_text.specs.declared.rewrite.Rewrite.{Rewrite, the_lemmas}
 use Rattle.leopard.specs.inside.Asking.{Gains, IsComputed, IsSomeComputed}
 use Rattle.leopard.proofs.Computing.{gains_two, computed_splits, computed_none}
 use Rattle.leopard.proofs.Gather.{left_at, left_none}

@@ -1,7 +1,7 @@
 use Rattle.std.proofs.Common.{drop, map}
 use Rattle.std.specs.Prelude.{◌↔◌, ◌⊎◌, Contains}
 use Rattle.names.specs.declared.node.Node.{Node}
-use Rattle.config_core.specs.Forms.{form_of, forms_of}
+use Rattle.config_text.specs.Forms.{form_of, forms_of}
 use Rattle.leopard.specs.inside.Asking.{IsSomeComputed}
 use Rattle.leopard.proofs.computed.+computing.Given as goal
 

@@ -1,6 +1,6 @@
 use Rattle.std.proofs.Common.{sym, ap, ◌∙◌}
 use Rattle.meaning.specs.Config.{Defined, rel_of}
-use Rattle.config_core.specs.declared.relation.Relation.{Relation}
+use Rattle.config_text.specs.declared.relation.Relation.{Relation}
 use Rattle.config.proofs.Searching.{read_there}
 use Rattle.leopard.proofs.Indexed.{indexed_at, not_indexed}
 use Rattle.leopard.proofs.refusing.is_group.Goals as goal

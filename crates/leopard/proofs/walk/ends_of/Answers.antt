@@ -2,8 +2,8 @@ use Rattle.std.proofs.Common.{ap, sym, subst}
 use Rattle.meaning.specs.Config.{Configured, Defined, Has, rel_of}
 use Rattle.config.specs.Valid as valid
 use Rattle.config.proofs.Searching.{read_there}
-use Rattle.config_core.specs.Forms.{form_of}
-use Rattle.config_core.specs.declared.relation.Relation.{Relation}
+use Rattle.config_text.specs.Forms.{form_of}
+use Rattle.config_text.specs.declared.relation.Relation.{Relation}
 use Rattle.leopard.specs.inside.Asking.{Gains, IsComputed}
 use Rattle.leopard.proofs.Arcs.{set_known, arcs_with, arcs_without}
 use Rattle.leopard.proofs.walk.ends_of.Goals as goal

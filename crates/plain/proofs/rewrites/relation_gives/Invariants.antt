@@ -3,7 +3,7 @@ use Rattle.std.specs.Prelude.{Contains}
 use Rattle.meaning.specs.Admits.{is_relation}
 use Rattle.meaning.specs.Config.{rel_of}
 use Rattle.meaning.specs.Membership.{Gives}
-use Rattle.config_core.specs.declared.relation.Relation.{Relation}
+use Rattle.config_text.specs.declared.relation.Relation.{Relation}
 use Rattle.config.specs.Forms.{defined_of, form_of}
 use Rattle.plain.specs.inside.Source.{snap_of}
 use Rattle.plain.proofs.rewrites.relation_gives.Given as goal

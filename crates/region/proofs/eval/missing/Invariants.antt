@@ -1,5 +1,5 @@
 use Rattle.std.proofs.Common.{◌≡◌, ℕ, true, take}
-use Rattle.region_core.specs.World.{has}
+use Rattle.least_sets.specs.World.{has}
 use Rattle.region.proofs.eval.missing.Given as goal
 
 abbrev pub invariant-loop-id : goal.invariant-loop-id

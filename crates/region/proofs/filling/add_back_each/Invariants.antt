@@ -1,5 +1,5 @@
 use Rattle.std.proofs.Common.{ℕ, ◌≡◌, true, take}
-use Rattle.region_core.specs.World.{has}
+use Rattle.least_sets.specs.World.{has}
 use Rattle.region.specs.Tables.{listed}
 use Rattle.region.proofs.filling.add_back_each.Given as goal
 

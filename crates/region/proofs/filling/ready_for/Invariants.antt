@@ -2,7 +2,7 @@ use Rattle.std.proofs.Common.{ℕ, ◌≡◌, take}
 use Rattle.std.specs.Prelude.{is_some}
 use Rattle.std.specs.Ordering.{nat_cmp}
 use Rattle.std.specs.BTreeMap.{get}
-use Rattle.region_core.specs.World.{Fact}
+use Rattle.least_sets.specs.World.{Fact}
 use Rattle.region.specs.Tables.{over}
 use Rattle.region.specs.Steps.{is_told, Tells}
 use Rattle.region.specs.Filled.{AreReady}

@@ -1,5 +1,5 @@
 use Rattle.std.proofs.Common.{◌^◌, arith}
-use Rattle.region_core.proofs.Found.{has_small}
+use Rattle.least_sets.proofs.Found.{has_small}
 use Rattle.region.proofs.found.are_small.Goals as goal
 
 pub returns : goal.returns

@@ -1,5 +1,5 @@
 use Rattle.std.proofs.Common.{◌||◌, ap, ◌∙◌}
-use Rattle.region_core.specs.World.{has}
+use Rattle.least_sets.specs.World.{has}
 use Rattle.region.proofs.Listing.{on_err_all}
 use Rattle.region.proofs.Swept.{gathered, root_asked}
 use Rattle.region.proofs.Walked.{some_touched, some_told, none_asked}

@@ -1,5 +1,5 @@
 use Rattle.std.proofs.Common.{ℕ, ◌≤◌, ◌<◌, length, refl, ◌∙◌, subst, arith}
-use Rattle.region_core.specs.World.{Fact}
+use Rattle.least_sets.specs.World.{Fact}
 use Rattle.region.specs.Walking.{IsVisit}
 use Rattle.region.proofs.Walked.{gather_none, gather_more, walked, some_at}
 use Rattle.region.proofs.Listing.{on_err_all}

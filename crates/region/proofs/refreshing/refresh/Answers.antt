@@ -1,6 +1,6 @@
 use Rattle.std.proofs.Common.{◌≡◌, true, not, sym, ◌∙◌, ⊎_elim, inl, inr}
 use Rattle.std.proofs.lemmas.Bool.{or_right, or_cases, and_parts}
-use Rattle.region_core.specs.World.{has}
+use Rattle.least_sets.specs.World.{has}
 use Rattle.region.specs.Steps.{is_told}
 use Rattle.region.specs.Tables.{kept}
 use Rattle.region.specs.Gathered.{nodes_of, stays}

@@ -1,5 +1,5 @@
 use Rattle.std.proofs.Common.{arith, get_or, ap, ◌∙◌}
-use Rattle.region_core.specs.World.{has}
+use Rattle.least_sets.specs.World.{has}
 use Rattle.region.specs.Tables.{listed}
 use Rattle.region.proofs.Rooms.{slice_at, get_or_same}
 use Rattle.region.proofs.Grouped.{named_none, named_more}

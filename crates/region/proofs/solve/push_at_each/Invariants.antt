@@ -1,5 +1,5 @@
 use Rattle.std.proofs.Common.{◌≡◌, ℕ, ◌&&◌, ◌||◌, take, nat_eq}
-use Rattle.region_core.specs.World.{has}
+use Rattle.least_sets.specs.World.{has}
 use Rattle.region.specs.Tables.{listed}
 use Rattle.region.proofs.solve.push_at_each.Given as goal
 

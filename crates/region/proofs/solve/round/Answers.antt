@@ -1,5 +1,5 @@
 use Rattle.std.proofs.Common.{◌≡◌, ◌<◌, ◌-◌, ◌+◌, length, ap, ◌∙◌, subst, arith}
-use Rattle.region_core.specs.World.{has}
+use Rattle.least_sets.specs.World.{has}
 use Rattle.region.specs.Tables.{over, listed}
 use Rattle.region.proofs.Listing.{place_same}
 use Rattle.region.proofs.Round.{RoundAt, round_none, round_more, round_end, round_less, waiting_same}

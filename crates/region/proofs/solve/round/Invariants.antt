@@ -1,4 +1,4 @@
-use Rattle.region_core.specs.World.{has}
+use Rattle.least_sets.specs.World.{has}
 use Rattle.region.specs.Tables.{over}
 use Rattle.region.proofs.Round.{RoundAt}
 use Rattle.region.proofs.solve.round.Given as goal

@@ -1,10 +1,10 @@
 use Rattle.std.proofs.Common.{◌≡◌, ◌<◌, length, sym, ◌∙◌, ⊎_elim}
 use Rattle.std.proofs.lemmas.Bool.{eqb-true, eq-eqb, false≢true}
-use Rattle.region_core.specs.World.{has}
+use Rattle.least_sets.specs.World.{has}
 use Rattle.region.specs.Tables.{over}
-use Rattle.region_core.specs.Steps.{none}
+use Rattle.least_sets.specs.Steps.{none}
 use Rattle.region.specs.Steps.{rooms}
-use Rattle.region_core.proofs.StepLemmas.{steps_join}
+use Rattle.least_sets.proofs.StepLemmas.{steps_join}
 use Rattle.region.proofs.Round.{settled_if, nil_from_none, none_from_nil}
 use Rattle.region.proofs.solve.settle_level.Goals as goal
 

@@ -1,6 +1,6 @@
 use Rattle.std.proofs.Common.{ℕ}
-use Rattle.region_core.specs.World.{has, Fact}
-use Rattle.region_core.specs.Steps.{StepsTo}
+use Rattle.least_sets.specs.World.{has, Fact}
+use Rattle.least_sets.specs.Steps.{StepsTo}
 use Rattle.region.specs.Tables.{over}
 use Rattle.region.specs.Steps.{is_told, Tells, IsWaiting, rooms}
 use Rattle.region.proofs.solve.settle_level.Given as goal

@@ -1,7 +1,7 @@
 use Rattle.std.proofs.Common.{◌≤◌, arith}
 use Rattle.region.specs.Steps.{is_told}
 use Rattle.region.specs.Tables.{over, holds}
-use Rattle.region_core.proofs.Solved.{solved_more, solved_all}
+use Rattle.least_sets.proofs.Solved.{solved_more, solved_all}
 use Rattle.region.proofs.Settled.{settled_at, level_below, solved_start}
 use Rattle.region.proofs.solve.solve.Goals as goal
 

@@ -1,7 +1,7 @@
 use Rattle.std.proofs.Common.{ℕ}
-use Rattle.region_core.specs.World.{Fact}
-use Rattle.region_core.specs.Least.{IsLevelled}
-use Rattle.region_core.proofs.Solved.{SolvedBelow}
+use Rattle.least_sets.specs.World.{Fact}
+use Rattle.least_sets.specs.Least.{IsLevelled}
+use Rattle.least_sets.proofs.Solved.{SolvedBelow}
 use Rattle.region.specs.Tables.{over, holds}
 use Rattle.region.specs.Steps.{is_told, Tells}
 use Rattle.region.proofs.solve.solve.Given as goal

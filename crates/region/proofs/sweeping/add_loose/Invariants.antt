@@ -1,6 +1,6 @@
 use Rattle.std.proofs.Common.{◌&&◌, take}
-use Rattle.region_core.specs.World.{has}
-use Rattle.region_core.specs.Walks.{Adds}
+use Rattle.least_sets.specs.World.{has}
+use Rattle.least_sets.specs.Walks.{Adds}
 use Rattle.region.specs.Sweeping.{is_loose}
 use Rattle.region.proofs.sweeping.add_loose.Given as goal
 

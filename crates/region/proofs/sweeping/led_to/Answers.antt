@@ -1,6 +1,6 @@
 use Rattle.std.proofs.Common.{◌≤◌, ◌<◌, length, arith}
 use Rattle.region.specs.Tables.{arc_in}
-use Rattle.region_core.proofs.Found.{search_more}
+use Rattle.least_sets.proofs.Found.{search_more}
 use Rattle.region.proofs.Walked.{search_start}
 use Rattle.region.proofs.Swept.{led}
 use Rattle.region.proofs.sweeping.led_to.Goals as goal

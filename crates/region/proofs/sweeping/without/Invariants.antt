@@ -1,6 +1,6 @@
 use Rattle.std.proofs.Common.{◌&&◌, not, take}
-use Rattle.region_core.specs.World.{has}
-use Rattle.region_core.specs.Walks.{Adds}
+use Rattle.least_sets.specs.World.{has}
+use Rattle.least_sets.specs.Walks.{Adds}
 use Rattle.region.proofs.sweeping.without.Given as goal
 
 abbrev pub invariant-loop-node : goal.invariant-loop-node

@@ -1,5 +1,5 @@
 use Rattle.std.proofs.Common.{[], ◌∙◌, ap}
-use Rattle.region_core.specs.World.{has}
+use Rattle.least_sets.specs.World.{has}
 use Rattle.region.specs.Tables.{arc_in}
 use Rattle.region.proofs.Listing.{on_ok_then}
 use Rattle.region.proofs.Walked.{adds_those}

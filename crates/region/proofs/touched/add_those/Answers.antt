@@ -1,6 +1,6 @@
 use Rattle.std.proofs.Common.{[], refl, ◌&&◌}
 use Rattle.std.proofs.lemmas.Bool.{false≢true}
-use Rattle.region_core.specs.World.{has}
+use Rattle.least_sets.specs.World.{has}
 use Rattle.region.specs.Tables.{arc_in}
 use Rattle.region.proofs.Listing.{adds_none, place_same}
 use Rattle.region.proofs.Walked.{adds_picked}

@@ -1,6 +1,6 @@
 use Rattle.std.proofs.Common.{◌&&◌, take}
-use Rattle.region_core.specs.World.{has}
-use Rattle.region_core.specs.Walks.{Adds}
+use Rattle.least_sets.specs.World.{has}
+use Rattle.least_sets.specs.Walks.{Adds}
 use Rattle.region.specs.Tables.{arc_in}
 use Rattle.region.proofs.touched.add_those.Given as goal
 

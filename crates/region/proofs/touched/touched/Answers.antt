@@ -1,7 +1,7 @@
 use Rattle.std.proofs.Common.{◌≤◌, ◌<◌, length, arith}
 use Rattle.region.specs.Tables.{arc_in}
-use Rattle.region_core.proofs.Found.{search_none, search_more, search_end}
-use Rattle.region_core.proofs.WalkLemmas.{touched_from_reached}
+use Rattle.least_sets.proofs.Found.{search_none, search_more, search_end}
+use Rattle.least_sets.proofs.WalkLemmas.{touched_from_reached}
 use Rattle.region.proofs.touched.touched.Goals as goal
 
 pub loop-at-init : goal.loop-at-init

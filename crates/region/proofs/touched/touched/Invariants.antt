@@ -1,6 +1,6 @@
 use Rattle.std.proofs.Common.{◌-◌, ◌^◌}
 use Rattle.region.specs.Tables.{arc_in}
-use Rattle.region_core.proofs.Found.{SearchAt}
+use Rattle.least_sets.proofs.Found.{SearchAt}
 use Rattle.region.proofs.touched.touched.Given as goal
 
 abbrev pub invariant-loop-at : goal.invariant-loop-at

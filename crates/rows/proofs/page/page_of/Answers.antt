@@ -1,7 +1,7 @@
 use Rattle.std.proofs.Common.{ap, sym, ◌∙◌}
 use Rattle.std.specs.Prelude.{filter}
 use Rattle.names.specs.declared.tuple.Tuple.{Tuple}
-use Rattle.rows_core.specs.Ranges.{is_from}
+use Rattle.versions.specs.Ranges.{is_from}
 use Rattle.rows.specs.inside.Reading.{is_wanted}
 use Rattle.rows.proofs.Paging.{nothing_found, skipped}
 use Rattle.rows.proofs.page.page_of.Goals.{in-Some, in_default}

@@ -1,6 +1,6 @@
 use Rattle.std.proofs.Common.{ap, sym}
 use Rattle.std.specs.Prelude.{not}
-use Rattle.rows_core.proofs.Admitted.{admits_known}
+use Rattle.versions.proofs.Admitted.{admits_known}
 use Rattle.rows.proofs.verdict.is_unknown.Goals as goal
 
 pub returns-in-Ok : goal.returns-in-Ok

@@ -1,5 +1,5 @@
 use Rattle.std.proofs.Common.{[], refl, take}
-use Rattle.http_api.specs.Text.{lines_of}
+use Rattle.lines.specs.Text.{lines_of}
 use Rattle.runs.proofs.running.serve.Goals as goal
 
 pub returns-in-Closed-clause-ok : goal.returns-in-Closed-clause-ok

@@ -1,5 +1,5 @@
 use Rattle.std.specs.Prelude.{List, ◌≡◌, length}
-use Rattle.http_api.specs.declared.end.End.{End}
+use Rattle.answers.specs.declared.end.End.{End}
 use Rattle.server.specs.Attending.{OneByOne}
 use Rattle.server.proofs.pool.serve_each.Given as goal
 

@@ -1,7 +1,7 @@
 use Rattle.std.proofs.Common.{ap, sym, subst, ◌∙◌, arith}
 use Rattle.std.proofs.lemmas.Result.{err_from_is_err_and}
 use Rattle.config.specs.Causes.{Accepts}
-use Rattle.store_core.specs.Tables.{ConfigRow}
+use Rattle.sqlite_tables.specs.Tables.{ConfigRow}
 use Rattle.store.specs.Written.{canonical}
 use Rattle.store.specs.Refused.{IsOfConfig}
 use Rattle.store.proofs.Accepting.{config_deserved, same_config, other_text}

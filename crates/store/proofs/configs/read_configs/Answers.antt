@@ -1,6 +1,6 @@
 use Rattle.std.specs.Prelude.{All}
 use Rattle.std.proofs.lemmas.Result.{err_from_is_err_and}
-use Rattle.store_core.specs.Stored.{config_row_in}
+use Rattle.sqlite_tables.specs.Stored.{config_row_in}
 use Rattle.store.specs.Written.{IsConfigAt, config_row_of}
 use Rattle.store.specs.inside.Reading.{as_config}
 use Rattle.store.specs.Refused.{IsOfConfig}

@@ -1,6 +1,6 @@
 use Rattle.std.proofs.Common.{◌≡◌, map, take}
 use Rattle.std.specs.Prelude.{All}
-use Rattle.store_core.specs.Stored.{config_row_in}
+use Rattle.sqlite_tables.specs.Stored.{config_row_in}
 use Rattle.store.specs.Written.{IsConfigAt, config_row_of}
 use Rattle.store.specs.inside.Reading.{as_config}
 use Rattle.store.proofs.configs.read_configs.Given as goal

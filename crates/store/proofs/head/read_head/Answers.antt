@@ -1,6 +1,6 @@
 use Rattle.std.proofs.Common.{ap, sym, ◌∙◌, refl}
-use Rattle.store_core.specs.Tables.{Entry}
-use Rattle.store_core.specs.declared.stored.StoredEntry.{StoredEntry}
+use Rattle.sqlite_tables.specs.Tables.{Entry}
+use Rattle.sqlite_tables.specs.declared.stored.StoredEntry.{StoredEntry}
 use Rattle.store.proofs.Transfer.{at_entry, head_like}
 use Rattle.store.proofs.head.read_head.Goals as goal
 use Rattle.store.proofs.head.read_head.Goals.{else-is_entry-via-then-is_entry+then-is_entry-2+then-is_entry-3+then-is_entry-4+then-entries-eq1+else-is_within, else-is_entry-via-then-is_entry+then-is_entry-2+then-is_entry-3+then-is_entry-4+else-entries-eq1, else-is_entry-via-then-is_entry+then-is_entry-2+then-is_entry-3+else-is_entry-4, else-is_entry-via-then-is_entry+then-is_entry-2+else-is_entry-3, else-is_entry-via-then-is_entry+else-is_entry-2, else-is_entry-via-else-is_entry}

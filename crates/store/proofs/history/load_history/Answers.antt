@@ -7,8 +7,8 @@ use Rattle.sqlite.specs.declared.error.Error.TheVariants.{SqliteFailure}
 use Rattle.sqlite.specs.declared.error.ErrorCode.TheVariants.{OutOfMemory}
 use Rattle.rows.specs.Loads.{retained_of}
 use Rattle.rows.specs.Retained.{newest}
-use Rattle.store_core.specs.Numbered.{AreNumberedTo}
-use Rattle.store_core.specs.Tables.{Holds}
+use Rattle.sqlite_tables.specs.Numbered.{AreNumberedTo}
+use Rattle.sqlite_tables.specs.Tables.{Holds}
 use Rattle.store.specs.Refused.{IsHistoryOf}
 use Rattle.tables.specs.Device.{IsClean, IsOpen}
 use Rattle.store.specs.History.{KeepsHistory, device_below}

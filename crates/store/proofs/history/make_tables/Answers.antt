@@ -5,8 +5,8 @@ use Rattle.sqlite.specs.declared.error.Error.TheVariants.{SqliteFailure}
 use Rattle.sqlite.specs.declared.error.ErrorCode.TheVariants.{OutOfMemory, NameTaken}
 use Rattle.sqlite.proofs.StateLemmas.{survives_weaker}
 use Rattle.rows.specs.Retained.{empty_store}
-use Rattle.store_core.specs.Steps.{new_store}
-use Rattle.store_core.specs.Leaves.{IsBlank, MayCreate}
+use Rattle.sqlite_tables.specs.Steps.{new_store}
+use Rattle.sqlite_tables.specs.Leaves.{IsBlank, MayCreate}
 use Rattle.store.specs.History.{TreesHold}
 use Rattle.store.proofs.Beginning.{new_history}
 use Rattle.store.proofs.Leaving.{survives_quiet, committed_with, trees_hold, undoes_twice, failed_in_two}

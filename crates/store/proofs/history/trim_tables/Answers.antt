@@ -3,7 +3,7 @@ use Rattle.sqlite.specs.Held.{state}
 use Rattle.sqlite.specs.declared.error.Error.TheVariants.{SqliteFailure}
 use Rattle.sqlite.specs.declared.error.ErrorCode.TheVariants.{OutOfMemory}
 use Rattle.rows.specs.Retained as retained
-use Rattle.store_core.specs.Steps.{after_trim, MayStore}
+use Rattle.sqlite_tables.specs.Steps.{after_trim, MayStore}
 use Rattle.store.specs.History.{KeepsHistory, HoldTrimmed}
 use Rattle.store.proofs.Leading.{trim_lead, small_trim, can_drop}
 use Rattle.store.proofs.Leaving.{clean_before, survives_quiet, holds_stored, leaves_trimmed, keeps_undone, keeps_twice, failed_in_two}

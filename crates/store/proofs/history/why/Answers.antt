@@ -1,7 +1,7 @@
 use Rattle.std.proofs.Common.{◌≡◌, inr, refl, ◌∙◌, sym}
 use Rattle.tables.specs.declared.tables.TablesError.TheVariants.{Fault}
-use Rattle.store_core.specs.declared.probe.Probe.{Probe}
-use Rattle.store_core.specs.declared.probe.Probe.TheVariants.{Open, Failed, NoMemory}
+use Rattle.sqlite_tables.specs.declared.probe.Probe.{Probe}
+use Rattle.sqlite_tables.specs.declared.probe.Probe.TheVariants.{Open, Failed, NoMemory}
 use Rattle.store.specs.inside.Asking.{told_as}
 use Rattle.store.proofs.history.why.Goals as goal
 

@@ -5,7 +5,7 @@ use Rattle.sqlite.specs.declared.error.ErrorCode.TheVariants.{OutOfMemory}
 use Rattle.names.specs.declared.commit.Commit.TheVariants as kinds
 use Rattle.config.specs.Causes.{Accepts}
 use Rattle.rows.specs.Retained.{with_commit}
-use Rattle.store_core.specs.Steps.{after_configure, MayStore}
+use Rattle.sqlite_tables.specs.Steps.{after_configure, MayStore}
 use Rattle.store.specs.Written.{canonical}
 use Rattle.store.specs.History.{KeepsHistory, HoldNext}
 use Rattle.store.proofs.Beginning.{small_rev}

@@ -5,7 +5,7 @@ use Rattle.sqlite.specs.declared.error.ErrorCode.TheVariants.{OutOfMemory}
 use Rattle.names.specs.declared.commit.Commit.TheVariants as kinds
 use Rattle.names.specs.Spelling.{IsTuple}
 use Rattle.rows.specs.Retained.{newest_of, with_commit}
-use Rattle.store_core.specs.Steps.{after_write, MayStore}
+use Rattle.sqlite_tables.specs.Steps.{after_write, MayStore}
 use Rattle.store.specs.inside.EventTexts.{event_texts_in}
 use Rattle.store.specs.History.{KeepsHistory, HoldNext}
 use Rattle.store.proofs.Picking.{all_in}

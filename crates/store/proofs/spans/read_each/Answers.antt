@@ -3,7 +3,7 @@ use Rattle.std.specs.Prelude.{All}
 use Rattle.std.specs.Vec.Iter.{into_iter_items}
 use Rattle.std.proofs.lemmas.List.Elements.{All-head, All-tail}
 use Rattle.std.proofs.lemmas.Result.{err_from_is_err_and}
-use Rattle.store_core.specs.Stored.{span_in}
+use Rattle.sqlite_tables.specs.Stored.{span_in}
 use Rattle.store.specs.Written.{IsSpan, span_of}
 use Rattle.store.specs.inside.Reading.{as_span}
 use Rattle.store.specs.Refused.{IsOfSpan}

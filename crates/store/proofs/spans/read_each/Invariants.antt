@@ -1,7 +1,7 @@
 use Rattle.std.proofs.Common.{◌≡◌, ◌++◌, length, map}
 use Rattle.std.specs.Prelude.{All}
 use Rattle.std.specs.Vec.Iter.{into_iter_items, into_iter_len}
-use Rattle.store_core.specs.Stored.{span_in}
+use Rattle.sqlite_tables.specs.Stored.{span_in}
 use Rattle.store.specs.Written.{IsSpan, span_of}
 use Rattle.store.specs.inside.Reading.{as_span}
 use Rattle.store.specs.Refused.{IsOfSpan}

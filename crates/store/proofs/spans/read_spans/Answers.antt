@@ -1,7 +1,7 @@
 use Rattle.std.proofs.Common.{◌+◌, List, get_or, map, subst, arith}
 use Rattle.std.specs.Prelude.{IsPermutation}
 use Rattle.std.proofs.lemmas.List.Sorted.{IsPermutation-map, All-permutation}
-use Rattle.store_core.specs.Tables.{Span}
+use Rattle.sqlite_tables.specs.Tables.{Span}
 use Rattle.store.specs.Written.{IsSpan, span_of}
 use Rattle.store.specs.inside.Reading.{as_span}
 use Rattle.store.proofs.Adjacent.{listed_from}

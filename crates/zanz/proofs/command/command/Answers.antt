@@ -1,7 +1,7 @@
 use Rattle.std.proofs.Common.{refl, sym, subst, ◌∙◌, arith}
 use Rattle.zanz.specs.Ran.{task_stopped, is_no_configuration, words_unread}
 use Rattle.zanz.proofs.Results.{ok_value, err_at}
-use Rattle.tasks.specs.declared.fault.Fault.{Fault}
+use Rattle.command_line.specs.declared.fault.Fault.{Fault}
 use Rattle.zanz.specs.Telling.{Tells}
 use Rattle.zanz.proofs.Stopping.{never_0, is_bad_line}
 use Rattle.zanz.proofs.command.command.Goals as goal

@@ -2,7 +2,7 @@ use denote.Exit.{no}
 use denote.Param.Send.{IsSend, arg_send, param_send, sendable}
 use Rattle.std.proofs.Crossing.{crosses}
 use Rattle.front.proofs.Crossing.{Config-send, KeptCommit-send}
-use Rattle.rows_core.proofs.version_map.VersionMap.TheSendSync as VersionMap
+use Rattle.versions.proofs.version_map.VersionMap.TheSendSync as VersionMap
 use Rattle.tables.specs.contracts.listed.Listed as Listed
 use Rattle.zanz.proofs.command.serve_shared_at.Goals as goal
 

@@ -1,6 +1,6 @@
 use Rattle.std.proofs.Common.{List, Global, String, subst, ◌∙◌}
 use Rattle.std.specs.Prelude.{IfOk, IsTrue, map, string_bytes}
-use Rattle.tasks.specs.Words.{asks_to_serve, OnServe}
+use Rattle.command_line.specs.Words.{asks_to_serve, OnServe}
 use Rattle.zanz.proofs.command.task_named.Goals as goal
 
 pub returns-clause-serves : goal.returns-clause-serves

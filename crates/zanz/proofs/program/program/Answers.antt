@@ -1,7 +1,7 @@
 use Rattle.std.proofs.Common.{refl}
 use Rattle.names.specs.declared.refusal.Refusal.TheVariants.{Memory}
 use Rattle.sqlite_wal.specs.Files.{image_at}
-use Rattle.tasks.specs.declared.fault.Fault.TheVariants.{CommandLine, Refused}
+use Rattle.command_line.specs.declared.fault.Fault.TheVariants.{CommandLine, Refused}
 use Rattle.zanz.specs.Ends.{unbroken}
 use Rattle.zanz.proofs.Ending.{ends_as, refused_for, given_if, is_unbroken, stopped_from, unbegun_for}
 use Rattle.zanz.proofs.program.program.Goals as goal

@@ -5,8 +5,8 @@ use Rattle.std.specs.List.Sorted.{IsNonDecreasingBy, IsPartitionPoint}
 use Rattle.std.specs.Ordering.{ordering_index}
 use Rattle.std.proofs.lemmas.Fn.{always_returns_same}
 use Rattle.meaning.specs.Config.{Configured, Has, rel_of}
-use Rattle.config_core.specs.declared.relation.Relation.{Relation}
-use Rattle.config_core.specs.Order.{relation_cmp}
+use Rattle.config_text.specs.declared.relation.Relation.{Relation}
+use Rattle.config_text.specs.Order.{relation_cmp}
 use Rattle.config.specs.Places.{StandsAt}
 use Rattle.config.proofs.Searching.{name, found_place, no_place, non_decreasing}
 use Rattle.config.proofs.config.Config.place_of.Goals as goal

@@ -1,7 +1,7 @@
 use Rattle.std.proofs.Common.{subst}
 use Rattle.std.specs.Prelude.{All, IsTrue}
-use Rattle.config_core.specs.Order.{IsOrdered}
-use Rattle.config_core.specs.Size.{has_parts}
+use Rattle.config_text.specs.Order.{IsOrdered}
+use Rattle.config_text.specs.Size.{has_parts}
 use Rattle.config.specs.Valid.{IsValid}
 use Rattle.config.proofs.Keeping.{all_are_whole}
 use Rattle.config.proofs.config.Config.relations.Goals as goal

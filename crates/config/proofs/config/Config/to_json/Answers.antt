@@ -1,6 +1,6 @@
 use Rattle.std.proofs.Common.{subst, ap, ◌∙◌}
 use Rattle.std.specs.Prelude.{IfOk, string_bytes}
-use Rattle.config_core.specs.Parts.{configured}
+use Rattle.config_text.specs.Parts.{configured}
 use Rattle.config.specs.Causes.{Accepts}
 use Rattle.config.proofs.Keeping.{text_read_back}
 use Rattle.config.proofs.config.Config.to_json.Goals as goal

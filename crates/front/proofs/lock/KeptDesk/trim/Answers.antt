@@ -1,6 +1,6 @@
 use Rattle.std.proofs.Common.{subst}
 use Rattle.names.specs.Calls.{told}
-use Rattle.keeper_core.specs.Posts.{Posts}
+use Rattle.desk.specs.Posts.{Posts}
 use Rattle.keeper.specs.calls.Trim.{TrimStep}
 use Rattle.front.proofs.lock.KeptDesk.trim.Goals as goal
 

@@ -1,7 +1,7 @@
 use Rattle.std.proofs.Common.{◌≡◌, ◌++◌, ◌∷◌, [], false, nat_eq, sym, ◌∙◌, ap, subst}
 use Rattle.std.specs.Ordering.{nat_cmp}
 use Rattle.std.specs.BTreeSet.{contains}
-use Rattle.region_core.specs.Walks.{Adds}
+use Rattle.least_sets.specs.Walks.{Adds}
 use Rattle.region.proofs.Listing.{not_true, listing_more, listing_adds}
 use Rattle.region.proofs.found.Found.add.Goals as goal
 

@@ -1,7 +1,7 @@
 use Rattle.std.proofs.Common.{nat_eq, subst, []}
 use Rattle.std.proofs.lemmas.Bool.{false≢true}
 use Rattle.std.specs.List.{IsDistinct}
-use Rattle.region_core.specs.World.{has}
+use Rattle.least_sets.specs.World.{has}
 use Rattle.region.proofs.Listing.{adds_none}
 use Rattle.region.proofs.found.Found.add_all.Goals as goal
 

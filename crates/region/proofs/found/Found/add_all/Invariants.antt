@@ -1,6 +1,6 @@
 use Rattle.std.proofs.Common.{take}
-use Rattle.region_core.specs.World.{has}
-use Rattle.region_core.specs.Walks.{Adds}
+use Rattle.least_sets.specs.World.{has}
+use Rattle.least_sets.specs.Walks.{Adds}
 use Rattle.region.proofs.found.Found.add_all.Given as goal
 
 abbrev pub invariant-loop-id : goal.invariant-loop-id

@@ -5,8 +5,8 @@ use Rattle.names.specs.declared.commit.Commit.TheVariants as kinds
 use Rattle.meaning.specs.TupleSet as set
 use Rattle.meaning.specs.Config.{Configured}
 use Rattle.meaning.specs.History.{History, replay, after_commits, puts_in}
-use Rattle.rows_core.specs.declared.change.Change.{Change}
-use Rattle.rows_core.specs.Versions.{versions_at, GoesOn, Changes, HasSame}
+use Rattle.versions.specs.declared.change.Change.{Change}
+use Rattle.versions.specs.Versions.{versions_at, GoesOn, Changes, HasSame}
 use Rattle.rows.specs.declared.loaded.Counts.{Counts}
 use Rattle.rows.specs.Retained.{Retained, newest, with_commit, HasRoom}
 use Rattle.rows.specs.Representation.{as_retained, IsConsistent}

@@ -7,9 +7,9 @@ use Rattle.meaning.specs.TupleSet as set
 use Rattle.meaning.specs.Config.{Configured}
 use Rattle.meaning.specs.Snap.{Snap}
 use Rattle.meaning.specs.History.{History, replay, after_commits, puts_in}
-use Rattle.rows_core.specs.declared.version.Version.{Version}
-use Rattle.rows_core.specs.Versions.{versions_after, base_versions, AreVersions, GoesOn, Changes}
-use Rattle.rows_core.proofs.Settling.{after_push}
+use Rattle.versions.specs.declared.version.Version.{Version}
+use Rattle.versions.specs.Versions.{versions_after, base_versions, AreVersions, GoesOn, Changes}
+use Rattle.versions.proofs.Settling.{after_push}
 use Rattle.rows.specs.declared.config_at.ConfigAt.{ConfigAt}
 use Rattle.rows.specs.declared.loaded.Counts.{Counts}
 use Rattle.rows.specs.Retained.{Retained, newest, with_commit, without_newest}

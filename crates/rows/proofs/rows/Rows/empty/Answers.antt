@@ -10,7 +10,7 @@ use Rattle.rows.specs.declared.config_at.ConfigAt.{ConfigAt}
 use Rattle.rows.specs.declared.loaded.Counts.{Counts}
 use Rattle.rows.specs.declared.loaded.Loaded.{Loaded}
 use Rattle.rows.specs.Loads.{IsWithin, retained_of}
-use Rattle.rows_core.specs.Versions.{Entries, versions_at, base_versions}
+use Rattle.versions.specs.Versions.{Entries, versions_at, base_versions}
 use Rattle.rows.specs.Representation.{as_retained, IsConsistent}
 use Rattle.rows.proofs.Admitting.{of_all, none_admitted}
 use Rattle.rows.proofs.Committing.{consistent_as, as_retained_is}

@@ -4,11 +4,11 @@ use Rattle.std.proofs.lemmas.Result.{IfOk-weaker}
 use Rattle.meaning.specs.TupleSet as set
 use Rattle.tuple_keys.specs.Named.{is_of}
 use Rattle.names.specs.declared.tuple.Tuple.{Tuple}
-use Rattle.rows_core.specs.Named.{objects_in}
+use Rattle.versions.specs.Named.{objects_in}
 use Rattle.rows.specs.Retained.{Retained, snap_at}
-use Rattle.rows_core.specs.Versions.{stands}
+use Rattle.versions.specs.Versions.{stands}
 use Rattle.rows.specs.Representation.{as_retained}
-use Rattle.rows_core.proofs.Listing.{items_by, both_ok}
+use Rattle.versions.proofs.Listing.{items_by, both_ok}
 use Rattle.rows.proofs.Retaining.{stands_at, rising}
 use Rattle.rows.proofs.rows.Rows.objects_of.Goals as goal
 

@@ -6,9 +6,9 @@ use Rattle.names.specs.declared.tuple.Tuple.{Tuple}
 use Rattle.rows.specs.Retained.{Retained, snap_at}
 use Rattle.rows.specs.Tuplesets.{matches, is_after}
 use Rattle.rows.specs.inside.Reading.{is_sought, is_wanted}
-use Rattle.rows_core.specs.Versions.{stands}
+use Rattle.versions.specs.Versions.{stands}
 use Rattle.rows.specs.Representation.{as_retained}
-use Rattle.rows_core.proofs.Listing.{items_by}
+use Rattle.versions.proofs.Listing.{items_by}
 use Rattle.rows.proofs.Paging.{page_is}
 use Rattle.rows.proofs.Retaining.{stands_at, rising}
 use Rattle.rows.proofs.rows.Rows.read.Goals as goal

@@ -3,8 +3,8 @@ use Rattle.names.specs.declared.tuple.Tuple.{Tuple}
 use Rattle.meaning.specs.TupleSet as set
 use Rattle.meaning.specs.Config.{Configured}
 use Rattle.meaning.specs.History.{History, after_commits, rows_of}
-use Rattle.rows_core.specs.declared.version.Version.{Version}
-use Rattle.rows_core.specs.Versions.{versions_after, base_versions, AreVersions, AreVersionsFrom}
+use Rattle.versions.specs.declared.version.Version.{Version}
+use Rattle.versions.specs.Versions.{versions_after, base_versions, AreVersions, AreVersionsFrom}
 use Rattle.rows.specs.declared.loaded.Counts.{Counts}
 use Rattle.rows.specs.Retained.{Retained, newest, snap_at, after_trim}
 use Rattle.rows.specs.Representation.{as_retained, IsConsistent}

@@ -6,10 +6,10 @@ use Rattle.meaning.specs.TupleSet as set
 use Rattle.meaning.specs.Admits.{admits}
 use Rattle.meaning.specs.History.{after_commits}
 use Rattle.rows.specs.Retained.{Retained, newest_of}
-use Rattle.rows_core.specs.Versions.{is_there}
+use Rattle.versions.specs.Versions.{is_there}
 use Rattle.rows.specs.Representation.{as_retained}
 use Rattle.rows.proofs.Committing.{newest_these}
-use Rattle.rows_core.proofs.Listing.{items_by}
+use Rattle.versions.proofs.Listing.{items_by}
 use Rattle.rows.proofs.rows.Rows.tuple_in_the_way.Goals as goal
 
 pub returns : goal.returns

@@ -2,9 +2,9 @@ use Rattle.std.proofs.Common.{◌≤◌, ap, sym, subst, ◌∙◌, refl}
 use Rattle.std.proofs.lemmas.Result.{IfOk-weaker}
 use Rattle.meaning.specs.TupleSet as set
 use Rattle.rows.specs.Retained.{Retained, snap_at}
-use Rattle.rows_core.specs.Versions.{stands}
+use Rattle.versions.specs.Versions.{stands}
 use Rattle.rows.specs.Representation.{as_retained}
-use Rattle.rows_core.proofs.Listing.{items_by}
+use Rattle.versions.proofs.Listing.{items_by}
 use Rattle.rows.proofs.Retaining.{stands_at, rising}
 use Rattle.rows.proofs.rows.Rows.tuples_at.Goals as goal
 

@@ -3,11 +3,11 @@ use Rattle.std.specs.Prelude.{filter}
 use Rattle.std.proofs.lemmas.Result.{IfOk-weaker}
 use Rattle.std.proofs.lemmas.Option.{IfSome_then}
 use Rattle.meaning.specs.TupleSet as set
-use Rattle.rows_core.specs.Versions.{stands}
+use Rattle.versions.specs.Versions.{stands}
 use Rattle.tuple_keys.specs.Named.{is_at}
 use Rattle.rows.specs.Retained.{Retained, snap_at}
 use Rattle.rows.specs.Representation.{as_retained}
-use Rattle.rows_core.proofs.Listing.{items_by, both_ok}
+use Rattle.versions.proofs.Listing.{items_by, both_ok}
 use Rattle.rows.proofs.Retaining.{stands_at, rising}
 use Rattle.rows.proofs.rows.Rows.tuples_at_object.Goals as goal
 

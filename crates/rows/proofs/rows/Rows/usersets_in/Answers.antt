@@ -2,10 +2,10 @@ use Rattle.std.proofs.Common.{◌≤◌, List, ◌++◌, ap, sym, subst, ◌∙�
 use Rattle.std.specs.Prelude.{filter}
 use Rattle.names.specs.declared.tuple.Tuple.{Tuple}
 use Rattle.meaning.specs.TupleSet as set
-use Rattle.rows_core.specs.Versions.{stands}
-use Rattle.rows_core.specs.Named.{nodes_in}
+use Rattle.versions.specs.Versions.{stands}
+use Rattle.versions.specs.Named.{nodes_in}
 use Rattle.tuple_keys.specs.Named.{is_within}
-use Rattle.rows_core.proofs.Listing.{items_by, on_ok}
+use Rattle.versions.proofs.Listing.{items_by, on_ok}
 use Rattle.rows.specs.Retained.{Retained, snap_at}
 use Rattle.rows.specs.Representation.{as_retained}
 use Rattle.rows.proofs.Retaining.{stands_at, rising}

@@ -6,9 +6,9 @@ use Rattle.meaning.specs.History.{History}
 use Rattle.rows.specs.declared.config_at.ConfigAt.{ConfigAt}
 use Rattle.rows.specs.declared.loaded.Loaded.{Loaded}
 use Rattle.rows.specs.declared.loaded.Counts.{Counts}
-use Rattle.rows_core.specs.Versions.{versions_at, base_versions}
+use Rattle.versions.specs.Versions.{versions_at, base_versions}
 use Rattle.rows.specs.Representation.{as_retained, IsConsistent}
-use Rattle.rows_core.proofs.VersionRuns.{take_none}
+use Rattle.versions.proofs.VersionRuns.{take_none}
 use Rattle.rows.proofs.Committing.{consistent_as, as_retained_is}
 use Rattle.rows.proofs.Loading.{consistent_none}
 use Rattle.rows.proofs.rows.Rows.with_base.Goals as goal

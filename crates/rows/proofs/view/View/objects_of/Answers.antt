@@ -6,7 +6,7 @@ use Rattle.names.specs.declared.tuple.Tuple.{Tuple}
 use Rattle.meaning.specs.TupleSet as set
 use Rattle.meaning.specs.Snap.{Snap, one}
 use Rattle.tuple_keys.specs.Named.{is_of}
-use Rattle.rows_core.specs.Named.{objects_in}
+use Rattle.versions.specs.Named.{objects_in}
 use Rattle.rows.proofs.Naming.{of_node, is_of_itself, named_object, object_named}
 use Rattle.rows.proofs.view.View.objects_of.Goals as goal
 

@@ -5,7 +5,7 @@ use Rattle.std.proofs.lemmas.List.{take_all}
 use Rattle.names.specs.declared.node.Node.{Node}
 use Rattle.names.specs.declared.relation.SubjectType.{SubjectType}
 use Rattle.names.specs.declared.tuple.Tuple.{Tuple}
-use Rattle.config_core.specs.declared.relation.Relation.{Relation}
+use Rattle.config_text.specs.declared.relation.Relation.{Relation}
 use Rattle.meaning.specs.TupleSet as set
 use Rattle.meaning.specs.Admits.{Admits}
 use Rattle.meaning.specs.Config.{Configured, Has, rel_of}
@@ -14,7 +14,7 @@ use Rattle.meaning.specs.Snap.{Snap, set_of}
 use Rattle.meaning.proofs.AdmitsLemmas.{told_admitted}
 use Rattle.meaning.proofs.Lists.{contains_none}
 use Rattle.meaning.proofs.TupleSets.{contains_iff}
-use Rattle.rows_core.specs.Named.{nodes_in}
+use Rattle.versions.specs.Named.{nodes_in}
 use Rattle.tuple_keys.specs.Named.{is_within}
 use Rattle.rows.specs.Lookups.{DeclaresNodes}
 use Rattle.rows.proofs.Naming.{declared_none, declared_all, more_only, more_all, same_only, same_all}

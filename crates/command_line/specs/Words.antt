@@ -1,0 +1,27 @@
+-- What the words of a command line ask for.
+use Rattle.std.specs.Prelude.{ℕ, ◌≤◌, Bool, false, List, [], ◌∷◌, IfSome, bytes_eq, codes, ⊤}
+use Rattle.command_line.specs.declared.words.TheConstants.{MAX_WORKERS}
+use Rattle.command_line.specs.declared.words.Task.{Task}
+use Rattle.command_line.specs.declared.words.Task.TheVariants.{Run, Serve, Config}
+
+-- the word after the program's own is `serve`
+abbrev pub asks_to_serve : List (List ℕ) → Bool
+asks_to_serve [] = false
+asks_to_serve (program ∷ []) = false
+asks_to_serve (program ∷ word ∷ words) = bytes_eq word (codes "serve")
+
+-- P where connections are to be served
+abbrev pub OnServe : Task → Type 0 → Type 0
+OnServe (Serve place port workers) P = P
+OnServe (Run place) P = ⊤
+OnServe (Config file) P = ⊤
+
+-- a number of workers that the program serves by
+abbrev pub AreWorkers : ℕ → Type 0
+AreWorkers workers = (1 ≤ workers) × (workers ≤ MAX_WORKERS)
+
+-- where connections are to be served, the number of workers that is named is one of these
+abbrev pub NamesWorkers : Task → Type 0
+NamesWorkers (Serve place port workers) = IfSome workers AreWorkers
+NamesWorkers (Run place) = ⊤
+NamesWorkers (Config file) = ⊤

@@ -1,9 +1,0 @@
-use Rattle.std.proofs.Common.{◌≡◌, map}
-use Rattle.serde_json.specs.View.{members_view}
-use Rattle.config_core.specs.Texts.{relation_texts}
-use Rattle.config_core.specs.Shape.{relations_read}
-use Rattle.config_core.proofs.ByItem.{after}
-use Rattle.config_core.proofs.shape.read_relations.Given as goal
-
-abbrev pub invariant-loop-key : goal.invariant-loop-key
-invariant-loop-key l = after (map relation_texts l.relations.items) (relations_read l.namespace (members_view l.key-iterator)) ≡ relations_read l.namespace (members_view l.members.entries)

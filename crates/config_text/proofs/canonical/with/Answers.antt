@@ -1,0 +1,10 @@
+use Rattle.std.proofs.Common.{ap, ◌∙◌}
+use Rattle.serde_json.specs.Data.{put}
+use Rattle.serde_json.specs.View.{view, members_view}
+use Rattle.serde_json.proofs.Views.{members_view-insert_entry}
+use Rattle.config_text.proofs.canonical.with.Goals as goal
+
+pub returns : goal.returns
+returns c =
+    ap members_view c.in_ok-insert.ensures.entries ∙ members_view-insert_entry c.args.members.entries c.in_ok-name.name c.args.value
+    ∙ ap (λ k. put k (view c.args.value) (members_view c.args.members.entries)) c.in_ok-name.ensures.ok

@@ -1,0 +1,505 @@
+//! The desk: what lies under a store's lock.
+ghost use Rattle.std.specs.Prelude.{◌≡◌, ◌<◌, ◌≤◌, ◌↔◌, ◌⊎◌, ◌+◌, ◌∷◌, [], None, Some, true, false, Err, IsTrue, IfOk, IfErr, OnOk};
+ghost use mathlib.Core.List.{IsPrefix};
+ghost use Rattle.names.specs.declared.commit.Commit.TheVariants.{Config as ConfigCommit};
+ghost use Rattle.names.specs.declared.refusal.Refusal.TheVariants.{Memory, NoSeat, Reopen};
+ghost use Rattle.names.specs.declared.limits.TheConstants.{MAX_REV};
+ghost use Rattle.meaning.specs.Verdict.{config_cause};
+ghost use Rattle.rows.specs.Retained.{newest};
+ghost use Rattle.rows.specs.Follows.{IsAccepted, IsNext};
+ghost use Rattle.rows.specs.Judging.{ConfigRefused};
+ghost use Rattle.verdict.specs.Verdict.{AcceptsWrite, RefusesWrite};
+ghost use Rattle.shown.specs.declared.step.Step.TheVariants.{Commit as CommitStep, Take, Trim};
+ghost use Rattle.shown.specs.Standing.{standing, state_of, cursor_of, CanRaise};
+ghost use Rattle.shown.specs.Raising.{floor_cause, RefusesFloor};
+ghost use Rattle.expand.specs.declared.limits.TheConstants.{MAX_DEPTH};
+ghost use Rattle.shown.specs.Answers.{IsAnswer, IsRefusal};
+ghost use Rattle.shown.specs.Expanding.{IsTree, IsTreeRefusal};
+ghost use Rattle.leopard.specs.Exprs.{query_of};
+ghost use Rattle.shown.specs.Grouping.{AreGroups, IsGroupsRefusal};
+ghost use Rattle.shown.specs.Paging.{IsPage, IsPageRefusal};
+ghost use Rattle.shown.specs.Watching.{IsWatched, WatchRefused};
+ghost use Rattle.tables.specs.Device.{IsOpen};
+ghost use Rattle.tables.specs.Opening.{CannotOpen};
+ghost use Rattle.tables.specs.Storing.{PutsAbsent};
+ghost use Rattle.published.specs.declared.publication.TheConstants.{MAX_SESSIONS};
+ghost use Rattle.published.specs.Known.{Begins};
+ghost use Rattle.desk.specs.TableChanges.{Adds, Raises};
+ghost use Rattle.desk.specs.Posts.{Agrees, OpensWith, ComesBack, FailsToLoad, SameTables, ShowsMore, PostsStep, newest_posted, shown_by};
+ghost use Rattle.desk.specs.Changes.{Tells, TellsShown, IsStored, WriteAccepted, ConfigAccepted, CatchUpAccepted, TrimAccepted, IsRefused, IsCommitOfWrite, IsRaiseTo, IsNoChange, CatchUpJudged, receipt_at};
+ghost use Rattle.desk.specs.inside.Posting.{NoCause};
+
+use crate::latched_tables::{LatchedTables, load};
+use crate::opening::publish_first;
+use crate::storing::{store, store_floor};
+use config::Config;
+use expand::Tree;
+use leopard::Expr;
+use names::limits::MAX_CATCH_UP;
+use names::{Commit, Items, Node, Object, Part, Refusal, State, Tuple, Write};
+use published::{Opened, Publication, Receipt, Session};
+use rows::{Tupleset, events_of, refuses_what_no_write_gives};
+use shown::{Answer, Refused, Shown, Step};
+use std::alloc::Global;
+use std::marker::Model;
+use std::sync::Wait;
+use tables::{Puts, Tables, puts_of};
+use tuple_keys::KeptCommit;
+use watch::{Namespaces, Page};
+use zookie::{Consistency, Zookie};
+
+/// What a caller is told of a part that takes commits, and of a floor: the revision up to which the part has read them,
+/// once all that is posted is shown, or the floor; and the receipt, which names the newest shown revision.
+#[derive(Drop)]
+pub struct Posted {
+    pub value: u64,
+    pub receipt: Receipt,
+}
+
+/// The tables, the standing of all posted steps, and what is published of them. A posted step waits as long
+/// as there is no memory to publish it.
+#[derive(Drop)]
+pub struct Desk<T: Tables + Drop, R: Wait + Drop> {
+    alloc: Global,
+    tables: LatchedTables<T>,
+    own: Shown,
+    publication: Publication<R>,
+}
+
+impl<T: Tables + Drop, R: Wait + Drop> Model for Desk<T, R> {
+    ghost use Rattle.desk.specs.Posts.{Posts};
+    ghost use Rattle.desk.specs.inside.DeskCodes.{coded_posts};
+
+    ghost Value = { Posts T };
+
+    ghost coded = { coded_posts T.code };
+
+    ghost use Rattle.desk.specs.Invariant.{IsSound};
+
+    ghost view = { λ d. record {
+      tables = d.tables.tables;
+      book = d.publication.book;
+      posted = d.publication.posted;
+      shown = d.publication.shown;
+      failed = d.tables.failed;
+      faults = T.count d.tables.tables;
+      seats = d.publication.seats;
+    } };
+
+    ghost invariant = { λ d.
+        IsSound T.Tables d.tables.failed d.tables.tables d.own d.publication };
+}
+
+impl<T: Tables + Drop, R: Wait + Drop> Desk<T, R> {
+    /// A desk over tables, which shows what they hold. On a refusal the tables come back.
+    pub fn open(alloc: Global, rt: R, opened: Opened, tables: T) -> Result<Desk<T, R>, (Refusal, T)>
+        ensures posted { IfOk result (OpensWith T.Tables tables) }
+        ensures shown { IfOk result (λ desk. desk.shown ≡ desk.posted) }
+        ensures book { IfOk result (λ desk. desk.book ≡ opened.book) }
+        ensures seats { IfOk result (λ desk. desk.seats ≡ MAX_SESSIONS) }
+        ensures failed { IfOk result (λ desk. desk.failed ≡ false) }
+        ensures faults { IfOk result (λ desk. desk.faults ≡ T.count tables) }
+        ensures open { IfOk result (λ desk. IsOpen (T.device desk.tables)) }
+        ensures settled { IfOk result (λ desk.
+            T.leaves desk.tables ((standing desk.posted).kept ∷ [])) }
+        ensures back { IfOk result (λ desk. ComesBack T.Tables tables desk.tables) }
+        ensures err { IfErr result (λ refused. CannotOpen refused.0) }
+        ensures kept { IfErr result (λ refused. ComesBack T.Tables tables refused.1) }
+        ensures caused { IfErr result (λ refused. refused.0 ≡ Refusal.StoreFault
+            → IsOpen (T.device tables) → FailsToLoad T.Tables tables refused.1) }
+    {
+        let mut tables = tables;
+        let loaded = match load(&mut tables, alloc) {
+            Ok(loaded) => loaded,
+            Err(why) => return Err((why, tables)),
+        };
+        let Ok((own, publication)) = publish_first(alloc, rt, opened, Step::Open(loaded)) else {
+            return Err((Refusal::Memory, tables));
+        };
+        Ok(Desk {
+            alloc,
+            tables: LatchedTables::new(tables),
+            own,
+            publication,
+        })
+    }
+
+    /// Gives the tables back. Sessions are answered no more. A posted step that waits to be shown is stored
+    /// already.
+    pub fn close(self) -> T
+        ensures same { result ≡ self.tables }
+        ensures agrees { Agrees T.Tables self.failed result (standing self.posted).kept }
+    {
+        self.tables.into_tables()
+    }
+
+    /// Does operations on distinct tuples together, if the conditions hold, or none of them. It is judged on all that is
+    /// posted, shown or not.
+    pub fn write(&mut self, write: Write<Zookie>) -> Result<Receipt, Refusal>
+        ensures ok { IfOk result (λ receipt. WriteAccepted T.Tables self.old write receipt self.new) }
+        ensures err { IfErr result (λ why.
+            IsRefused T.Tables self.old (IsCommitOfWrite (standing self.old.posted).kept write)
+            (RefusesWrite (standing self.old.posted).kept write) why self.new) }
+        ensures seats { self.new.seats ≡ self.old.seats }
+    {
+        self.make_ready()?;
+        self.judge_write(&write)?;
+        let Write { ops, .. } = write;
+        let puts = puts_of(ops.as_slice());
+        let events = events_of(ops)?;
+        refuses_what_no_write_gives();
+        self.post(Commit::Tuples(events), puts)
+    }
+
+    /// Puts a configuration in the place of the one before.
+    pub fn configure(&mut self, config: Config) -> Result<Receipt, Refusal>
+        ensures ok { IfOk result (λ receipt.
+            ConfigAccepted T.Tables self.old config receipt self.new) }
+        ensures err { IfErr result (λ why.
+            IsRefused T.Tables self.old (λ change. change ≡ Adds (ConfigCommit config))
+            (ConfigRefused (newest_posted self.old) config) why self.new) }
+        ensures seats { self.new.seats ≡ self.old.seats }
+    {
+        self.make_ready()?;
+        self.judge_config(&config)?;
+        self.post(Commit::Config(config), Puts::Absent)
+    }
+
+    /// Has a part take so many commits more, or as many as there are. Over 65,536 are malformed. The tables
+    /// are not changed.
+    pub fn catch_up(&mut self, part: Part, commits: u64) -> Result<Posted, Refusal>
+        ensures ok { IfOk result (λ posted.
+            CatchUpAccepted self.old part commits posted.value posted.receipt self.new) }
+        ensures err { IfErr result (λ why.
+            IsRefused T.Tables self.old IsNoChange (CatchUpJudged commits) why self.new) }
+        ensures seats { self.new.seats ≡ self.old.seats }
+    {
+        self.make_ready()?;
+        if commits > MAX_CATCH_UP {
+            return Err(Refusal::Malformed);
+        }
+        self.take(part, commits as u32)
+    }
+
+    /// Raises the floor to the zookie's revision, in the tables and then in what is shown. At or below the floor nothing
+    /// changes.
+    pub fn trim(&mut self, floor: Zookie) -> Result<Posted, Refusal>
+        ensures ok { IfOk result (λ posted.
+            TrimAccepted T.Tables self.old floor posted.value posted.receipt self.new) }
+        ensures err { IfErr result (λ why.
+            IsRefused T.Tables self.old (IsRaiseTo (standing self.old.posted) floor)
+            (RefusesFloor (standing self.old.posted) floor) why self.new) }
+        ensures seats { self.new.seats ≡ self.old.seats }
+    {
+        self.make_ready()?;
+        self.judge_floor(&floor)?;
+        if floor.rev <= self.floor() {
+            return Ok(self.tell_floor());
+        }
+        self.raise(floor.rev)
+    }
+
+    /// A session that knows what is shown now. It is refused exactly where all have been given out; the place of
+    /// one that is dropped is not given out again.
+    pub fn session(&mut self) -> Result<Session, Refusal>
+        ensures more { ShowsMore self.old self.new }
+        ensures same { SameTables self.old self.new }
+        ensures known { IfOk result (λ session. Begins (shown_by self.new) session) }
+        ensures seats { IfOk result (λ _. self.new.seats + 1 ≡ self.old.seats) }
+        ensures none { (result ≡ Err NoSeat) ↔ (self.old.seats ≡ 0) }
+        ensures err { IfErr result (λ why. (why ≡ NoSeat) × (self.new.seats ≡ self.old.seats)) }
+    {
+        self.publish();
+        self.publication.session()
+    }
+
+    /// Lets a session know what is shown now. The receipt names the newest shown revision.
+    pub fn refresh(&mut self, session: &mut Session) -> Receipt
+        requires { session.old.book ≡ self.old.book }
+        ensures more { ShowsMore self.old self.new }
+        ensures same { SameTables self.old self.new }
+        ensures seats { self.new.seats ≡ self.old.seats }
+        ensures tells { TellsShown result self.new }
+        ensures kept { Begins session.old session.new }
+        ensures known { Begins (shown_by self.new) session.new }
+        ensures least { (session.new ≡ session.old) ⊎ (session.new ≡ shown_by self.new) }
+    {
+        let shown = self.publish();
+        let receipt = self.shown_receipt(shown);
+        session.learn(&receipt);
+        receipt
+    }
+
+    /// Shows what waits, as far as there is memory, and says whether all that is posted is shown.
+    pub fn publish(&mut self) -> bool
+        ensures more { ShowsMore self.old self.new }
+        ensures all { IsTrue result ↔ (self.new.shown ≡ self.new.posted) }
+        ensures same { SameTables self.old self.new }
+        ensures seats { self.new.seats ≡ self.old.seats }
+    {
+        self.publication.publish()
+    }
+
+    /// Whether the user is a member of the node, at a shown revision that is as fresh as is asked.
+    pub fn check(
+        &self,
+        consistency: &Consistency,
+        node: &Node,
+        user: &Object,
+    ) -> Result<Answer<bool>, Refused>
+        ensures ok { IfOk result
+            (IsAnswer (standing self.now.shown) consistency.now node.now user.now) }
+        ensures err { IfErr result (IsRefusal (standing self.now.shown) consistency.now node.now) }
+        ensures beginning { IsPrefix self.now.shown self.now.posted }
+    {
+        self.publication.shown().check(consistency, node, user)
+    }
+
+    /// The userset tree of the node, at a shown revision that is as fresh as is asked. At most `depth` nodes are open on a
+    /// path of it, 1 to 8.
+    pub fn expand(
+        &self,
+        consistency: &Consistency,
+        node: &Node,
+        depth: u8,
+    ) -> Result<Answer<Tree>, Refused>
+        requires opens { 1 ≤ depth }
+        requires bounded { depth ≤ MAX_DEPTH }
+        ensures ok { IfOk result (IsTree (standing self.now.shown) consistency.now node.now depth) }
+        ensures err { IfErr result
+            (IsTreeRefusal (standing self.now.shown) consistency.now node.now depth) }
+        ensures beginning { IsPrefix self.now.shown self.now.posted }
+    {
+        self.publication.shown().expand(consistency, node, depth)
+    }
+
+    /// The page of a tupleset, at a shown revision that is as fresh as is asked.
+    pub fn read(
+        &self,
+        consistency: &Consistency,
+        asked: &Tupleset,
+    ) -> Result<Answer<Items<Tuple>>, Refused>
+        ensures ok { IfOk result (IsPage (standing self.now.shown) consistency.now asked.now) }
+        ensures err { IfErr result (IsPageRefusal (standing self.now.shown) consistency.now) }
+        ensures beginning { IsPrefix self.now.shown self.now.posted }
+    {
+        self.publication.shown().read(consistency, asked)
+    }
+
+    /// The first so many groups that the expression means, at a shown revision that is as fresh as is asked.
+    pub fn groups(
+        &self,
+        consistency: &Consistency,
+        expr: &Expr,
+        limit: u32,
+    ) -> Result<Answer<Items<Node>>, Refused>
+        ensures ok { IfOk result
+            (AreGroups (standing self.now.shown) consistency.now (query_of expr.now) limit) }
+        ensures err { IfErr result
+            (IsGroupsRefusal (standing self.now.shown) consistency.now (query_of expr.now) limit) }
+        ensures beginning { IsPrefix self.now.shown self.now.posted }
+    {
+        self.publication.shown().groups(consistency, expr, limit)
+    }
+
+    /// The events on tuples of the namespaces, of so many shown commits above the cursor's revision, or of as many as there
+    /// are.
+    pub fn watch(
+        &self,
+        cursor: &Zookie,
+        namespaces: &Namespaces,
+        commits: u32,
+    ) -> Result<Page, Refusal>
+        ensures ok { IfOk result
+            (IsWatched (standing self.now.shown) cursor.now namespaces.now commits) }
+        ensures err { IfErr result (WatchRefused (standing self.now.shown) cursor.now) }
+        ensures beginning { IsPrefix self.now.shown self.now.posted }
+    {
+        self.publication.shown().watch(cursor, namespaces, commits)
+    }
+
+    /// The shown revisions, and how large the history is at the newest of them.
+    pub fn state(&self) -> State
+        ensures { result ≡ state_of (standing self.now.shown) }
+    {
+        self.publication.shown().state()
+    }
+
+    /// The store's number.
+    pub fn number(&self) -> u64
+        ensures posted { result ≡ (standing self.now.posted).kept.number }
+        ensures shown { result ≡ (standing self.now.shown).kept.number }
+    {
+        self.own.number()
+    }
+
+    /// The newest shown revision.
+    pub fn newest(&self) -> u64
+        ensures { result ≡ newest (standing self.now.shown).kept }
+    {
+        self.publication.newest()
+    }
+
+    /// Whether the tables failed. After that every change is refused.
+    pub fn has_failed(&self) -> bool
+        ensures { result ≡ self.now.failed }
+    {
+        self.tables.has_failed()
+    }
+
+    // Shows what waits. No change is judged where the tables have failed.
+    fn make_ready(&mut self) -> Result<(), Refusal>
+        ensures more { ShowsMore self.old self.new }
+        ensures same { SameTables self.old self.new }
+        ensures seats { self.new.seats ≡ self.old.seats }
+        ensures ok { OnOk result (self.old.failed ≡ false) }
+        ensures err { IfErr result (λ why. (why ≡ Reopen) × (self.old.failed ≡ true)) }
+    {
+        self.publish();
+        if self.has_failed() {
+            Err(Refusal::Reopen)
+        } else {
+            Ok(())
+        }
+    }
+
+    // Why a write is refused, if it is.
+    fn judge_write(&self, write: &Write<Zookie>) -> Result<(), Refusal>
+        ensures ok { OnOk result (AcceptsWrite (standing self.now.posted).kept write.now) }
+        ensures accepted { OnOk result (IsAccepted (newest_posted self.now) write.now.ops) }
+        ensures err { IfErr result (RefusesWrite (standing self.now.posted).kept write.now) }
+    {
+        self.own.judge_write(write)
+    }
+
+    // Why a configuration is refused, if it is.
+    fn judge_config(&self, config: &Config) -> Result<(), Refusal>
+        ensures ok { OnOk result (config_cause (newest_posted self.now) config.now ≡ None) }
+        ensures err { IfErr result (ConfigRefused (newest_posted self.now) config.now) }
+    {
+        self.own.judge_config(config)
+    }
+
+    // Why the floor cannot be raised to a zookie's revision, if it cannot.
+    fn judge_floor(&self, floor: &Zookie) -> Result<(), Refusal>
+        ensures ok { OnOk result (floor_cause (standing self.now.posted) floor.now ≡ None) }
+        ensures err { IfErr result (λ why.
+            floor_cause (standing self.now.posted) floor.now ≡ Some why) }
+        ensures within { OnOk result (floor.now.rev ≤ MAX_REV) }
+        ensures can { OnOk result ((standing self.now.posted).kept.floor < floor.now.rev
+            → CanRaise (standing self.now.posted) floor.now.rev) }
+    {
+        self.own.judge_floor(floor)
+    }
+
+    // Stores a commit, posts it, and shows it. All who keep it share it. Room is taken for its step first.
+    fn post(&mut self, commit: Commit<Config>, puts: Puts) -> Result<Receipt, Refusal>
+        requires open { self.old.failed ≡ false }
+        requires next { IsNext (standing self.old.posted).kept commit }
+        requires puts { puts ≡ Puts.Absent → PutsAbsent (standing self.old.posted).kept commit }
+        ensures posts { OnOk result (PostsStep self.old (CommitStep commit) self.new) }
+        ensures tells { IfOk result (λ receipt. Tells receipt self.new) }
+        ensures stored { OnOk result (IsStored T.Tables self.old self.new) }
+        ensures err { IfErr result (λ why.
+            IsRefused T.Tables self.old (λ made. made ≡ Adds commit) NoCause why self.new) }
+        ensures seats { self.new.seats ≡ self.old.seats }
+    {
+        let kept = KeptCommit::of(self.alloc, &commit)?;
+        self.publication.reserve()?;
+        let step = store(&mut self.tables, &mut self.own, &kept, puts)?;
+        self.publication.post(step);
+        let shown = self.publish();
+        Ok(self.receipt(self.own.newest(), shown))
+    }
+
+    // Posts that a part takes commits, and shows it.
+    fn take(&mut self, part: Part, commits: u32) -> Result<Posted, Refusal>
+        requires open { self.old.failed ≡ false }
+        ensures posted { OnOk result (PostsStep self.old (Take part commits) self.new) }
+        ensures same { (self.new.tables ≡ self.old.tables) × (self.new.failed ≡ false) }
+        ensures moved { IfOk result (λ posted.
+            posted.value ≡ cursor_of part (standing self.new.posted)) }
+        ensures tells { IfOk result (λ posted. TellsShown posted.receipt self.new) }
+        ensures err { IfErr result (λ why. (why ≡ Memory) × (self.new ≡ self.old)) }
+        ensures seats { self.new.seats ≡ self.old.seats }
+    {
+        self.publication.reserve()?;
+        let step = Step::Take(part, commits);
+        self.own.apply(&step)?;
+        self.publication.post(step);
+        let shown = self.publish();
+        let value = self.cursor(part);
+        let receipt = self.shown_receipt(shown);
+        Ok(Posted { value, receipt })
+    }
+
+    // Stores a higher floor, posts it, and shows it. Room is taken for its step first.
+    fn raise(&mut self, floor: u64) -> Result<Posted, Refusal>
+        requires open { self.old.failed ≡ false }
+        requires can { CanRaise (standing self.old.posted) floor }
+        requires small { floor ≤ MAX_REV }
+        ensures posts { OnOk result (PostsStep self.old (Trim floor) self.new) }
+        ensures stored { OnOk result (IsStored T.Tables self.old self.new) }
+        ensures value { IfOk result (λ posted.
+            posted.value ≡ (standing self.new.posted).kept.floor) }
+        ensures tells { IfOk result (λ posted. TellsShown posted.receipt self.new) }
+        ensures err { IfErr result (λ why.
+            IsRefused T.Tables self.old (λ made. made ≡ Raises floor) NoCause why self.new) }
+        ensures seats { self.new.seats ≡ self.old.seats }
+    {
+        self.publication.reserve()?;
+        let step = store_floor(&mut self.tables, &mut self.own, floor)?;
+        self.publication.post(step);
+        Ok(self.tell_floor())
+    }
+
+    // Shows what waits, and tells the floor.
+    fn tell_floor(&mut self) -> Posted
+        ensures more { ShowsMore self.old self.new }
+        ensures same { SameTables self.old self.new }
+        ensures value { result.value ≡ (standing self.new.posted).kept.floor }
+        ensures tells { TellsShown result.receipt self.new }
+        ensures seats { self.new.seats ≡ self.old.seats }
+    {
+        let shown = self.publish();
+        let value = self.floor();
+        let receipt = self.shown_receipt(shown);
+        Posted { value, receipt }
+    }
+
+    // The floor.
+    fn floor(&self) -> u64
+        ensures { result ≡ (standing self.now.posted).kept.floor }
+    {
+        self.own.state().floor
+    }
+
+    // The cursor of a part.
+    fn cursor(&self, part: Part) -> u64
+        ensures { result ≡ cursor_of part (standing self.now.posted) }
+    {
+        let state = self.own.state();
+        match part {
+            Part::Index => state.index,
+            Part::Hot => state.hot,
+        }
+    }
+
+    // The receipt of a change at this revision.
+    fn receipt(&self, rev: u64, shown: bool) -> Receipt
+        ensures { result ≡ receipt_at self.now rev shown }
+    {
+        let zookie = Zookie {
+            store: self.number(),
+            rev,
+        };
+        Receipt::new(zookie, shown, self.publication.shown_steps())
+    }
+
+    // The receipt that names the newest shown revision.
+    fn shown_receipt(&self, shown: bool) -> Receipt
+        ensures { result ≡ receipt_at self.now (newest (standing self.now.shown).kept) shown }
+    {
+        self.receipt(self.publication.newest(), shown)
+    }
+}

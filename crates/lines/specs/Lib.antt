@@ -1,0 +1,5 @@
+pub mod Text
+pub mod Machine
+pub mod Served
+pub mod PendingLine
+pub mod Going

@@ -1,9 +1,0 @@
-use Rattle.std.proofs.Common.{[]}
-use Rattle.std.specs.Prelude.{Some}
-use Rattle.tuple_keys.specs.Spelled.{spelled_node}
-use Rattle.tuple_keys.specs.Named.{is_of}
-use Rattle.rows_core.proofs.Going.{Left}
-use Rattle.rows_core.proofs.version_map.VersionMap.tuples_of.Given as goal
-
-abbrev pub invariant-loop-text : goal.invariant-loop-text
-invariant-loop-text l = Left Some (spelled_node l.node) (is_of l.node) l.rev l.self [] l.tuples.items l.text-iterator

@@ -1,6 +1,0 @@
-use Rattle.std.proofs.Common.{rules}
-use Rattle.store_core.proofs.TableReads.{config_number}
-use Rattle.store_core.proofs.loading.read_config.Goals as goal
-
-pub returns-in_err-read_number-clause-unread : goal.returns-in_err-read_number-clause-unread
-returns-in_err-read_number-clause-unread c = search (rules, config_number c.args.row.now)

@@ -1,7 +1,0 @@
-use Rattle.std.proofs.Common.{◌≡◌, map, take}
-use Rattle.store_core.specs.Tables.{entry_cells, two}
-use Rattle.store_core.specs.Stored.{entry_in}
-use Rattle.store_core.proofs.loading.read_entries.Given as goal
-
-abbrev pub invariant-loop-row : goal.invariant-loop-row
-invariant-loop-row l = map two (take l.row-index l.rows) ≡ map entry_cells (map entry_in l.entries.items)

@@ -1,9 +1,0 @@
-use Rattle.std.proofs.Common.{◌≡◌, ◌<◌, ◌^◌, All, map, take}
-use Rattle.store_core.specs.Tables.{id_cells, one}
-use Rattle.store_core.proofs.loading.read_ids.Given as goal
-
-abbrev pub invariant-loop-row : goal.invariant-loop-row
-invariant-loop-row l = record {
-  read : map one (take l.row-index l.rows) ≡ map id_cells l.ids.items;
-  fits : All (λ n. n < 2 ^ 63) l.ids.items;
-}

@@ -1,0 +1,78 @@
+//! The versions at one text.
+ghost use Rattle.std.specs.Prelude.{◌≡◌, true, OnOk, OnErr};
+ghost use Rattle.std.specs.Option.{option_map};
+ghost use Rattle.versions.specs.Versions.{items_or, versions_at, is_based, with_version, drop_last, after_settle, base_versions};
+ghost use Rattle.versions.specs.Texts.{entries_of, AreSpelled, TextsStay, TextsChangeAt};
+
+use crate::version::{Version, Versions};
+use names::Tuple;
+use shelf::Shelf;
+use std::alloc::{AllocError, Global};
+use tuple_keys::{Scratch, TupleRef};
+
+/// The tuples that have versions, as their texts, each with its versions.
+pub(crate) type Texts = Shelf<Versions>;
+
+pub(crate) fn versions_of<'a>(map: &'a Texts, key: &TupleRef<'_>) -> Option<&'a Versions>
+    requires { AreSpelled map.now }
+    ensures { items_or (option_map (λ vs. vs.now) result) ≡ versions_at (entries_of map.now) key.now }
+{
+    map.get(key.as_str())
+}
+
+pub(crate) fn push_version(
+    alloc: Global,
+    map: &mut Texts,
+    key: &TupleRef<'_>,
+    version: Version,
+) -> Result<(), AllocError>
+    requires { AreSpelled map.old }
+    ensures spelled { AreSpelled map.new }
+    ensures ok { OnOk result (TextsChangeAt key.now (with_version version) map.old map.new) }
+    ensures err { OnErr result (TextsStay map.old map.new) }
+{
+    if let Some(versions) = map.get_mut(key.as_str()) {
+        return match versions.add(version) {
+            Ok(()) => Ok(()),
+            Err(e) => Err(e),
+        };
+    }
+    map.insert(key.as_str(), Versions::one(alloc, version))?;
+    Ok(())
+}
+
+pub(crate) fn pop_version(map: &mut Texts, key: &TupleRef<'_>)
+    requires { AreSpelled map.old }
+    ensures spelled { AreSpelled map.new }
+    ensures versions { TextsChangeAt key.now drop_last map.old map.new }
+{
+    if let Some(versions) = map.get_mut(key.as_str()) {
+        versions.drop_newest();
+    }
+}
+
+pub(crate) fn settle_version(map: &mut Texts, key: &TupleRef<'_>) -> bool
+    requires { AreSpelled map.old }
+    ensures spelled { AreSpelled map.new }
+    ensures versions { TextsChangeAt key.now after_settle map.old map.new }
+    ensures was_based { result ≡ is_based (versions_at (entries_of map.old) key.now) }
+{
+    if let Some(versions) = map.get_mut(key.as_str()) {
+        return versions.settle();
+    }
+    false
+}
+
+/// Puts the tuple into what the floor holds.
+pub(crate) fn put_base(alloc: Global, map: &mut Texts, tuple: &Tuple) -> Result<(), AllocError>
+    requires { AreSpelled map.old }
+    ensures spelled { AreSpelled map.new }
+    ensures ok { OnOk result (TextsChangeAt tuple.now (λ _. base_versions true) map.old map.new) }
+{
+    let scratch = Scratch::of(tuple);
+    let key = scratch.tuple_ref();
+    let version = Version { rev: 0, put: true };
+    let versions = Versions::one(alloc, version);
+    map.insert(key.as_str(), versions)?;
+    Ok(())
+}

@@ -1,2 +1,0 @@
-pub mod PendingLine
-pub mod Going
