@@ -6,11 +6,11 @@ use Rattle.config_text.specs.Forms.{form_of}
 use Rattle.config_text.specs.declared.relation.Relation.{Relation}
 use Rattle.leopard.specs.inside.Asking.{Gains, IsComputed}
 use Rattle.leopard.proofs.Arcs.{set_known, arcs_with, arcs_without}
-use Rattle.leopard.proofs.walk.ends_of.Goals as goal
+use Rattle.leopard.proofs.walk.ViewArcs.ends_of.Goals as goal
 
 pub returns-in_default : goal.returns-in_default
 returns-in_default c =
-    let S = c.args.view.now in
+    let S = c.args.self.now in
     let n = c.args.node.now in
     let known = set_known S (subst valid.IsValid c.config-config.ensures.config c.relations-relations.ensures.valid) c.config-config.ensures.admitted n in
     arcs_without S n c.in_ok-ends.ends.items c.in_ok-ends.ensures.only c.in_ok-ends.ensures.all known
@@ -18,7 +18,7 @@ returns-in_default c =
 
 pub returns : goal.returns
 returns c =
-    let S = c.args.view.now in
+    let S = c.args.self.now in
     let n = c.args.node.now in
     let known = set_known S (subst valid.IsValid c.config-config.ensures.config c.relations-relations.ensures.valid) c.config-config.ensures.admitted n in
     let stands = c.in-Some.ensures.found in
