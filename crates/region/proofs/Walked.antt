@@ -297,8 +297,11 @@ pub walk_more : (tells more : ℕ → Fact → Type 0) (old : Rows) (touched roo
 walk_more tells more old touched roots turned first at node found found' told told' asked asked' grows so_far lt e v = record {
   are_told = subst (λ (xs : List Told). AreTold more xs) (sym v.told_is)
       (are_told_push more told v.t (are_told_more tells more told grows so_far.are_told) (subst (λ n. more n (fact_of v.t)) (sym v.node_is) v.fact_is));
-  some = (next, subst (λ (xs : List Told). Tells next xs) (sym v.told_is)
-      (tells_push next told v.t (tells_elsewhere so_far.some.0 told v.t.node (fact_of v.t) new so_far.some.1) (with_same so_far.some.0 v.t.node (fact_of v.t))));
+  some = (
+    next,
+    subst (λ (xs : List Told). Tells next xs) (sym v.told_is)
+        (tells_push next told v.t (tells_elsewhere so_far.some.0 told v.t.node (fact_of v.t) new so_far.some.1) (with_same so_far.some.0 v.t.node (fact_of v.t))),
+  );
   each = λ world t.
       let two = tells_both world told v.t (subst (λ (xs : List Told). Tells world xs) v.told_is t) in
       gather_more world old touched roots turned first at node found found' told told' asked asked' (so_far.each world two.0) lt e
