@@ -10,3 +10,5 @@ pub use table::{Known, Table, gather_by, refresh_by};
 mod parts;
 #[cfg(test)]
 mod rows;
+#[cfg(test)]
+mod views;
