@@ -1,7 +1,12 @@
 -- The arcs of a configuration by itself.
-use Rattle.std.proofs.Common.{◌≡◌, ℕ, List, [], refl, inl, inr, ⊎_elim}
+use Rattle.std.proofs.Common.{◌≡◌, ℕ, List, [], refl, sym, ◌∙◌}
 use Rattle.std.specs.Prelude.{Contains}
+use Rattle.std.proofs.lemmas.Bool.{false≢true}
 use Rattle.names.specs.declared.node.Node.{Node}
+use Rattle.names.specs.declared.tuple.Tuple.{Tuple}
+use Rattle.meaning.specs.TupleSet as set
+use Rattle.meaning.specs.Snap.{set_of}
+use Rattle.meaning.proofs.TupleSets.{contains_empty, contains_iff}
 use Rattle.meaning.specs.Form.{Form}
 use Rattle.meaning.specs.Config.{Configured, Has, rel_of}
 use Rattle.meaning.specs.Membership.{HasSet}
@@ -14,7 +19,9 @@ use Rattle.leopard.proofs.Arcs.{arcs_with, arcs_without}
 
 -- there is no tuple
 pub no_set : (c : Configured) (n m : Node) → HasSet (bare c) n m → ⊥
-no_set c n m h = contains_none _ h
+no_set c n m h =
+    let t : Tuple = record { node = n; subject = set_of m } in
+    false≢true (sym (contains_empty t) ∙ (contains_iff set.empty t).1 h)
 
 module _ (c : Configured) (n : Node) where
   only : (m : Node) → Contains [] m → HasSet (bare c) n m

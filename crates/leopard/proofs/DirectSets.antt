@@ -1,9 +1,9 @@
 -- The direct groups of each user, as they are gathered.
 use Rattle.std.proofs.Common.{◌≡◌, ℕ, zero, suc, ◌+◌, ◌<◌, ◌≤◌, List, [], ◌∷◌, ◌++◌, length, get_or, Bool, true, false, cond, refl, ap, ap₂, sym, subst, ◌∙◌, inl, inr, ⊎_elim, arith, length-append, length-set}
-use Rattle.std.specs.Prelude.{◌↔◌, ◌⊎◌, ◌||◌, Some, None, is_some, nat_lt, nat_eq, slice_index_or, slice_set}
+use Rattle.std.specs.Prelude.{◌↔◌, ◌⊎◌, ◌||◌, Option, Some, None, is_some, nat_lt, nat_eq, slice_index_or, slice_set}
 use Rattle.std.specs.List.{slice_get}
 use Rattle.std.proofs.lemmas.Bool.{false≢true, cases_lt, ltb-true, lt-ltb, eqb-true, eq-eqb, or_cases}
-use Rattle.std.proofs.lemmas.List.{get_or_append_left, get_or_push, get_or-set_same, get_or-set_other}
+use Rattle.std.proofs.lemmas.List.{get_or_default, get_or_append_left, get_or_push, get_or-set_same, get_or-set_other}
 use Rattle.std.proofs.lemmas.Option.{none-some, same_Some, slice_get_within}
 use Rattle.names.specs.declared.object.Object.{Object}
 use Rattle.names.specs.declared.node.Node.{Node}
@@ -52,7 +52,7 @@ module _ (users : List Object) (sets : List (List ℕ)) (even : length sets ≡ 
       elim (nat_lt at (length users)) as (λ b. nat_lt at (length users) ≡ b → users1 ≡ cond b users (users ++ user ∷ []) → (length sets1 ≡ length users1) × ((u : Object) (id : ℕ) → HasId users1 sets1 u id ↔ HasId users sets u id)) [
         | true ↦ λ lt old. ⊎_elim
             (λ (e, is). absurd (omega (arith, e, even, ltb-true at (length users) lt)))
-            (λ (no, is). (
+            (λ (apart, is). (
               ap length is ∙ even ∙ ap length (sym old),
               λ u id. subst (λ us. HasId us sets1 u id ↔ HasId users sets u id) (sym old) (subst (λ ss. HasId users ss u id ↔ HasId users sets u id) (sym is) (λ h. h, λ h. h)),
             ))
@@ -62,13 +62,13 @@ module _ (users : List Object) (sets : List (List ℕ)) (even : length sets ≡ 
               ap length is ∙ length-append sets ([] ∷ []) ∙ ap (λ k. k + 1) even ∙ sym (length-append users (user ∷ [])) ∙ ap length (sym more),
               λ u id. subst (λ us. HasId us sets1 u id ↔ HasId users sets u id) (sym more) (subst (λ ss. HasId (users ++ user ∷ []) ss u id ↔ HasId users sets u id) (sym is) (room_new u id)),
             ))
-            (λ (no, is). absurd (no (last_place (subst (λ us. slice_get us at ≡ Some user) more there) lt)))
+            (λ (apart, is). absurd (apart (last_place (subst (λ us. slice_get us at ≡ Some user) more there) lt)))
             made
       ] refl put
     where
       last_place : slice_get (users ++ user ∷ []) at ≡ Some user → nat_lt at (length users) ≡ false → at ≡ length sets
-      last_place h no = ⊎_elim
-          (λ old. absurd (false≢true (sym no ∙ lt-ltb at (length users) (slice_get_within users at user old))))
+      last_place h past = ⊎_elim
+          (λ old. absurd (false≢true (sym past ∙ lt-ltb at (length users) (slice_get_within users at user old))))
           (λ e. e ∙ sym even)
           (push_cases users user at user h)
 
@@ -86,7 +86,7 @@ put_id users sets sets2 at user group new there lt is put u id = (
 )
   where
     other_place : (k : ℕ) → (k ≡ at → ⊥) → get_or (slice_set sets at new) k [] ≡ get_or sets k []
-    other_place k no = get_or-set_other sets at k new [] no
+    other_place k apart = get_or-set_other sets at k new [] apart
 
     at_place : has (get_or (slice_set sets at new) at []) id ≡ true → (has (get_or sets at []) id ≡ true) ⊎ (id ≡ group)
     at_place h = ⊎_elim (λ e. inr (eqb-true id group e)) inl
@@ -116,20 +116,43 @@ put_id users sets sets2 at user group new there lt is put u id = (
         let e : k ≡ at = omega (arith, l, m) in
         subst (λ j. has (get_or (slice_set sets at new) j []) id ≡ true) (sym e) (kept_here (subst (λ j. has (get_or sets j []) id ≡ true) e h))
 
+-- a user was seen, and a group put into its set
+pub added_user : (users users1 : List Object) (sets sets1 : List (List ℕ)) (user : Object) (at group : ℕ) (old new : List ℕ) → length sets ≡ length users → slice_get users1 at ≡ Some user
+    → users1 ≡ cond (nat_lt at (length users)) users (users ++ user ∷ []) → ((at ≡ length sets) × (sets1 ≡ sets ++ [] ∷ [])) ⊎ ((at ≡ length sets → ⊥) × (sets1 ≡ sets))
+    → old ≡ get_or sets1 at old → ((other : ℕ) → has new other ≡ (nat_eq other group || has old other))
+    → (length (slice_set sets1 at new) ≡ length users1) × ((u : Object) (id : ℕ) → HasId users1 (slice_set sets1 at new) u id ↔ (HasId users sets u id ⊎ ((u ≡ user) × (id ≡ group))))
+added_user users users1 sets sets1 user at group old new even there put made is adds =
+    let room = room_for users sets even user users1 sets1 at there put made in
+    let lt : at < length sets1 = omega (arith, room.0, slice_get_within users1 at user there) in
+    let same : old ≡ get_or sets1 at [] = is ∙ get_or_default sets1 at old [] lt in
+    (length-set sets1 at new ∙ room.0, λ u id.
+    let more = put_id users1 sets1 (slice_set sets1 at new) at user group new there lt refl (λ other. adds other ∙ ap (λ l. nat_eq other group || has l other) same) u id in (
+      λ h. ⊎_elim (λ k. inl ((room.1 u id).0 k)) inr (more.0 h),
+      λ h. more.1 (⊎_elim (λ k. inl ((room.1 u id).1 k)) inr h),
+    ))
+
+none_of : {A : Type 0} (o : Option A) → is_some o ≡ false → o ≡ None
+none_of None e = refl
+none_of (Some x) e = absurd (false≢true (sym e))
+
 module _ (config : Configured) (names : List Node) (t : Tuple) (u : Object) (id : ℕ) where
   -- the tuple names a user, of a group that has an id
-  pub tells_one : AreDistinct names → t.subject.relation ≡ None → is_indexed config (rel_of t.node) ≡ true → (group : ℕ) → slice_get names group ≡ Some t.node
-      → ((u ≡ t.subject.object) × (id ≡ group)) ↔ Tells config names u id t
-  tells_one distinct none indexed group at = (
-    λ (e, f). (indexed, ap₂ (λ o r. record { object = o; relation = r }) (sym e) none, subst (λ k. slice_get names k ≡ Some t.node) (sym f) at),
-    λ (i, is, there). (ap (λ (s : Subject). s.object) (sym is), distinct id group t.node there at),
+  pub tells_one : AreDistinct names → is_some t.subject.relation ≡ false → is_indexed config (rel_of t.node) ≡ true → (group : ℕ) → slice_get names group ≡ Some t.node
+      → (user : Object) → user ≡ t.subject.object → ((u ≡ user) × (id ≡ group)) ↔ Tells config names u id t
+  tells_one distinct single indexed group at user is_user = (
+    λ (e, f). (indexed, ap₂ (λ (o : Object) (r : Option (List ℕ)). record { object = o; relation = r }) (sym is_user ∙ sym e) (none_of t.subject.relation single), subst (λ k. slice_get names k ≡ Some t.node) (sym f) at),
+    λ (i, is, there). (sym (is_user ∙ ap (λ (s : Subject). s.object) is), distinct id group t.node there at),
   )
 
   pub tells_no_set : is_some t.subject.relation ≡ true → Tells config names u id t → ⊥
   tells_no_set some (i, is, there) = false≢true (sym (ap (λ (s : Subject). is_some s.relation) is) ∙ some)
 
   pub tells_no_other : is_indexed config (rel_of t.node) ≡ false → Tells config names u id t → ⊥
-  tells_no_other no (i, is, there) = false≢true (sym no ∙ i)
+  tells_no_other unlike (i, is, there) = false≢true (sym unlike ∙ i)
 
   pub tells_unnumbered : ((k : ℕ) → slice_get names k ≡ Some t.node → ⊥) → Tells config names u id t → ⊥
-  tells_unnumbered no (i, is, there) = no id there
+  tells_unnumbered missing (i, is, there) = missing id there
+
+-- no user was seen yet
+pub no_user : (users : List Object) (sets : List (List ℕ)) (u : Object) (id : ℕ) → users ≡ [] → HasId users sets u id → ⊥
+no_user users sets u id none (at, there, h) = none-some u (subst (λ (us : List Object). slice_get us at ≡ Some u) none there)

@@ -1,5 +1,5 @@
 -- Groups that are found: by their ids, and others that have none.
-use Rattle.std.proofs.Common.{◌≡◌, ℕ, List, [], ◌∷◌, Bool, true, false, refl, ap, sym, subst, ◌∙◌, inl, inr, ⊎_elim}
+use Rattle.std.proofs.Common.{◌≡◌, ℕ, List, [], ◌∷◌, Bool, true, false, refl, ap, sym, subst, ◌∙◌, inl, inr, ⊎_elim, Result, Ok, Err, IfOk}
 use Rattle.std.specs.Prelude.{◌↔◌, ◌⊎◌, ◌&&◌, ◌||◌, not, Any, Contains, Some, nat_eq, slice_index_or}
 use Rattle.std.specs.List.{slice_get}
 use Rattle.std.proofs.lemmas.Bool.{and_parts, or_cases, false≢true, eqb-true, eq-eqb}
@@ -10,6 +10,7 @@ use Rattle.meaning.proofs.Lists.{contains_none}
 use Rattle.idsets.specs.Naming.{AreDistinct}
 use Rattle.idsets.specs.Sets.{has}
 use Rattle.leopard.specs.declared.expr.Expr.{Expr}
+use Rattle.leopard.specs.declared.found.Found.{Found}
 use Rattle.leopard.specs.Exprs.{query_of, part_queries}
 use Rattle.graphs.specs.Groups.{GroupWalk}
 use Rattle.leopard.specs.Index.{Index, bare, IsKeptOf, LeadsTo, NamesUser, MeansBy, SomeMeansBy, EachMeansBy}
@@ -155,7 +156,7 @@ module _ (x : Index) (distinct : AreDistinct x.groups) (node : Node) where
         (λ e. inr (inl (same_Some node n (sym there ∙ sym (ap (slice_get x.groups) (eqb-true id at e)) ∙ is))))
         (λ h2. ⊎_elim
         (λ h3. inl (inl (id, is, h3)))
-        (λ h3. inr (inr (at, there, id, is, subst (λ l. has l id ≡ true) set h3)))
+        (λ h3. inr (inr (at, there, (id, is, subst (λ l. has l id ≡ true) set h3))))
         (or_cases (has a id) (has kept id) (sym (joins id) ∙ h2)))
         (or_cases (nat_eq id at) (has b id) (sym (adds id) ∙ h)))
         (λ c. inl (inr c))
@@ -167,7 +168,7 @@ module _ (x : Index) (distinct : AreDistinct x.groups) (node : Node) where
         g)
         (λ g. ⊎_elim
         (λ e. inl (at, there ∙ ap (λ z. Some z) e, adds at ∙ or_left (nat_eq at at) (has b at) (eq-eqb at at refl)))
-        (λ (k, here, id, is, h).
+        (λ (k, here, (id, is, h)).
         let one : k ≡ at = distinct k at node here there in
         inl (id, is, adds id ∙ or_right (nat_eq id at) (has b id) (joins id ∙ or_right (has a id) (has kept id) (subst (λ l. has l id ≡ true) (ap (λ j. slice_index_or x.closures j []) one ∙ sym set) h))))
         g)
@@ -188,10 +189,10 @@ direct_found x user at ids others distinct there set nothing = record {
   unnamed = λ n id c is. contains_none n (subst (λ (ns : List Node). Contains ns n) nothing c);
   all = λ n. (
     λ f. ⊎_elim
-        (λ (id, is, h). (at, there, id, is, subst (λ l. has l id ≡ true) set h))
+        (λ (id, is, h). (at, there, (id, is, subst (λ l. has l id ≡ true) set h)))
         (λ c. absurd (contains_none n (subst (λ (ns : List Node). Contains ns n) nothing c)))
         f,
-    λ (k, here, id, is, h). inl (id, is, subst (λ l. has l id ≡ true) (ap (λ j. slice_index_or x.direct j []) (distinct k at user here there) ∙ sym set) h),
+    λ (k, here, (id, is, h)). inl (id, is, subst (λ l. has l id ≡ true) (ap (λ j. slice_index_or x.direct j []) (distinct k at user here there) ∙ sym set) h),
   );
 }
 
@@ -202,3 +203,26 @@ direct_none x user ids others missing none unnamed = record {
   unnamed = unnamed;
   all = λ n. (λ f. absurd (none n f), λ (at, there, kept). absurd (missing at there));
 }
+
+-- the same, of a call's result
+pub less_of : {E : Type 0} (names : List Node) (P Q : Node → Type 0) (a b : Found) (r : Result Found E) → AreDistinct names → AreFound names P a.ids a.others.keys → AreFound names Q b.ids b.others.keys
+    → IfOk r (λ f. (ns : List Node) (n : Node) → AreApart ns a.others.keys b.others.keys → Finds ns f.ids f.others.keys n ↔ (Finds ns a.ids a.others.keys n × ¬ (Finds ns b.ids b.others.keys n)))
+    → IfOk r (λ f. (ns : List Node) → AreUnnamed ns a.others.keys → AreUnnamed ns f.others.keys) → IfOk r (λ f. AreFound names (λ n. P n × ¬ (Q n)) f.ids f.others.keys)
+less_of names P Q a b (Ok f) distinct has lacked less unnamed = found_less names P Q a.ids b.ids f.ids a.others.keys b.others.keys f.others.keys distinct has lacked (λ n. less names n) (unnamed names)
+less_of names P Q a b (Err e) distinct has lacked less unnamed = tt
+
+-- what is found of each part, where none is left
+pub each_all : (x : Index) (parts others rest : List Expr) (first : Expr) (n : Node) (Have Initial : Type 0) → parts ≡ first ∷ others → rest ≡ [] → (Initial ↔ MeansBy x (query_of first) n)
+    → ((Have × EachMeansBy x (part_queries rest) n) ↔ (Initial × EachMeansBy x (part_queries others) n)) → Have ↔ EachMeansBy x (part_queries parts) n
+each_all x parts others rest first n Have Initial is none begins whole = (
+  λ h. let (i, e) = whole.0 (h, subst (λ es. EachMeansBy x (part_queries es) n) (sym none) tt) in subst (λ es. EachMeansBy x (part_queries es) n) (sym is) (begins.0 i, e),
+  λ e. let (m, es) = subst (λ ps. EachMeansBy x (part_queries ps) n) is e in (whole.1 (begins.1 m, es)).0,
+)
+
+-- at first nothing is found, and all parts are left
+pub none_yet : (names : List Node) (ids : List ℕ) (others : List Node) (n : Node) (Rest : Type 0) → (Finds names ids others n → ⊥) → (Finds names ids others n ⊎ Rest) ↔ Rest
+none_yet names ids others n Rest none = (λ h. ⊎_elim (λ f. absurd (none f)) (λ r. r) h, λ r. inr r)
+
+-- the same, in other words
+pub all_yet : (Found Rest Whole : Type 0) → (Found → ⊥) → (Rest ↔ Whole) → (Found ⊎ Rest) ↔ Whole
+all_yet Found Rest Whole none same = (λ h. ⊎_elim (λ f. absurd (none f)) (λ r. same.0 r) h, λ w. inr (same.1 w))

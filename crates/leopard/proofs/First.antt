@@ -1,6 +1,6 @@
 -- The first nodes of a set.
 use Rattle.std.proofs.Common.{◌≡◌, ℕ, zero, suc, ◌<◌, ◌≤◌, List, [], ◌∷◌, take, length, get_or, refl, ap, arith, sym, subst, ◌∙◌, inl, inr, ⊎_elim, length-take}
-use Rattle.std.specs.Prelude.{◌⊎◌, Contains, All, Any, Some, min, true}
+use Rattle.std.specs.Prelude.{◌↔◌, ◌⊎◌, Contains, All, Any, Some, min, true}
 use Rattle.std.specs.List.{AllByRecursion, slice_get}
 use Rattle.std.specs.List.Sorted.{IsStrictlyIncreasing}
 use Rattle.std.specs.List.Sorted.{IsStrictlySortedBy}
@@ -15,7 +15,7 @@ use Rattle.std.proofs.lemmas.Map.Keys.{Less-from_sorted}
 use Rattle.std.proofs.lemmas.Option.{slice_get_within, slice_get-get_or, get_or_from_slice_get}
 use Rattle.idsets.specs.Sets.{has}
 use Rattle.idsets.proofs.Having.{place_in}
-use Rattle.idsets.proofs.Rising.{below_later, rising_take}
+use Rattle.idsets.proofs.Rising.{below_later, rising_take, rising_drop}
 use Rattle.meaning.proofs.TupleSets.{nodes_total}
 use Rattle.names.specs.Order.{node_cmp}
 use Rattle.names.specs.declared.node.Node.{Node}
@@ -109,7 +109,7 @@ by_places P [] h = tt
 by_places P (x ∷ xs) h = (h 0 (omega arith), by_places P xs (λ k lt. h (suc k) (omega (arith, lt))))
 
 rises_on : (x : ℕ) (xs : List ℕ) → IsStrictlyIncreasing (x ∷ xs) → IsStrictlyIncreasing xs
-rises_on x xs up k lt = up (suc k) (omega (arith, lt))
+rises_on x xs up = rising_drop (x ∷ xs) 1 up
 
 module _ (names : List Node) (sorted : IsStrictlySortedBy node_cmp names) (d : Node) where
   abbrev named : List ℕ → List Node
@@ -165,7 +165,7 @@ module _ (limit : ℕ) (names : List Node) (ids firsts : List ℕ) (others nodes
       by_place k lt here (inl l) =
           let m : ℕ = min limit (length ids) in
           let k_m : k < m = omega (arith, l, lt) in
-          let there : Contains (take m ids) id = (k, omega (arith, length-take m ids, k_m, lt), get_or-take ids m k id k_m ∙ get_or_default ids k id 0 lt ∙ here) in
+          let there : Contains (take m ids) id = (k, omega (arith, length-take m ids, k_m, lt), get_or-take m ids k id k_m ∙ get_or_default ids k id 0 lt ∙ here) in
           taken_or_after node_cmp limit nodes n in_order ((gains n).1 (inr (any_contains (λ j. slice_get names j ≡ Some n) firsts id (subst (λ l. Contains l id) (sym few) there) at)))
       by_place k lt here (inr r) =
           let m : min limit (length ids) ≡ limit = omega (arith, r, lt) in
@@ -173,7 +173,7 @@ module _ (limit : ℕ) (names : List Node) (ids firsts : List ℕ) (others nodes
           let is_fs : firsts ≡ fs = few ∙ ap (λ j. take j ids) m in
           let long : length fs ≡ limit = omega (arith, length-take limit ids, r, lt) in
           let top : id < length names = slice_get_within names id n at in
-          let below : AllByRecursion (λ j. j < id) fs = by_places (λ j. j < id) fs (λ j l. omega (arith, get_or-take ids limit j 0 (omega (arith, l, long)), below_later ids j k up (omega (arith, l, long, r)) lt, here)) in
+          let below : AllByRecursion (λ j. j < id) fs = by_places (λ j. j < id) fs (λ j l. omega (arith, get_or-take limit ids j 0 (omega (arith, l, long)), below_later ids j k up (omega (arith, l, long, r)) lt, here)) in
           let within : AllByRecursion (λ j. j < length names) fs = each_weaker (λ j. j < id) (λ j. j < length names) fs (λ j l. omega (arith, l, top)) below in
           let ts : List Node = named names sorted n fs in
           let stand = taken_below ts nodes n (named_sorted names sorted n fs (rising_take ids limit up) within) in_order
@@ -253,3 +253,12 @@ module _ (limit : ℕ) (P : Node → Type 0) where
 
   pub one_answer : (one other : List Node) → AreFirst limit P one → AreFirst limit P other → one ≡ other
   one_answer one other a b = sorted_one one other a.sorted b.sorted (first_in one other a b) (first_in other one b a)
+
+-- the first of the same nodes, in other words
+pub first_as : (limit : ℕ) (P Q : Node → Type 0) (nodes : List Node) → ((n : Node) → P n ↔ Q n) → AreFirst limit P nodes → AreFirst limit Q nodes
+first_as limit P Q nodes same are = record {
+  sorted = are.sorted;
+  few = are.few;
+  only = λ n c. (same n).0 (are.only n c);
+  others = λ n q. are.others n ((same n).1 q);
+}

@@ -47,7 +47,7 @@ once_in c ordered r d e ((i, lt, at), rel) ((j, gt, there), same) =
 pub valid_snap : (S : Snap) (c : Configured) → c ≡ S.config → valid.IsValid c → IsOrdered c → AreAdmitted S → reads.IsValid S
 valid_snap S c same v ordered admitted = record {
   once = once_in S.config (subst IsOrdered same ordered);
-  levels = λ r h. let (d, at, rel) = h in let (k, level) = (subst valid.IsValid same v).levels d at in (k, subst (λ (q : RelationName). IsLevel (Step S.config) q k) rel level);
+  levels = λ r h. let (d, (at, rel)) = h in let (k, level) = (subst valid.IsValid same v).levels d at in (k, subst (λ (q : RelationName). IsLevel (Step S.config) q k) rel level);
   admitted = λ t h. told_admitted S.config t (admitted t ((contains_iff S.tuples t).1 h));
 }
 
@@ -95,7 +95,7 @@ module _ (S : Snap) (x : Index) (same : x.config ≡ S.config) (closures : AreCl
         let walk = bare_walk S x.config same g h w in
         ⊎_elim
         (λ e. subst (GroupWalk S g) e walk)
-        (λ (at, there, id, is, in_set).
+        (λ (at, there, (id, is, in_set)).
         let (m, m_is, m_walk) = (closures at h there id).0 in_set in
         joined S g h n walk (subst (GroupWalk S h) (same_Some m n (sym m_is ∙ is)) m_walk))
         kept
@@ -120,7 +120,7 @@ module _ (S : Snap) (x : Index) (same : x.config ≡ S.config) (closures : AreCl
     module _ (distinct : AreDistinct x.groups) (direct : (u : Object) (id : ℕ) → HasId x.users x.direct u id ↔ Any (Tells x.config x.groups u id) tuples) where
       named_by : (u : Object) (n : Node) → NamesUser x u n ↔ MemberToGroup S u n
       named_by u n = (
-        λ (at, there, id, is, in_set).
+        λ (at, there, (id, is, in_set)).
             let (k, t, lt, e, (group, subject, named)) = (direct u id).0 (at, there, in_set) in
             let node : t.node ≡ n = same_Some t.node n (sym named ∙ is) in
             let tuple : t ≡ record { node = n; subject = one u } = ap₂ (λ a b. record { node = a; subject = b }) node subject in
@@ -131,7 +131,7 @@ module _ (S : Snap) (x : Index) (same : x.config ≡ S.config) (closures : AreCl
             let c : Contains tuples t = subst (λ (ts : List Tuple). Contains ts t) (sym are) h in
             let (id, is) = contains_get x.groups n (walks_listed n n (owner_of n t c refl group) here) in
             let (at, there, in_set) = (direct u id).1 (any_contains (Tells x.config x.groups u id) tuples t c (subst (λ (k : Configured). IsGroup k n) (sym same) group, refl, is)) in
-            (at, there, id, is, in_set),
+            (at, there, (id, is, in_set)),
       )
 
       pub is_index : IsIndexOf S x

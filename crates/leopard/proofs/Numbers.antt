@@ -36,7 +36,7 @@ contains_get (y ∷ ys) x c = ⊎_elim
     (λ h. let r = contains_get ys x h in (suc r.0, r.1))
     (contains_cases y x ys c)
 
-not_less_itself : (n : Node) → node_cmp n n ≡ Less → ⊥
+pub not_less_itself : (n : Node) → node_cmp n n ≡ Less → ⊥
 not_less_itself n h = no (sym h ∙ tied_itself nodes_total n)
   where
     no : Less ≡ Equal → ⊥

@@ -65,7 +65,10 @@ impl Built {
         ensures index { IfOk result (λ built. IsIndexOf view.now built) }
         ensures rev { IfOk result (λ built. built.rev ≡ rev) }
     {
-        let config = view.config().again(alloc)?;
+        let config = view.config();
+        // Each configuration is valid, as this call says, so groups lead to groups alone.
+        config.relations();
+        let config = config.again(alloc)?;
         let tuples = view.tuples(alloc)?;
         let owners = owners(alloc, &config, &tuples)?;
         let listed = all_reached(alloc, view, owners)?;

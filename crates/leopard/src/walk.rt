@@ -46,12 +46,12 @@ impl Arcs for Config {
 
     fn ends_of(&self, alloc: Global, node: &Node) -> Result<Vec<Node>, AllocError> {
         let relations = self.relations();
-        let mut ends = Vec::new(alloc);
+        let mut computed = Vec::new(alloc);
         let Some(place) = self.place_of(node) else {
-            return Ok(ends);
+            return Ok(computed);
         };
-        push_computed(&mut ends, &node.object, &relations[place].rewrite)?;
-        Ok(ends)
+        push_computed(&mut computed, &node.object, &relations[place].rewrite)?;
+        Ok(computed)
     }
 }
 

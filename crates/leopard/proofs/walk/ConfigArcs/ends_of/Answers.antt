@@ -11,7 +11,7 @@ use Rattle.leopard.proofs.Bare.{bare_with, bare_without}
 use Rattle.leopard.proofs.walk.ConfigArcs.ends_of.Goals as goal
 
 pub returns-in_default : goal.returns-in_default
-returns-in_default c = subst (λ (ns : List Node). AreAll (IsGroupArc (bare c.args.self.now) c.args.node.now) ns) (sym c.new-ends.ensures.items)
+returns-in_default c = subst (λ (ns : List Node). AreAll (IsGroupArc (bare c.args.self.now) c.args.node.now) ns) (sym c.new-computed.ensures.items)
     (bare_without c.args.self.now c.args.node.now c.in_default.ensures.none)
 
 pub returns : goal.returns
@@ -23,5 +23,5 @@ returns c =
     let there = read_there config c.relations-relations.result.now (rel_of n) c.in-Some.place read c.relations-relations.ensures.relations stands c.index-relations-place.is in
     bare_with config n c.in-Some.place stands
     (form_of read.rewrite) (ap (λ (d : Defined). d.form) there) c.push_computed.new.nodes.items
-    (subst (λ (ns : List Node). Gains (IsComputed n.object (form_of read.rewrite)) ns c.push_computed.new.nodes.items) c.new-ends.ensures.items
-    (subst (λ (r : Relation). Gains (IsComputed n.object (form_of r.rewrite)) c.new-ends.result.items c.push_computed.new.nodes.items) (sym c.index-relations-place.is) c.in_ok-push_computed.ensures))
+    (subst (λ (ns : List Node). Gains (IsComputed n.object (form_of read.rewrite)) ns c.push_computed.new.nodes.items) c.new-computed.ensures.items
+    (subst (λ (r : Relation). Gains (IsComputed n.object (form_of r.rewrite)) c.new-computed.result.items c.push_computed.new.nodes.items) (sym c.index-relations-place.is) c.in_ok-push_computed.ensures))

@@ -1,23 +1,54 @@
 //! Questions about groups, answered by an index and from the tuples.
 
-use crate::histories::history;
+use config::Config;
 use leopard::{Built, Expr, answers_are_one, groups_at, indexes_mean_what_their_snapshots_do};
-use names::{Node, Object, Refusal};
-use rows::Rows;
+use names::{Commit, Items, Node, Object, Op, OpKind, Refusal, Tuple};
+use rows::{Rows, events_of};
 use std::alloc::{AllocError, Global};
 use std::test::Fail;
 
-// Groups in a chain, and a relation that is not indexed.
-const LINES: [&str; 2] = [
-    r#"{"namespaces":{"user":{},"group":{"member":{"types":["user","group#member"],"indexed":true}},"doc":{"owner":{"types":["user"]}}}}"#,
-    "group:a#member@group:b#member group:b#member@user:ann group:c#member@user:ann",
-];
+// Groups, and a relation that is not indexed.
+const CONFIG: &str = r#"{"namespaces":{"user":{},"group":{"member":{"types":["user","group#member"],"indexed":true}},"doc":{"owner":{"types":["user"]}}}}"#;
 
-// Groups that lead to each other, and a computed userset.
-const CYCLE: [&str; 2] = [
-    r#"{"namespaces":{"user":{},"group":{"member":{"types":["user","group#member"],"indexed":true},"guest":{"rewrite":{"computed":"member"},"indexed":true}}}}"#,
-    "group:a#member@group:b#member group:b#member@group:a#member group:b#member@user:ann",
-];
+const CHAIN: &str =
+    "group:a#member@group:b#member group:b#member@user:ann group:c#member@user:ann";
+
+// Groups whose guests are their members.
+const GUESTS: &str = r#"{"namespaces":{"user":{},"group":{"member":{"types":["user","group#member"],"indexed":true},"guest":{"types":[],"rewrite":{"computed":"member"},"indexed":true}}}}"#;
+
+const CYCLE: &str =
+    "group:a#member@group:b#member group:b#member@group:a#member group:b#member@user:ann";
+
+fn is_committed(rows: &mut Rows, commit: &Commit<Config>) -> Result<bool, AllocError> {
+    if rows.refuses(commit)? {
+        return Ok(false);
+    }
+    rows.admits_its_tuples();
+    rows.commit(commit)?;
+    Ok(true)
+}
+
+fn written(alloc: Global, tuples: &str) -> Result<Commit<Config>, Refusal> {
+    let mut ops = Vec::new(alloc);
+    for tuple in tuples.split_ascii_whitespace() {
+        ops.push(Op {
+            kind: OpKind::Touch,
+            tuple: Tuple::parse(tuple)?,
+        })?;
+    }
+    Ok(Commit::Tuples(events_of(Items::of(ops))?))
+}
+
+fn history(alloc: Global, config: &str, tuples: &str) -> Result<Rows, Refusal> {
+    let mut rows = Rows::empty(alloc);
+    let config = Commit::Config(Config::from_json(alloc, config.as_bytes())?);
+    let tuples = written(alloc, tuples)?;
+    if is_committed(&mut rows, &config)? && is_committed(&mut rows, &tuples)? {
+        Ok(rows)
+    } else {
+        Err(Refusal::Malformed)
+    }
+}
 
 fn groups_of(user: &str) -> Result<Expr, Refusal> {
     Ok(Expr::Member2Group(Object::parse(user)?))
@@ -58,20 +89,20 @@ fn give(
 }
 
 fn chains_are_met(alloc: Global) -> Result<bool, Refusal> {
-    let rows = history(alloc, &LINES)?;
+    let rows = history(alloc, CONFIG, CHAIN)?;
     let met = Expr::Intersection(both(alloc)?);
     let none = give(alloc, &rows, &met, 0, "")?;
     Ok(none && give(alloc, &rows, &met, 1, "group:b#member;")?)
 }
 
 fn chains_are_united(alloc: Global) -> Result<bool, Refusal> {
-    let rows = history(alloc, &LINES)?;
+    let rows = history(alloc, CONFIG, CHAIN)?;
     let united = Expr::Union(both(alloc)?);
     give(alloc, &rows, &united, 2, "group:a#member;group:b#member;")
 }
 
 fn chains_are_lessened(alloc: Global) -> Result<bool, Refusal> {
-    let rows = history(alloc, &LINES)?;
+    let rows = history(alloc, CONFIG, CHAIN)?;
     let base = Box::new(alloc, groups_of("user:ann")?)?;
     let less = Box::new(alloc, led_from("group:a#member")?)?;
     let left = Expr::Exclusion(base, less);
@@ -89,7 +120,7 @@ fn an_index_answers_as_the_tuples_do(rt: HostRuntime) -> Result<(), Fail> {
 }
 
 fn cycles_end(alloc: Global) -> Result<bool, Refusal> {
-    let rows = history(alloc, &CYCLE)?;
+    let rows = history(alloc, GUESTS, CYCLE)?;
     let guest = led_from("group:b#guest")?;
     give(
         alloc,
@@ -101,7 +132,7 @@ fn cycles_end(alloc: Global) -> Result<bool, Refusal> {
 }
 
 fn what_no_tuple_names_leads_to_its_computed_usersets(alloc: Global) -> Result<bool, Refusal> {
-    let rows = history(alloc, &CYCLE)?;
+    let rows = history(alloc, GUESTS, CYCLE)?;
     let guest = led_from("group:z#guest")?;
     let nobody = groups_of("user:bob")?;
     let leads = give(
@@ -132,7 +163,7 @@ fn refuses(alloc: Global, rows: &Rows, expr: &Expr, number: u8) -> Result<bool, 
 }
 
 fn causes_come_in_order(alloc: Global) -> Result<bool, Refusal> {
-    let rows = history(alloc, &LINES)?;
+    let rows = history(alloc, CONFIG, CHAIN)?;
     let unindexed = led_from("doc:1#owner")?;
     let unknown = led_from("doc:1#none")?;
     let first = refuses(alloc, &rows, &unindexed, 16)?;
