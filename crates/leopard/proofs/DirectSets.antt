@@ -10,11 +10,10 @@ use Rattle.names.specs.declared.node.Node.{Node}
 use Rattle.names.specs.declared.subject.Subject.{Subject}
 use Rattle.names.specs.declared.tuple.Tuple.{Tuple}
 use Rattle.meaning.specs.Config.{Configured, rel_of}
-use Rattle.meaning.specs.Snap.{one}
 use Rattle.config.specs.Valid.{is_indexed}
 use Rattle.idsets.specs.Naming.{AreDistinct}
 use Rattle.idsets.specs.Sets.{has}
-use Rattle.idsets.proofs.Numbering.{front_get, last_get}
+use Rattle.idsets.proofs.Numbering.{front_get}
 use Rattle.leopard.specs.inside.Building.{HasId, Tells}
 
 push_cases : {A : Type 0} (xs : List A) (x : A) (i : ℕ) (y : A) → slice_get (xs ++ x ∷ []) i ≡ Some y → (slice_get xs i ≡ Some y) ⊎ (i ≡ length xs)
@@ -80,8 +79,11 @@ put_id users sets sets2 at user group new there lt is put u id = (
   λ (k, here, h). by_place k here (subst (λ ss. has (get_or ss k []) id ≡ true) is h) (cases_lt k at) (cases_lt at k),
   λ h. ⊎_elim
       (λ (k, here, h2). (k, here, subst (λ ss. has (get_or ss k []) id ≡ true) (sym is) (stays k h2 (cases_lt k at) (cases_lt at k))))
-      (λ (e, f). (at, there ∙ ap (λ x. Some x) (sym e),
-      subst (λ ss. has (get_or ss at []) id ≡ true) (sym is) (subst (λ s. has s id ≡ true) (sym (get_or-set_same sets at new [] lt)) (put id ∙ ap (λ b. b || has (get_or sets at []) id) (eq-eqb id group f)))))
+      (λ (e, f). (
+        at,
+        there ∙ ap (λ x. Some x) (sym e),
+        subst (λ ss. has (get_or ss at []) id ≡ true) (sym is) (subst (λ s. has s id ≡ true) (sym (get_or-set_same sets at new [] lt)) (put id ∙ ap (λ b. b || has (get_or sets at []) id) (eq-eqb id group f))),
+      ))
       h,
 )
   where
@@ -124,12 +126,14 @@ pub added_user : (users users1 : List Object) (sets sets1 : List (List ℕ)) (us
 added_user users users1 sets sets1 user at group old new even there put made is adds =
     let room = room_for users sets even user users1 sets1 at there put made in
     let lt : at < length sets1 = omega (arith, room.0, slice_get_within users1 at user there) in
-    let same : old ≡ get_or sets1 at [] = is ∙ get_or_default sets1 at old [] lt in
-    (length-set sets1 at new ∙ room.0, λ u id.
-    let more = put_id users1 sets1 (slice_set sets1 at new) at user group new there lt refl (λ other. adds other ∙ ap (λ l. nat_eq other group || has l other) same) u id in (
-      λ h. ⊎_elim (λ k. inl ((room.1 u id).0 k)) inr (more.0 h),
-      λ h. more.1 (⊎_elim (λ k. inl ((room.1 u id).1 k)) inr h),
-    ))
+    let same : old ≡ get_or sets1 at [] = is ∙ get_or_default sets1 at old [] lt in (
+      length-set sets1 at new ∙ room.0,
+      λ u id.
+          let more = put_id users1 sets1 (slice_set sets1 at new) at user group new there lt refl (λ other. adds other ∙ ap (λ l. nat_eq other group || has l other) same) u id in (
+            λ h. ⊎_elim (λ k. inl ((room.1 u id).0 k)) inr (more.0 h),
+            λ h. more.1 (⊎_elim (λ k. inl ((room.1 u id).1 k)) inr h),
+          ),
+    )
 
 none_of : {A : Type 0} (o : Option A) → is_some o ≡ false → o ≡ None
 none_of None e = refl

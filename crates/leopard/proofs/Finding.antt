@@ -76,17 +76,21 @@ module _ (names : List Node) (a b ids : List ℕ) (ao bo others : List Node) (n 
   finds_less apart are all = (
     λ f. ⊎_elim
         (λ (id, at, is).
-        let e = and_parts (has a id) (not (has b id)) (sym (are id) ∙ is) in
-        (inl (id, at, e.0), λ g. ⊎_elim
-        (λ (jd, there, has_it). false≢true (sym (ap not (subst (λ k. has b k ≡ true) (apart.distinct jd id n there at) has_it)) ∙ e.1))
-        (λ c. apart.second n id c at)
-        g))
+        let e = and_parts (has a id) (not (has b id)) (sym (are id) ∙ is) in (
+          inl (id, at, e.0),
+          λ g. ⊎_elim
+              (λ (jd, there, has_it). false≢true (sym (ap not (subst (λ k. has b k ≡ true) (apart.distinct jd id n there at) has_it)) ∙ e.1))
+              (λ c. apart.second n id c at)
+              g,
+        ))
         (λ c.
-        let e = (all n).0 c in
-        (inr e.0, λ g. ⊎_elim
-        (λ (jd, there, has_it). apart.first n jd e.0 there)
-        (λ d. e.1 d)
-        g))
+        let e = (all n).0 c in (
+          inr e.0,
+          λ g. ⊎_elim
+              (λ (jd, there, has_it). apart.first n jd e.0 there)
+              (λ d. e.1 d)
+              g,
+        ))
         f,
     λ (f, lacks). ⊎_elim
         (λ (id, at, is). inl (id, at, are id ∙ both_true (has a id) (not (has b id)) is (lacking lacks id at)))

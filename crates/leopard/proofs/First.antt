@@ -1,6 +1,6 @@
 -- The first nodes of a set.
 use Rattle.std.proofs.Common.{◌≡◌, ℕ, zero, suc, ◌<◌, ◌≤◌, List, [], ◌∷◌, take, length, get_or, refl, ap, arith, sym, subst, ◌∙◌, inl, inr, ⊎_elim, length-take}
-use Rattle.std.specs.Prelude.{◌↔◌, ◌⊎◌, Contains, All, Any, Some, min, true}
+use Rattle.std.specs.Prelude.{◌↔◌, ◌⊎◌, Contains, All, Any, Some, min}
 use Rattle.std.specs.List.{AllByRecursion, slice_get}
 use Rattle.std.specs.List.Sorted.{IsStrictlyIncreasing}
 use Rattle.std.specs.List.Sorted.{IsStrictlySortedBy}
@@ -13,7 +13,6 @@ use Rattle.std.specs.Cmp.{nat_eq_equiv}
 use Rattle.std.proofs.lemmas.List.Elements.{All-nil, All-cons}
 use Rattle.std.proofs.lemmas.Map.Keys.{Less-from_sorted}
 use Rattle.std.proofs.lemmas.Option.{slice_get_within, slice_get-get_or, get_or_from_slice_get}
-use Rattle.idsets.specs.Sets.{has}
 use Rattle.idsets.proofs.Having.{place_in}
 use Rattle.idsets.proofs.Rising.{below_later, rising_take, rising_drop}
 use Rattle.meaning.proofs.TupleSets.{nodes_total}

@@ -1,6 +1,6 @@
 -- What an index says, and what its snapshot does.
-use Rattle.std.proofs.Common.{◌≡◌, ℕ, ◌<◌, List, [], ◌∷◌, length, get_or, Bool, true, false, true≢false, refl, ap, ap₂, sym, subst, ◌∙◌, inl, inr, ⊎_elim, arith}
-use Rattle.std.specs.Prelude.{◌↔◌, ◌⊎◌, ◌||◌, not, Any, Contains, Some}
+use Rattle.std.proofs.Common.{◌≡◌, ℕ, List, get_or, Bool, true, false, true≢false, refl, ap, ap₂, sym, subst, ◌∙◌, inl, inr, ⊎_elim}
+use Rattle.std.specs.Prelude.{◌↔◌, ◌||◌, not, Any, Contains, Some}
 use Rattle.std.specs.List.{slice_get}
 use Rattle.std.proofs.lemmas.List.{get_or_default}
 use Rattle.std.proofs.lemmas.Option.{same_Some}
@@ -9,27 +9,25 @@ use Rattle.names.specs.declared.node.Node.{Node}
 use Rattle.names.specs.declared.relation.RelationName.{RelationName}
 use Rattle.names.specs.declared.tuple.Tuple.{Tuple}
 use Rattle.meaning.specs.TupleSet as set
-use Rattle.meaning.specs.Config.{Configured, Defined, Defines, Has, Step, rel_of}
+use Rattle.meaning.specs.Config.{Configured, Defined, Defines, Step, rel_of}
 use Rattle.meaning.specs.Levels.{IsLevel}
 use Rattle.meaning.specs.Snap.{Snap, one, set_of}
-use Rattle.meaning.specs.Membership.{HasOne, HasSet}
 use Rattle.meaning.specs.Reads as reads
 use Rattle.meaning.proofs.AdmitsLemmas.{told_admitted}
 use Rattle.meaning.proofs.TupleSets.{contains_iff}
 use Rattle.config_core.specs.Order.{IsOrdered}
 use Rattle.config.specs.Valid as valid
-use Rattle.config.specs.inside.Graph.{nowhere, name_at}
+use Rattle.config.specs.inside.Graph.{nowhere}
 use Rattle.config.proofs.Distinct.{names_apart}
 use Rattle.rows.specs.Retained.{AreAdmitted}
-use Rattle.graphs.specs.Groups.{Computes, IsGroupArc, GroupWalk, here, on}
+use Rattle.graphs.specs.Groups.{IsGroupArc, GroupWalk, here, on}
 use Rattle.idsets.specs.Naming.{AreDistinct}
-use Rattle.idsets.specs.Sets.{has}
-use Rattle.leopard.specs.Groups.{IsGroup, GroupToGroup, MemberToGroup, Means, SomeMeans, EachMeans}
+use Rattle.leopard.specs.Groups.{IsGroup, MemberToGroup, Means, SomeMeans, EachMeans}
 use Rattle.leopard.specs.Query.{Query, Queries, Member2Group, Group2Group, Union, Intersection, Exclusion, none, more}
 use Rattle.leopard.specs.Causes.{names_unindexed, some_name_unindexed}
-use Rattle.leopard.specs.Index.{Index, Keeps, bare, IsKeptOf, LeadsTo, NamesUser, IsIndexOf, MeansBy, SomeMeansBy, EachMeansBy}
+use Rattle.leopard.specs.Index.{Index, Keeps, bare, LeadsTo, NamesUser, IsIndexOf, MeansBy, SomeMeansBy, EachMeansBy}
 use Rattle.leopard.specs.inside.Asking.{AreAll}
-use Rattle.leopard.specs.inside.Building.{Owns, AreIds, AreClosures, HasId, Tells}
+use Rattle.leopard.specs.inside.Building.{Owns, AreClosures, HasId, Tells}
 use Rattle.leopard.proofs.Bare.{no_set}
 use Rattle.leopard.proofs.Numbers.{get_contains, contains_get}
 use Rattle.leopard.proofs.Gather.{any_contains}
@@ -123,9 +121,10 @@ module _ (S : Snap) (x : Index) (same : x.config ≡ S.config) (closures : AreCl
         λ (at, there, (id, is, in_set)).
             let (k, t, lt, e, (group, subject, named)) = (direct u id).0 (at, there, in_set) in
             let node : t.node ≡ n = same_Some t.node n (sym named ∙ is) in
-            let tuple : t ≡ record { node = n; subject = one u } = ap₂ (λ a b. record { node = a; subject = b }) node subject in
-            (subst (λ (k : Configured). IsGroup k n) same (subst (λ (h : Node). IsGroup x.config h) node group),
-            subst (λ (ts : List Tuple). Contains ts (record { node = n; subject = one u })) are (subst (Contains tuples) tuple (k, lt, e))),
+            let tuple : t ≡ record { node = n; subject = one u } = ap₂ (λ a b. record { node = a; subject = b }) node subject in (
+              subst (λ (k : Configured). IsGroup k n) same (subst (λ (h : Node). IsGroup x.config h) node group),
+              subst (λ (ts : List Tuple). Contains ts (record { node = n; subject = one u })) are (subst (Contains tuples) tuple (k, lt, e)),
+            ),
         λ (group, h).
             let t : Tuple = record { node = n; subject = one u } in
             let c : Contains tuples t = subst (λ (ts : List Tuple). Contains ts t) (sym are) h in

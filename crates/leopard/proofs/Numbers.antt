@@ -1,14 +1,12 @@
 -- The groups of an index, their ids and their closures.
-use Rattle.std.proofs.Common.{◌≡◌, ℕ, zero, suc, ◌<◌, ◌≤◌, List, [], ◌∷◌, ◌++◌, length, get_or, Bool, true, false, cond, refl, ap, sym, subst, ◌∙◌, inl, inr, ⊎_elim, arith, append_assoc, length-append}
-use Rattle.std.specs.Prelude.{◌↔◌, ◌⊎◌, ◌||◌, Contains, Any, Option, Some, None, nat_lt, nat_eq, slice_index_or}
+use Rattle.std.proofs.Common.{◌≡◌, ℕ, zero, suc, ◌<◌, List, [], ◌∷◌, ◌++◌, length, get_or, Bool, true, false, cond, refl, ap, sym, subst, ◌∙◌, inl, inr, ⊎_elim, arith, append_assoc, length-append}
+use Rattle.std.specs.Prelude.{◌↔◌, ◌⊎◌, ◌||◌, Contains, Some, None, nat_lt, nat_eq, slice_index_or}
 use Rattle.std.specs.List.{slice_get, AllByRecursion}
 use Rattle.std.specs.List.Sorted.{IsStrictlySortedBy}
-use Rattle.std.specs.declared.cmp.Ordering.{Ordering}
-use Rattle.std.specs.declared.cmp.Ordering.TheVariants.{Less, Equal, Greater}
-use Rattle.std.proofs.lemmas.Bool.{false≢true, cases_lt, ltb-true, eqb-true, eq-eqb, or_cases}
+use Rattle.std.specs.declared.cmp.Ordering.TheVariants.{Less, Equal}
+use Rattle.std.proofs.lemmas.Bool.{false≢true, cases_lt, eqb-true, eq-eqb, or_cases}
 use Rattle.std.proofs.lemmas.Cmp.{tied_itself}
 use Rattle.std.proofs.lemmas.List.{get_or_append_left, get_or_push}
-use Rattle.std.proofs.lemmas.List.Elements.{Contains-append_left}
 use Rattle.std.proofs.lemmas.Option.{none-some, same_Some, slice_get_within, slice_get-get_or}
 use Rattle.names.specs.Order.{node_cmp}
 use Rattle.names.specs.declared.node.Node.{Node}
@@ -19,7 +17,6 @@ use Rattle.graphs.specs.Groups.{GroupWalk}
 use Rattle.idsets.specs.Naming.{AreDistinct}
 use Rattle.idsets.specs.Sets.{has}
 use Rattle.idsets.proofs.Having.{has-append}
-use Rattle.leopard.specs.inside.Asking.{AreAll}
 use Rattle.leopard.specs.inside.Building.{AreIds, AreClosures}
 
 -- ---- places

@@ -8,9 +8,8 @@ use Rattle.meaning.specs.Config.{Configured}
 use Rattle.meaning.specs.Snap.{Snap}
 use Rattle.graphs.specs.Groups.{GroupWalk}
 use Rattle.idsets.specs.Sets.{has}
-use Rattle.leopard.specs.Groups.{IsGroup, GroupToGroup, MemberToGroup, Means}
+use Rattle.leopard.specs.Groups.{IsGroup, GroupToGroup, MemberToGroup}
 use Rattle.leopard.specs.Query.{Query, Queries, Member2Group, Group2Group, Union, Intersection, Exclusion, none, more}
-use Rattle.leopard.specs.Causes.{names_unindexed}
 
 -- A group's id is its place. At the same place stand the ids of the groups to which it leads. A user's place is that of the ids of its direct groups.
 pub record Index : Type 0 where

@@ -46,12 +46,7 @@ fn direct_of(alloc: Global, built: &Built, user: &Object) -> Result<Found, Alloc
 }
 
 /// Adds a group and those that are kept of it.
-fn with_kept(
-    alloc: Global,
-    built: &Built,
-    found: Found,
-    node: Node,
-) -> Result<Found, AllocError>
+fn with_kept(alloc: Global, built: &Built, found: Found, node: Node) -> Result<Found, AllocError>
     requires { AreDistinct built.now.groups }
     ensures more { IfOk result (λ f. (n : Node) → Finds built.now.groups f.ids f.others.keys n
         ↔ (Finds built.now.groups found.ids found.others.keys n ⊎ IsKeptOf built.now node n)) }

@@ -61,12 +61,7 @@ fn note(
 }
 
 /// Puts a group into the user's set.
-fn add(
-    alloc: Global,
-    members: &mut Members,
-    user: Object,
-    group: u64,
-) -> Result<(), AllocError>
+fn add(alloc: Global, members: &mut Members, user: Object, group: u64) -> Result<(), AllocError>
     requires { length members.old.sets.items ≡ length members.old.users }
     ensures even { OnOk result (length members.new.sets.items ≡ length members.new.users) }
     ensures gains { OnOk result ((u : Object) (id : ℕ) → HasId members.new.users members.new.sets.items u id

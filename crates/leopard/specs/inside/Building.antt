@@ -1,5 +1,5 @@
 -- What the index is made of, on the way to it. No promise rests on it.
-use Rattle.std.specs.Prelude.{◌≡◌, ℕ, ◌↔◌, true, List, [], Some, Contains, Any, slice_index_or}
+use Rattle.std.specs.Prelude.{◌≡◌, ℕ, ◌↔◌, true, List, [], Some, slice_index_or}
 use Rattle.std.specs.List.{slice_get}
 use Rattle.names.specs.declared.object.Object.{Object}
 use Rattle.names.specs.declared.node.Node.{Node}

@@ -1,14 +1,13 @@
-use Rattle.std.proofs.Common.{◌≡◌, ◌+◌, List, [], ◌∷◌, drop, IfOk, sym, subst, rules, arith, inl, inr}
-use Rattle.names.specs.declared.node.Node.{Node}
+use Rattle.std.proofs.Common.{◌≡◌, ◌+◌, List, [], ◌∷◌, drop, IfOk, sym, subst, rules, arith}
 use Rattle.leopard.specs.declared.expr.Expr.{Expr, the_lemmas}
 use Rattle.leopard.specs.Exprs.{query_of, part_queries}
 use Rattle.leopard.specs.Index.{MeansBy, SomeMeansBy, EachMeansBy}
 use Rattle.leopard.specs.Query.{Query, Member2Group, Group2Group, Union, Intersection, Exclusion}
-use Rattle.leopard.specs.inside.Finding.{AreFound, AreApart}
+use Rattle.leopard.specs.inside.Finding.{AreFound}
 use Rattle.leopard.proofs.Expressions.{first_has_parts}
 use Rattle.leopard.proofs.Finding.{less_of, none_yet, each_all, some_by_splits, each_by_splits}
 use Rattle.leopard.proofs.Gather.{left_at, left_none}
-use Rattle.leopard.proofs.Leftover.{gather, gathered, narrow, narrowed, added_as, kept_as}
+use Rattle.leopard.proofs.Leftover.{gather, narrow, added_as, kept_as}
 use Rattle.leopard.proofs.answering.+finding.Goals as goal
 
 pub found_of-returns-in-Union : goal.found_of-returns-in-Union
@@ -68,7 +67,6 @@ found_in_each-returns t c =
       unnamed = c.loop-part.invariant.unnamed;
       all = λ n. each_all x c.args.parts.now others (drop i others) first n _ _ is none (c.in_ok-found.ensures.all n) (c.loop-part.invariant.groups n);
     }
-
 
 pub found_in_some-loop-part-preserved : goal.found_in_some-loop-part-preserved
 found_in_some-loop-part-preserved t c =

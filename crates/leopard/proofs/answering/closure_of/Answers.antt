@@ -1,5 +1,5 @@
-use Rattle.std.proofs.Common.{◌≡◌, List, sym, subst}
-use Rattle.std.specs.Prelude.{◌↔◌, ◌⊎◌, Any}
+use Rattle.std.proofs.Common.{List, sym, subst}
+use Rattle.std.specs.Prelude.{◌↔◌, Any}
 use Rattle.names.specs.declared.node.Node.{Node}
 use Rattle.graphs.specs.Groups.{GroupWalk}
 use Rattle.leopard.specs.Index.{Index, bare, IsKeptOf, LeadsTo}

@@ -1,5 +1,4 @@
-use Rattle.std.proofs.Common.{◌≡◌, ◌+◌, [], List, Any, drop, length, ap, sym, subst, ◌∙◌, arith}
-use Rattle.names.specs.declared.object.Object.{Object}
+use Rattle.std.proofs.Common.{◌+◌, drop, length, ap, sym, ◌∙◌, arith}
 use Rattle.leopard.specs.inside.Building.{HasId, Tells}
 use Rattle.leopard.proofs.DirectSets.{no_user}
 use Rattle.leopard.proofs.Finding.{all_yet}

@@ -1,6 +1,6 @@
-use Rattle.std.proofs.Common.{◌≡◌, [], List, refl, ap, sym, subst}
+use Rattle.std.proofs.Common.{List, ap, sym, subst}
 use Rattle.names.specs.declared.node.Node.{Node}
-use Rattle.meaning.specs.Config.{Defined, Has, rel_of}
+use Rattle.meaning.specs.Config.{Defined, rel_of}
 use Rattle.config.proofs.Searching.{read_there}
 use Rattle.config_core.specs.Forms.{form_of}
 use Rattle.config_core.specs.declared.relation.Relation.{Relation}
