@@ -8,13 +8,16 @@ use std::alloc::{AllocError, Global};
 use std::test::Fail;
 
 // Groups, and a relation that is not indexed.
-const CONFIG: &str = r#"{"namespaces":{"user":{},"group":{"member":{"types":["user","group#member"],"indexed":true}},"doc":{"owner":{"types":["user"]}}}}"#;
+const CONFIG: &str = r#"{"namespaces":{"user":{},"doc":{"owner":{"types":["user"]}},
+"group":{"member":{"types":["user","group#member"],"indexed":true}}}}"#;
 
 const CHAIN: &str =
     "group:a#member@group:b#member group:b#member@user:ann group:c#member@user:ann";
 
 // Groups whose guests are their members.
-const GUESTS: &str = r#"{"namespaces":{"user":{},"group":{"member":{"types":["user","group#member"],"indexed":true},"guest":{"types":[],"rewrite":{"computed":"member"},"indexed":true}}}}"#;
+const GUESTS: &str = r#"{"namespaces":{"user":{},
+"group":{"member":{"types":["user","group#member"],"indexed":true},
+"guest":{"types":[],"rewrite":{"computed":"member"},"indexed":true}}}}"#;
 
 const CYCLE: &str =
     "group:a#member@group:b#member group:b#member@group:a#member group:b#member@user:ann";
