@@ -11,8 +11,7 @@ use std::test::Fail;
 const CONFIG: &str = r#"{"namespaces":{"user":{},"doc":{"owner":{"types":["user"]}},
 "group":{"member":{"types":["user","group#member"],"indexed":true}}}}"#;
 
-const CHAIN: &str =
-    "group:a#member@group:b#member group:b#member@user:ann group:c#member@user:ann";
+const CHAIN: &str = "group:a#member@group:b#member group:b#member@user:ann group:c#member@user:ann";
 
 // Groups whose guests are their members.
 const GUESTS: &str = r#"{"namespaces":{"user":{},
@@ -138,13 +137,7 @@ fn what_no_tuple_names_leads_to_its_computed_usersets(alloc: Global) -> Result<b
     let rows = history(alloc, GUESTS, CYCLE)?;
     let guest = led_from("group:z#guest")?;
     let nobody = groups_of("user:bob")?;
-    let leads = give(
-        alloc,
-        &rows,
-        &guest,
-        9,
-        "group:z#guest;group:z#member;",
-    )?;
+    let leads = give(alloc, &rows, &guest, 9, "group:z#guest;group:z#member;")?;
     Ok(leads && give(alloc, &rows, &nobody, 9, "")?)
 }
 
