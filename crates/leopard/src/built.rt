@@ -49,10 +49,10 @@ impl Model for Built {
 }
 
 impl Built {
-    /// Builds the index of the view, whose revision this is. All tuples are read at once. A walk goes out from each
-    /// group that has tuples, which finds the groups to number, and then from each numbered group, with a set of those
-    /// that it has seen: so cycles of groups end, and the cost is that of all closures, each group in each of them read
-    /// from the tuples twice at most, and no more than one closure's names are held beside the index.
+    /// Builds the index of the view, whose revision this is. A walk goes out from each group that has tuples, to find
+    /// the groups that get an id, and then one from each of these, with a set of those that it has seen: so cycles of
+    /// groups end, and each group is looked up in the view about twice for each closure that it is in. Beside the index
+    /// it takes memory for all tuples at once, and for the names of one closure.
     pub fn of(alloc: Global, view: &View, rev: u64) -> Result<Built, Refusal>
         ensures index { IfOk result (λ built. IsIndexOf view.now built) }
         ensures rev { IfOk result (λ built. built.rev ≡ rev) }
