@@ -1,6 +1,6 @@
 -- Why a task was not done, or that it was.
-use Rattle.std.proofs.Common.{◌≡◌, ◌≢◌, ◌⊎◌, ℕ, List, Global, String, Option, true, refl, sym, ap, subst, ◌∙◌, arith}
-use Rattle.std.specs.Prelude.{None, Result, Err, IfErr}
+use Rattle.std.proofs.Common.{◌≡◌, ◌≢◌, ◌⊎◌, inl, inr, ℕ, List, Global, String, Option, true, false, refl, sym, ap, subst, ◌∙◌, arith}
+use Rattle.std.specs.Prelude.{None, Result, Ok, Err, IfOk, IfErr}
 use Rattle.sqlite_disk.specs.declared.Disk as disk
 use Rattle.sqlite_wal.specs.Recovery.{Image}
 use Rattle.names.specs.declared.refusal.Refusal.{Refusal}
@@ -47,8 +47,8 @@ module _ {R W D : Type 0} {g : disk.Ghosts D} (image : Image) (remaining : R →
         → CannotReadOn fault → CannotWriteOn fault → IsRefused fault → RunStopped image place fault remaining contents (reader, writer) (reader_after, writer_after) left
     stopped_run A CommandLine run unread unwritten paused cut refused = absurd run
     stopped_run A (Refused why) run unread unwritten paused cut refused = let k = refused why refl in run_refused k.0 k.1 k.2
-    stopped_run A CannotRead run unread unwritten paused cut refused = input_failed refl unread (paused refl)
-    stopped_run A CannotWrite run unread unwritten paused cut refused = output_failed refl unwritten (cut refl)
+    stopped_run A CannotRead run unread unwritten paused cut refused = input_failed refl unread unwritten (paused refl)
+    stopped_run A CannotWrite run unread unwritten paused cut refused = output_failed refl unread unwritten (cut refl)
     stopped_run A CannotListen run unread unwritten paused cut refused = absurd run
 
     pub run_stops : {A : Type 0} (task : Task) (r : Result A Fault) (fault : Fault) → task ≡ Run place → r ≡ Err fault → IfErr r IsRunFault → reader_after.failed ≡ is_read_fault r → writer_after.failed ≡ is_write_fault r
@@ -56,6 +56,19 @@ module _ {R W D : Type 0} {g : disk.Ghosts D} (image : Image) (remaining : R →
     run_stops {A} task r fault is told run unread unwritten paused cut refused = subst (StoppedBy fault) (sym is)
         (stopped_run A fault (err_at IsRunFault r fault told run) (unread ∙ ap (λ (s : Result A Fault). is_read_fault s) told) (unwritten ∙ ap (λ (s : Result A Fault). is_write_fault s) told)
         (err_at CannotReadOn r fault told paused) (err_at CannotWriteOn r fault told cut) (err_at IsRefused r fault told refused))
+
+-- where no write failed, a service that was stopped holds nothing back
+pub service_hands_on : {W : Type 0} (contents : W → Option (List ℕ)) (old new : TrackedWriting W) → StoppedServing contents old new → new.failed ≡ false → old.flushed ≡ true → new.flushed ≡ true
+service_hands_on contents old new (inl said) unfailed flushed = said.1
+service_hands_on contents old new (inr (inl began)) unfailed flushed = let e : true ≡ false = sym began.0 ∙ unfailed in cc
+service_hands_on {W} contents old new (inr (inr same)) unfailed flushed = ap (λ (w : TrackedWriting W). w.flushed) same ∙ flushed
+
+-- nor does a report
+pub report_hands_on : {A E W : Type 0} (Began : Type 0) (old new : TrackedWriting W) (r : Result A E) → IfOk r (λ a. (new.failed ≡ false) × (new.flushed ≡ true)) → IfErr r (λ e. ((new.failed ≡ true) × Began) ⊎ (new ≡ old))
+    → new.failed ≡ false → old.flushed ≡ true → new.flushed ≡ true
+report_hands_on Began old new (Ok a) whole failed unfailed flushed = whole.1
+report_hands_on Began old new (Err e) whole (inl began) unfailed flushed = let e : true ≡ false = sym began.0 ∙ unfailed in cc
+report_hands_on {W = W} Began old new (Err e) whole (inr same) unfailed flushed = ap (λ (w : TrackedWriting W). w.flushed) same ∙ flushed
 
 -- a fault ends with another status than 0
 pub never_0 : (fault : Fault) → ¬ (fault_status fault ≡ 0)
