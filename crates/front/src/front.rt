@@ -10,7 +10,7 @@ ghost use Rattle.front.specs.Trees.{IsTreeAsked, ExpandFrom};
 ghost use Rattle.front.specs.Tuples.{AreTuplesAsked, ReadFrom};
 ghost use Rattle.front.specs.Groups.{AreGroupsAsked, GroupsFrom};
 ghost use Rattle.front.specs.Pages.{IsPageAsked, WatchFrom};
-ghost use Rattle.front.specs.Fronts.{ChangeFrom, FrontStep};
+ghost use Rattle.front.specs.Fronts.{ChangeFrom, FrontStep, ToldByDesk};
 
 use crate::groups::{AskedGroups, groups_again, groups_from};
 use crate::lock::Keeper;
@@ -123,6 +123,7 @@ impl<'k, T: Tables + Drop, J: Naming, R: Wait + Drop> Front<'k, T, J, R> {
     pub fn refresh<W: Wait>(&mut self, rt: &W) -> Receipt
         ensures kept { Begins self.old self.new }
         ensures told { Begins result.published self.new }
+        ensures tells { ToldByDesk T J.book result self.new }
     {
         self.keeper.hold(rt).refresh(&mut self.session)
     }

@@ -7,6 +7,7 @@ use crate::policies::{CYCLES, GROUPS, NESTED};
 use crate::random_policies::{ASKED, Draft};
 use names::Refusal;
 use std::alloc::Global;
+use std::process::Abort;
 use std::test::Fail;
 
 // Asks about histories of these seeds.
@@ -18,42 +19,32 @@ fn score_of(alloc: Global, policy: Policy<'_>, from: u64, to: u64) -> Result<Sco
     Ok(score)
 }
 
-#[test]
-fn groups_are_alike(rt: HostRuntime) -> Result<(), Fail> {
-    let score = score_of(rt.alloc(), GROUPS, 1, 13)?;
+// The answers are alike, to so many questions at least, of which so many have a yes.
+fn expect_alike<R: Abort>(rt: &R, score: &Score, asked: u64, yeses: u64) {
     assert_eq!(rt; score.differing.as_str(), "");
     assert!(rt;
-        score.asked >= 6480 && score.yeses >= 1296,
+        score.asked >= asked && score.yeses >= yeses,
         "{} of {}",
         score.yeses,
         score.asked
     );
+}
+
+#[test]
+fn groups_are_alike(rt: HostRuntime) -> Result<(), Fail> {
+    expect_alike(&rt, &score_of(rt.alloc(), GROUPS, 1, 13)?, 6480, 1296);
     Ok(())
 }
 
 #[test]
 fn cycles_are_alike(rt: HostRuntime) -> Result<(), Fail> {
-    let score = score_of(rt.alloc(), CYCLES, 1, 13)?;
-    assert_eq!(rt; score.differing.as_str(), "");
-    assert!(rt;
-        score.asked >= 4320 && score.yeses >= 864,
-        "{} of {}",
-        score.yeses,
-        score.asked
-    );
+    expect_alike(&rt, &score_of(rt.alloc(), CYCLES, 1, 13)?, 4320, 864);
     Ok(())
 }
 
 #[test]
 fn nested_exclusions_are_alike(rt: HostRuntime) -> Result<(), Fail> {
-    let score = score_of(rt.alloc(), NESTED, 1, 13)?;
-    assert_eq!(rt; score.differing.as_str(), "");
-    assert!(rt;
-        score.asked >= 5400 && score.yeses >= 810,
-        "{} of {}",
-        score.yeses,
-        score.asked
-    );
+    expect_alike(&rt, &score_of(rt.alloc(), NESTED, 1, 13)?, 5400, 810);
     Ok(())
 }
 
@@ -74,13 +65,6 @@ fn random_score(alloc: Global, from: u64, to: u64) -> Result<Score, Refusal> {
 
 #[test]
 fn random_policies_are_alike(rt: HostRuntime) -> Result<(), Fail> {
-    let score = random_score(rt.alloc(), 1, 13)?;
-    assert_eq!(rt; score.differing.as_str(), "");
-    assert!(rt;
-        score.asked >= 6480 && score.yeses >= 810,
-        "{} of {}",
-        score.yeses,
-        score.asked
-    );
+    expect_alike(&rt, &random_score(rt.alloc(), 1, 13)?, 6480, 810);
     Ok(())
 }
