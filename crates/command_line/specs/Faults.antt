@@ -25,6 +25,12 @@ IsLineFault CommandLine = Unit {0}
 IsLineFault (Refused Memory) = Unit {0}
 IsLineFault _ = ⊥
 
+-- a file cannot be read, or memory is refused
+abbrev pub IsFileFault : Fault → Type 0
+IsFileFault CannotRead = Unit {0}
+IsFileFault (Refused Memory) = Unit {0}
+IsFileFault _ = ⊥
+
 -- a store is refused where it cannot be opened, or memory is refused
 abbrev pub IsRunFault : Fault → Type 0
 IsRunFault CommandLine = ⊥

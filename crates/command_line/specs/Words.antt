@@ -1,6 +1,8 @@
 -- What the words of a command line ask for.
 use Rattle.std.specs.Prelude.{ℕ, ◌≤◌, Bool, false, List, [], ◌∷◌, IfSome, bytes_eq, codes, ⊤}
-use Rattle.command_line.specs.declared.words.TheConstants.{MAX_WORKERS}
+use Rattle.command_line.specs.declared.words.TheConstants.{MAX_STORE, MAX_WORKERS}
+use Rattle.command_line.specs.declared.words.Place.{Place}
+use Rattle.command_line.specs.declared.words.Place.TheVariants.{Memory, New, There}
 use Rattle.command_line.specs.declared.words.Task.{Task}
 use Rattle.command_line.specs.declared.words.Task.TheVariants.{Run, Serve, Config}
 
@@ -25,3 +27,19 @@ abbrev pub NamesWorkers : Task → Type 0
 NamesWorkers (Serve place port workers) = IfSome workers AreWorkers
 NamesWorkers (Run place) = ⊤
 NamesWorkers (Config file) = ⊤
+
+-- a number that a store can have
+abbrev pub IsStore : ℕ → Type 0
+IsStore store = (1 ≤ store) × (store ≤ MAX_STORE)
+
+-- a store that is made has one of these
+abbrev pub IsPlace : Place → Type 0
+IsPlace (Memory store) = IsStore store
+IsPlace (New file store) = IsStore store
+IsPlace (There file) = ⊤
+
+-- where a store is asked for, it is there or gets such a number
+abbrev pub NamesStore : Task → Type 0
+NamesStore (Run place) = IsPlace place
+NamesStore (Serve place port workers) = IsPlace place
+NamesStore (Config file) = ⊤

@@ -1,5 +1,6 @@
 //! Files.
 ghost use Rattle.std.specs.Prelude.{◌≡◌, ◌≢◌, IfErr};
+ghost use Rattle.command_line.specs.Faults.{IsFileFault};
 
 use crate::fault::Fault;
 use names::Refusal;
@@ -14,7 +15,8 @@ const MOST: u64 = MAX_CONFIG_LEN as u64 + 1;
 
 /// The first bytes of a file, one more than a configuration has, or all of it where it has fewer.
 pub fn read_file<F: Files>(alloc: Global, files: &F, path: &str) -> Result<Vec<u8>, Fault>
-    ensures { IfErr result (λ fault. fault ≢ Fault.CommandLine) }
+    ensures line { IfErr result (λ fault. fault ≢ Fault.CommandLine) }
+    ensures err { IfErr result IsFileFault }
 {
     match read_first(alloc, files, path) {
         Ok(bytes) => Ok(bytes),

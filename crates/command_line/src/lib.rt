@@ -10,4 +10,4 @@ mod words;
 pub use fault::Fault;
 pub use file::read_file;
 pub use report::{Report, report_of};
-pub use words::{MAX_WORKERS, Place, Task, task_of};
+pub use words::{MAX_STORE, MAX_WORKERS, Place, Task, task_of};

@@ -1,7 +1,7 @@
 //! The command line.
 ghost use Rattle.std.specs.Prelude.{◌≡◌, IsTrue, IfOk, IfErr, IfSome, map, string_bytes};
 ghost use Rattle.command_line.specs.Faults.{IsLineFault};
-ghost use Rattle.command_line.specs.Words.{asks_to_serve, AreWorkers, NamesWorkers, OnServe};
+ghost use Rattle.command_line.specs.Words.{asks_to_serve, AreWorkers, IsStore, IsPlace, NamesStore, NamesWorkers, OnServe};
 
 use crate::fault::Fault;
 use clap::error::ErrorKind;
@@ -11,6 +11,9 @@ use std::alloc::{AllocError, Global};
 
 /// The most workers that connections are served by. Beside their sessions a desk has two left.
 pub const MAX_WORKERS: u64 = 30;
+
+/// The greatest number of a store; the least is 1.
+pub const MAX_STORE: u64 = i64::MAX as u64;
 
 /// What a command line asks for.
 #[derive(Debug, Drop)]
@@ -47,6 +50,7 @@ pub enum Place {
 pub fn task_of(alloc: Global, words: &[String]) -> Result<Task, Fault>
     ensures serves { IfOk result (λ task. OnServe task (IsTrue (asks_to_serve (map string_bytes words.now)))) }
     ensures workers { IfOk result NamesWorkers }
+    ensures store { IfOk result NamesStore }
     ensures err { IfErr result IsLineFault }
 {
     match parse(alloc, words) {
@@ -64,7 +68,7 @@ fn with_place<'a>(alloc: Global, command: Command<'a>) -> Result<Command<'a>, Al
     let store = Arg::new(alloc, "store")
         .long("store")
         .action(ArgAction::Set)
-        .value_parser(clap::value_parser!(u64).range(1..=i64::MAX));
+        .value_parser(clap::value_parser!(u64).range(1..=MAX_STORE as i64));
     let db = Arg::new(alloc, "db").long("db").action(ArgAction::Set);
     command.disable_help_flag(true).arg(store)?.arg(db)
 }
@@ -112,6 +116,7 @@ fn asks_to_serve(words: &[String]) -> bool
 fn task_in(alloc: Global, words: &[String], matches: &ArgMatches) -> Result<Task, Fault>
     ensures serves { IfOk result (λ task. OnServe task (IsTrue (asks_to_serve (map string_bytes words.now)))) }
     ensures workers { IfOk result NamesWorkers }
+    ensures store { IfOk result NamesStore }
     ensures err { IfErr result IsLineFault }
 {
     match matches.subcommand() {
@@ -154,7 +159,8 @@ fn workers_of(matches: &ArgMatches) -> Result<Option<u64>, Fault>
 }
 
 fn place_of(alloc: Global, matches: &ArgMatches) -> Result<Place, Fault>
-    ensures { IfErr result IsLineFault }
+    ensures store { IfOk result IsPlace }
+    ensures err { IfErr result IsLineFault }
 {
     let store = store_of(matches)?;
     if !matches.contains_id("db") {
@@ -169,15 +175,17 @@ fn place_of(alloc: Global, matches: &ArgMatches) -> Result<Place, Fault>
     })
 }
 
+// The number that is named for a store.
 fn store_of(matches: &ArgMatches) -> Result<Option<u64>, Fault>
-    ensures { IfErr result IsLineFault }
+    ensures named { IfOk result (λ store. IfSome store IsStore) }
+    ensures err { IfErr result IsLineFault }
 {
     if !matches.contains_id("store") {
         return Ok(None);
     }
     match matches.get_one::<u64>("store") {
-        Some(store) => Ok(Some(store)),
-        None => Err(Fault::CommandLine),
+        Some(store) if 1 <= store && store <= MAX_STORE => Ok(Some(store)),
+        _ => Err(Fault::CommandLine),
     }
 }
 

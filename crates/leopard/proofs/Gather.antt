@@ -16,6 +16,9 @@ any_cases : {A : Type 0} (P : A → Type 0) (x : A) (xs : List A) → Any P (x �
 any_cases P x xs (zero, y, lt, e, p) = inl (subst P (sym e) p)
 any_cases P x xs (suc k, y, lt, e, p) = inr (k, y, omega arith, e, p)
 
+pub any_splits : {A : Type 0} (P : A → Type 0) (x : A) (xs : List A) → Any P (x ∷ xs) ↔ (P x ⊎ Any P xs)
+any_splits P x xs = (λ h. any_cases P x xs h, λ h. ⊎_elim (λ p. any_here P x xs p) (λ p. any_there P x xs p) h)
+
 pub any_map : {A : Type 0} (P Q : A → Type 0) (xs : List A) → ((x : A) → P x → Q x) → Any P xs → Any Q xs
 any_map P Q xs f (k, x, lt, e, p) = (k, x, lt, e, f x p)
 

@@ -1,12 +1,17 @@
 pub mod Arcs
+pub mod Bare
 pub mod Computing
+pub mod DirectSets
 pub mod Expressions
+pub mod Finding
 pub mod First
 pub mod Gather
 pub mod Indexed
+pub mod Indices
 pub mod Leftover
 pub mod Meeting
 pub mod Named
 pub mod Nodes
+pub mod Numbers
 pub mod Pages
 pub mod Walking

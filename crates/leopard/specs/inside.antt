@@ -1,2 +1,5 @@
 pub mod Asking
+pub mod Building
+pub mod Codes
 pub mod Direct
+pub mod Finding

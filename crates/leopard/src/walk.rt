@@ -5,23 +5,54 @@ ghost use Rattle.leopard.specs.inside.Asking.{AreAll, Sees};
 
 use crate::computed::push_computed;
 use crate::sets::put;
+use config::Config;
 use names::Node;
 use rows::View;
 use std::alloc::{AllocError, Global};
 use std::collections::BTreeSet;
 
-/// The nodes to which arcs lead from the node.
-fn ends_of(alloc: Global, view: &View, node: &Node) -> Result<Vec<Node>, AllocError>
-    ensures { IfOk result (λ v. AreAll (IsGroupArc view.now node.now) v.items) }
-{
-    let config = view.config();
-    let relations = config.relations();
-    let mut ends = view.usersets_of(alloc, node)?;
-    let Some(place) = config.place_of(node) else {
-        return Ok(ends);
-    };
-    push_computed(&mut ends, &node.object, &relations[place].rewrite)?;
-    Ok(ends)
+/// What tells where the arcs of groups lead.
+pub(crate) trait Arcs {
+    ghost use Rattle.meaning.specs.Snap.{Snap};
+
+    /// The snapshot that has the arcs.
+    ghost snap: { Self → Snap };
+
+    /// The nodes to which arcs lead from the node.
+    fn ends_of(&self, alloc: Global, node: &Node) -> Result<Vec<Node>, AllocError>
+        ensures { IfOk result (λ v. AreAll (IsGroupArc (snap self.now) node.now) v.items) };
+}
+
+impl<'a> Arcs for View<'a> {
+    ghost snap = { λ v. v };
+
+    fn ends_of(&self, alloc: Global, node: &Node) -> Result<Vec<Node>, AllocError> {
+        let config = self.config();
+        let relations = config.relations();
+        let mut ends = self.usersets_of(alloc, node)?;
+        let Some(place) = config.place_of(node) else {
+            return Ok(ends);
+        };
+        push_computed(&mut ends, &node.object, &relations[place].rewrite)?;
+        Ok(ends)
+    }
+}
+
+/// A configuration by itself has the arcs to computed usersets.
+impl Arcs for Config {
+    ghost use Rattle.leopard.specs.Index.{bare};
+
+    ghost snap = { bare };
+
+    fn ends_of(&self, alloc: Global, node: &Node) -> Result<Vec<Node>, AllocError> {
+        let relations = self.relations();
+        let mut computed = Vec::new(alloc);
+        let Some(place) = self.place_of(node) else {
+            return Ok(computed);
+        };
+        push_computed(&mut computed, &node.object, &relations[place].rewrite)?;
+        Ok(computed)
+    }
 }
 
 /// Notes the end of an arc. One that is new is left to be looked at.
@@ -46,12 +77,12 @@ fn see_all(seen: &mut BTreeSet<Node>, left: &mut Vec<Node>, ends: &[Node]) -> Re
 }
 
 /// The groups to which walks of arcs lead from the group, itself among them. Each is looked at once.
-pub(crate) fn reached(
+pub(crate) fn reached<A: Arcs>(
     alloc: Global,
-    view: &View,
+    arcs: &A,
     group: &Node,
 ) -> Result<BTreeSet<Node>, AllocError>
-    ensures { IfOk result (λ seen. AreAll (GroupWalk view.now group.now) seen.keys) }
+    ensures { IfOk result (λ seen. AreAll (GroupWalk (A.snap arcs.now) group.now) seen.keys) }
 {
     let mut seen = BTreeSet::new(alloc);
     let mut left = Vec::new(alloc);
@@ -60,7 +91,7 @@ pub(crate) fn reached(
         let Some(node) = left.pop() else {
             return Ok(seen);
         };
-        let ends = ends_of(alloc, view, &node)?;
+        let ends = arcs.ends_of(alloc, &node)?;
         see_all(&mut seen, &mut left, &ends)?;
     }
     // Never taken: so many nodes have no room in memory.

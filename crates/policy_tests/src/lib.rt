@@ -1,5 +1,7 @@
-//! Tests of the policies, `config`, `snapshots` and `plain`, by their public calls: what no run of the program shows.
+//! Tests of the policies, `config`, `snapshots` and `plain`, and of groups, `leopard`, by their public calls: what no run of the program shows.
 #![tactic(auto)]
 
+#[cfg(test)]
+mod groups;
 #[cfg(test)]
 mod memberships;

@@ -1,21 +1,21 @@
 -- A walk that asks.
-use Rattle.std.proofs.Common.{ℕ, ◌≡◌, ◌≤◌, ◌<◌, ◌+◌, Bool, true, false, not, ◌&&◌, ◌||◌, take, length, nat_eq, List, [], ◌∷◌, ◌++◌, get_or, refl, sym, ◌∙◌, ap, subst, arith, ⊎_elim, ◌⊎◌, append_assoc, append-nil, zero, suc}
+use Rattle.std.proofs.Common.{ℕ, ◌≡◌, ◌≤◌, ◌<◌, ◌+◌, Bool, true, false, cond, not, ◌&&◌, ◌||◌, take, length, nat_eq, List, [], ◌∷◌, ◌++◌, get_or, refl, sym, ◌∙◌, ap, subst, arith, ⊎_elim, ◌⊎◌, append_assoc, append-nil, zero, suc}
 use Rattle.std.specs.List.{IsDistinct, AllByRecursion}
 use Rattle.std.specs.Cmp.{nat_eq_equiv}
 use Rattle.std.proofs.lemmas.Map.Keys.{IsDistinct-push}
 use Rattle.std.proofs.lemmas.List.{take_more, take_all}
 use Rattle.std.proofs.lemmas.List.Folds.{list_any-append, list_any_more}
 use Rattle.std.proofs.lemmas.Bool.{or_cases, cases_Bool, or_left, or_right, and_parts, and_from, false≢true, eqb-true, eq-eqb, not_from_false, false_from_ne_true}
-use Rattle.least_sets.specs.World.{Fact, has}
+use Rattle.least_sets.specs.World.{Fact, Own, has, arcs_of}
 use Rattle.least_sets.specs.Walks.{Adds, Walk, here, on, arc_of, IsTouched, IsReached}
 use Rattle.least_sets.proofs.Gives.{has-append}
 use Rattle.least_sets.proofs.Found.{SearchAt, search_none, search_more, search_end, distinct_none, has_at, has_take}
 use Rattle.region.specs.declared.rule.Told.{Told}
-use Rattle.region.specs.Rules.{fact_of}
-use Rattle.region.specs.Steps.{is_told, Tells}
+use Rattle.region.specs.Rules.{fact_of, shape_of}
+use Rattle.region.specs.Steps.{is_told, Tells, AreTold, InEachTold}
 use Rattle.region.specs.Tables.{Rows, kept, arc_in}
-use Rattle.region.specs.Gathered.{nodes_of, stays, IsAskedOnce, IsAskedSome}
-use Rattle.region.specs.Walking.{IsVisit, IsWalked, IsAskedSomeOf}
+use Rattle.region.specs.Gathered.{nodes_of, stays, IsGathered, IsAskedOnce, IsAskedSome}
+use Rattle.region.specs.Walking.{IsVisit, IsWalked, IsWalkedTold, IsAskedSomeOf}
 
 pick : (h e s b : Bool) → (e ≡ true → s ≡ b) → ((h && s) || (e && b)) ≡ ((h || e) && s)
 pick true true true b f = refl
@@ -186,9 +186,18 @@ pub off_at : (world : ℕ → Fact) (old : Rows) (touched roots turned first : L
     → GatherAt world old touched roots turned first at found told asked → at < length found → node ≡ get_or found at node → stays old touched node ≡ false
 off_at world old touched roots turned first at found told asked node so_far lt e = so_far.off node (has_at found at node lt e)
 
-pub gather_more : (world : ℕ → Fact) (old : Rows) (touched roots turned first : List ℕ) (at node : ℕ) (found found' : List ℕ) (told told' : List Told) (asked asked' : List ℕ)
+-- a visit in a world that is as told
+record VisitIn (world : ℕ → Fact) (old : Rows) (touched : List ℕ) (node : ℕ) (found : List ℕ) (told : List Told) (asked : List ℕ) (found' : List ℕ) (told' : List Told) (asked' : List ℕ) : Type 0 where
+  pub t : Told
+  pub node_is : t.node ≡ node
+  pub fact_is : fact_of t ≡ world node
+  pub told_is : told' ≡ told ++ t ∷ []
+  pub asked_is : asked' ≡ asked ++ node ∷ []
+  pub adds : Adds found found' (λ u. arc_of world node u && not (stays old touched u))
+
+gather_more : (world : ℕ → Fact) (old : Rows) (touched roots turned first : List ℕ) (at node : ℕ) (found found' : List ℕ) (told told' : List Told) (asked asked' : List ℕ)
     → GatherAt world old touched roots turned first at found told asked → at < length found → node ≡ get_or found at node
-    → IsVisit world old touched node found told asked found' told' asked' → GatherAt world old touched roots turned first (at + 1) found' told' asked'
+    → VisitIn world old touched node found told asked found' told' asked' → GatherAt world old touched roots turned first (at + 1) found' told' asked'
 gather_more world old touched roots turned first at node found found' told told' asked asked' so_far lt e v = record {
   start = so_far.start;
   start_roots = so_far.start_roots;
@@ -217,6 +226,95 @@ gather_more world old touched roots turned first at node found found' told told'
     nodes_is : nodes_of told' ≡ nodes_of told ++ node ∷ []
     nodes_is = ap (λ (xs : List Told). nodes_of xs) v.told_is ∙ nodes_push told v.t ∙ ap (λ i. nodes_of told ++ i ∷ []) v.node_is
 
+tells_both : (world : ℕ → Fact) (told : List Told) (t : Told) → Tells world (told ++ t ∷ []) → Tells world told × (world t.node ≡ fact_of t)
+tells_both world [] t a = (tt, a.0)
+tells_both world (x ∷ xs) t a = let rest = tells_both world xs t a.1 in ((a.0, rest.0), rest.1)
+
+pub are_told_more : (tells more : ℕ → Fact → Type 0) (told : List Told) → ((n : ℕ) (fact : Fact) → tells n fact → more n fact) → AreTold tells told → AreTold more told
+are_told_more tells more [] f a = tt
+are_told_more tells more (t ∷ ts) f a = (f t.node (fact_of t) a.0, are_told_more tells more ts f a.1)
+
+are_told_push : (tells : ℕ → Fact → Type 0) (told : List Told) (t : Told) → AreTold tells told → tells t.node (fact_of t) → AreTold tells (told ++ t ∷ [])
+are_told_push tells [] t a e = (e, tt)
+are_told_push tells (x ∷ xs) t a e = (a.0, are_told_push tells xs t a.1 e)
+
+-- a world with another fact of one node
+with_fact : (ℕ → Fact) → ℕ → Fact → ℕ → Fact
+with_fact world node fact n = cond (nat_eq node n) fact (world n)
+
+with_same : (world : ℕ → Fact) (node : ℕ) (fact : Fact) → with_fact world node fact node ≡ fact
+unfolding with_fact
+with_same world node fact = ap (λ b. cond b fact (world node)) (eq-eqb node node refl)
+
+with_other : (world : ℕ → Fact) (node n : ℕ) (fact : Fact) → nat_eq node n ≡ false → with_fact world node fact n ≡ world n
+unfolding with_fact
+with_other world node n fact off = ap (λ b. cond b fact (world n)) off
+
+neither : (a b : Bool) → (a || b) ≡ false → (a ≡ false) × (b ≡ false)
+neither true b h = absurd (false≢true (sym h))
+neither false b h = (refl, h)
+
+tells_elsewhere : (world : ℕ → Fact) (told : List Told) (node : ℕ) (fact : Fact) → is_told told node ≡ false → Tells world told → Tells (with_fact world node fact) told
+tells_elsewhere world [] node fact off a = tt
+tells_elsewhere world (t ∷ ts) node fact off a =
+    let two = neither (nat_eq node t.node) (is_told ts node) off in
+    (with_other world node t.node fact two.0 ∙ a.0, tells_elsewhere world ts node fact two.1 a.1)
+
+-- the walk so far, in each world that is as told
+pub record WalkAt (tells : ℕ → Fact → Type 0) (old : Rows) (touched roots turned first : List ℕ) (at : ℕ) (found : List ℕ) (told : List Told) (asked : List ℕ) : Type 0 where
+  pub are_told : AreTold tells told
+  pub some : (world : ℕ → Fact) × Tells world told
+  pub each : (world : ℕ → Fact) → Tells world told → GatherAt world old touched roots turned first at found told asked
+
+pub walk_none : (tells : ℕ → Fact → Type 0) (old : Rows) (touched roots turned first nothing half found : List ℕ) (told : List Told)
+    → nothing ≡ [] → Adds nothing half (λ u. has turned u && (has roots u && not (stays old touched u)))
+    → Adds half found (λ u. has touched u && (has roots u && not (stays old touched u))) → told ≡ []
+    → WalkAt tells old touched roots turned first 0 found told first
+walk_none tells old touched roots turned first nothing half found told e some others no_told = record {
+  are_told = subst (λ (xs : List Told). AreTold tells xs) (sym no_told) tt;
+  some = ((λ n. record { level = 0; shape = Own; own = [] }), subst (λ (xs : List Told). Tells (λ n. record { level = 0; shape = Own; own = [] }) xs) (sym no_told) tt);
+  each = λ world t. gather_none world old touched roots turned first nothing half found told e some others no_told;
+}
+
+visit_in : (world : ℕ → Fact) (tells : ℕ → Fact → Type 0) (old : Rows) (touched : List ℕ) (node : ℕ) (found : List ℕ) (told : List Told) (asked : List ℕ) (found' : List ℕ) (told' : List Told) (asked' : List ℕ)
+    → (v : IsVisit tells old touched node found told asked found' told' asked') → world v.t.node ≡ fact_of v.t → VisitIn world old touched node found told asked found' told' asked'
+visit_in world tells old touched node found told asked found' told' asked' v is =
+    let here : fact_of v.t ≡ world node = sym is ∙ ap world v.node_is in
+    record {
+      t = v.t;
+      node_is = v.node_is;
+      fact_is = here;
+      told_is = v.told_is;
+      asked_is = v.asked_is;
+      adds = adds_same found found' (λ u. has (arcs_of (shape_of v.t.rule)) u && not (stays old touched u)) (λ u. arc_of world node u && not (stays old touched u))
+          (λ u. ap (λ (f : Fact). has (arcs_of f.shape) u && not (stays old touched u)) here) v.adds;
+    }
+
+pub walk_more : (tells more : ℕ → Fact → Type 0) (old : Rows) (touched roots turned first : List ℕ) (at node : ℕ) (found found' : List ℕ) (told told' : List Told) (asked asked' : List ℕ)
+    → ((n : ℕ) (fact : Fact) → tells n fact → more n fact)
+    → WalkAt tells old touched roots turned first at found told asked → at < length found → node ≡ get_or found at node
+    → IsVisit more old touched node found told asked found' told' asked' → WalkAt more old touched roots turned first (at + 1) found' told' asked'
+walk_more tells more old touched roots turned first at node found found' told told' asked asked' grows so_far lt e v = record {
+  are_told = subst (λ (xs : List Told). AreTold more xs) (sym v.told_is)
+      (are_told_push more told v.t (are_told_more tells more told grows so_far.are_told) (subst (λ n. more n (fact_of v.t)) (sym v.node_is) v.fact_is));
+  some = (
+    next,
+    subst (λ (xs : List Told). Tells next xs) (sym v.told_is)
+        (tells_push next told v.t (tells_elsewhere so_far.some.0 told v.t.node (fact_of v.t) new so_far.some.1) (with_same so_far.some.0 v.t.node (fact_of v.t))),
+  );
+  each = λ world t.
+      let two = tells_both world told v.t (subst (λ (xs : List Told). Tells world xs) v.told_is t) in
+      gather_more world old touched roots turned first at node found found' told told' asked asked' (so_far.each world two.0) lt e
+      (visit_in world more old touched node found told asked found' told' asked' v two.1);
+}
+  where
+    next : ℕ → Fact
+    next = with_fact so_far.some.0 v.t.node (fact_of v.t)
+
+    new : is_told told v.t.node ≡ false
+    new = ap (λ n. is_told told n) v.node_is
+        ∙ not_asked so_far.some.0 old touched roots turned first at found told asked node (so_far.each so_far.some.0 so_far.some.1) lt e
+
 walk_as : (p q : ℕ → ℕ → Bool) (a b : ℕ) → ((n m : ℕ) → p n m ≡ true → q n m ≡ true) → Walk p a b → Walk q a b
 walk_as p q a b f here = here
 walk_as p q a b f (on {b = m} w h) = on (walk_as p q a m f w) (f m b h)
@@ -244,6 +342,28 @@ walked world old touched roots turned first at found told asked so_far le = reco
   where
     all : (n : ℕ) → has found n ≡ is_told told n
     all n = ap (λ xs. has xs n) (sym (take_all at found le)) ∙ so_far.done n
+
+pub walked_told : (tells : ℕ → Fact → Type 0) (old : Rows) (touched roots turned first : List ℕ) (at : ℕ) (found : List ℕ) (told : List Told) (asked : List ℕ)
+    → WalkAt tells old touched roots turned first at found told asked → length found ≤ at → IsWalkedTold tells old touched roots turned told
+walked_told tells old touched roots turned first at found told asked so_far le = record {
+  are_told = so_far.are_told;
+  some = so_far.some;
+  each = λ world t. walked world old touched roots turned first at found told asked (so_far.each world t) le;
+}
+
+pub asked_once : (tells : ℕ → Fact → Type 0) (old : Rows) (touched roots turned first : List ℕ) (at : ℕ) (found : List ℕ) (told : List Told) (asked : List ℕ)
+    → WalkAt tells old touched roots turned first at found told asked → IsAskedOnce told first asked
+asked_once tells old touched roots turned first at found told asked so_far = (so_far.each so_far.some.0 so_far.some.1).askings
+
+-- no walk from a node that stays leads to a changed one
+pub untouched : (world : ℕ → Fact) (old : Rows) (roots turned changed : List ℕ) (told : List Told) (dropped : List ℕ)
+    → IsGathered world old roots turned changed told dropped → (n : ℕ) → stays old dropped n ≡ true → IsTouched (arc_in old) changed n → ⊥
+untouched world old roots turned changed told dropped got n s t =
+    false≢true (sym (got.untouched t.end (along t.end t.walk)).1 ∙ t.among)
+  where
+    along : (e : ℕ) → Walk (arc_in old) n e → stays old dropped e ≡ true
+    along e here = s
+    along e (on {b = b} w h) = got.stay_arcs b e (along b w) h
 
 pub touched_if : (world : ℕ → Fact) (old : Rows) (touched changed : List ℕ) → ((n : ℕ) → has touched n ≡ true → IsTouched (arc_in old) changed n)
     → (n : ℕ) → stays old touched n ≡ false → kept old n ≡ true → IsTouched (arc_in old) changed n
@@ -289,7 +409,27 @@ some_at world old touched roots turned first at found told asked later node so_f
         (λ q. subst (λ i. has found i ≡ true) (sym (eqb-true n node q)) (has_at found at node lt e))
         (or_cases (has (nodes_of told) n) (nat_eq n node) (sym (has_push (nodes_of told) node n) ∙ h))
 
-pub some_touched : (world : ℕ → Fact) (old : Rows) (touched roots changed first later : List ℕ) → ((n : ℕ) → has touched n ≡ true → IsTouched (arc_in old) changed n)
+pub some_walked : (tells more : ℕ → Fact → Type 0) (old : Rows) (touched roots turned first : List ℕ) (at : ℕ) (found : List ℕ) (told : List Told) (asked later : List ℕ) (node : ℕ)
+    → ((n : ℕ) (fact : Fact) → tells n fact → more n fact)
+    → WalkAt tells old touched roots turned first at found told asked → at < length found → node ≡ get_or found at node
+    → (later ≡ asked) ⊎ (later ≡ asked ++ node ∷ []) → InEachTold more (λ world. IsAskedSomeOf world roots (stays old touched) first later)
+some_walked tells more old touched roots turned first at found told asked later node grows so_far lt e which = record {
+  told = told;
+  are_told = are_told_more tells more told grows so_far.are_told;
+  some = so_far.some;
+  each = λ world t. some_at world old touched roots turned first at found told asked later node (so_far.each world t) lt e which;
+}
+
+-- nobody was told of
+pub none_told : (tells : ℕ → Fact → Type 0) (P : (ℕ → Fact) → Type 0) → ((world : ℕ → Fact) → P world) → InEachTold tells P
+none_told tells P f = record {
+  told = [];
+  are_told = tt;
+  some = ((λ n. record { level = 0; shape = Own; own = [] }), tt);
+  each = λ world t. f world;
+}
+
+some_touched : (world : ℕ → Fact) (old : Rows) (touched roots changed first later : List ℕ) → ((n : ℕ) → has touched n ≡ true → IsTouched (arc_in old) changed n)
     → IsAskedSomeOf world roots (stays old touched) first later → IsAskedSome world old roots changed first later
 some_touched world old touched roots changed first later sound s = record {
   nodes = s.nodes;
@@ -300,7 +440,7 @@ some_touched world old touched roots changed first later sound s = record {
 }
 
 -- all who were asked
-pub some_told : (world : ℕ → Fact) (old : Rows) (touched roots turned changed first later : List ℕ) (told : List Told)
+some_told : (world : ℕ → Fact) (old : Rows) (touched roots turned changed first later : List ℕ) (told : List Told)
     → ((n : ℕ) → has touched n ≡ true → IsTouched (arc_in old) changed n)
     → IsWalked world old touched roots turned told → IsAskedOnce told first later → IsAskedSome world old roots changed first later
 some_told world old touched roots turned changed first later told sound w asked = record {
@@ -309,6 +449,25 @@ some_told world old touched roots turned changed first later told sound w asked 
   once = asked.once;
   few = λ n h k. touched_if world old touched changed sound n (w.needed n (sym (told_nodes told n) ∙ h)) k;
   reached = λ n h. w.reached n (sym (told_nodes told n) ∙ h);
+}
+
+pub each_touched : (tells : ℕ → Fact → Type 0) (old : Rows) (touched roots changed first later : List ℕ) → ((n : ℕ) → has touched n ≡ true → IsTouched (arc_in old) changed n)
+    → InEachTold tells (λ world. IsAskedSomeOf world roots (stays old touched) first later) → InEachTold tells (λ world. IsAskedSome world old roots changed first later)
+each_touched tells old touched roots changed first later sound s = record {
+  told = s.told;
+  are_told = s.are_told;
+  some = s.some;
+  each = λ world t. some_touched world old touched roots changed first later sound (s.each world t);
+}
+
+pub each_told : (tells : ℕ → Fact → Type 0) (old : Rows) (touched roots turned changed first later : List ℕ) (told : List Told)
+    → ((n : ℕ) → has touched n ≡ true → IsTouched (arc_in old) changed n)
+    → IsWalkedTold tells old touched roots turned told → IsAskedOnce told first later → InEachTold tells (λ world. IsAskedSome world old roots changed first later)
+each_told tells old touched roots turned changed first later told sound w asked = record {
+  told = told;
+  are_told = w.are_told;
+  some = w.some;
+  each = λ world t. some_told world old touched roots turned changed first later told sound (w.each world t) asked;
 }
 
 pub none_asked : (world : ℕ → Fact) (old : Rows) (roots changed asked : List ℕ) → IsAskedSome world old roots changed asked asked

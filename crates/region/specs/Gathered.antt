@@ -53,15 +53,14 @@ abbrev pub IsSameElsewhere : (before now : ℕ → Fact) → Rows → List ℕ �
 IsSameElsewhere before now old changed =
     (n : ℕ) → kept old n ≡ true → (IsTouched (arc_in old) changed n → ⊥) → now n ≡ before n
 
--- who was asked: each once, only what the roots reach, and of that only what is new or touched
-pub record IsAskedFew (world : ℕ → Fact) (old new : Rows) (roots changed before after : List ℕ) : Type 0 where
+-- who was asked: each once, and only what is kept now, and of that only what is new or touched
+pub record IsAskedFew (old new : Rows) (changed before after : List ℕ) : Type 0 where
   pub nodes : List ℕ
   pub asked : after ≡ before ++ nodes
   pub once : IsDistinct nat_eq nodes
   pub few : (n : ℕ) → has nodes n ≡ true → (kept new n ≡ true) × ((kept old n ≡ true) → IsTouched (arc_in old) changed n)
-  pub reached : (n : ℕ) → has nodes n ≡ true → IsReached (arc_of world) roots n
 
--- the same, where it ended before all were asked
+-- who was asked, where it ended before all were: each once, only what the roots reach, and of that only what is new or touched
 pub record IsAskedSome (world : ℕ → Fact) (old : Rows) (roots changed before after : List ℕ) : Type 0 where
   pub nodes : List ℕ
   pub asked : after ≡ before ++ nodes

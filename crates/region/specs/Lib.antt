@@ -4,6 +4,7 @@ pub mod Tables
 pub mod Steps
 pub mod Sets
 pub mod Gathered
+pub mod Refreshed
 pub mod Walking
 pub mod Sweeping
 pub mod Filled

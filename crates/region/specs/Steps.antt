@@ -14,6 +14,18 @@ abbrev pub Tells : (ℕ → Fact) → List Told → Type 0
 Tells world [] = Unit {0}
 Tells world (t ∷ ts) = (world t.node ≡ fact_of t) × Tells world ts
 
+-- what was told of each node may be told of it
+abbrev pub AreTold : (ℕ → Fact → Type 0) → List Told → Type 0
+AreTold tells [] = Unit {0}
+AreTold tells (t ∷ ts) = tells t.node (fact_of t) × AreTold tells ts
+
+-- nodes were told of, and a fact holds in each world that is as told; there is one
+pub record InEachTold (tells : ℕ → Fact → Type 0) (P : (ℕ → Fact) → Type 0) : Type 0 where
+  pub told : List Told
+  pub are_told : AreTold tells told
+  pub some : (world : ℕ → Fact) × Tells world told
+  pub each : (world : ℕ → Fact) → Tells world told → P world
+
 -- nothing is left to add at a node
 abbrev pub IsSettledAt : Told → (ℕ → ℕ → Bool) → Type 0
 IsSettledAt t sets = (user : ℕ) → given (fact_of t) sets user ≡ true → sets user t.node ≡ true

@@ -4,8 +4,9 @@ ghost use Rattle.least_sets.specs.World.{Fact, has, arcs_of};
 ghost use Rattle.least_sets.specs.Walks.{Adds, arc_of};
 ghost use Rattle.region.specs.Sets.{IsWhole};
 ghost use Rattle.region.specs.Rules.{fact_of, shape_of};
+ghost use Rattle.region.specs.Steps.{Tells, AreTold, InEachTold};
 ghost use Rattle.region.specs.Gathered.{stays, IsGathered, IsAskedOnce, IsAskedSome};
-ghost use Rattle.region.specs.Walking.{IsVisit, IsWalked, IsAskedSomeOf};
+ghost use Rattle.region.specs.Walking.{IsVisit, IsWalkedTold, IsAskedSomeOf};
 ghost use Rattle.region.specs.Sweeping.{names_told};
 
 use crate::eval::{named, push_named};
@@ -25,21 +26,31 @@ pub struct Region {
     pub dropped: Vec<u64>,
 }
 
-/// Who knows the facts of nodes.
+/// Who knows the facts of nodes. Nodes may get their numbers while others are asked that name them, so what may be
+/// told of a node grows.
 pub trait Facts {
-    /// The facts.
-    ghost world: { Self → ℕ → Fact };
+    /// What may be told of a node.
+    ghost tells: { Self → ℕ → Fact → Type 0 };
+
+    /// What asking may change.
+    ghost later: { Self → Self → Type 0 };
 
     /// The nodes that were asked, in order.
     ghost asked: { Self → List ℕ };
 
     /// What is known of a node.
     fn ask(&mut self, alloc: Global, node: u64) -> Result<Told, AllocError>
-        ensures same { world self.new ≡ world self.old }
+        ensures later { later self.old self.new }
         ensures recorded { OnOk result (asked self.new ≡ asked self.old ++ node ∷ []) }
         ensures refused { OnErr result (asked self.new ≡ asked self.old) }
         ensures node { IfOk result (λ told. told.node ≡ node) }
-        ensures told { IfOk result (λ told. fact_of told ≡ world self.old node) };
+        ensures told { IfOk result (λ told. tells self.new node (fact_of told)) };
+
+    ghost stays: { (s : Self) → later s s };
+
+    ghost further: { (a b c : Self) → later a b → later b c → later a c };
+
+    ghost grows: { (a b : Self) (n : ℕ) (fact : Fact) → later a b → tells a n fact → tells b n fact };
 }
 
 // Whether a node stays as it was.
@@ -89,8 +100,8 @@ fn visit<F: Facts>(
     found: &mut Found,
     told: &mut Vec<Told>,
 ) -> Result<(), AllocError>
-    ensures same { F.world facts.new ≡ F.world facts.old }
-    ensures visit { OnOk result (IsVisit (F.world facts.old) old.now.rows touched.now node found.old told.old.items (F.asked facts.old) found.new told.new.items (F.asked facts.new)) }
+    ensures later { F.later facts.old facts.new }
+    ensures visit { OnOk result (IsVisit (F.tells facts.new) old.now.rows touched.now node found.old told.old.items (F.asked facts.old) found.new told.new.items (F.asked facts.new)) }
     ensures refused { OnErr result ((F.asked facts.new ≡ F.asked facts.old) ⊎ (F.asked facts.new ≡ F.asked facts.old ++ node ∷ [])) }
 {
     let t = facts.ask(alloc, node)?;
@@ -128,10 +139,10 @@ fn walk<F: Facts>(
     touched: &Found,
     facts: &mut F,
 ) -> Result<Vec<Told>, AllocError>
-    ensures same { F.world facts.new ≡ F.world facts.old }
-    ensures walked { IfOk result (λ told. IsWalked (F.world facts.old) old.now.rows touched.now roots.now turned.now told.items) }
+    ensures later { F.later facts.old facts.new }
+    ensures walked { IfOk result (λ told. IsWalkedTold (F.tells facts.new) old.now.rows touched.now roots.now turned.now told.items) }
     ensures asked { IfOk result (λ told. IsAskedOnce told.items (F.asked facts.old) (F.asked facts.new)) }
-    ensures refused { OnErr result (IsAskedSomeOf (F.world facts.old) roots.now (stays old.now.rows touched.now) (F.asked facts.old) (F.asked facts.new)) }
+    ensures refused { OnErr result (InEachTold (F.tells facts.new) (λ world. IsAskedSomeOf world roots.now (stays old.now.rows touched.now) (F.asked facts.old) (F.asked facts.new))) }
 {
     let mut found = Found::new(alloc);
     add_roots(&mut found, old, touched, roots, turned)?;
@@ -172,10 +183,13 @@ pub fn gather<F: Facts>(
     facts: &mut F,
 ) -> Result<Region, AllocError>
     requires { IsWhole old.now }
-    ensures same { F.world facts.new ≡ F.world facts.old }
-    ensures gathered { IfOk result (λ region. IsGathered (F.world facts.old) old.now.rows roots.now turned.now changed.now region.told.items region.dropped.items) }
+    ensures later { F.later facts.old facts.new }
+    ensures told { IfOk result (λ region. AreTold (F.tells facts.new) region.told.items) }
+    ensures agree { IfOk result (λ region. (world : ℕ → Fact) × Tells world region.told.items) }
+    ensures gathered { IfOk result (λ region. (world : ℕ → Fact) → Tells world region.told.items
+        → IsGathered world old.now.rows roots.now turned.now changed.now region.told.items region.dropped.items) }
     ensures asked { IfOk result (λ region. IsAskedOnce region.told.items (F.asked facts.old) (F.asked facts.new)) }
-    ensures refused { OnErr result (IsAskedSome (F.world facts.old) old.now.rows roots.now changed.now (F.asked facts.old) (F.asked facts.new)) }
+    ensures refused { OnErr result (InEachTold (F.tells facts.new) (λ world. IsAskedSome world old.now.rows roots.now changed.now (F.asked facts.old) (F.asked facts.new))) }
 {
     let mut touched = touched(alloc, old, changed)?;
     let told = walk(alloc, old, roots, turned, &touched, facts)?;

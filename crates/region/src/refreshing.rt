@@ -2,11 +2,12 @@
 ghost use Rattle.std.specs.Prelude.{◌≡◌, ℕ, true, false, List, ◌⊎◌, OnOk, OnErr};
 ghost use Rattle.least_sets.specs.World.{Fact, has};
 ghost use Rattle.least_sets.specs.Least.{IsLevelled};
-ghost use Rattle.least_sets.specs.Walks.{arc_of, IsReached};
+ghost use Rattle.least_sets.specs.Walks.{IsReached};
 ghost use Rattle.region.specs.Tables.{kept, row_of, arc_in};
 ghost use Rattle.region.specs.Sets.{IsHeld, IsWhole};
-ghost use Rattle.region.specs.Steps.{is_told};
+ghost use Rattle.region.specs.Steps.{is_told, InEachTold};
 ghost use Rattle.region.specs.Gathered.{IsGathered, WasGathered, IsTurned, IsSameElsewhere, IsAskedFew, IsAskedSome, in_region, stays};
+ghost use Rattle.region.specs.Refreshed.{IsRefreshed};
 
 use crate::filling::{add_back_all, drop_rows, put_rows, ready_for, take_places, tidy};
 use crate::found::Found;
@@ -57,19 +58,13 @@ pub fn refresh<F: Facts>(
     changed: &[u64],
     facts: &mut F,
 ) -> Result<(), AllocError>
-    requires whole { IsWhole sets.old }
-    requires levelled { IsLevelled (F.world facts.old) }
+    requires { IsWhole sets.old }
     ensures whole { IsWhole sets.new }
-    ensures same { F.world facts.new ≡ F.world facts.old }
+    ensures later { F.later facts.old facts.new }
     ensures err { OnErr result ((n : ℕ) → row_of sets.new.rows n ≡ row_of sets.old.rows n) }
-    ensures nodes { OnOk result ((n : ℕ) → kept sets.new.rows n ≡ true → (kept sets.old.rows n ≡ true) ⊎ IsReached (arc_of (F.world facts.old)) roots.now n) }
-    ensures asked { OnOk result (IsAskedFew (F.world facts.old) sets.old.rows sets.new.rows roots.now changed.now (F.asked facts.old) (F.asked facts.new)) }
-    ensures refused { OnErr result (IsAskedSome (F.world facts.old) sets.old.rows roots.now changed.now (F.asked facts.old) (F.asked facts.new)) }
-    ensures held { OnOk result ((before : ℕ → Fact) (first : List ℕ)
-        → IsHeld before first sets.old.rows
-        → IsTurned first roots.now turned.now
-        → IsSameElsewhere before (F.world facts.old) sets.old.rows changed.now
-        → IsHeld (F.world facts.old) roots.now sets.new.rows) }
+    ensures asked { OnOk result (IsAskedFew sets.old.rows sets.new.rows changed.now (F.asked facts.old) (F.asked facts.new)) }
+    ensures refused { OnErr result (InEachTold (F.tells facts.new) (λ world. IsAskedSome world sets.old.rows roots.now changed.now (F.asked facts.old) (F.asked facts.new))) }
+    ensures refreshed { OnOk result (IsRefreshed (F.tells facts.new) sets.old.rows sets.new.rows roots.now turned.now changed.now (F.asked facts.old) (F.asked facts.new)) }
 {
     let region = gather(alloc, sets, roots, turned, changed, facts)?;
     fill(alloc, sets, region)

@@ -1,5 +1,6 @@
 //! A few nodes, and what is known of them.
-ghost use Rattle.std.specs.Prelude.{◌≡◌, ◌%◌, ℕ, nat_lt, IfOk, cond};
+ghost use Rattle.std.specs.Prelude.{◌≡◌, ◌%◌, ℕ, nat_lt, IfOk, cond, refl};
+ghost use Rattle.std.proofs.Common.{◌∙◌, sym, subst};
 ghost use Rattle.region.specs.Sets.{IsWhole};
 ghost use Rattle.region.specs.Rules.{fact_of, shape_of};
 ghost use Rattle.region.specs.Gathered.{WasGathered};
@@ -98,7 +99,9 @@ fn told_of(alloc: Global, known: &[Known], node: u64) -> Result<Told, AllocError
 }
 
 impl Facts for Table {
-    ghost world = { λ t. world_of t.known.items };
+    ghost tells = { λ t n fact. fact ≡ world_of t.known.items n };
+
+    ghost later = { λ a b. b.known ≡ a.known };
 
     ghost asked = { λ t. t.asked.items };
 
@@ -107,6 +110,12 @@ impl Facts for Table {
         self.asked.push(node)?;
         Ok(told)
     }
+
+    ghost stays = { λ s. refl };
+
+    ghost further = { λ a b c one more. more ∙ one };
+
+    ghost grows = { λ a b n fact same tells. subst (λ v. fact ≡ world_of v.items n) (sym same) tells };
 }
 
 /// Refreshes by what the table knows.

@@ -45,7 +45,7 @@ pub fn run_in<P: Start, H: Wait + Drop, R: Read, W: Write>(
     ensures ok { OnOk result.0 ((input : List ℕ) × ReadsAll R.remaining reader.old reader.new input × IsOkAnd result.1
         (EndedOver over_files (BeginsIn (image_at P.Start) store) input
         (ServedBy (over over_files) W.contents (reader.old, writer.old) input (reader.new, writer.new)))) }
-    ensures flushed { OnOk result.0 (writer.new.flushed ≡ true) }
+    ensures handed_on { OnOk result.0 (writer.new.flushed ≡ true) }
 
     // Each whole line of what was read was answered.
     ensures cannot_read { IfErr result.0 (λ fault. fault ≡ Fault.CannotRead → (input : List ℕ)
@@ -59,9 +59,11 @@ pub fn run_in<P: Start, H: Wait + Drop, R: Read, W: Write>(
         (EndedOver over_files (BeginsIn (image_at P.Start) store) input
         (CutBy (over over_files) W.contents (reader.old, writer.old) input (reader.new, writer.new)))) }
 
-    // A fault is told exactly where the reader or the writer failed in the call.
+    // A fault is told exactly where the flag of the tracked reader or writer is set in the call. Where the writer's is not, one
+    // that held nothing back before holds nothing back.
     ensures read_failed { reader.new.failed ≡ is_read_fault result.0 }
     ensures write_failed { writer.new.failed ≡ is_write_fault result.0 }
+    ensures flushed { writer.new.failed ≡ false → writer.old.flushed ≡ true → writer.new.flushed ≡ true }
 
     // Nothing was read or written.
     ensures refused { IfErr result.0 (λ fault. (why : Refusal) → fault ≡ Refused why

@@ -44,7 +44,7 @@ pub fn run_over<S: Alter + Drop, H: Wait + Drop, R: Read, W: Write>(
     ensures ok { OnOk result.0 ((input : List ℕ) × ReadsAll R.remaining reader.old reader.new input
         × EndedOver S.Store (Begins S.Store conn store) input
         (ServedBy (over S.Store) W.contents (reader.old, writer.old) input (reader.new, writer.new)) result.1) }
-    ensures flushed { OnOk result.0 (writer.new.flushed ≡ true) }
+    ensures handed_on { OnOk result.0 (writer.new.flushed ≡ true) }
 
     // Each whole line of what was read was answered.
     ensures cannot_read { IfErr result.0 (λ fault. fault ≡ Fault.CannotRead → (input : List ℕ)
@@ -58,9 +58,11 @@ pub fn run_over<S: Alter + Drop, H: Wait + Drop, R: Read, W: Write>(
         × EndedOver S.Store (Begins S.Store conn store) input
         (CutBy (over S.Store) W.contents (reader.old, writer.old) input (reader.new, writer.new)) result.1) }
 
-    // A fault is told exactly where the reader or the writer failed in the call.
+    // A fault is told exactly where the flag of the tracked reader or writer is set in the call. Where the writer's is not, one
+    // that held nothing back before holds nothing back.
     ensures read_failed { reader.new.failed ≡ is_read_fault result.0 }
     ensures write_failed { writer.new.failed ≡ is_write_fault result.0 }
+    ensures flushed { writer.new.failed ≡ false → writer.old.flushed ≡ true → writer.new.flushed ≡ true }
 
     // Nothing was read or written.
     ensures refused { IfErr result.0 (λ fault. (why : Refusal) → fault ≡ Refused why

@@ -35,7 +35,7 @@ pub fn run<T: Tables + Drop, H: Wait + Drop, R: Read, W: Write>(
     // each read, also of one that failed, each whole line of what was read before had its answer, handed on.
     ensures ok { OnOk result.0 ((input : List ℕ) × ReadsAll R.remaining reader.old reader.new input
         × Ended T.Tables tables input (ServedBy T.Tables W.contents (reader.old, writer.old) input (reader.new, writer.new)) result.1) }
-    ensures flushed { OnOk result.0 (writer.new.flushed ≡ true) }
+    ensures handed_on { OnOk result.0 (writer.new.flushed ≡ true) }
 
     // Each whole line of what was read was answered.
     ensures cannot_read { IfErr result.0 (λ fault. fault ≡ Fault.CannotRead → (input : List ℕ)
@@ -47,9 +47,11 @@ pub fn run<T: Tables + Drop, H: Wait + Drop, R: Read, W: Write>(
         × Reads R.remaining reader.old reader.new input
         × Ended T.Tables tables input (CutBy T.Tables W.contents (reader.old, writer.old) input (reader.new, writer.new)) result.1) }
 
-    // A fault is told exactly where the reader or the writer failed in the call.
+    // A fault is told exactly where the flag of the tracked reader or writer is set in the call. Where the writer's is not, one
+    // that held nothing back before holds nothing back.
     ensures read_failed { reader.new.failed ≡ is_read_fault result.0 }
     ensures write_failed { writer.new.failed ≡ is_write_fault result.0 }
+    ensures flushed { writer.new.failed ≡ false → writer.old.flushed ≡ true → writer.new.flushed ≡ true }
 
     // Nothing was read or written, and the tables hold and leave what they did, and hold nothing else. They are at fault only
     // where the device failed, or where they hold no history.
@@ -83,7 +85,7 @@ fn serve<T: Tables + Drop, H: Wait + Drop, R: Read, W: Write>(
     // each read, also of one that failed, each whole line of what was read before had its answer, handed on.
     ensures ok { OnOk result ((input : List ℕ) × ReadsAll R.remaining reader.old reader.new input
         × ServedBy T.Tables W.contents (reader.old, writer.old) input (reader.new, writer.new) answering.old answering.new) }
-    ensures flushed { OnOk result (writer.new.flushed ≡ true) }
+    ensures handed_on { OnOk result (writer.new.flushed ≡ true) }
 
     // Each whole line of what was read was answered.
     ensures cannot_read { IfErr result (λ fault. fault ≡ Fault.CannotRead → (input : List ℕ)
@@ -95,9 +97,11 @@ fn serve<T: Tables + Drop, H: Wait + Drop, R: Read, W: Write>(
         × Reads R.remaining reader.old reader.new input
         × CutBy T.Tables W.contents (reader.old, writer.old) input (reader.new, writer.new) answering.old answering.new) }
 
-    // A fault is told exactly where the reader or the writer failed in the call.
+    // A fault is told exactly where the flag of the tracked reader or writer is set in the call. Where the writer's is not, one
+    // that held nothing back before holds nothing back.
     ensures read_failed { reader.new.failed ≡ is_read_fault result }
     ensures write_failed { writer.new.failed ≡ is_write_fault result }
+    ensures flushed { writer.new.failed ≡ false → writer.old.flushed ≡ true → writer.new.flushed ≡ true }
 
     // Nothing was read or written, for want of memory.
     ensures memory { IfErr result (λ fault. (why : Refusal) → fault ≡ Refused why → (why ≡ Refusal.Memory)

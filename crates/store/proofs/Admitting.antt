@@ -1,26 +1,23 @@
 -- The configurations in force while a span is there: the one where it begins, and those of later revisions.
-use Rattle.std.proofs.Common.{◌≡◌, ℕ, ◌+◌, ◌-◌, ◌<◌, ◌≤◌, ◌⊎◌, inl, inr, List, [], ◌∷◌, length, get_or, drop, refl, ap, sym, subst, ◌∙◌, arith}
-use Rattle.std.specs.Prelude.{Bool, true, false, cond, ◌&&◌, ◌||◌, ◌==◌, nat_lt, nat_le, map, All}
+use Rattle.std.proofs.Common.{◌≡◌, ℕ, ◌<◌, ◌≤◌, ◌⊎◌, inl, inr, List, [], ◌∷◌, refl, ap, sym, subst, ◌∙◌, arith}
+use Rattle.std.specs.Prelude.{Bool, true, false, cond, ◌&&◌, ◌||◌, ◌==◌, nat_lt, nat_le, All}
 use Rattle.std.proofs.lemmas.Bool.{cases_lt}
 use Rattle.std.proofs.lemmas.Bool.Decides.{nat_tests}
 use Rattle.std.proofs.lemmas.List.Elements.{All-tail}
 use Rattle.meaning.specs.Admits.{admits}
 use Rattle.store.specs.Written.{TupleSpan, ConfigAt, last_up_to, config_up_to}
 use Rattle.store.specs.inside.Following.{is_between, IsAdmitted}
-use Rattle.store.specs.declared.parts.ReadConfig.{ReadConfig}
-use Rattle.store.specs.inside.Reading.{as_config}
-use Rattle.store.proofs.RowSteps.{drop_next}
 
-le_true : (m n : ℕ) → m ≤ n → nat_le m n ≡ true
+pub le_true : (m n : ℕ) → m ≤ n → nat_le m n ≡ true
 le_true m n h = grind (arith, nat_tests)
 
-le_false : (m n : ℕ) → n < m → nat_le m n ≡ false
+pub le_false : (m n : ℕ) → n < m → nat_le m n ≡ false
 le_false m n h = grind (arith, nat_tests)
 
-lt_true : (m n : ℕ) → m < n → nat_lt m n ≡ true
+pub lt_true : (m n : ℕ) → m < n → nat_lt m n ≡ true
 lt_true m n h = grind (arith, nat_tests)
 
-lt_false : (m n : ℕ) → n ≤ m → nat_lt m n ≡ false
+pub lt_false : (m n : ℕ) → n ≤ m → nat_lt m n ≡ false
 lt_false m n h = grind (arith, nat_tests)
 
 -- the last up to a later revision is the last up to the first, or one between
@@ -33,11 +30,11 @@ pick b c d = cond b c d
 left_false : (a b : Bool) → a ≡ false → (a && b) ≡ false
 left_false a b h = ap (λ x. x && b) h
 
-right_false : (a b : Bool) → b ≡ false → (a && b) ≡ false
+pub right_false : (a b : Bool) → b ≡ false → (a && b) ≡ false
 right_false true b h = h
 right_false false b h = refl
 
-both_true : (a b : Bool) → a ≡ true → b ≡ true → (a && b) ≡ true
+pub both_true : (a b : Bool) → a ≡ true → b ≡ true → (a && b) ≡ true
 both_true a b p q = ap (λ x. x && b) p ∙ q
 
 module _ (P : ConfigAt → Type 0) (start rev : ℕ) (up : start ≤ rev) where
@@ -107,13 +104,6 @@ admitted floor from configs l start first all = λ rev above alive.
     begun rev (inl h) p q = omega (arith, h, p)
     begun rev (inr h) p q = omega (arith, h, q)
 
--- a step of a loop from the end
-last_first : (rev : ℕ) (c last : ConfigAt) → c.rev ≤ rev → last.rev < c.rev → cond (nat_le c.rev rev && nat_lt last.rev c.rev) c last ≡ c
+-- the first of a list, where it is the last up to the revision
+pub last_first : (rev : ℕ) (c last : ConfigAt) → c.rev ≤ rev → last.rev < c.rev → cond (nat_le c.rev rev && nat_lt last.rev c.rev) c last ≡ c
 last_first rev c last le lt = ap (λ b. cond b c last) (both_true (nat_le c.rev rev) (nat_lt last.rev c.rev) (le_true c.rev rev le) (lt_true last.rev c.rev lt))
-
-pub last_taken : (rev : ℕ) (xs : List ReadConfig) (left : ℕ) (x : ReadConfig) → 0 < left → left ≤ length xs → x ≡ get_or xs (left - 1) x → x.rev ≤ rev
-    → (last_up_to rev (map as_config (drop left xs))).rev < x.rev → last_up_to rev (map as_config (drop (left - 1) xs)) ≡ as_config x
-last_taken rev xs left x some within is le lt =
-    ap (λ l. last_up_to rev (map as_config l)) (drop_next xs (left - 1) x (omega (arith, some, within)) is)
-    ∙ ap (λ n. last_up_to rev (as_config x ∷ map as_config (drop n xs))) (let e : left - 1 + 1 ≡ left = omega (arith, some) in e)
-    ∙ last_first rev (as_config x) (last_up_to rev (map as_config (drop left xs))) le lt

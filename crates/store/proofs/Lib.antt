@@ -17,6 +17,7 @@ pub mod Leading
 pub mod Beginning
 pub mod Once
 pub mod Admitting
+pub mod Halving
 pub mod Apart
 pub mod CommitRuns
 pub mod Retaining

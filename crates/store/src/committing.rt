@@ -5,7 +5,7 @@ ghost use Rattle.names.specs.Order.{tuple_cmp};
 ghost use Rattle.meaning.specs.History.{rows_of, commit_rows, puts_in};
 ghost use Rattle.store.specs.Written.{IsSpan, commits_of, config_at, tuples_alive};
 ghost use Rattle.store.specs.inside.Moves.{tuples_in, IsCommitAt, IsCommitOf};
-ghost use Rattle.store.specs.inside.Reading.{as_written, as_span, as_config, AreInTurn};
+ghost use Rattle.store.specs.inside.Reading.{as_written, as_span, as_config, AreInTurn, Rise};
 ghost use Rattle.store.specs.Refused.{DeservedBy, IsWholeAbove, IsWholeAt};
 
 use crate::configs::config_at;
@@ -52,7 +52,8 @@ fn commit_at(
     rev: u64,
     events: Vec<PlacedEvent>,
 ) -> Result<KeptCommit, Unread>
-    requires { IsStrictlySortedBy tuple_cmp (tuples_in events.items) }
+    requires sorted { IsStrictlySortedBy tuple_cmp (tuples_in events.items) }
+    requires rise { Rise configs.now }
     ensures is { IfOk result (IsCommitAt rev (config_at rev (map as_config configs.now)) events.items) }
     ensures fault { IfErr result (DeservedBy (IsWholeAt rev configs.now events.items)) }
 {
@@ -72,6 +73,7 @@ pub(crate) fn read_parts(
     requires order { head.floor ≤ head.newest }
     requires spans { All (λ s. IsSpan head.floor head.newest (as_span s)) spans.items }
     requires apart { AreInTurn spans.items }
+    requires rise { Rise configs.now }
     ensures tuples { IfOk result (λ p. p.tuples.items ≡ tuples_alive head.floor (map as_span spans.items)) }
     ensures commits { IfOk result (λ p. p.commits.items ≡ commits_of (as_written head spans.items configs.now)) }
     ensures whole { IfOk result (λ _. IsWholeAbove (as_written head spans.items configs.now)) }

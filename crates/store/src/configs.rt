@@ -6,7 +6,7 @@ ghost use Rattle.meaning.specs.Config.{empty_config};
 ghost use Rattle.sqlite_tables.specs.Stored.{config_row_in};
 ghost use Rattle.store.specs.Written.{IsConfigAt, config_row_of, config_at, config_up_to};
 ghost use Rattle.store.specs.inside.Following.{IsAdmitted, is_between};
-ghost use Rattle.store.specs.inside.Reading.{as_span, as_config, AreAscending, AreAdmitted};
+ghost use Rattle.store.specs.inside.Reading.{as_span, as_config, AreAscending, AreAdmitted, AreLater, ArePartedAt, Rise};
 ghost use Rattle.store.specs.Refused.{DeservedBy, IsOfConfig, ConfigsListed, AreDistinct, IsNotAdmitted, AreNotAdmitted};
 
 use crate::parts::{Head, ReadConfig, ReadSpan};
@@ -63,35 +63,53 @@ pub(crate) fn are_ascending(floor: u64, configs: &[ReadConfig]) -> bool
     true
 }
 
-/// The configuration of a revision, if it brought one.
-pub(crate) fn config_at(configs: &[ReadConfig], rev: u64) -> Option<&Config>
-    ensures { option_copied result ≡ config_at rev (map as_config configs.now) }
+// The place of the first configuration of a later revision.
+fn first_after(configs: &[ReadConfig], rev: u64) -> usize
+    requires { Rise configs.now }
+    ensures { ArePartedAt rev configs.now result }
 {
-    for revised in configs {
-        if revised.rev == rev {
-            return Some(&revised.config);
+    let mut low = 0;
+    let mut high = configs.len();
+    while low < high {
+        let middle = low + (high - low) / 2;
+        if configs[middle].rev <= rev {
+            low = middle + 1;
+        } else {
+            high = middle;
         }
     }
-    None
+    low
 }
 
-/// The last configuration up to a revision; `empty` is the one of revision 0.
+/// The configuration of a revision, if it brought one. They are searched by halves.
+pub(crate) fn config_at(configs: &[ReadConfig], rev: u64) -> Option<&Config>
+    requires { Rise configs.now }
+    ensures { option_copied result ≡ config_at rev (map as_config configs.now) }
+{
+    let after = first_after(configs, rev);
+    if after == 0 {
+        return None;
+    }
+    let last = &configs[after - 1];
+    if last.rev == rev {
+        Some(&last.config)
+    } else {
+        None
+    }
+}
+
+/// The last configuration up to a revision; `empty` is the one of revision 0. They are searched by halves.
 pub(crate) fn config_up_to<'a>(empty: &'a Config, configs: &'a [ReadConfig], rev: u64) -> &'a Config
-    requires { empty.now ≡ empty_config }
+    requires empty { empty.now ≡ empty_config }
+    requires rise { Rise configs.now }
+    requires later { AreLater configs.now }
     ensures { result.now ≡ config_up_to rev (map as_config configs.now) }
 {
-    let mut config = empty;
-    let mut found = 0;
-    let mut left = configs.len();
-    while left > 0 {
-        left -= 1;
-        let revised = &configs[left];
-        if revised.rev <= rev && found < revised.rev {
-            found = revised.rev;
-            config = &revised.config;
-        }
+    let after = first_after(configs, rev);
+    if after == 0 {
+        return empty;
     }
-    config
+    &configs[after - 1].config
 }
 
 fn is_between(span: &ReadSpan, from: u64, rev: u64) -> bool
@@ -122,7 +140,9 @@ pub(crate) fn is_admitted(
     floor: u64,
     span: &ReadSpan,
 ) -> bool
-    requires { empty.now ≡ empty_config }
+    requires empty { empty.now ≡ empty_config }
+    requires rise { Rise configs.now }
+    requires later { AreLater configs.now }
     ensures passes { IsTrue result → IsAdmitted floor (map as_config configs.now) (as_span span.now) }
     ensures refuses { result ≡ false → IsNotAdmitted floor configs.now span.now }
 {
@@ -146,7 +166,9 @@ pub(crate) fn are_admitted(
     floor: u64,
     spans: &[ReadSpan],
 ) -> bool
-    requires { empty.now ≡ empty_config }
+    requires empty { empty.now ≡ empty_config }
+    requires rise { Rise configs.now }
+    requires later { AreLater configs.now }
     ensures passes { IsTrue result → AreAdmitted floor configs.now spans.now }
     ensures refuses { result ≡ false → AreNotAdmitted floor configs.now spans.now }
 {

@@ -5,7 +5,7 @@ ghost use Rattle.rows.specs.Loads.{retained_of, IsWithin};
 ghost use Rattle.rows.specs.Retained.{newest};
 ghost use Rattle.sqlite_tables.specs.Stored.{IsInOrder};
 ghost use Rattle.store.specs.Written.{history_of, IsConfigAt, IsSpan};
-ghost use Rattle.store.specs.inside.Reading.{as_span, as_config, as_written, current, IsHead, ArePlaced};
+ghost use Rattle.store.specs.inside.Reading.{as_span, as_config, as_written, current, IsHead, AreLater, ArePlaced};
 ghost use Rattle.store.specs.Refused.{DeservedBy, IsWholeAbove, AreListed, AreSound, IsOfHistory, IsHistoryOf, IsTheHistoryOf, HasNoHistory};
 
 use crate::committing::{has_room, read_parts};
@@ -32,6 +32,7 @@ fn are_enough(head: Head, configs: &[ReadConfig], spans: &[ReadSpan]) -> bool
 }
 
 fn are_placed(alloc: Global, head: Head, configs: &[ReadConfig], spans: &[ReadSpan]) -> bool
+    requires { AreLater configs.now }
     ensures passes { IsTrue result → ArePlaced head configs.now spans.now }
     ensures refuses { result ≡ false → AreListed configs.now spans.now → ¬ (AreSound head configs.now spans.now) }
 {
@@ -50,6 +51,7 @@ fn build(
     requires head { IsHead head }
     requires spans { All (λ s. IsSpan head.floor head.newest (as_span s)) spans.items }
     requires placed { ArePlaced head configs.now spans.items }
+    requires later { AreLater configs.now }
     ensures same { IfOk result (λ l. retained_of l ≡ history_of (as_written head spans.items configs.now)) }
     ensures within { IfOk result IsWithin }
     ensures whole { IfOk result (λ _. IsWholeAbove (as_written head spans.items configs.now)) }

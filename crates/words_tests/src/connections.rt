@@ -92,6 +92,13 @@ fn check<R: Abort>(rt: &R, alloc: Global, input: &str, want_end: End, want: &str
     }
 }
 
+// Each of the inputs.
+fn check_each<R: Abort>(rt: &R, alloc: Global, inputs: &[&str], want_end: End, want: &str) {
+    for input in inputs {
+        check(rt, alloc, input, want_end, want);
+    }
+}
+
 const OK3: &str =
     "HTTP/1.1 200 OK\r\nContent-Type: application/json\r\nContent-Length: 3\r\n\r\nabc";
 
@@ -115,61 +122,43 @@ const MEMORY: &str =
 
 #[test]
 fn one_request(rt: HostRuntime) {
-    check(&rt, rt.alloc(), "", End::Closed, "");
-    check(
+    let alloc = rt.alloc();
+    check(&rt, alloc, "", End::Closed, "");
+    check_each(
         &rt,
-        rt.alloc(),
-        "POST /v1/check HTTP/1.1\r\nContent-Length: 3\r\n\r\nabc",
+        alloc,
+        &[
+            "POST /v1/check HTTP/1.1\r\nContent-Length: 3\r\n\r\nabc",
+            "\r\n\nPOST /v1/check HTTP/1.1\ncontent-LENGTH:\t003 \n\nabc",
+            "POST /v1/check HTTP/1.1\r\nConnection: close, te\r\nContent-Length: 3\r\n\r\nabc",
+        ],
         End::Closed,
         OK3,
     );
-    check(
+    check_each(
         &rt,
-        rt.alloc(),
-        "\r\n\nPOST /v1/check HTTP/1.1\ncontent-LENGTH:\t003 \n\nabc",
-        End::Closed,
-        OK3,
-    );
-    check(
-        &rt,
-        rt.alloc(),
-        "POST /v1/check HTTP/1.1\r\nContent-Length: 3\r\n\r\nab",
-        End::Broken,
-        "",
-    );
-    check(
-        &rt,
-        rt.alloc(),
-        "POST /v1/check HTTP/1.1\r\nContent-Length: 3\r\n",
-        End::Broken,
-        "",
-    );
-    check(&rt, rt.alloc(), "POST /v1/che", End::Broken, "");
-    check(
-        &rt,
-        rt.alloc(),
-        "POST /v1/check HTTP/1.0\r\nContent-Length: 3\r\n\r\nabcPOST",
+        alloc,
+        &[
+            "POST /v1/check HTTP/1.0\r\nContent-Length: 3\r\n\r\nabcPOST",
+            "POST /v1/check HTTP/1.1\r\nConnection: Close\r\nContent-Length: 3\r\n\r\nabc",
+        ],
         End::Asked,
         OK3_CLOSED,
-    );
-    check(
-        &rt,
-        rt.alloc(),
-        "POST /v1/check HTTP/1.1\r\nConnection: Close\r\nContent-Length: 3\r\n\r\nabc",
-        End::Asked,
-        OK3_CLOSED,
-    );
-    check(
-        &rt,
-        rt.alloc(),
-        "POST /v1/check HTTP/1.1\r\nConnection: close, te\r\nContent-Length: 3\r\n\r\nabc",
-        End::Closed,
-        OK3,
     );
 }
 
 #[test]
-fn refusals(rt: HostRuntime) {
+fn a_request_that_is_cut(rt: HostRuntime) {
+    let cut = [
+        "POST /v1/check HTTP/1.1\r\nContent-Length: 3\r\n\r\nab",
+        "POST /v1/check HTTP/1.1\r\nContent-Length: 3\r\n",
+        "POST /v1/che",
+    ];
+    check_each(&rt, rt.alloc(), &cut, End::Broken, "");
+}
+
+#[test]
+fn malformed_heads(rt: HostRuntime) {
     for length in ["", "41,41", "00000000000000000041", "+3", "3 3", "-1"] {
         let alloc = rt.alloc();
         let input = format!(in alloc;
@@ -177,69 +166,36 @@ fn refusals(rt: HostRuntime) {
         ).unwrap_or(String::new(alloc));
         check(&rt, rt.alloc(), input.as_str(), End::Asked, BAD);
     }
-    check(
-        &rt,
-        rt.alloc(),
-        "POST /v1/check HTTP/1.1\r\nContent-Length: 9999999999999999999\r\n\r\nabc",
-        End::Asked,
-        LARGE,
-    );
-    check(
-        &rt,
-        rt.alloc(),
+    let malformed = [
         "POST /v1/check HTTP/1.1\r\nContent-Length: 3\r\nContent-Length: 3\r\n\r\nabc",
-        End::Asked,
-        BAD,
-    );
-    check(
-        &rt,
-        rt.alloc(),
         "POST /v1/check HTTP/1.1\r\nTransfer-Encoding: chunked\r\nContent-Length: 3\r\n\r\nabc",
-        End::Asked,
-        BAD,
-    );
-    check(
-        &rt,
-        rt.alloc(),
-        "POST /v1/check HTTP/1.1\r\nHost: x\r\n\r\nabc",
-        End::Asked,
-        NO_LENGTH,
-    );
-    check(
-        &rt,
-        rt.alloc(),
-        "GET /v1/check HTTP/1.1\r\n\r\n",
-        End::Closed,
-        NONE,
-    );
-    check(
-        &rt,
-        rt.alloc(),
-        "POST /v1/check/ HTTP/1.1\r\nContent-Length: 3\r\n\r\nabc",
-        End::Closed,
-        NONE,
-    );
-    check(
-        &rt,
-        rt.alloc(),
-        "POST /v1/check?x=1 HTTP/1.1\r\nContent-Length: 3\r\n\r\nabc",
-        End::Closed,
-        NONE,
-    );
-    check(
-        &rt,
-        rt.alloc(),
         "P@ST /v1/check HTTP/1.1\r\n",
-        End::Asked,
-        BAD,
-    );
-    check(
-        &rt,
-        rt.alloc(),
-        "POST /v1/write HTTP/1.1\r\nContent-Length: 3\r\n\r\nabcPOST",
-        End::Memory,
-        MEMORY,
-    );
+    ];
+    check_each(&rt, rt.alloc(), &malformed, End::Asked, BAD);
+}
+
+#[test]
+fn bodies_that_are_not_read(rt: HostRuntime) {
+    let too_large = "POST /v1/check HTTP/1.1\r\nContent-Length: 9999999999999999999\r\n\r\nabc";
+    check(&rt, rt.alloc(), too_large, End::Asked, LARGE);
+    let no_length = "POST /v1/check HTTP/1.1\r\nHost: x\r\n\r\nabc";
+    check(&rt, rt.alloc(), no_length, End::Asked, NO_LENGTH);
+}
+
+#[test]
+fn targets_without_a_route(rt: HostRuntime) {
+    let targets = [
+        "GET /v1/check HTTP/1.1\r\n\r\n",
+        "POST /v1/check/ HTTP/1.1\r\nContent-Length: 3\r\n\r\nabc",
+        "POST /v1/check?x=1 HTTP/1.1\r\nContent-Length: 3\r\n\r\nabc",
+    ];
+    check_each(&rt, rt.alloc(), &targets, End::Closed, NONE);
+}
+
+#[test]
+fn a_call_without_memory_ends_the_connection(rt: HostRuntime) {
+    let write = "POST /v1/write HTTP/1.1\r\nContent-Length: 3\r\n\r\nabcPOST";
+    check(&rt, rt.alloc(), write, End::Memory, MEMORY);
 }
 
 #[test]

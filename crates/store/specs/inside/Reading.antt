@@ -1,5 +1,5 @@
 -- What the program reads, as rows.
-use Rattle.std.specs.Prelude.{◌≡◌, ◌≤◌, ◌<◌, ◌^◌, ◌==◌, ℕ, List, All, count_by, length, map, string_bytes}
+use Rattle.std.specs.Prelude.{◌≡◌, ◌≤◌, ◌<◌, ◌^◌, ◌==◌, ℕ, List, All, count_by, length, map, slice_index_or, string_bytes}
 use Rattle.std.specs.List.{AllAdjacentBelow}
 use Rattle.names.specs.declared.limits.TheConstants.{MAX_REV}
 use Rattle.names.specs.Spelling.{subject_text}
@@ -45,6 +45,20 @@ AreInTurn spans = AllAdjacentBelow (λ a b. Precedes (as_span a) (as_span b)) sp
 -- the revisions ascend, and all but the first are above the floor
 abbrev pub AreAscending : ℕ → List ReadConfig → Type 0
 AreAscending floor configs = AllAdjacentBelow (λ a b. Ascends floor (as_config a) (as_config b)) configs (length configs)
+
+-- so they do from some floor on
+abbrev pub Rise : List ReadConfig → Type 0
+Rise configs = (floor : ℕ) × AreAscending floor configs
+
+-- the revisions are above 0
+abbrev pub AreLater : List ReadConfig → Type 0
+AreLater configs = All (λ c. 0 < c.rev) configs
+
+-- those before the place are of the revision or of earlier ones, those from it on of later ones
+pub record ArePartedAt (rev : ℕ) (configs : List ReadConfig) (at : ℕ) : Type 0 where
+  pub within : at ≤ length configs
+  pub before : (k : ℕ) (d : ReadConfig) → k < at → (slice_index_or configs k d).rev ≤ rev
+  pub after : (k : ℕ) (d : ReadConfig) → at ≤ k → k < length configs → rev < (slice_index_or configs k d).rev
 
 -- each span's tuple is admitted
 abbrev pub AreAdmitted : ℕ → List ReadConfig → List ReadSpan → Type 0

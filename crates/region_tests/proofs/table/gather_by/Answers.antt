@@ -1,8 +1,7 @@
-use Rattle.region_tests.specs.Known.{world_of}
-use Rattle.region_tests.proofs.Levels.{if_ok_then}
+use Rattle.region_tests.proofs.Told.{if_ok_both}
 use Rattle.region_tests.proofs.table.gather_by.Goals as goal
 
 pub returns : goal.returns
-returns c = if_ok_then c.gather.result
-    (λ region got. (world_of c.args.table.now.known.items, c.args.roots.now, c.args.turned.now, c.args.changed.now, got))
-    c.gather.ensures.gathered
+returns c = if_ok_both c.gather.result
+    (λ region one all. (one.0, c.args.roots.now, c.args.turned.now, c.args.changed.now, all one.0 one.1))
+    c.gather.ensures.agree c.gather.ensures.gathered

@@ -35,8 +35,8 @@ loop-i-preserved c =
       left = λ k le lt. c.take_events-events.ensures.rest k (differs k i le) ∙ c.loop-i.invariant.left k (omega (arith, le)) (omega (arith, lt, c.take_events-events.ensures.len));
     }
 
-pub commit_at-requires : goal.commit_at-requires
-commit_at-requires c =
+pub commit_at-requires-clause-sorted : goal.commit_at-requires-clause-sorted
+commit_at-requires-clause-sorted c =
     let i = c.loop-i.i in
     let before : i < length c.loop-i.slots.items = omega (arith, c.loop-i-test.true, c.loop-i.invariant.len) in
     let P : List Event → Type 0 = λ es. IsStrictlySortedBy tuple_cmp (tuples_in es) in

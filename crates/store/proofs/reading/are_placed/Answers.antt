@@ -13,6 +13,9 @@ returns-then-not-are_apart-clause-refuses c = λ _ listed sound.
       | then-not-are_apart-via-else-not-are_apart+then-not-are_ascending w ↦ w.if-not-are_ascending.ensures.refuses refl listed.revs sound.distinct
     ]
 
+pub are_admitted-requires-clause-rise : goal.are_admitted-requires-clause-rise
+are_admitted-requires-clause-rise c = (c.args.head.floor, c.if-not-are_ascending.ensures.passes refl)
+
 pub returns-clause-refuses : goal.returns-clause-refuses
 returns-clause-refuses c = λ refused listed sound.
     c.are_admitted-2.ensures.refuses refused c.args.head.newest (record { order = sound.order; are = sound.configs_are; distinct = sound.distinct })

@@ -30,3 +30,9 @@ pub returns-then-not-has_room-clause-fault : goal.returns-then-not-has_room-clau
 returns-then-not-has_room-clause-fault c = λ sound.
     room_refused (as_written c.args.head c.args.spans.items c.args.configs.now) c.as_slice.result.now c.deref.result.now (c.as_slice.ensures.value ∙ c.in_ok-parts.ensures.tuples) (c.deref.ensures.value ∙ c.in_ok-parts.ensures.commits)
     (leb-false _ MAX_ROWS (sym c.if-not-has_room.ensures)) sound
+
+pub read_parts-requires-clause-rise : goal.read_parts-requires-clause-rise
+read_parts-requires-clause-rise c = (c.args.head.floor, c.requires.placed.distinct)
+
+pub config_up_to-requires-clause-rise : goal.config_up_to-requires-clause-rise
+config_up_to-requires-clause-rise c = (c.args.head.floor, c.requires.placed.distinct)

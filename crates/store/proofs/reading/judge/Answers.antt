@@ -30,3 +30,9 @@ returns-then-not-are_enough-clause-fault c = λ (listed, sound).
       | then-not-are_enough-via-else-not-are_enough+else-not-are_placed+then-not-is_small w ↦
           many_refused c.args.head c.as_slice-rows.result.now c.args.configs.now (leb-false _ MAX_TUPLES (sym w.if-not-is_small.ensures)) sound_rows
     ]
+
+pub are_placed-requires : goal.are_placed-requires
+are_placed-requires c = λ k d less. (c.requires.configs k d less).begins
+
+pub build-requires-clause-later : goal.build-requires-clause-later
+build-requires-clause-later c = λ k d less. (c.requires.configs k d less).begins

@@ -1,0 +1,4 @@
+pub mod Naming
+pub mod Shaping
+mod Told
+mod Once
