@@ -89,10 +89,10 @@ at_most_2 CannotListen status is = omega arith
 module _ {R W E D F : Type 0} {g : disk.Ghosts D} (contents : E → Option (List ℕ)) (output : Result W F) (status : ℕ) (files : Result (Remnant g) (Remains g)) (writer : Option (TrackedWriting W)) (reader : TrackedReading R) (errors errors_after : TrackedWriting E) where
   pub unbegun_for : (fault same : Fault) → fault ≡ same → status ≡ fault_status fault → files ≡ Err (Err None) → writer ≡ untouched output → Tells contents errors errors_after fault
       → IsUnbegun contents same output status files writer reader reader errors errors_after
-  unbegun_for fault same is ends unopened unwritten told = record {
+  unbegun_for fault same is ends none unwritten told = record {
     ends = ends ∙ ap (λ (f : Fault). fault_status f) is;
     unread = refl;
-    unopened = unopened;
+    no_files = none;
     unwritten = unwritten;
     told = subst (λ (f : Fault). Tells contents errors errors_after f) is told;
   }

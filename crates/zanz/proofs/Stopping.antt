@@ -47,8 +47,8 @@ module _ {R W D : Type 0} {g : disk.Ghosts D} (image : Image) (remaining : R →
         → CannotReadOn fault → CannotWriteOn fault → IsRefused fault → RunStopped image place fault remaining contents (reader, writer) (reader_after, writer_after) left
     stopped_run A CommandLine run unread unwritten paused cut refused = absurd run
     stopped_run A (Refused why) run unread unwritten paused cut refused = let k = refused why refl in run_refused k.0 k.1 k.2
-    stopped_run A CannotRead run unread unwritten paused cut refused = input_failed refl unread (paused refl)
-    stopped_run A CannotWrite run unread unwritten paused cut refused = output_failed refl unwritten (cut refl)
+    stopped_run A CannotRead run unread unwritten paused cut refused = input_failed refl unread unwritten (paused refl)
+    stopped_run A CannotWrite run unread unwritten paused cut refused = output_failed refl unread unwritten (cut refl)
     stopped_run A CannotListen run unread unwritten paused cut refused = absurd run
 
     pub run_stops : {A : Type 0} (task : Task) (r : Result A Fault) (fault : Fault) → task ≡ Run place → r ≡ Err fault → IfErr r IsRunFault → reader_after.failed ≡ is_read_fault r → writer_after.failed ≡ is_write_fault r

@@ -51,11 +51,11 @@ EndsWith zero (Ok conn) end = IsOkAnd end (IsClosed conn)
 EndsWith zero (Err left) end = end ≡ Err (Err left)
 EndsWith (suc status) left end = end ≡ Err left
 
--- For this fault, which was told, nothing was begun: nothing was read or written, and no file was opened.
+-- For this fault, which was told, nothing was begun: nothing was read or written, and of files nothing is handed back.
 pub record IsUnbegun {R W E D F : Type 0} {g : disk.Ghosts D} (contents : E → Option (List ℕ)) (fault : Fault) (output : Result W F) (status : ℕ) (files : Result (Remnant g) (Remains g)) (writer : Option (TrackedWriting W))
     (reader reader_after : TrackedReading R) (errors errors_after : TrackedWriting E) : Type 0 where
   pub ends : status ≡ fault_status fault
   pub unread : reader_after ≡ reader
-  pub unopened : files ≡ Err (Err None)
+  pub no_files : files ≡ Err (Err None)
   pub unwritten : writer ≡ untouched output
   pub told : Tells contents errors errors_after fault

@@ -95,12 +95,12 @@ pub record RefusedAt {D : Type 0} {g : disk.Ghosts D} (image : Image) (place : P
   pub taken : CannotBeginAt image place → IfOk left (λ conn. HasCleanDisk (file_state conn) → (fault ≡ Refused StoreFault) × IsFoundIn image (file_state conn))
   pub lasts : IfOk left (λ conn. Lasts sound_device (device_below over_files conn))
 
--- Why a run ended early: the input could not be read on; the output could not be written on; or nothing was read or written,
--- since it was refused.
+-- Why a run ended early: the input could not be read on, and no write had failed; the output could not be written on, and no read
+-- had failed; or nothing was read or written, since it was refused.
 pub data RunStopped {R W D : Type 0} {g : disk.Ghosts D} (image : Image) (place : Place) (fault : Fault) (remaining : R → Option (List ℕ)) (contents : W → Option (List ℕ))
     (old new : TrackedReading R × TrackedWriting W) (left : Remains g) : Type 0 where
-  input_failed : fault ≡ CannotRead → new.0.failed ≡ true → RanAt image whole_lines place remaining contents old new left → RunStopped image place fault remaining contents old new left
-  output_failed : fault ≡ CannotWrite → new.1.failed ≡ true → RanAt image first_lines place remaining contents old new left → RunStopped image place fault remaining contents old new left
+  input_failed : fault ≡ CannotRead → new.0.failed ≡ true → new.1.failed ≡ false → RanAt image whole_lines place remaining contents old new left → RunStopped image place fault remaining contents old new left
+  output_failed : fault ≡ CannotWrite → new.0.failed ≡ false → new.1.failed ≡ true → RanAt image first_lines place remaining contents old new left → RunStopped image place fault remaining contents old new left
   run_refused : new.0 ≡ old.0 → new.1 ≡ old.1 → RefusedAt image place fault left → RunStopped image place fault remaining contents old new left
 
 -- ---- a report

@@ -68,13 +68,14 @@ fn run_at<P: Start, H: Wait + Drop, R: Read, W: Write>(
     requires unbroken_reader { reader.old.failed ≡ false }
     requires unbroken_writer { writer.old.failed ≡ false }
     ensures ok { OnOk result.0 (RanAt (image_at P.Start) all_lines place.now R.remaining W.contents (reader.old, writer.old) (reader.new, writer.new) result.1) }
-    ensures flushed { OnOk result.0 (writer.new.flushed ≡ true) }
+    ensures handed_on { OnOk result.0 (writer.new.flushed ≡ true) }
     ensures cannot_read { IfErr result.0 (λ fault. fault ≡ Fault.CannotRead
         → RanAt (image_at P.Start) whole_lines place.now R.remaining W.contents (reader.old, writer.old) (reader.new, writer.new) result.1) }
     ensures cannot_write { IfErr result.0 (λ fault. fault ≡ Fault.CannotWrite
         → RanAt (image_at P.Start) first_lines place.now R.remaining W.contents (reader.old, writer.old) (reader.new, writer.new) result.1) }
     ensures read_failed { reader.new.failed ≡ is_read_fault result.0 }
     ensures write_failed { writer.new.failed ≡ is_write_fault result.0 }
+    ensures flushed { writer.new.failed ≡ false → writer.old.flushed ≡ true → writer.new.flushed ≡ true }
     ensures refused { IfErr result.0 (λ fault. (why : Refusal) → fault ≡ Refused why
         → (reader.new ≡ reader.old) × (writer.new ≡ writer.old) × RefusedAt (image_at P.Start) place.now fault result.1) }
     ensures cause { IfErr result.0 IsRunFault }
@@ -308,6 +309,9 @@ pub fn obey<
     ensures status { IfOk result.0 (λ status. status ≤ 1) }
     ensures stopped { IfErr result.0 (λ fault.
         StoppedOf (image_at P.Start) task fault R.remaining W.contents (reader.old, writer.old) (reader.new, writer.new) result.1) }
+
+    // However it ends, where no write failed, a writer that held nothing back before holds nothing back.
+    ensures flushed { writer.new.failed ≡ false → writer.old.flushed ≡ true → writer.new.flushed ≡ true }
     ensures line { IfErr result.0 (λ fault. fault ≢ Fault.CommandLine) }
 {
     match task {
@@ -381,10 +385,13 @@ pub fn command<
         R.remaining W.contents (reader.old, writer.old) (reader.new, writer.new) result.1
         (Tells E.contents errors.old errors.new) (errors.new ≡ errors.old) }
 
-    // Nothing was read or written, and no file was opened.
+    // Nothing was read or written, and of files nothing is handed back.
     ensures refused { result.0 ≡ 2 → (reader.new ≡ reader.old) × (writer.new ≡ writer.old) × (result.1 ≡ Err None)
         × Tells E.contents errors.old errors.new Fault.CommandLine }
     ensures status { result.0 ≤ 2 }
+
+    // Whatever the status, where no write failed, a writer that held nothing back before holds nothing back.
+    ensures flushed { writer.new.failed ≡ false → writer.old.flushed ≡ true → writer.new.flushed ≡ true }
 {
     match task_named(rt.alloc(), words) {
         Ok(task) => {

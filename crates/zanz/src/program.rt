@@ -1,5 +1,5 @@
 //! The whole of the program, from what its process was given to what is left at its end.
-ghost use Rattle.std.specs.Prelude.{◌≡◌, ◌≢◌, ◌≤◌, false, map, None, Err, IfOk, IfErr, IsOkAnd, IsSomeAnd, string_bytes};
+ghost use Rattle.std.specs.Prelude.{◌≡◌, ◌≢◌, ◌≤◌, false, map, None, Err, IfOk, IfErr, IfSome, IsOkAnd, IsSomeAnd, true, string_bytes};
 ghost use Rattle.std.specs.IoError.{error_kind};
 ghost use Rattle.std.specs.Vec.Iter.{into_iter_items};
 ghost use Rattle.sqlite_wal.specs.Files.{image_at};
@@ -73,7 +73,7 @@ fn unbegun<P: Start, W, E: Write>(
 ) -> (u8, Closed<P>, Option<TrackedWriter<W>>)
     requires unbroken_errors { errors.old.failed ≡ false }
     ensures status { result.0 ≡ fault_status fault }
-    ensures unopened { result.1 ≡ Err (Err None) }
+    ensures no_files { result.1 ≡ Err (Err None) }
     ensures unwritten { result.2 ≡ untouched output }
     ensures told { Tells E.contents errors.old errors.new fault }
 {
@@ -130,6 +130,9 @@ pub fn program<
     ensures no_writer { IfOk words (λ _. IfErr output (λ _.
         IsUnbegun E.contents (Refused Refusal.Memory) output result.0 result.1 result.2 reader.old reader.new errors.old errors.new)) }
     ensures status { result.0 ≤ 2 }
+
+    // Whatever the status, all that was written was handed on, where no write failed.
+    ensures flushed { IfSome result.2 (λ writer. writer.failed ≡ false → writer.flushed ≡ true) }
 {
     let words = match words {
         Ok(words) => words,

@@ -9,12 +9,12 @@ use Rattle.zanz.proofs.program.program.Goals as goal
 pub returns-in-Err-clause-unread : goal.returns-in-Err-clause-unread
 returns-in-Err-clause-unread g c = refused_for c.args.words _ c.in-Err.e c.in-Err.is (λ memory.
     unbegun_for g.E.Write.contents c.args.output c.unbegun.result.0 c.unbegun.result.1 c.unbegun.result.2 c.args.reader.now c.args.errors.now c.unbegun.new.errors c.told_of.result (Refused Memory) (c.told_of.ensures.memory memory)
-    c.unbegun.ensures.status c.unbegun.ensures.unopened c.unbegun.ensures.unwritten c.unbegun.ensures.told)
+    c.unbegun.ensures.status c.unbegun.ensures.no_files c.unbegun.ensures.unwritten c.unbegun.ensures.told)
 
 pub returns-in-Err-clause-no_text : goal.returns-in-Err-clause-no_text
 returns-in-Err-clause-no_text g c = refused_for c.args.words _ c.in-Err.e c.in-Err.is (λ other.
     unbegun_for g.E.Write.contents c.args.output c.unbegun.result.0 c.unbegun.result.1 c.unbegun.result.2 c.args.reader.now c.args.errors.now c.unbegun.new.errors c.told_of.result CommandLine (c.told_of.ensures.no_text other)
-    c.unbegun.ensures.status c.unbegun.ensures.unopened c.unbegun.ensures.unwritten c.unbegun.ensures.told)
+    c.unbegun.ensures.status c.unbegun.ensures.no_files c.unbegun.ensures.unwritten c.unbegun.ensures.told)
 
 pub returns-clause-stopped : goal.returns-clause-stopped
 returns-clause-stopped g c = λ one. given_if c.args.words _ c.in-Ok.words c.in-Ok.is (given_if c.args.output _ c.in-Ok-output.output c.in-Ok-output.is (
