@@ -9,4 +9,6 @@ pub use table::{Known, Table, gather_by, refresh_by};
 #[cfg(test)]
 mod parts;
 #[cfg(test)]
-mod rows;
+mod views;
+#[cfg(test)]
+mod worked;

@@ -1,6 +1,6 @@
 //! A ring that is cut off, nodes that are no roots any more, and the two halves of a refresh apart.
-use crate::rows::{has, known};
 use crate::table::{Table, gather_by, refresh_by};
+use crate::worked::{has, known};
 use idsets::IdSet;
 use region::{Sets, fill, sweep};
 use std::alloc::{AllocError, Global};
