@@ -56,7 +56,8 @@ pub fn serve<R: Read, W: Write, A: Answers>(
     // At each read, also of one that failed, each whole request of what was read before had its reply, handed on.
     ensures each_read { TalkedAtEachRead A.step answers.old (W.contents writer.old.inner) reader.old reader.new }
 
-    // A fault is told exactly where the reader or the writer failed in the call.
+    // A fault is told exactly where the flag of the tracked reader or writer is set in the call. Where the writer's is not, one
+    // that held nothing back before holds nothing back.
     ensures read_failed { reader.new.failed ≡ is_read_fault result }
     ensures write_failed { writer.new.failed ≡ is_write_fault result }
     ensures flushed { writer.new.failed ≡ false → writer.old.flushed ≡ true → writer.new.flushed ≡ true }
@@ -70,8 +71,9 @@ pub fn serve<R: Read, W: Write, A: Answers>(
 /// Reads requests and writes a reply for each, until the connection ends, over a router that [`routes`](crate::routes)
 /// made. Each reply is handed on before more is read for.
 ///
-/// The buffer is made first and does not grow: it has room for a head of 8,192 bytes and a body of 65,536. No body that
-/// is refused is read. A request costs no memory but what the machine takes.
+/// The buffer is made first and does not grow: it has room for a head of 8,192 bytes and a body of 65,536. Of a body that
+/// is refused for its head no more is read than came with that, at most 8,192 bytes in all. A request costs no memory but
+/// what the machine takes.
 pub fn serve_by<R: Read, W: Write, A: Answers>(
     alloc: Global,
     routes: &Router<Call>,
@@ -109,7 +111,8 @@ pub fn serve_by<R: Read, W: Write, A: Answers>(
     // At each read, also of one that failed, each whole request of what was read before had its reply, handed on.
     ensures each_read { TalkedAtEachRead A.step answers.old (W.contents writer.old.inner) reader.old reader.new }
 
-    // A fault is told exactly where the reader or the writer failed in the call.
+    // A fault is told exactly where the flag of the tracked reader or writer is set in the call. Where the writer's is not, one
+    // that held nothing back before holds nothing back.
     ensures read_failed { reader.new.failed ≡ is_read_fault result }
     ensures write_failed { writer.new.failed ≡ is_write_fault result }
     ensures flushed { writer.new.failed ≡ false → writer.old.flushed ≡ true → writer.new.flushed ≡ true }

@@ -6,8 +6,8 @@ ghost use Rattle.http_api.specs.OneText.{IsDecided, AreOne};
 
 use answers::{Answers, End};
 
-/// Where a request is refused for its head, at most 8,192 bytes were read for it: the head, and what came with it. So a
-/// body that is too large is not read.
+/// Where a request is refused for its head, at most 8,192 bytes were read for it: the head, and what came with it. So of a
+/// body that is too large no more is read than that.
 pub fn no_refused_body_is_read()
     ensures { (input text : List ℕ) → NoRequest input text End.Asked → IsFew input → length input ≤ max_head }
 {}

@@ -145,8 +145,8 @@ fn receive_body<R: Read, W: Write>(
     Ok(())
 }
 
-/// Reads until a whole request waits. It reads no body that is refused, and nothing behind the request's end but what
-/// came with its head.
+/// Reads until a whole request waits. Of a body that is refused, and of what is behind the request's end, it reads no more
+/// than came with the head, at most 8,192 bytes in all.
 pub fn receive<R: Read, W: Write>(
     routes: &Router<Call>,
     reader: &mut TrackedReader<R>,
