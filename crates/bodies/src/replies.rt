@@ -109,7 +109,7 @@ fn state_value(alloc: Global, store: u64, state: &State) -> Result<Value, AllocE
     let index = rev_value(alloc, store, state.index)?;
     let newest = rev_value(alloc, store, state.newest)?;
     json!(in alloc; {
-        "base": base, "floor": floor, "hot": hot, "index": index, "marked": 0u64, "newest": newest,
+        "base": base, "floor": floor, "hot": hot, "index": index, "marked": state.marked, "newest": newest,
         "rows": state.rows, "tuples": state.tuples
     })
 }
