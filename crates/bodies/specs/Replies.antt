@@ -45,6 +45,16 @@ abbrev pub floor_data : List ℕ → Bool → Data
 floor_data floor shown =
     object (text_member (codes "floor") floor (flag_member (codes "shown") shown no_members))
 
+-- `{"marked": .., "shown": ..}`
+abbrev pub marked_data : ℕ → Bool → Data
+marked_data marked shown =
+    object (number_member (codes "marked") marked (flag_member (codes "shown") shown no_members))
+
+-- `{"base": .., "shown": ..}`
+abbrev pub base_data : List ℕ → Bool → Data
+base_data base shown =
+    object (text_member (codes "base") base (flag_member (codes "shown") shown no_members))
+
 -- the member is the zookie of a revision of the store
 abbrev pub rev_member : List ℕ → ℕ → ℕ → Members → Members
 rev_member name store rev rest = text_member name (zookie_text store rev) rest

@@ -5,7 +5,7 @@ ghost use Rattle.serde_json.specs.Data.{string};
 ghost use Rattle.serde_json.specs.View.{view};
 ghost use Rattle.serde_json.specs.Written.{has_float};
 ghost use Rattle.zookie.specs.Text.{zookie_text};
-ghost use Rattle.bodies.specs.Replies.{Says, SaysText, receipt_data, answer_data, cursor_data, floor_data, state_data, no_route_data};
+ghost use Rattle.bodies.specs.Replies.{Says, SaysText, receipt_data, answer_data, base_data, cursor_data, floor_data, marked_data, state_data, no_route_data};
 
 use names::{Reply, State};
 use serde_json::{Value, json};
@@ -88,6 +88,26 @@ pub fn floor(alloc: Global, floor: &Zookie, shown: bool) -> Reply
         return Reply::NoMemory;
     };
     let value = json!(in alloc; {"floor": text.as_str(), "shown": shown});
+    say(alloc, 200, value)
+}
+
+/// What an accepted `hot` is answered: how many nodes are marked after it, and whether all that is posted is shown.
+pub fn marked(alloc: Global, marked: u64, shown: bool) -> Reply
+    ensures { Says (told result) 200 (marked_data marked shown) }
+{
+    let value = json!(in alloc; {"marked": marked, "shown": shown});
+    say(alloc, 200, value)
+}
+
+/// What an accepted `rebuild` is answered: the base of the index after it, and whether all that is posted is shown.
+pub fn base(alloc: Global, base: &Zookie, shown: bool) -> Reply
+    ensures { Says (told result) 200
+        (base_data (zookie_text base.now.store base.now.rev) shown) }
+{
+    let Ok(text) = base.to_text(alloc) else {
+        return Reply::NoMemory;
+    };
+    let value = json!(in alloc; {"base": text.as_str(), "shown": shown});
     say(alloc, 200, value)
 }
 

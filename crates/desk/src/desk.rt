@@ -199,6 +199,36 @@ impl<T: Tables + Drop, R: Wait + Drop> Desk<T, R> {
         self.raise(floor.rev)
     }
 
+    /// Marks a node, or takes its mark away. It is refused where the relation of a node to be marked is not there at the newest
+    /// revision, and where more than 256 nodes would be marked. The tables are not changed: marks are not stored.
+    pub fn mark(&mut self, marking: Marking) -> Result<Posted, Refusal>
+        ensures ok { IfOk result (λ posted.
+            MarkingAccepted self.old marking posted.value posted.receipt self.new) }
+        ensures err { IfErr result (λ why.
+            IsRefused T.Tables self.old IsNoChange
+            (RefusesMarking (standing self.old.posted) marking) why self.new) }
+        ensures seats { self.new.seats ≡ self.old.seats }
+    {
+        self.make_ready()?;
+        self.judge_marking(&marking)?;
+        self.remark(marking)
+    }
+
+    /// Makes the base of the group index of the newest posted revision. The tables are not changed.
+    pub fn rebuild(&mut self) -> Result<Posted, Refusal>
+        ensures ok { IfOk result (λ posted.
+            RebuildAccepted self.old posted.value posted.receipt self.new) }
+        ensures err { IfErr result (λ why.
+            IsRefused T.Tables self.old IsNoChange
+            (RefusesBase (standing self.old.posted) (newest (standing self.old.posted).kept)) why self.new) }
+        ensures seats { self.new.seats ≡ self.old.seats }
+    {
+        self.make_ready()?;
+        let rev = self.own.newest();
+        self.judge_base(rev)?;
+        self.rebase(rev)
+    }
+
     /// A session that knows what is shown now. It is refused exactly where all have been given out; the place of
     /// one that is dropped is not given out again.
     pub fn session(&mut self) -> Result<Session, Refusal>

@@ -2,6 +2,7 @@
 ghost use Rattle.std.specs.Prelude.{◌≡◌, ◌<◌, ◌≤◌, ◌↔◌, min, None, Some, true, false, IsTrue, IfOk, IfErr, OnOk, OnErr};
 ghost use Rattle.names.specs.declared.limits.TheConstants.{MAX_REV};
 ghost use Rattle.names.specs.declared.part.Part.TheVariants.{Index, Hot};
+ghost use Rattle.names.specs.declared.marking.Marking.TheVariants.{Mark};
 ghost use Rattle.meaning.specs.Admits.{has_relation};
 ghost use Rattle.meaning.specs.Causes.{CheckCause};
 ghost use Rattle.meaning.specs.Config.{rel_of};
@@ -11,8 +12,9 @@ ghost use Rattle.rows.specs.Follows.{IsAccepted};
 ghost use Rattle.rows.specs.Judging.{WriteRefused, ConfigRefused};
 ghost use Rattle.verdict.specs.Verdict.{AcceptsWrite, RefusesWrite};
 ghost use Rattle.rows.specs.Retained.{IsRetained, newest, newest_of, snap_at, commits_between, last_config};
-ghost use Rattle.shown.specs.Standing.{nothing, after_step, after_take, before_commit, cursor_after, state_of, CanGoBack, CanRaise, HasRoom, IsSteady};
-ghost use Rattle.shown.specs.Raising.{is_in_use, floor_cause};
+ghost use Rattle.shown.specs.Standing.{nothing, after_step, after_take, base_cause, before_commit, cursor_after, state_of, CanGoBack, CanRaise, HasRoom, IsSteady};
+ghost use Rattle.shown.specs.Marks.{marking_cause};
+ghost use Rattle.shown.specs.Raising.{is_in_use, floor_cause, RefusesMarking, RefusesBase};
 ghost use Rattle.expand.specs.declared.limits.TheConstants.{MAX_DEPTH};
 ghost use Rattle.expand.specs.Causes.{ExpandCause};
 ghost use Rattle.expand.specs.Viewed.{tree_of};
@@ -28,12 +30,14 @@ ghost use Rattle.leopard.specs.Query.{is_allowed};
 ghost use Rattle.shown.specs.Grouping.{AreGroups, IsGroupsRefusal};
 
 use crate::answer::{Answer, Refused};
+use crate::marks::{is_marked, remark};
 use crate::step::Step;
 use config::Config;
 use decide::Nothing;
 use expand::Tree;
 use leopard::Expr;
-use names::{Items, Node, Object, Op, Part, Refusal, State, Tuple, Write};
+use names::limits::MAX_MARKS;
+use names::{Items, Marking, Node, Object, Op, Part, Refusal, State, Tuple, Write};
 use rows::{Loaded, Rows, Tupleset, what_follows_has_room};
 use std::alloc::{AllocError, Global};
 use std::marker::Model;
@@ -49,6 +53,7 @@ pub struct Shown {
     base: u64,
     index: u64,
     hot: u64,
+    marks: Vec<Node>,
 }
 
 impl Model for Shown {
@@ -59,10 +64,10 @@ impl Model for Shown {
 
     ghost coded = { coded_standing };
 
-    ghost view = { λ s. record { kept = s.rows; base = s.base; index = s.index; hot = s.hot } };
+    ghost view = { λ s. record { kept = s.rows; base = s.base; index = s.index; hot = s.hot; marks = s.marks.items } };
 
     ghost invariant = { λ s.
-        IsSteady (record { kept = s.rows; base = s.base; index = s.index; hot = s.hot }) };
+        IsSteady (record { kept = s.rows; base = s.base; index = s.index; hot = s.hot; marks = s.marks.items }) };
 }
 
 impl Shown {
@@ -76,6 +81,7 @@ impl Shown {
             base: 0,
             index: 0,
             hot: 0,
+            marks: Vec::new(alloc),
         }
     }
 
@@ -94,6 +100,11 @@ impl Shown {
             }
             Step::Trim(floor) => {
                 self.raise(*floor);
+                Ok(())
+            }
+            Step::Marking(marking) => remark(&mut self.marks, marking),
+            Step::Rebase(rev) => {
+                self.rebase(*rev);
                 Ok(())
             }
         }
@@ -140,6 +151,56 @@ impl Shown {
         self.rows.floor() < floor && floor <= self.index && floor <= self.hot
     }
 
+    /// Why a node is not marked, if it is not: its relation is not there at the newest revision, or 256 others are marked. A
+    /// mark is taken away whatever it is. It takes no memory.
+    pub fn judge_marking(&self, marking: &Marking) -> Result<(), Refusal>
+        ensures ok { OnOk result
+            (marking_cause (newest_of self.now.kept).held.config self.now.marks marking.now ≡ None) }
+        ensures err { IfErr result (RefusesMarking self.now marking.now) }
+    {
+        match marking {
+            Marking::Mark(node) => self.judge_mark(node),
+            Marking::Unmark(_) => Ok(()),
+        }
+    }
+
+    fn judge_mark(&self, node: &Node) -> Result<(), Refusal>
+        ensures ok { OnOk result
+            (marking_cause (newest_of self.now.kept).held.config self.now.marks (Mark node.now) ≡ None) }
+        ensures err { IfErr result (RefusesMarking self.now (Mark node.now)) }
+    {
+        if !has_relation(self.rows.at(self.rows.newest()).config(), node) {
+            return Err(Refusal::UnknownRelation);
+        }
+        if self.marks.len() >= MAX_MARKS && !is_marked(&self.marks, node) {
+            return Err(Refusal::Full);
+        }
+        Ok(())
+    }
+
+    /// Why the base of the index cannot be made of a revision, if it cannot: it is below the floor or the base, or above the
+    /// newest revision. It takes no memory.
+    pub fn judge_base(&self, rev: u64) -> Result<(), Refusal>
+        ensures ok { OnOk result (base_cause self.now rev ≡ None) }
+        ensures err { IfErr result (RefusesBase self.now rev) }
+    {
+        if rev < self.rows.floor() || rev < self.base {
+            return Err(Refusal::StaleBuild);
+        }
+        if rev > self.rows.newest() {
+            return Err(Refusal::WrongBuild);
+        }
+        Ok(())
+    }
+
+    fn rebase(&mut self, rev: u64)
+        requires { base_cause self.old rev ≡ None }
+        ensures { self.new ≡ after_step self.old (Step.Rebase rev) }
+    {
+        self.base = rev;
+        self.index = self.index.max(rev);
+    }
+
     /// The revision of the last configuration that comes to lie at or below a higher floor, or 0.
     pub fn last_config_below(&self, floor: u64) -> u64
         requires { CanRaise self.now floor }
@@ -183,6 +244,7 @@ impl Shown {
             floor: self.rows.floor(),
             hot: self.hot,
             index: self.index,
+            marked: self.marks.len() as u64,
             newest: self.rows.newest(),
             rows: counts.rows,
             tuples: counts.tuples,
@@ -445,4 +507,10 @@ impl Shown {
         let newest = self.rows.newest();
         (cursor + commits as u64).min(newest)
     }
+}
+
+fn has_relation(config: &Config, node: &Node) -> bool
+    ensures { result ≡ has_relation config.now (rel_of node.now) }
+{
+    config.place_of(node).is_some()
 }

@@ -1,0 +1,48 @@
+//! The marked nodes.
+ghost use Rattle.std.specs.Prelude.{◌≡◌, OnOk, OnErr};
+ghost use Rattle.shown.specs.Marks.{after_marking, is_marked, with_mark, without_mark};
+
+use names::{Marking, Node};
+use std::alloc::AllocError;
+
+/// Marks a node, or takes its mark away. For want of memory nothing changes.
+pub(crate) fn remark(marks: &mut Vec<Node>, marking: &Marking) -> Result<(), AllocError>
+    ensures ok { OnOk result (marks.new.items ≡ after_marking marks.old.items marking.now) }
+    ensures err { OnErr result (marks.new.items ≡ marks.old.items) }
+{
+    match marking {
+        Marking::Mark(node) => mark(marks, node),
+        Marking::Unmark(node) => {
+            unmark(marks, node);
+            Ok(())
+        }
+    }
+}
+
+/// Whether the node is marked.
+pub(crate) fn is_marked(marks: &[Node], node: &Node) -> bool
+    ensures { result ≡ is_marked marks.now node.now }
+{
+    marks.iter().any(|marked| *node == *marked)
+}
+
+fn mark(marks: &mut Vec<Node>, node: &Node) -> Result<(), AllocError>
+    ensures ok { OnOk result (marks.new.items ≡ with_mark marks.old.items node.now) }
+    ensures err { OnErr result (marks.new.items ≡ marks.old.items) }
+{
+    if !is_marked(marks, node) {
+        marks.push(node.clone())?;
+    }
+    Ok(())
+}
+
+fn unmark(marks: &mut Vec<Node>, node: &Node)
+    ensures { marks.new.items ≡ without_mark marks.old.items node.now }
+{
+    for i in 0..marks.len() {
+        if *node == marks[i] {
+            marks.remove(i);
+            return;
+        }
+    }
+}
