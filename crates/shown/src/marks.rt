@@ -30,7 +30,7 @@ pub(crate) fn is_marked(marks: &[Node], node: &Node) -> bool
 fn is_same(node: &Node, other: &Node) -> bool
     ensures { result ≡ is_same_node node.now other.now }
 {
-    *node == *other
+    node.cmp(other).is_eq()
 }
 
 fn mark(marks: &mut Vec<Node>, node: &Node) -> Result<(), AllocError>
@@ -38,7 +38,7 @@ fn mark(marks: &mut Vec<Node>, node: &Node) -> Result<(), AllocError>
     ensures err { OnErr result (marks.new.items ≡ marks.old.items) }
 {
     if !is_marked(marks, node) {
-        marks.push(node.clone())?;
+        marks.push(node.clone()?)?;
     }
     Ok(())
 }
