@@ -26,6 +26,7 @@ ghost use Rattle.leopard.specs.Answers.{AreFirst};
 ghost use Rattle.leopard.specs.Causes.{IsAnswerable, AskCause};
 ghost use Rattle.leopard.specs.Exprs.{query_of};
 ghost use Rattle.leopard.specs.Groups.{Means};
+ghost use Rattle.leopard.specs.Index.{IsIndexOf};
 ghost use Rattle.leopard.specs.Query.{is_allowed};
 ghost use Rattle.shown.specs.Grouping.{AreGroups, IsGroupsRefusal};
 
@@ -35,7 +36,7 @@ use crate::step::Step;
 use config::Config;
 use decide::Nothing;
 use expand::Tree;
-use leopard::Expr;
+use leopard::{Built, Expr};
 use names::limits::MAX_MARKS;
 use names::{Items, Marking, Node, Object, Op, Part, Refusal, State, Tuple, Write};
 use rows::{Loaded, Rows, Tupleset, what_follows_has_room};
@@ -54,11 +55,13 @@ pub struct Shown {
     index: u64,
     hot: u64,
     marks: Vec<Node>,
+    built: Option<Built>,
 }
 
 impl Model for Shown {
-    ghost use Rattle.shown.specs.Standing.{Standing, IsSteady};
+    ghost use Rattle.shown.specs.Standing.{Standing};
     ghost use Rattle.shown.specs.inside.Codes.{coded_standing};
+    ghost use Rattle.shown.specs.inside.Basing.{IsSound};
 
     ghost Value = { Standing };
 
@@ -67,7 +70,7 @@ impl Model for Shown {
     ghost view = { λ s. record { kept = s.rows; base = s.base; index = s.index; hot = s.hot; marks = s.marks.items } };
 
     ghost invariant = { λ s.
-        IsSteady (record { kept = s.rows; base = s.base; index = s.index; hot = s.hot; marks = s.marks.items }) };
+        IsSound (record { kept = s.rows; base = s.base; index = s.index; hot = s.hot; marks = s.marks.items }) s.built };
 }
 
 impl Shown {
@@ -82,6 +85,7 @@ impl Shown {
             index: 0,
             hot: 0,
             marks: Vec::new(alloc),
+            built: None,
         }
     }
 
@@ -103,10 +107,7 @@ impl Shown {
                 Ok(())
             }
             Step::Marking(marking) => remark(&mut self.marks, marking),
-            Step::Rebase(rev) => {
-                self.rebase(*rev);
-                Ok(())
-            }
+            Step::Rebase(rev) => self.build(*rev),
         }
     }
 
@@ -193,11 +194,34 @@ impl Shown {
         Ok(())
     }
 
-    /// Makes the base of the index of a revision. It takes no memory.
+    /// Makes the index anew, of a revision.
+    fn build(&mut self, rev: u64) -> Result<(), AllocError>
+        requires { base_cause self.old rev ≡ None }
+        ensures ok { OnOk result (self.new ≡ after_step self.old (Step.Rebase rev)) }
+        ensures err { OnErr result (self.new ≡ self.old) }
+    {
+        let Ok(built) = self.index_of(rev) else {
+            return Err(AllocError);
+        };
+        self.rebase(rev);
+        self.built = Some(built);
+        Ok(())
+    }
+
+    fn index_of(&self, rev: u64) -> Result<Built, Refusal>
+        requires { IsRetained self.now.kept rev }
+        ensures { IfOk result (λ built. IsIndexOf (snap_at self.now.kept rev) built) }
+    {
+        let view = self.rows.at(rev);
+        Built::of(self.alloc, &view, rev)
+    }
+
+    /// Makes the base of the index a revision, and makes no index of it. It takes no memory.
     pub fn rebase(&mut self, rev: u64)
         requires { base_cause self.old rev ≡ None }
         ensures { self.new ≡ after_step self.old (Step.Rebase rev) }
     {
+        self.built = None;
         self.base = rev;
         self.index = self.index.max(rev);
     }
@@ -429,6 +453,11 @@ impl Shown {
         ensures err { IfErr result
             (AskCause (snap_at self.now.kept rev).config (query_of expr.now) limit) }
     {
+        if let Some(built) = &self.built {
+            if rev == self.base {
+                return built.groups(self.alloc, expr, limit);
+            }
+        }
         let view = self.rows.at(rev);
         leopard::groups_at(self.alloc, &view, expr, limit)
     }
@@ -465,6 +494,7 @@ impl Shown {
     {
         let rows = Rows::new(self.alloc, loaded)?;
         let newest = rows.newest();
+        self.built = None;
         self.rows = rows;
         self.base = newest;
         self.index = newest;
@@ -495,7 +525,11 @@ impl Shown {
         ensures { self.new ≡ after_take self.old Index commits }
     {
         let to = self.cursor_after(self.index, commits);
-        self.base = self.rows.last_config(self.base, self.index, to);
+        let base = self.rows.last_config(self.base, self.index, to);
+        if base != self.base {
+            self.built = None;
+        }
+        self.base = base;
         self.index = to;
     }
 
