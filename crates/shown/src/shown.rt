@@ -55,6 +55,7 @@ pub struct Shown {
     index: u64,
     hot: u64,
     marks: Vec<Node>,
+    keeps_index: bool,
     built: Option<Built>,
 }
 
@@ -74,8 +75,21 @@ impl Model for Shown {
 }
 
 impl Shown {
-    /// The state before the first step.
+    /// The state before the first step. Once a base is asked for, its index is kept.
     pub fn new(alloc: Global) -> Shown
+        ensures { result ≡ nothing }
+    {
+        Shown::before_all(alloc, true)
+    }
+
+    /// The state before the first step, for one who judges changes alone: no index is kept.
+    pub fn without_index(alloc: Global) -> Shown
+        ensures { result ≡ nothing }
+    {
+        Shown::before_all(alloc, false)
+    }
+
+    fn before_all(alloc: Global, keeps_index: bool) -> Shown
         ensures { result ≡ nothing }
     {
         Shown {
@@ -85,6 +99,7 @@ impl Shown {
             index: 0,
             hot: 0,
             marks: Vec::new(alloc),
+            keeps_index,
             built: None,
         }
     }
@@ -194,12 +209,17 @@ impl Shown {
         Ok(())
     }
 
+<<<<<<< HEAD
     /// Makes the index anew, of a revision.
     fn build(&mut self, rev: u64) -> Result<(), AllocError>
         requires { base_cause self.old rev ≡ None }
         ensures ok { OnOk result (self.new ≡ after_step self.old (Step.Rebase rev)) }
         ensures err { OnErr result (self.new ≡ self.old) }
     {
+        if !self.keeps_index {
+            self.rebase(rev);
+            return Ok(());
+        }
         let Ok(built) = self.index_of(rev) else {
             return Err(AllocError);
         };
@@ -218,6 +238,9 @@ impl Shown {
 
     /// Makes the base of the index a revision, and makes no index of it. It takes no memory.
     pub fn rebase(&mut self, rev: u64)
+=======
+    fn rebase(&mut self, rev: u64)
+>>>>>>> 4717ccba0b50b25c834c88536a7c2b1f4acde9db
         requires { base_cause self.old rev ≡ None }
         ensures { self.new ≡ after_step self.old (Step.Rebase rev) }
     {
