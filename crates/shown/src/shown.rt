@@ -209,7 +209,6 @@ impl Shown {
         Ok(())
     }
 
-<<<<<<< HEAD
     /// Makes the index anew, of a revision.
     fn build(&mut self, rev: u64) -> Result<(), AllocError>
         requires { base_cause self.old rev ≡ None }
@@ -236,11 +235,8 @@ impl Shown {
         Built::of(self.alloc, &view, rev)
     }
 
-    /// Makes the base of the index a revision, and makes no index of it. It takes no memory.
-    pub fn rebase(&mut self, rev: u64)
-=======
+    // The base becomes a revision, and no index is kept of it.
     fn rebase(&mut self, rev: u64)
->>>>>>> 4717ccba0b50b25c834c88536a7c2b1f4acde9db
         requires { base_cause self.old rev ≡ None }
         ensures { self.new ≡ after_step self.old (Step.Rebase rev) }
     {
