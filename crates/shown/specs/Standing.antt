@@ -95,9 +95,8 @@ HasRoom s (Trim floor) = CanRaise s floor
 HasRoom s (Marking marking) = marking_cause (newest_of s.kept).held.config s.marks marking ≡ None
 HasRoom s (Rebase rev) = base_cause s rev ≡ None
 
--- the cursors are at retained revisions, and the base is none that the index has not come to
+-- the cursors are at retained revisions
 pub record IsSteady (s : Standing) : Type 0 where
-  pub base_there : s.base ≤ s.index
   pub index_retained : s.kept.floor ≤ s.index
   pub index_there : s.index ≤ newest s.kept
   pub hot_retained : s.kept.floor ≤ s.hot

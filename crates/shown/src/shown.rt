@@ -229,18 +229,17 @@ impl Shown {
 
     fn index_of(&self, rev: u64) -> Result<Built, Refusal>
         requires { IsRetained self.now.kept rev }
-        ensures { IfOk result (λ built. IsIndexOf (snap_at self.now.kept rev) built) }
+        ensures index { IfOk result (λ built. IsIndexOf (snap_at self.now.kept rev) built) }
+        ensures rev { IfOk result (λ built. built.rev ≡ rev) }
     {
         let view = self.rows.at(rev);
         Built::of(self.alloc, &view, rev)
     }
 
-    // The base becomes a revision, and no index is kept of it.
     fn rebase(&mut self, rev: u64)
         requires { base_cause self.old rev ≡ None }
         ensures { self.new ≡ after_step self.old (Step.Rebase rev) }
     {
-        self.built = None;
         self.base = rev;
         self.index = self.index.max(rev);
     }
@@ -473,7 +472,7 @@ impl Shown {
             (AskCause (snap_at self.now.kept rev).config (query_of expr.now) limit) }
     {
         if let Some(built) = &self.built {
-            if rev == self.base {
+            if rev == built.rev() {
                 return built.groups(self.alloc, expr, limit);
             }
         }
@@ -545,11 +544,7 @@ impl Shown {
         ensures { self.new ≡ after_take self.old Index commits }
     {
         let to = self.cursor_after(self.index, commits);
-        let base = self.rows.last_config(self.base, self.index, to);
-        if base != self.base {
-            self.built = None;
-        }
-        self.base = base;
+        self.base = self.rows.last_config(self.base, self.index, to);
         self.index = to;
     }
 
