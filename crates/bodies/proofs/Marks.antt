@@ -1,5 +1,5 @@
 -- Which marking a value asks for: the one member of an object has one name.
-use Rattle.std.proofs.Common.{◌≡◌, ℕ, Bool, true, false, List, [], ◌∷◌, refl, sym, subst, true≢false}
+use Rattle.std.proofs.Common.{◌≡◌, ℕ, Bool, true, false, List, [], ◌∷◌, refl, sym, subst, ◌∙◌, true≢false}
 use Rattle.std.specs.Prelude.{◌&&◌, ◌||◌, if◌then◌else◌, Option, Some, None, codes}
 use Rattle.std.proofs.lemmas.Option.{none-some}
 use Rattle.serde_json.specs.Data.{Data, null, boolean, number, string, array, object, Members, no_members, member}
@@ -10,7 +10,7 @@ use Rattle.names.specs.declared.node.Node.{Node}
 use Rattle.names.specs.declared.marking.Marking.{Marking}
 use Rattle.names.specs.declared.marking.Marking.TheVariants.{Mark, Unmark}
 use Rattle.bodies.specs.Requests.{only_text}
-use Rattle.bodies.specs.Marking.{SpellsNodeAt, MarkingOf, AsksHot, AsksRebuild}
+use Rattle.bodies.specs.Marking.{SpellsNodeAt, MarkingOf, AsksHot}
 use Rattle.bodies.proofs.AskedConditions.{is_same}
 use Rattle.bodies.proofs.Bytes.{same_read}
 
@@ -61,6 +61,5 @@ module _ (d : Data) (text : List ℕ) (not : (node : Node) → SpellsNode text n
   no_unmark at (Mark node) is = none_elsewhere (codes "unmark") (codes "mark") refl at node is
   no_unmark at (Unmark node) is = none_there (codes "unmark") at node is
 
-module _ (body : List ℕ) (d : Data) (reads : Reads body d) where
-  pub hot_other : ((marking : Marking) → MarkingOf d marking → ⊥) → (marking : Marking) → AsksHot body marking → ⊥
-  hot_other not marking a = not marking (subst (λ (x : Data). MarkingOf x marking) (same_read body a.data_read d a.reads reads) a.marking_is)
+pub hot_other : (body : List ℕ) (d : Data) → Reads body d → ((marking : Marking) → MarkingOf d marking → ⊥) → (marking : Marking) → AsksHot body marking → ⊥
+hot_other body d reads not marking a = not marking (subst (λ (x : Data). MarkingOf x marking) (same_read body a.data_read d a.reads reads) a.marking_is)
