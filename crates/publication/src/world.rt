@@ -44,7 +44,7 @@ impl Model for World {
 }
 
 impl World {
-    ghost use Rattle.publication.specs.World.{start, has_begun, Happens, after_event, HasOutcome};
+    ghost use Rattle.publication.specs.World.{start, has_begun, can_mark, can_rebase, Happens, after_event, HasOutcome};
 
     /// The machine before the first event.
     pub fn new(alloc: Global) -> World
@@ -154,7 +154,7 @@ impl World {
         ensures ok { IfOk result (λ o. Happens self.old (Posted (MarkingPosted marking)) o self.new) }
         ensures err { OnErr result (self.new ≡ self.old) }
     {
-        if !self.has_begun() || self.standing()?.judge_marking(&marking).is_err() {
+        if !self.has_begun() || !self.can_mark(&marking)? {
             return Ok(Outcome::No);
         }
         self.posted.push(Step::Marking(marking))?;
@@ -165,11 +165,23 @@ impl World {
         ensures ok { IfOk result (λ o. Happens self.old (Posted (Rebasing rev)) o self.new) }
         ensures err { OnErr result (self.new ≡ self.old) }
     {
-        if !self.has_begun() || self.standing()?.judge_base(rev).is_err() {
+        if !self.has_begun() || !self.can_rebase(rev)? {
             return Ok(Outcome::No);
         }
         self.posted.push(Step::Rebase(rev))?;
         Ok(Outcome::Done)
+    }
+
+    fn can_mark(&self, marking: &Marking) -> Result<bool, AllocError>
+        ensures { IfOk result (λ yes. yes ≡ can_mark (standing self.now.posted) marking.now) }
+    {
+        Ok(self.standing()?.judge_marking(marking).is_ok())
+    }
+
+    fn can_rebase(&self, rev: u64) -> Result<bool, AllocError>
+        ensures { IfOk result (λ yes. yes ≡ can_rebase (standing self.now.posted) rev) }
+    {
+        Ok(self.standing()?.judge_base(rev).is_ok())
     }
 
     /// What the posted steps leave.
