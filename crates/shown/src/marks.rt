@@ -1,5 +1,6 @@
 //! The marked nodes.
 ghost use Rattle.std.specs.Prelude.{◌≡◌, OnOk, OnErr};
+ghost use Rattle.names.specs.Order.{is_same_node};
 ghost use Rattle.shown.specs.Marks.{after_marking, is_marked, with_mark, without_mark};
 
 use names::{Marking, Node};
@@ -23,7 +24,13 @@ pub(crate) fn remark(marks: &mut Vec<Node>, marking: &Marking) -> Result<(), All
 pub(crate) fn is_marked(marks: &[Node], node: &Node) -> bool
     ensures { result ≡ is_marked marks.now node.now }
 {
-    marks.iter().any(|marked| *node == *marked)
+    marks.iter().any(|marked| is_same(node, marked))
+}
+
+fn is_same(node: &Node, other: &Node) -> bool
+    ensures { result ≡ is_same_node node.now other.now }
+{
+    *node == *other
 }
 
 fn mark(marks: &mut Vec<Node>, node: &Node) -> Result<(), AllocError>
@@ -40,7 +47,7 @@ fn unmark(marks: &mut Vec<Node>, node: &Node)
     ensures { marks.new.items ≡ without_mark marks.old.items node.now }
 {
     for i in 0..marks.len() {
-        if *node == marks[i] {
+        if is_same(node, &marks[i]) {
             marks.remove(i);
             return;
         }
