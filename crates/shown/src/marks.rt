@@ -1,5 +1,5 @@
 //! The marked nodes.
-ghost use Rattle.std.specs.Prelude.{◌≡◌, OnOk, OnErr};
+ghost use Rattle.std.specs.Prelude.{◌≡◌, ◌<◌, ◌+◌, ◌++◌, take, drop, length, IfSome, IfNone, OnOk, OnErr};
 ghost use Rattle.names.specs.Order.{is_same_node};
 ghost use Rattle.shown.specs.Marks.{after_marking, is_marked, with_mark, without_mark};
 
@@ -30,7 +30,7 @@ pub(crate) fn is_marked(marks: &[Node], node: &Node) -> bool
 fn is_same(node: &Node, other: &Node) -> bool
     ensures { result ≡ is_same_node node.now other.now }
 {
-    *node == *other
+    node.cmp(other).is_eq()
 }
 
 fn mark(marks: &mut Vec<Node>, node: &Node) -> Result<(), AllocError>
@@ -38,7 +38,7 @@ fn mark(marks: &mut Vec<Node>, node: &Node) -> Result<(), AllocError>
     ensures err { OnErr result (marks.new.items ≡ marks.old.items) }
 {
     if !is_marked(marks, node) {
-        marks.push(node.clone())?;
+        marks.push(node.clone()?)?;
     }
     Ok(())
 }
@@ -46,10 +46,21 @@ fn mark(marks: &mut Vec<Node>, node: &Node) -> Result<(), AllocError>
 fn unmark(marks: &mut Vec<Node>, node: &Node)
     ensures { marks.new.items ≡ without_mark marks.old.items node.now }
 {
+    if let Some(place) = place_of(marks, node) {
+        marks.remove(place);
+    }
+}
+
+/// Where the node stands, if it is marked.
+fn place_of(marks: &[Node], node: &Node) -> Option<usize>
+    ensures found { IfSome result (λ i. (i < length marks.now)
+        × (take i marks.now ++ drop (i + 1) marks.now ≡ without_mark marks.now node.now)) }
+    ensures none { IfNone result (marks.now ≡ without_mark marks.now node.now) }
+{
     for i in 0..marks.len() {
         if is_same(node, &marks[i]) {
-            marks.remove(i);
-            return;
+            return Some(i);
         }
     }
+    None
 }
