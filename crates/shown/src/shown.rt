@@ -193,8 +193,7 @@ impl Shown {
         Ok(())
     }
 
-    /// Makes the base of the index of a revision. It takes no memory.
-    pub fn rebase(&mut self, rev: u64)
+    fn rebase(&mut self, rev: u64)
         requires { base_cause self.old rev ≡ None }
         ensures { self.new ≡ after_step self.old (Step.Rebase rev) }
     {
