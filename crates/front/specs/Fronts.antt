@@ -12,9 +12,8 @@ use Rattle.front.specs.Trees.{ExpandFrom}
 use Rattle.front.specs.Groups.{GroupsFrom}
 use Rattle.front.specs.Pages.{WatchFrom}
 
--- A change, or a call that is not served: whatever a desk holds, it would tell this and stay as it is, and no desk was
--- asked; or a desk was, which its rules let tell this, and the session then knows no less than it did, and all that the
--- desk shows after it.
+-- A change: whatever a desk holds, it would tell this and stay as it is, and no desk was asked; or a desk was, which its
+-- rules let tell this, and the session then knows no less than it did, and all that the desk shows after it.
 pub data ChangeFrom {T : Type 0} (g : Ghosts T)
     (old : Known) (call : Call) (body : List ℕ) (told : Option (ℕ × List ℕ)) (new : Known) : Type 0 where
   off_the_desk : ((desk : Posts T) → DeskStep g desk call body told desk) → new ≡ old

@@ -1,7 +1,7 @@
 //! Calls by bytes, of one worker.
 ghost use Rattle.std.specs.Prelude.{◌≡◌, IfOk, IfErr};
 ghost use Rattle.names.specs.Calls.{told};
-ghost use Rattle.names.specs.declared.call.Call.TheVariants.{Write, Config, Trim, CatchUp};
+ghost use Rattle.names.specs.declared.call.Call.TheVariants.{Write, Config, Trim, CatchUp, Hot, Rebuild};
 ghost use Rattle.names.specs.declared.refusal.Refusal.TheVariants.{NoSeat};
 ghost use Rattle.published.specs.Known.{Begins};
 ghost use Rattle.front.specs.Kept.{IsKnownIn};
@@ -18,8 +18,8 @@ use crate::pages::{AskedPage, watch_again, watch_from};
 use crate::questions::{Asked, check_again, check_from, state_from};
 use crate::trees::{AskedTree, expand_again, expand_from};
 use crate::tuples::{AskedTuples, read_again, read_from};
+use bodies::marking::{hot_body, rebuild_body};
 use bodies::refusals::refusal;
-use bodies::replies::no_route;
 use bodies::requests::catch_up_body;
 use bodies::trimming::trim_body;
 use bodies::writing::write_body;
@@ -245,6 +245,33 @@ impl<'k, T: Tables + Drop, J: Naming, R: Wait + Drop> Front<'k, T, J, R> {
         }
     }
 
+    /// Answers `hot`. The desk is held once the body is read.
+    pub fn hot<W: Wait>(&mut self, rt: &W, body: &[u8]) -> Reply
+        ensures { ChangeFrom T.Tables self.old Hot body.now (told result) self.new }
+    {
+        match hot_body(self.alloc, body) {
+            Ok(marking) => {
+                self.keeper
+                    .hold(rt)
+                    .change_marks(self.alloc, &mut self.session, marking)
+            }
+            Err(why) => refusal(self.alloc, &why),
+        }
+    }
+
+    /// Answers `rebuild`. The desk is held once the body is read.
+    pub fn rebuild<W: Wait>(&mut self, rt: &W, body: &[u8]) -> Reply
+        ensures { ChangeFrom T.Tables self.old Rebuild body.now (told result) self.new }
+    {
+        match rebuild_body(self.alloc, body) {
+            Ok(()) => self
+                .keeper
+                .hold(rt)
+                .move_base(self.alloc, &mut self.session),
+            Err(why) => refusal(self.alloc, &why),
+        }
+    }
+
     /// Answers a call, whose body is these bytes.
     pub fn answer<W: Wait>(&mut self, rt: &W, call: Call, body: &[u8]) -> Reply
         ensures { FrontStep T.Tables self.old call body.now (told result) self.new }
@@ -259,8 +286,9 @@ impl<'k, T: Tables + Drop, J: Naming, R: Wait + Drop> Front<'k, T, J, R> {
             Call::Watch => self.watch(rt, body),
             Call::Trim => self.trim(rt, body),
             Call::CatchUp => self.catch_up(rt, body),
+            Call::Hot => self.hot(rt, body),
+            Call::Rebuild => self.rebuild(rt, body),
             Call::State => self.state(),
-            _ => no_route(self.alloc),
         }
     }
 }
