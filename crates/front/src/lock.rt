@@ -1,5 +1,6 @@
 //! The lock over a desk.
 ghost use Rattle.std.specs.Prelude.{◌≡◌, ◌↔◌, ◌+◌, ℕ, List, Err, IfOk, IfErr};
+ghost use Rattle.std.specs.Sync.Mutex.{mutex_guard_value};
 ghost use Rattle.names.specs.Calls.{told};
 ghost use Rattle.names.specs.declared.refusal.Refusal.TheVariants.{NoSeat, StoreFault};
 ghost use Rattle.config.specs.Causes.{Accepts};
@@ -237,7 +238,9 @@ impl<T: Tables + Drop, J: Naming, R: Wait + Drop> Keeper<T, J, R> {
     }
 
     /// The desk, for as long as the guard lives. No other call takes the lock.
-    pub fn hold<W: Wait>(&self, rt: &W) -> MutexGuard<'_, KeptDesk<T, J, R>> {
+    pub fn hold<W: Wait>(&self, rt: &W) -> MutexGuard<'_, KeptDesk<T, J, R>>
+        ensures { IsKept J.book (mutex_guard_value result) }
+    {
         self.desk.lock(rt)
     }
 
