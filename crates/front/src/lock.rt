@@ -67,6 +67,13 @@ impl<T: Tables + Drop, J: Naming, R: Wait + Drop> KeptDesk<T, J, R> {
         }
     }
 
+    // What is true of every one: a function knows it where it looks at a field.
+    fn see(&self)
+        ensures { IsKept J.book self.now }
+    {
+        let _ = &self.desk;
+    }
+
     /// Gives the tables back. Sessions are answered no more.
     fn close(self) -> T
         ensures { WereKept T.Tables J.book result }
@@ -241,7 +248,9 @@ impl<T: Tables + Drop, J: Naming, R: Wait + Drop> Keeper<T, J, R> {
     pub fn hold<W: Wait>(&self, rt: &W) -> MutexGuard<'_, KeptDesk<T, J, R>>
         ensures { IsKept J.book (mutex_guard_value result) }
     {
-        self.desk.lock(rt)
+        let desk = self.desk.lock(rt);
+        desk.see();
+        desk
     }
 
     /// Gives the tables back. Sessions are answered no more.
