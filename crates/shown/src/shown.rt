@@ -30,7 +30,7 @@ ghost use Rattle.leopard.specs.Query.{is_allowed};
 ghost use Rattle.shown.specs.Grouping.{AreGroups, IsGroupsRefusal};
 
 use crate::answer::{Answer, Refused};
-use crate::marks::{is_marked, remark};
+use crate::marks::{count_with, remark};
 use crate::step::Step;
 use config::Config;
 use decide::Nothing;
@@ -172,7 +172,7 @@ impl Shown {
         if !has_relation(self.rows.at(self.rows.newest()).config(), node) {
             return Err(Refusal::UnknownRelation);
         }
-        if self.marks.len() >= MAX_MARKS && !is_marked(&self.marks, node) {
+        if count_with(&self.marks, node) > MAX_MARKS {
             return Err(Refusal::Full);
         }
         Ok(())
@@ -468,6 +468,7 @@ impl Shown {
         self.base = newest;
         self.index = newest;
         self.hot = newest;
+        self.marks.clear();
         Ok(())
     }
 
@@ -512,5 +513,8 @@ impl Shown {
 fn has_relation(config: &Config, node: &Node) -> bool
     ensures { result ≡ has_relation config.now (rel_of node.now) }
 {
-    config.place_of(node).is_some()
+    match config.place_of(node) {
+        Some(_place) => true,
+        None => false,
+    }
 }
