@@ -29,6 +29,7 @@ use Rattle.published.specs.contracts.post.Post as Post
 use Rattle.published.specs.contracts.publisher.Publisher as Publisher
 use Rattle.published.specs.contracts.publication.Publication as Publication
 use Rattle.left_right.proofs.writer.Writer.TheSendSync as Writer
+use Rattle.names.proofs.marking.Marking.TheSendSync as Marking
 use Rattle.names.proofs.write.Op.TheSendSync as Op
 use Rattle.names.proofs.items.Items.TheSendSync as Items
 
@@ -79,10 +80,10 @@ Loaded-field-sync : IsSync (Struct (S.shape Loaded.the_type))
 Loaded-field-sync = search (Config-sync, KeptCommit-sync, Tuple.the_sync, crosses, sendable) depth 40
 
 Step-field-send : IsSend (Enum (E.shape Step.the_type))
-Step-field-send = enum_send (E.shape Step.the_type) ((Loaded-field-send, tt), ((KeptCommit-send, tt), ((search sendable, (search sendable, tt)), ((search sendable, tt), tt))))
+Step-field-send = enum_send (E.shape Step.the_type) ((Loaded-field-send, tt), ((KeptCommit-send, tt), ((search sendable, (search sendable, tt)), ((search sendable, tt), ((Marking.the_field_send, tt), ((search sendable, tt), tt))))))
 
 Step-field-sync : IsSync (Enum (E.shape Step.the_type))
-Step-field-sync = enum_sync (E.shape Step.the_type) ((Loaded-field-sync, tt), ((KeptCommit-sync, tt), ((search sendable, (search sendable, tt)), ((search sendable, tt), tt))))
+Step-field-sync = enum_sync (E.shape Step.the_type) ((Loaded-field-sync, tt), ((KeptCommit-sync, tt), ((search sendable, (search sendable, tt)), ((search sendable, tt), ((Marking.the_field_sync, tt), ((search sendable, tt), tt))))))
 
 pub Step-send : IsSend Step.the_row
 Step-send = let T = Step.the_type in recorded_send _ _ T.to T.to_one Step-field-send
