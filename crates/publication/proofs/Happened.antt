@@ -18,7 +18,7 @@ use Rattle.publication.specs.declared.event.Posting.TheVariants.{NextCommit, Ope
 use Rattle.publication.specs.declared.event.Outcome.{Outcome}
 use Rattle.publication.specs.declared.event.Outcome.TheVariants.{Done}
 use Rattle.shown.specs.Standing.{Standing, standing}
-use Rattle.publication.specs.World.{State, has_begun, is_within, waiting_commits, can_raise, can_mark, can_rebase, can_come, after_coming, after_event, IsComing, HasOutcome, Happens}
+use Rattle.publication.specs.World.{State, has_begun, is_within, waiting_commits, can_raise, can_mark, can_rebase, can_come, after_coming, IsComing, Happens}
 use Rattle.publication.specs.WorldParts.{Fit}
 use Rattle.shown.specs.Standing.{CanRaise}
 use Rattle.publication.proofs.Raising.{raises_where}
