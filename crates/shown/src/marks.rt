@@ -20,8 +20,18 @@ pub(crate) fn remark(marks: &mut Vec<Node>, marking: &Marking) -> Result<(), All
     }
 }
 
-/// Whether the node is marked.
-pub(crate) fn is_marked(marks: &[Node], node: &Node) -> bool
+/// How many nodes are marked, this one among them.
+pub(crate) fn count_with(marks: &[Node], node: &Node) -> usize
+    ensures { result ≡ length (with_mark marks.now node.now) }
+{
+    if is_marked(marks, node) {
+        marks.len()
+    } else {
+        marks.len() + 1
+    }
+}
+
+fn is_marked(marks: &[Node], node: &Node) -> bool
     ensures { result ≡ is_marked marks.now node.now }
 {
     marks.iter().any(|marked| is_same(node, marked))
