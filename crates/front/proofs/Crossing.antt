@@ -8,6 +8,7 @@ use denote.Enum.Declared as E
 use Rattle.std.proofs.Crossing.{crosses, Vec-send, Vec-sync}
 use Rattle.config_text.proofs.rewrite.Rewrite.TheLaws.TheKnot.{crosses as rewrites_cross}
 use Rattle.names.proofs.name.Name.TheSendSync as Name
+use Rattle.names.proofs.node.Node.TheSendSync as Node
 use Rattle.names.proofs.relation.RelationName.TheSendSync as RelationName
 use Rattle.names.proofs.relation.SubjectType.TheSendSync as SubjectType
 use Rattle.versions.proofs.version_map.VersionMap.TheSendSync as VersionMap
@@ -62,10 +63,10 @@ pub KeptCommit-sync : IsSync KeptCommit.the_row
 KeptCommit-sync = search (Config-send, Config-sync, crosses, sendable) depth 40
 
 pub Shown-send : IsSend Shown.the_row
-Shown-send = search (Config-send, KeptCommit-send, VersionMap.the_send, crosses, sendable) depth 40
+Shown-send = search (Config-send, KeptCommit-send, VersionMap.the_send, Node.the_send, crosses, sendable) depth 40
 
 pub Shown-sync : IsSync Shown.the_row
-Shown-sync = search (Config-sync, KeptCommit-sync, VersionMap.the_sync, crosses, sendable) depth 40
+Shown-sync = search (Config-sync, KeptCommit-sync, VersionMap.the_sync, Node.the_sync, crosses, sendable) depth 40
 
 pub Loaded-send : IsSend Loaded.the_row
 Loaded-send = search (Config-send, KeptCommit-send, Tuple.the_send, crosses, sendable) depth 40
