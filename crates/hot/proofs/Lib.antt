@@ -1,0 +1,9 @@
+mod Looking
+mod Depends
+mod Changing
+mod After
+mod Memberships
+mod Walks
+mod Marks
+mod Answering
+mod Lists
