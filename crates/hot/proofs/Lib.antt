@@ -5,5 +5,6 @@ mod After
 mod Memberships
 mod Walks
 mod Marks
+mod Asked
 mod Answering
 mod Lists

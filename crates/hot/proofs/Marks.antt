@@ -136,3 +136,65 @@ marked_more nodes nodes' marks marks' id m g at e there n = (
       (λ here. (id, e id ∙ or_left (nat_eq id id) (has marks id) (eq-eqb id id refl), at ∙ ap (λ x. Some x) (sym here)))
       q,
 )
+
+-- one mark less
+pub turned_off : (marks marks' : List ℕ) (id : ℕ) → ((o : ℕ) → has marks' o ≡ (has marks o && not (nat_eq o id))) → IsTurned marks marks' (id ∷ [])
+turned_off marks marks' id e n off = e n ∙ first (has marks n) (nat_eq n id) off
+  where
+    first : (x y : Bool) → (y || false) ≡ false → (x && not y) ≡ x
+    first x true h = absurd (false≢true (sym h))
+    first true false h = refl
+    first false false h = refl
+
+less_in : (marks marks' : List ℕ) (id : ℕ) → ((o : ℕ) → has marks' o ≡ (has marks o && not (nat_eq o id))) → (o : ℕ) → has marks' o ≡ true → (has marks o ≡ true) × (not (nat_eq o id) ≡ true)
+less_in marks marks' id e o h = and_parts (has marks o) (not (nat_eq o id)) (sym (e o) ∙ h)
+
+pub kept_swept : (S : Snap) (nodes : List Node) (users : List Object) (marks marks' : List ℕ) (id : ℕ) (a b : Rows)
+    → ((o : ℕ) → has marks' o ≡ (has marks o && not (nat_eq o id)))
+    → ((n : ℕ) → kept b n ≡ true → row_of b n ≡ row_of a n)
+    → ((world : ℕ → Fact) (first : List ℕ) → IsLevelled world → IsHeld world first a → IsTurned first marks' (id ∷ []) → ((n : ℕ) → has marks' n ≡ true → kept a n ≡ true) → IsHeld world marks' b)
+    → AreKept S nodes users marks a → AreKept S nodes users marks' b
+kept_swept S nodes users marks marks' id a b e same held k = record {
+  world = k.world;
+  levelled = k.levelled;
+  held = held k.world marks k.levelled k.held (turned_off marks marks' id e) (λ n h. k.held.from_roots n (less_in marks marks' id e n h).0);
+  told = λ n h. k.told n (sym (ap (λ (r : Option Row). is_some r) (same n h)) ∙ h);
+}
+
+-- the marks with one less
+pub marked_less : (nodes : List Node) (marks marks' : List ℕ) (id : ℕ) (m : Node) → AreDistinct nodes → slice_get nodes id ≡ Some m
+    → ((o : ℕ) → has marks' o ≡ (has marks o && not (nat_eq o id))) → (n : Node)
+    → ((i : ℕ) × (has marks' i ≡ true) × (slice_get nodes i ≡ Some n)) ↔ (((i : ℕ) × (has marks i ≡ true) × (slice_get nodes i ≡ Some n)) × (n ≡ m → ⊥))
+marked_less nodes marks marks' id m distinct at e n = (
+  λ q. (let both = less_in marks marks' id e q.0 q.1 in (
+    (q.0, both.0, q.2),
+    λ is. false≢true (sym (ap not (eq-eqb q.0 id (distinct q.0 id m (q.2 ∙ ap (λ x. Some x) is) at))) ∙ both.1),
+  )),
+  λ q. (q.0.0, e q.0.0 ∙ and_from (has marks q.0.0) (not (nat_eq q.0.0 id)) q.0.1 (apart q.0.0 q.0.2 q.1), q.0.2),
+)
+  where
+    apart : (i : ℕ) → slice_get nodes i ≡ Some n → (n ≡ m → ⊥) → not (nat_eq i id) ≡ true
+    apart i here off = ⊎_elim
+        (λ same. absurd (off (same_Some n m (sym here ∙ ap (slice_get nodes) (eqb-true i id same) ∙ at))))
+        (λ other. ap not other)
+        (cases_Bool (nat_eq i id))
+
+-- where no mark is the node's, all stay
+pub marked_others : (nodes : List Node) (marks : List ℕ) (m : Node) → ((i : ℕ) → has marks i ≡ true → slice_get nodes i ≡ Some m → ⊥) → (n : Node)
+    → ((i : ℕ) × (has marks i ≡ true) × (slice_get nodes i ≡ Some n)) ↔ (((i : ℕ) × (has marks i ≡ true) × (slice_get nodes i ≡ Some n)) × (n ≡ m → ⊥))
+marked_others nodes marks m off n = (
+  λ q. (q, λ is. off q.0 q.1 (q.2 ∙ ap (λ x. Some x) is)),
+  λ q. q.0,
+)
+
+-- a mark that is there already
+pub marked_again : (nodes nodes' : List Node) (marks : List ℕ) (id : ℕ) (m : Node) → Grew nodes nodes' → slice_get nodes' id ≡ Some m → has marks id ≡ true
+    → ((i : ℕ) → has marks i ≡ true → (n : Node) × (slice_get nodes i ≡ Some n)) → (n : Node)
+    → ((i : ℕ) × (has marks i ≡ true) × (slice_get nodes' i ≡ Some n)) ↔ (((i : ℕ) × (has marks i ≡ true) × (slice_get nodes i ≡ Some n)) ⊎ (n ≡ m))
+marked_again nodes nodes' marks id m g at there_id there n = (
+  λ q. inl ((marked_same nodes nodes' marks g there n).0 q),
+  λ q. ⊎_elim
+      (λ old. (marked_same nodes nodes' marks g there n).1 old)
+      (λ is. (id, there_id, at ∙ ap (λ x. Some x) (sym is)))
+      q,
+)
