@@ -1,5 +1,6 @@
-//! A history that a marked node is kept with.
+//! A history that marked nodes are kept with.
 use config::Config;
+use decide::{Nothing, check_at};
 use hot::Hot;
 use names::{Commit, Items, Node, Object, Op, OpKind, Refusal, Tuple};
 use rows::{Rows, events_of};
@@ -23,14 +24,16 @@ fn is_committed(rows: &mut Rows, commit: &Commit<Config>) -> Result<bool, AllocE
     Ok(true)
 }
 
-/// A history with the configuration.
-pub(crate) fn configured(alloc: Global) -> Result<Rows, Refusal> {
+/// A history with the configuration, and a table that stands at its revision.
+pub(crate) fn configured(alloc: Global) -> Result<(Rows, Hot), Refusal> {
     let mut rows = Rows::empty(alloc);
     let commit = Commit::Config(Config::from_json(alloc, CONFIG.as_bytes())?);
     if !is_committed(&mut rows, &commit)? {
         return Err(Refusal::Malformed);
     }
-    Ok(rows)
+    let mut hot = Hot::new(alloc);
+    hot.restart(alloc, &rows.at(rows.newest()))?;
+    Ok((rows, hot))
 }
 
 fn op(word: &str) -> Result<Op, Refusal> {
@@ -46,8 +49,8 @@ fn op(word: &str) -> Result<Op, Refusal> {
     }
 }
 
-/// Commits the words' tuples, those that begin with `-` as deletions, has the marked nodes take the commit, and gives
-/// the numbers of who was asked.
+/// Commits the words' tuples, those that begin with `-` as deletions, has the table take the commit, and gives the
+/// numbers of who was asked.
 pub(crate) fn took(
     alloc: Global,
     rows: &mut Rows,
@@ -78,6 +81,41 @@ pub(crate) fn mark(alloc: Global, rows: &Rows, hot: &mut Hot, node: &str) -> Res
 /// Whether the user is kept as a member of the node; nothing, where the node is not kept.
 pub(crate) fn has(hot: &Hot, node: &str, user: &str) -> Result<Option<bool>, Refusal> {
     Ok(hot.has(&Node::parse(node)?, &Object::parse(user)?))
+}
+
+/// Whether all that is kept of some nodes and users is what a check by the tuples of the newest revision says.
+pub(crate) fn agrees(
+    alloc: Global,
+    rows: &Rows,
+    hot: &Hot,
+    nodes: &str,
+    users: &str,
+) -> Result<bool, Refusal> {
+    for word in nodes.split_ascii_whitespace() {
+        let node = Node::parse(word)?;
+        if hot.is_kept(&node) && !agrees_at(alloc, rows, hot, &node, users)? {
+            return Ok(false);
+        }
+    }
+    Ok(true)
+}
+
+fn agrees_at(
+    alloc: Global,
+    rows: &Rows,
+    hot: &Hot,
+    node: &Node,
+    users: &str,
+) -> Result<bool, Refusal> {
+    let view = rows.at(rows.newest());
+    for word in users.split_ascii_whitespace() {
+        let user = Object::parse(word)?;
+        let wanted = check_at(alloc, &view, &mut Nothing, node, &user)?;
+        if hot.has(node, &user) != Some(wanted) {
+            return Ok(false);
+        }
+    }
+    Ok(true)
 }
 
 /// Whether each of those asked is one of the nodes, and none is asked twice.
