@@ -2,10 +2,10 @@
 use Rattle.std.proofs.Common.{ℕ, ◌≡◌, ◌<◌, Bool, true, false, not, ◌&&◌, ◌||◌, List, [], ◌∷◌, refl, sym, ◌∙◌, ap, subst, ⊎_elim, ◌⊎◌, inl, inr}
 use Rattle.std.specs.Prelude.{◌↔◌, Contains, Some}
 use Rattle.std.specs.List.{slice_get}
-use Rattle.std.specs.Cmp.{eq_by_cmp_equiv}
 use Rattle.std.specs.Ordering.{eq_by_cmp}
 use Rattle.std.proofs.lemmas.Bool.{cases_Bool}
 use Rattle.std.proofs.lemmas.Option.{slice_get_within}
+use Rattle.std.proofs.lemmas.Map.Views.{tells_apart}
 use Rattle.names.specs.Order.{tuple_cmp}
 use Rattle.names.specs.declared.object.Object.{Object}
 use Rattle.names.specs.declared.node.Node.{Node}
@@ -20,7 +20,7 @@ use Rattle.meaning.specs.Config.{Configured, Defined, Defines, Has, IsAt, rel_of
 use Rattle.meaning.specs.History.{replay, after_event, after_kind}
 use Rattle.meaning.specs.Membership.{HasOne, HasSet}
 use Rattle.meaning.proofs.Lists.{contains_here, contains_there}
-use Rattle.meaning.proofs.TupleSets.{tuples_total, exact_tuples, contains_iff, contains_insert, contains_remove}
+use Rattle.meaning.proofs.TupleSets.{exact_tuples, contains_iff, contains_insert, contains_remove}
 use Rattle.least_sets.specs.World.{Fact, has, arcs_of}
 use Rattle.graphs.specs.Graph.{IsShapeOf}
 use Rattle.facts.specs.Numbers.{user_at, node_at}
@@ -35,7 +35,7 @@ module _ (n : Node) where
 
   apart : (t q : Tuple) → q.node ≡ n → (t.node ≡ n → ⊥) → eq_by_cmp tuple_cmp q t ≡ false
   apart t q is off = ⊎_elim
-      (λ h. absurd (off (ap (λ (x : Tuple). x.node) (sym ((eq_by_cmp_equiv tuples_total).exact q t h)) ∙ is)))
+      (λ h. absurd (off (ap (λ (x : Tuple). x.node) (sym (tells_apart exact_tuples q t h)) ∙ is)))
       (λ h. h)
       (cases_Bool (eq_by_cmp tuple_cmp q t))
 

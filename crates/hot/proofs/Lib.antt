@@ -6,5 +6,6 @@ mod Memberships
 mod Walks
 mod Marks
 mod Asked
+mod Counting
 mod Answering
 mod Lists

@@ -174,8 +174,8 @@ marked_less nodes marks marks' id m distinct at e n = (
 )
   where
     apart : (i : ℕ) → slice_get nodes i ≡ Some n → (n ≡ m → ⊥) → not (nat_eq i id) ≡ true
-    apart i here off = ⊎_elim
-        (λ same. absurd (off (same_Some n m (sym here ∙ ap (slice_get nodes) (eqb-true i id same) ∙ at))))
+    apart i at_i off = ⊎_elim
+        (λ same. absurd (off (same_Some n m (sym at_i ∙ ap (slice_get nodes) (eqb-true i id same) ∙ at))))
         (λ other. ap not other)
         (cases_Bool (nat_eq i id))
 

@@ -6,13 +6,14 @@ use Rattle.std.specs.Cmp.{eq_by_cmp_equiv}
 use Rattle.std.specs.Ordering.{eq_by_cmp}
 use Rattle.std.proofs.lemmas.Bool.{or_cases, and_parts, cases_Bool, true≢false, false≢true, eqb-true, eq-eqb}
 use Rattle.std.proofs.lemmas.Option.{none-some, same_Some}
+use Rattle.std.proofs.lemmas.Map.Views.{tells_apart}
 use Rattle.names.specs.Order.{object_cmp}
 use Rattle.names.specs.declared.object.Object.{Object}
 use Rattle.names.specs.declared.node.Node.{Node}
 use Rattle.meaning.specs.Snap.{Snap}
 use Rattle.meaning.specs.Membership.{HasOne, IsMember}
 use Rattle.meaning.specs.Reads.{IsValid}
-use Rattle.meaning.proofs.TupleSets.{objects_total}
+use Rattle.meaning.proofs.TupleSets.{objects_total, exact_objects}
 use Rattle.least_sets.specs.World.{Fact, Shape, Own, AnyOf, Reads, Either, Both, Except, has, gives, arcs_of, plain_of}
 use Rattle.least_sets.specs.Least.{Derived, outside, follows}
 use Rattle.least_sets.proofs.Gives.{plain_named}
@@ -43,7 +44,7 @@ gives_none own from low (Except a b) e f h = gives_none own from low a e f (and_
 pub find_user : (users : List Object) (u : Object) → ((j : ℕ) × (slice_get users j ≡ Some u)) ⊎ ((j : ℕ) → slice_get users j ≡ Some u → ⊥)
 find_user [] u = inr (λ j h. none-some u h)
 find_user (o ∷ os) u = ⊎_elim
-    (λ e. inl (zero, ap (λ x. Some x) ((eq_by_cmp_equiv objects_total).exact o u e)))
+    (λ e. inl (zero, ap (λ x. Some x) (tells_apart exact_objects o u e)))
     (λ e. ⊎_elim (λ q. inl (suc q.0, q.1)) (λ q. inr (other e q)) (find_user os u))
     (cases_Bool (eq_by_cmp object_cmp o u))
   where

@@ -1,5 +1,5 @@
 -- What is kept of marked nodes, for a snapshot.
-use Rattle.std.specs.Prelude.{ℕ, ◌≡◌, ◌≤◌, true, List, Some, length, nat_eq}
+use Rattle.std.specs.Prelude.{ℕ, ◌+◌, ◌≡◌, ◌≤◌, ◌⊎◌, ◌↔◌, true, List, Some, length, nat_eq}
 use Rattle.std.specs.List.{slice_get, IsDistinct}
 use Rattle.names.specs.declared.limits.TheConstants.{MAX_MARKS}
 use Rattle.names.specs.declared.object.Object.{Object}
@@ -46,6 +46,23 @@ IsMarked hot n = (i : ℕ) × (has hot.marks i ≡ true) × HasNumber hot n i
 -- how many nodes are marked
 abbrev pub marks_of : Hot → ℕ
 marks_of hot = length hot.marks
+
+-- the same nodes are marked
+pub record HasSameMarks (before now : Hot) : Type 0 where
+  pub nodes : (n : Node) → IsMarked now n ↔ IsMarked before n
+  pub count : marks_of now ≡ marks_of before
+
+-- the node is marked, and each that was; it counts as one more, where it was not
+pub record HasMarked (before now : Hot) (node : Node) : Type 0 where
+  pub nodes : (n : Node) → IsMarked now n ↔ (IsMarked before n ⊎ (n ≡ node))
+  pub again : IsMarked before node → marks_of now ≡ marks_of before
+  pub more : (IsMarked before node → ⊥) → marks_of now ≡ marks_of before + 1
+
+-- the node is not marked, and each other one that was; it counts as one less, where it was
+pub record HasUnmarked (before now : Hot) (node : Node) : Type 0 where
+  pub nodes : (n : Node) → IsMarked now n ↔ (IsMarked before n × (n ≡ node → ⊥))
+  pub less : IsMarked before node → marks_of now + 1 ≡ marks_of before
+  pub none : (IsMarked before node → ⊥) → marks_of now ≡ marks_of before
 
 -- the node is marked, or a marked node depends on it
 abbrev pub IsUnderMark : Hot → Snap → Node → Type 0

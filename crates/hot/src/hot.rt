@@ -1,4 +1,6 @@
 //! The marked nodes.
+ghost use Rattle.std.specs.Prelude.{◌≤◌, length};
+ghost use Rattle.names.specs.declared.limits.TheConstants.{MAX_MARKS};
 ghost use Rattle.region.specs.Sets.{IsWhole};
 
 use crate::changed::changed_by;
@@ -19,16 +21,17 @@ pub struct Hot {
     pub(crate) marks: IdSet,
     pub(crate) sets: Sets,
     ghost whole: { IsWhole sets },
+    ghost few: { length marks ≤ MAX_MARKS },
 }
 
 impl Hot {
-    ghost use Rattle.std.specs.Prelude.{◌≡◌, ◌↔◌, ◌⊎◌, OnOk, OnErr, IfErr, IfOk, Some, IfSome, IfNone};
+    ghost use Rattle.std.specs.Prelude.{◌≡◌, OnOk, OnErr, IfErr, IfOk, IfSome, IfNone};
     ghost use Rattle.names.specs.declared.commit.Commit.TheVariants.{Tuples};
     ghost use Rattle.names.specs.declared.node.Node.{Node};
     ghost use Rattle.meaning.specs.History.{after_commit};
     ghost use Rattle.meaning.specs.Snap.{Snap};
     ghost use Rattle.meaning.specs.Reads.{IsValid};
-    ghost use Rattle.hot.specs.Kept.{IsHot, IsMarked, marks_of, HasNumber, WasAskedFew, MarkCause};
+    ghost use Rattle.hot.specs.Kept.{IsHot, IsMarked, HasMarked, HasUnmarked, HasSameMarks, marks_of, HasNumber, WasAskedFew, MarkCause};
 
     /// Nothing is marked, which is so at each revision. It takes no memory.
     pub fn new(alloc: Global) -> Hot
@@ -44,7 +47,8 @@ impl Hot {
 
     /// How many nodes are marked.
     pub fn marked(&self) -> usize
-        ensures { result ≡ marks_of self.now }
+        ensures marked { result ≡ marks_of self.now }
+        ensures few { result ≤ MAX_MARKS }
     {
         self.marks.len()
     }
@@ -61,8 +65,8 @@ impl Hot {
     /// room for one more, and for want of memory; then what is marked and kept is what it was.
     pub fn mark(&mut self, alloc: Global, view: &View, node: &Node) -> Result<(), Refusal>
         ensures hot { IsHot self.old view.now → IsHot self.new view.now }
-        ensures ok { OnOk result (IsHot self.old view.now → (n : Node) → IsMarked self.new n ↔ (IsMarked self.old n ⊎ (n ≡ node.now))) }
-        ensures err { OnErr result (IsHot self.old view.now → (n : Node) → IsMarked self.new n ↔ IsMarked self.old n) }
+        ensures ok { OnOk result (IsHot self.old view.now → HasMarked self.old self.new node.now) }
+        ensures err { OnErr result (IsHot self.old view.now → HasSameMarks self.old self.new) }
         ensures cause { IfErr result (MarkCause self.old node.now) }
     {
         let id = numbered(&mut self.numbers, node)?;
@@ -93,7 +97,7 @@ impl Hot {
         ensures asked { IfOk result (λ asked. (S : Snap) → IsHot self.old S → view.now ≡ after_commit S (Tuples events.now)
             → WasAskedFew self.old self.new S events.now asked.items) }
         ensures err { OnErr result ((S : Snap) → IsHot self.old S → IsHot self.new S) }
-        ensures marked { (S : Snap) → IsHot self.old S → (n : Node) → IsMarked self.new n ↔ IsMarked self.old n }
+        ensures marked { (S : Snap) → IsHot self.old S → HasSameMarks self.old self.new }
     {
         let changed = changed_by(alloc, &self.numbers.nodes, events)?;
         each_view_is_valid(view);
@@ -106,7 +110,7 @@ impl Hot {
     pub fn restart(&mut self, alloc: Global, view: &View) -> Result<(), AllocError>
         ensures hot { OnOk result ((S : Snap) → IsHot self.old S → IsHot self.new view.now) }
         ensures err { OnErr result ((S : Snap) → IsHot self.old S → IsHot self.new S) }
-        ensures marked { (S : Snap) → IsHot self.old S → (n : Node) → IsMarked self.new n ↔ IsMarked self.old n }
+        ensures marked { (S : Snap) → IsHot self.old S → HasSameMarks self.old self.new }
     {
         each_view_is_valid(view);
         let mut sets = Sets::new(alloc);
@@ -119,8 +123,8 @@ impl Hot {
     /// Takes a mark off a node, and drops what no marked node depends on any more. For want of memory nothing changes.
     pub fn unmark(&mut self, alloc: Global, node: &Node) -> Result<(), AllocError>
         ensures hot { (S : Snap) → IsHot self.old S → IsHot self.new S }
-        ensures ok { OnOk result ((n : Node) → IsMarked self.new n ↔ (IsMarked self.old n × (n ≡ node.now → ⊥))) }
-        ensures err { OnErr result ((n : Node) → IsMarked self.new n ↔ IsMarked self.old n) }
+        ensures ok { OnOk result (HasUnmarked self.old self.new node.now) }
+        ensures err { OnErr result (HasSameMarks self.old self.new) }
     {
         let _ = self.numbers.nodes.len();
         let Some(id) = self.numbers.nodes.id_of(node) else {
