@@ -26,16 +26,17 @@ ghost use Rattle.leopard.specs.Answers.{AreFirst};
 ghost use Rattle.leopard.specs.Causes.{IsAnswerable, AskCause};
 ghost use Rattle.leopard.specs.Exprs.{query_of};
 ghost use Rattle.leopard.specs.Groups.{Means};
+ghost use Rattle.leopard.specs.Index.{IsIndexOf};
 ghost use Rattle.leopard.specs.Query.{is_allowed};
 ghost use Rattle.shown.specs.Grouping.{AreGroups, IsGroupsRefusal};
 
 use crate::answer::{Answer, Refused};
-use crate::marks::{is_marked, remark};
+use crate::marks::{count_with, remark};
 use crate::step::Step;
 use config::Config;
 use decide::Nothing;
 use expand::Tree;
-use leopard::Expr;
+use leopard::{Built, Expr};
 use names::limits::MAX_MARKS;
 use names::{Items, Marking, Node, Object, Op, Part, Refusal, State, Tuple, Write};
 use rows::{Loaded, Rows, Tupleset, what_follows_has_room};
@@ -54,11 +55,14 @@ pub struct Shown {
     index: u64,
     hot: u64,
     marks: Vec<Node>,
+    keeps_index: bool,
+    built: Option<Built>,
 }
 
 impl Model for Shown {
-    ghost use Rattle.shown.specs.Standing.{Standing, IsSteady};
+    ghost use Rattle.shown.specs.Standing.{Standing};
     ghost use Rattle.shown.specs.inside.Codes.{coded_standing};
+    ghost use Rattle.shown.specs.inside.Basing.{IsSound};
 
     ghost Value = { Standing };
 
@@ -67,12 +71,25 @@ impl Model for Shown {
     ghost view = { λ s. record { kept = s.rows; base = s.base; index = s.index; hot = s.hot; marks = s.marks.items } };
 
     ghost invariant = { λ s.
-        IsSteady (record { kept = s.rows; base = s.base; index = s.index; hot = s.hot; marks = s.marks.items }) };
+        IsSound (record { kept = s.rows; base = s.base; index = s.index; hot = s.hot; marks = s.marks.items }) s.built };
 }
 
 impl Shown {
-    /// The state before the first step.
+    /// The state before the first step. Once a base is asked for, its index is kept.
     pub fn new(alloc: Global) -> Shown
+        ensures { result ≡ nothing }
+    {
+        Shown::before_all(alloc, true)
+    }
+
+    /// The state before the first step, for one who judges changes alone: no index is kept.
+    pub fn without_index(alloc: Global) -> Shown
+        ensures { result ≡ nothing }
+    {
+        Shown::before_all(alloc, false)
+    }
+
+    fn before_all(alloc: Global, keeps_index: bool) -> Shown
         ensures { result ≡ nothing }
     {
         Shown {
@@ -82,6 +99,8 @@ impl Shown {
             index: 0,
             hot: 0,
             marks: Vec::new(alloc),
+            keeps_index,
+            built: None,
         }
     }
 
@@ -103,10 +122,7 @@ impl Shown {
                 Ok(())
             }
             Step::Marking(marking) => remark(&mut self.marks, marking),
-            Step::Rebase(rev) => {
-                self.rebase(*rev);
-                Ok(())
-            }
+            Step::Rebase(rev) => self.build(*rev),
         }
     }
 
@@ -172,7 +188,7 @@ impl Shown {
         if !has_relation(self.rows.at(self.rows.newest()).config(), node) {
             return Err(Refusal::UnknownRelation);
         }
-        if self.marks.len() >= MAX_MARKS && !is_marked(&self.marks, node) {
+        if count_with(&self.marks, node) > MAX_MARKS {
             return Err(Refusal::Full);
         }
         Ok(())
@@ -191,6 +207,33 @@ impl Shown {
             return Err(Refusal::WrongBuild);
         }
         Ok(())
+    }
+
+    /// Makes the index anew, of a revision.
+    fn build(&mut self, rev: u64) -> Result<(), AllocError>
+        requires { base_cause self.old rev ≡ None }
+        ensures ok { OnOk result (self.new ≡ after_step self.old (Step.Rebase rev)) }
+        ensures err { OnErr result (self.new ≡ self.old) }
+    {
+        if !self.keeps_index {
+            self.rebase(rev);
+            return Ok(());
+        }
+        let Ok(built) = self.index_of(rev) else {
+            return Err(AllocError);
+        };
+        self.rebase(rev);
+        self.built = Some(built);
+        Ok(())
+    }
+
+    fn index_of(&self, rev: u64) -> Result<Built, Refusal>
+        requires { IsRetained self.now.kept rev }
+        ensures index { IfOk result (λ built. IsIndexOf (snap_at self.now.kept rev) built) }
+        ensures rev { IfOk result (λ built. built.rev ≡ rev) }
+    {
+        let view = self.rows.at(rev);
+        Built::of(self.alloc, &view, rev)
     }
 
     fn rebase(&mut self, rev: u64)
@@ -428,6 +471,11 @@ impl Shown {
         ensures err { IfErr result
             (AskCause (snap_at self.now.kept rev).config (query_of expr.now) limit) }
     {
+        if let Some(built) = &self.built {
+            if rev == built.rev() {
+                return built.groups(self.alloc, expr, limit);
+            }
+        }
         let view = self.rows.at(rev);
         leopard::groups_at(self.alloc, &view, expr, limit)
     }
@@ -464,10 +512,12 @@ impl Shown {
     {
         let rows = Rows::new(self.alloc, loaded)?;
         let newest = rows.newest();
+        self.built = None;
         self.rows = rows;
         self.base = newest;
         self.index = newest;
         self.hot = newest;
+        self.marks.clear();
         Ok(())
     }
 
@@ -512,5 +562,8 @@ impl Shown {
 fn has_relation(config: &Config, node: &Node) -> bool
     ensures { result ≡ has_relation config.now (rel_of node.now) }
 {
-    config.place_of(node).is_some()
+    match config.place_of(node) {
+        Some(_place) => true,
+        None => false,
+    }
 }
