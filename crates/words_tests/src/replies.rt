@@ -55,8 +55,9 @@ fn has_each_number(alloc: Global) -> bool {
         rows: 7,
         tuples: 6,
     };
-    let told =
-        r#"{"base":"AQAAAAAAAAABAAAAAAAAAAI","floor":"AQAAAAAAAAABAAAAAAAAAAE","hot":"AQAAAAAAAAABAAAAAAAAAAM","index":"AQAAAAAAAAABAAAAAAAAAAQ","marked":256,"newest":"AQAAAAAAAAABAAAAAAAAAAU","rows":7,"tuples":6}"#;
+    let told = "{\"base\":\"AQAAAAAAAAABAAAAAAAAAAI\",\"floor\":\"AQAAAAAAAAABAAAAAAAAAAE\",\
+        \"hot\":\"AQAAAAAAAAABAAAAAAAAAAM\",\"index\":\"AQAAAAAAAAABAAAAAAAAAAQ\",\"marked\":256,\
+        \"newest\":\"AQAAAAAAAAABAAAAAAAAAAU\",\"rows\":7,\"tuples\":6}";
     says(&state(alloc, 1, &numbers), 200, told)
 }
 
