@@ -10,18 +10,18 @@ returns-in_err-make_ready-clause-err g c =
 pub returns-in_err-judge_base-clause-err : goal.returns-in_err-judge_base-clause-err
 returns-in_err-judge_base-clause-err g c =
     let ready = c.in_ok-make_ready.ensures in
-    base_refused g.T.Tables c.args.self.now c.make_ready.new.self ready.more ready.same ready.ok c.from_residual-in_err-judge_base.result c.last_posted.result c.in_err-judge_base.field-0.0
-    c.from_residual-in_err-judge_base.ensures.1 c.last_posted.ensures c.in_err-judge_base.ensures.err
+    base_refused g.T.Tables c.args.self.now c.make_ready.new.self ready.more ready.same ready.ok c.from_residual-in_err-judge_base.result c.last_posted-rev.result c.in_err-judge_base.field-0.0
+    c.from_residual-in_err-judge_base.ensures.1 c.last_posted-rev.ensures c.in_err-judge_base.ensures.err
 
 pub returns-clause-ok : goal.returns-clause-ok
 returns-clause-ok g c =
     let ready = c.in_ok-make_ready.ensures in
     let done = c.rebase.ensures in
-    rebuild_accepted g.T.Tables c.args.self.now c.make_ready.new.self ready.more ready.same ready.ok c.rebase.new.self c.last_posted.result c.last_posted.ensures c.in_ok-judge_base.ensures.ok
+    rebuild_accepted g.T.Tables c.args.self.now c.make_ready.new.self ready.more ready.same ready.ok c.rebase.new.self c.last_posted-rev.result c.last_posted-rev.ensures c.in_ok-judge_base.ensures.ok
     (λ (p : Posted). p.value) (λ (p : Posted). p.receipt) c.rebase.result done.posted done.same.0 done.same.1 done.told done.tells
 
 pub returns-clause-err : goal.returns-clause-err
 returns-clause-err g c =
     let ready = c.in_ok-make_ready.ensures in
-    let still = base_still g.T.Tables c.args.self.now c.make_ready.new.self ready.more ready.same ready.ok c.rebase.new.self c.last_posted.result c.last_posted.ensures c.in_ok-judge_base.ensures.ok in
+    let still = base_still g.T.Tables c.args.self.now c.make_ready.new.self ready.more ready.same ready.ok c.rebase.new.self c.last_posted-rev.result c.last_posted-rev.ensures c.in_ok-judge_base.ensures.ok in
     not_posted g.T.Tables c.args.self.now c.make_ready.new.self ready.more ready.same ready.ok c.rebase.new.self _ c.rebase.result (unlike still) c.rebase.ensures.err
