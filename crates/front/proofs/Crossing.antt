@@ -16,6 +16,10 @@ use Rattle.config_text.specs.contracts.rewrite.Rewrite as Rewrite
 use Rattle.config_text.specs.contracts.relation.Relation as Relation
 use Rattle.names.proofs.tuple.Tuple.TheSendSync as Tuple
 use Rattle.config.specs.contracts.config.Config as Config
+use Rattle.idsets.proofs.ids.Ids.TheSendSync as Ids
+use Rattle.idsets.proofs.set.IdSet.TheSendSync as IdSet
+use Rattle.names.proofs.object.Object.TheSendSync as Object
+use Rattle.leopard.specs.contracts.built.Built as Built
 use Rattle.tuple_keys.specs.contracts.kept_commit.KeptCommit as KeptCommit
 use Rattle.rows.specs.contracts.loaded.Loaded as Loaded
 use Rattle.shown.specs.contracts.shown.Shown as Shown
@@ -62,11 +66,17 @@ KeptCommit-send = search (Config-send, Config-sync, crosses, sendable) depth 40
 pub KeptCommit-sync : IsSync KeptCommit.the_row
 KeptCommit-sync = search (Config-send, Config-sync, crosses, sendable) depth 40
 
+pub Built-send : IsSend Built.the_row
+Built-send = search (Config-send, Node.the_send, Object.the_send, Ids.the_send, IdSet.the_send, crosses, sendable) depth 40
+
+pub Built-sync : IsSync Built.the_row
+Built-sync = search (Config-sync, Node.the_sync, Object.the_sync, Ids.the_sync, IdSet.the_sync, crosses, sendable) depth 40
+
 pub Shown-send : IsSend Shown.the_row
-Shown-send = search (Config-send, KeptCommit-send, VersionMap.the_send, Node.the_send, crosses, sendable) depth 40
+Shown-send = search (Config-send, KeptCommit-send, Built-send, VersionMap.the_send, Node.the_send, crosses, sendable) depth 40
 
 pub Shown-sync : IsSync Shown.the_row
-Shown-sync = search (Config-sync, KeptCommit-sync, VersionMap.the_sync, Node.the_sync, crosses, sendable) depth 40
+Shown-sync = search (Config-sync, KeptCommit-sync, Built-sync, VersionMap.the_sync, Node.the_sync, crosses, sendable) depth 40
 
 pub Loaded-send : IsSend Loaded.the_row
 Loaded-send = search (Config-send, KeptCommit-send, Tuple.the_send, crosses, sendable) depth 40
