@@ -8,6 +8,7 @@ use denote.Enum.Declared as E
 use Rattle.std.proofs.Crossing.{crosses, Vec-send, Vec-sync}
 use Rattle.config_text.proofs.rewrite.Rewrite.TheLaws.TheKnot.{crosses as rewrites_cross}
 use Rattle.names.proofs.name.Name.TheSendSync as Name
+use Rattle.names.proofs.node.Node.TheSendSync as Node
 use Rattle.names.proofs.relation.RelationName.TheSendSync as RelationName
 use Rattle.names.proofs.relation.SubjectType.TheSendSync as SubjectType
 use Rattle.versions.proofs.version_map.VersionMap.TheSendSync as VersionMap
@@ -29,6 +30,7 @@ use Rattle.published.specs.contracts.post.Post as Post
 use Rattle.published.specs.contracts.publisher.Publisher as Publisher
 use Rattle.published.specs.contracts.publication.Publication as Publication
 use Rattle.left_right.proofs.writer.Writer.TheSendSync as Writer
+use Rattle.names.proofs.marking.Marking.TheSendSync as Marking
 use Rattle.names.proofs.write.Op.TheSendSync as Op
 use Rattle.names.proofs.items.Items.TheSendSync as Items
 
@@ -61,10 +63,10 @@ pub KeptCommit-sync : IsSync KeptCommit.the_row
 KeptCommit-sync = search (Config-send, Config-sync, crosses, sendable) depth 40
 
 pub Shown-send : IsSend Shown.the_row
-Shown-send = search (Config-send, KeptCommit-send, VersionMap.the_send, crosses, sendable) depth 40
+Shown-send = search (Config-send, KeptCommit-send, VersionMap.the_send, Node.the_send, crosses, sendable) depth 40
 
 pub Shown-sync : IsSync Shown.the_row
-Shown-sync = search (Config-sync, KeptCommit-sync, VersionMap.the_sync, crosses, sendable) depth 40
+Shown-sync = search (Config-sync, KeptCommit-sync, VersionMap.the_sync, Node.the_sync, crosses, sendable) depth 40
 
 pub Loaded-send : IsSend Loaded.the_row
 Loaded-send = search (Config-send, KeptCommit-send, Tuple.the_send, crosses, sendable) depth 40
@@ -79,10 +81,10 @@ Loaded-field-sync : IsSync (Struct (S.shape Loaded.the_type))
 Loaded-field-sync = search (Config-sync, KeptCommit-sync, Tuple.the_sync, crosses, sendable) depth 40
 
 Step-field-send : IsSend (Enum (E.shape Step.the_type))
-Step-field-send = enum_send (E.shape Step.the_type) ((Loaded-field-send, tt), ((KeptCommit-send, tt), ((search sendable, (search sendable, tt)), ((search sendable, tt), tt))))
+Step-field-send = enum_send (E.shape Step.the_type) ((Loaded-field-send, tt), ((KeptCommit-send, tt), ((search sendable, (search sendable, tt)), ((search sendable, tt), ((Marking.the_field_send, tt), ((search sendable, tt), tt))))))
 
 Step-field-sync : IsSync (Enum (E.shape Step.the_type))
-Step-field-sync = enum_sync (E.shape Step.the_type) ((Loaded-field-sync, tt), ((KeptCommit-sync, tt), ((search sendable, (search sendable, tt)), ((search sendable, tt), tt))))
+Step-field-sync = enum_sync (E.shape Step.the_type) ((Loaded-field-sync, tt), ((KeptCommit-sync, tt), ((search sendable, (search sendable, tt)), ((search sendable, tt), ((Marking.the_field_sync, tt), ((search sendable, tt), tt))))))
 
 pub Step-send : IsSend Step.the_row
 Step-send = let T = Step.the_type in recorded_send _ _ T.to T.to_one Step-field-send
