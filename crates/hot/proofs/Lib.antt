@@ -7,5 +7,6 @@ mod Walks
 mod Marks
 mod Asked
 mod Counting
+mod Renewed
 mod Answering
 mod Lists

@@ -198,3 +198,9 @@ marked_again nodes nodes' marks id m g at there_id there n = (
       (λ is. (id, there_id, at ∙ ap (λ x. Some x) (sym is)))
       q,
 )
+
+-- a node whose number is no mark is not marked
+pub not_marked : (nodes nodes' : List Node) (marks : List ℕ) (id : ℕ) (m : Node) → Grew nodes nodes' → AreDistinct nodes' → slice_get nodes' id ≡ Some m → has marks id ≡ false
+    → ((i : ℕ) × (has marks i ≡ true) × (slice_get nodes i ≡ Some m)) → ⊥
+not_marked nodes nodes' marks id m g distinct at off q =
+    false≢true (sym off ∙ subst (λ j. has marks j ≡ true) (distinct q.0 id m (grew_get nodes nodes' q.0 m g q.2) at) q.1)

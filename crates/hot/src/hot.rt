@@ -1,5 +1,6 @@
 //! The marked nodes.
 ghost use Rattle.std.specs.Prelude.{◌≤◌, length};
+ghost use Rattle.std.specs.List.Sorted.{IsStrictlyIncreasing};
 ghost use Rattle.names.specs.declared.limits.TheConstants.{MAX_MARKS};
 ghost use Rattle.region.specs.Sets.{IsWhole};
 
@@ -22,6 +23,7 @@ pub struct Hot {
     pub(crate) sets: Sets,
     ghost whole: { IsWhole sets },
     ghost few: { length marks ≤ MAX_MARKS },
+    ghost rising: { IsStrictlyIncreasing marks },
 }
 
 impl Hot {

@@ -71,7 +71,8 @@ fn push_named(users: &Ids<Object>, found: &mut Vec<Object>, id: u64) -> Result<(
 {
     match users.name(id) {
         Some(user) => {
-            found.push(user.clone()?)?;
+            let copy = user.clone()?;
+            found.push(copy)?;
             Ok(())
         }
         None => Ok(()),
