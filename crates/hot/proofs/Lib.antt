@@ -8,5 +8,6 @@ mod Marks
 mod Asked
 mod Counting
 mod Renewed
+mod Outcomes
 mod Answering
 mod Lists
