@@ -27,7 +27,7 @@ pub struct Hot {
 }
 
 impl Hot {
-    ghost use Rattle.std.specs.Prelude.{◌≡◌, OnOk, OnErr, IfErr, IfOk, IfSome, IfNone};
+    ghost use Rattle.std.specs.Prelude.{◌≡◌, ◌<◌, true, false, OnOk, OnErr, IfErr, IfOk, IfSome, IfNone};
     ghost use Rattle.names.specs.declared.commit.Commit.TheVariants.{Tuples};
     ghost use Rattle.names.specs.declared.node.Node.{Node};
     ghost use Rattle.meaning.specs.History.{after_commit};
@@ -55,6 +55,14 @@ impl Hot {
         self.marks.len()
     }
 
+    // Whether there is no room for one more mark.
+    fn is_full(&self) -> bool
+        ensures full { result ≡ true → MAX_MARKS ≤ marks_of self.now }
+        ensures room { result ≡ false → marks_of self.now < MAX_MARKS }
+    {
+        self.marks.len() >= MAX_MARKS
+    }
+
     /// The node with a number.
     pub fn node(&self, number: u64) -> Option<&Node>
         ensures found { IfSome result (λ node. HasNumber self.now node.now number) }
@@ -75,7 +83,7 @@ impl Hot {
         if self.marks.contains(id) {
             return Ok(());
         }
-        if self.marks.len() >= MAX_MARKS {
+        if self.is_full() {
             return Err(Refusal::Full);
         }
         let mut marks = self.marks.again()?;
