@@ -204,3 +204,10 @@ pub not_marked : (nodes nodes' : List Node) (marks : List ℕ) (id : ℕ) (m : N
     → ((i : ℕ) × (has marks i ≡ true) × (slice_get nodes i ≡ Some m)) → ⊥
 not_marked nodes nodes' marks id m g distinct at off q =
     false≢true (sym off ∙ subst (λ j. has marks j ≡ true) (distinct q.0 id m (grew_get nodes nodes' q.0 m g q.2) at) q.1)
+
+-- what was changed was a copy
+pub put_in : (old copy now : List ℕ) (id : ℕ) → copy ≡ old → ((o : ℕ) → has now o ≡ (nat_eq o id || has copy o)) → (o : ℕ) → has now o ≡ (nat_eq o id || has old o)
+put_in old copy now id same e o = e o ∙ ap (λ xs. nat_eq o id || has xs o) same
+
+pub taken_out : (old copy now : List ℕ) (id : ℕ) → copy ≡ old → ((o : ℕ) → has now o ≡ (has copy o && not (nat_eq o id))) → (o : ℕ) → has now o ≡ (has old o && not (nat_eq o id))
+taken_out old copy now id same e o = e o ∙ ap (λ xs. has xs o && not (nat_eq o id)) same

@@ -3,7 +3,7 @@ ghost use Rattle.std.specs.Prelude.{ℕ, ◌↔◌, ◌++◌, ◌∷◌, [], Lis
 ghost use Rattle.hot.specs.inside.Named.{AreNamed};
 
 use crate::hot::Hot;
-use idsets::{IdSet, Ids};
+use idsets::Ids;
 use names::{Node, Object};
 use std::alloc::{AllocError, Global};
 
@@ -36,7 +36,7 @@ impl Hot {
         let Some(ids) = self.sets.members(id) else {
             return Ok(None);
         };
-        let users = named(alloc, &self.numbers.users, ids)?;
+        let users = named(alloc, &self.numbers.users, ids.as_slice())?;
         Ok(Some(users))
     }
 
@@ -55,11 +55,11 @@ impl Hot {
 }
 
 /// The users with some numbers.
-fn named(alloc: Global, users: &Ids<Object>, ids: &IdSet) -> Result<Vec<Object>, AllocError>
+fn named(alloc: Global, users: &Ids<Object>, ids: &[u64]) -> Result<Vec<Object>, AllocError>
     ensures { IfOk result (λ v. AreNamed users.now ids.now v.items) }
 {
     let mut found = Vec::new(alloc);
-    for id in ids.as_slice() {
+    for id in ids {
         push_named(users, &mut found, *id)?;
     }
     Ok(found)

@@ -14,4 +14,4 @@ returns-clause-refreshed c =
     refreshed (MayTell now.snap now.nodes now.users) c.args.sets.now.rows c.fill.new.sets.rows c.args.roots.now c.args.turned.now c.args.changed.now
     c.args.facts.now.asked now.asked c.in_ok-asked.asked.items c.in_ok-region.region.told.items c.in_ok-region.region.dropped.items
     c.in_ok-region.ensures.told c.in_ok-region.ensures.agree c.in_ok-region.ensures.gathered c.in_ok-region.ensures.asked
-    (c.in_ok-asked.ensures.items ∙ c.asked.ensures) c.in_ok-fill.ensures.nodes c.in_ok-fill.ensures.held
+    (c.in_ok-asked.ensures.items_if_clones_equal (λ x y e. e) ∙ c.asked.ensures) c.in_ok-fill.ensures.nodes c.in_ok-fill.ensures.held

@@ -1,4 +1,5 @@
-use Rattle.std.proofs.Common.{◌≡◌, true, refl, sym, ap, ◌∙◌}
+use Rattle.std.proofs.Common.{◌≡◌, Bool, true, refl, sym, ap, ◌∙◌}
+use Rattle.std.specs.Prelude.{Option, is_some}
 use Rattle.std.proofs.lemmas.Bool.{false≢true}
 use Rattle.least_sets.specs.World.{has}
 use Rattle.region.specs.Tables.{row_of, holds}
@@ -6,13 +7,16 @@ use Rattle.hot.proofs.Answering.{kept_exactly, none_under, member_at, stranger_a
 use Rattle.hot.proofs.hot.Hot.has.Goals as goal
 
 pub returns-in_err-id-clause-exactly : goal.returns-in_err-id-clause-exactly
-returns-in_err-id-clause-exactly c = λ S is. (λ t. absurd (false≢true t), λ u. absurd (none_under c.args.self.now S is c.args.node.now c.in_err-id.ensures.missing u))
+returns-in_err-id-clause-exactly c = λ S is. (
+  λ t. absurd (false≢true (sym (ap (λ (o : Option Bool). is_some o) c.from_residual.ensures) ∙ t)),
+  λ u. absurd (none_under c.args.self.now S is c.args.node.now c.in_err-id.ensures.missing u),
+)
 
 pub returns-in_err-ids-clause-exactly : goal.returns-in_err-ids-clause-exactly
 returns-in_err-ids-clause-exactly c = λ S is.
     let hot = c.args.self.now in
     let gone = row_gone (row_of hot.sets.rows c.in_ok-id.id) c.in_err-ids.ensures in (
-      λ t. absurd (false≢true t),
+      λ t. absurd (false≢true (sym (ap (λ (o : Option Bool). is_some o) c.from_residual-in_err-ids.ensures) ∙ t)),
       λ u. absurd (false≢true (sym gone ∙ (kept_exactly hot S is c.in_ok-id.id c.args.node.now c.in_ok-id.ensures.found).1 u)),
     )
 

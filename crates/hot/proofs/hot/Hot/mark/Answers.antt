@@ -1,9 +1,9 @@
-use Rattle.std.proofs.Common.{ℕ, ◌≡◌, ◌+◌, ◌||◌, true, false, nat_eq, length, refl, sym, ◌∙◌, ap, subst, arith}
-use Rattle.facts.specs.Telling.{IsLater}
+use Rattle.std.proofs.Common.{◌≡◌, true, false, refl, sym, ◌∙◌, arith}
 use Rattle.facts.specs.inside.Growing.{later_further}
 use Rattle.facts.specs.inside.Tables.{grew_get}
 use Rattle.least_sets.specs.World.{has}
-use Rattle.hot.proofs.Marks.{kept_same, kept_marked, turned_one, marked_same, marked_more, marked_again, marks_there, not_marked}
+use Rattle.region.proofs.Listing.{on_err_all}
+use Rattle.hot.proofs.Marks.{kept_same, kept_marked, turned_one, marked_same, marked_more, marked_again, marks_there, not_marked, put_in}
 use Rattle.hot.proofs.Counting.{count_more}
 use Rattle.hot.proofs.hot.Hot.mark.Goals as goal
 
@@ -18,13 +18,13 @@ returns-in_err-id-clause-hot c = λ is.
     }
 
 pub returns-in_err-id-clause-err : goal.returns-in_err-id-clause-err
-returns-in_err-id-clause-err c = λ is.
+returns-in_err-id-clause-err c = on_err_all c.from_residual.result (λ is.
     let hot = c.args.self.now in
     record {
       nodes = λ n. marked_same hot.numbers.nodes c.numbered.new.numbers.nodes hot.marks c.numbered.ensures.later.nodes_grew
           (marks_there c.args.view.now hot.numbers.nodes hot.numbers.users hot.marks hot.sets.rows is.kept) n;
       count = refl;
-    }
+    })
 
 pub returns-then-contains-clause-hot : goal.returns-then-contains-clause-hot
 returns-then-contains-clause-hot c = λ is.
@@ -86,13 +86,13 @@ returns-in_err-marks-clause-hot c = λ is.
     }
 
 pub returns-in_err-marks-clause-err : goal.returns-in_err-marks-clause-err
-returns-in_err-marks-clause-err c = λ is.
+returns-in_err-marks-clause-err c = on_err_all c.from_residual-in_err-marks.result (λ is.
     let hot = c.args.self.now in
     record {
       nodes = λ n. marked_same hot.numbers.nodes c.numbered.new.numbers.nodes hot.marks c.in_ok-id.ensures.later.nodes_grew
           (marks_there c.args.view.now hot.numbers.nodes hot.numbers.users hot.marks hot.sets.rows is.kept) n;
       count = refl;
-    }
+    })
 
 pub returns-in_err-insert-clause-hot : goal.returns-in_err-insert-clause-hot
 returns-in_err-insert-clause-hot c = λ is.
@@ -105,13 +105,13 @@ returns-in_err-insert-clause-hot c = λ is.
     }
 
 pub returns-in_err-insert-clause-err : goal.returns-in_err-insert-clause-err
-returns-in_err-insert-clause-err c = λ is.
+returns-in_err-insert-clause-err c = on_err_all c.from_residual-in_err-insert.result (λ is.
     let hot = c.args.self.now in
     record {
       nodes = λ n. marked_same hot.numbers.nodes c.numbered.new.numbers.nodes hot.marks c.in_ok-id.ensures.later.nodes_grew
           (marks_there c.args.view.now hot.numbers.nodes hot.numbers.users hot.marks hot.sets.rows is.kept) n;
       count = refl;
-    }
+    })
 
 pub returns-in_err-renew-clause-hot : goal.returns-in_err-renew-clause-hot
 returns-in_err-renew-clause-hot c = λ is.
@@ -126,7 +126,7 @@ returns-in_err-renew-clause-hot c = λ is.
     }
 
 pub returns-in_err-renew-clause-err : goal.returns-in_err-renew-clause-err
-returns-in_err-renew-clause-err c = λ is.
+returns-in_err-renew-clause-err c = on_err_all c.from_residual-in_err-renew.result (λ is.
     let hot = c.args.self.now in
     let now = c.numbered.new.numbers in
     let end = c.renew.new.numbers in
@@ -135,26 +135,13 @@ returns-in_err-renew-clause-err c = λ is.
       nodes = λ n. marked_same hot.numbers.nodes end.nodes hot.marks later.nodes_grew
           (marks_there c.args.view.now hot.numbers.nodes hot.numbers.users hot.marks hot.sets.rows is.kept) n;
       count = refl;
-    }
+    })
 
--- the mark is put in
-put : (c : goal.In_ok-renew) → (o : ℕ) → has c.insert.new.self o ≡ (nat_eq o c.in_ok-id.id || has c.args.self.now.marks o)
-put c o = c.in_ok-insert.ensures.members o ∙ ap (λ xs. nat_eq o c.in_ok-id.id || has xs o) c.in_ok-marks.ensures
-
-off : (c : goal.In_ok-renew) → has c.args.self.now.marks c.in_ok-id.id ≡ false
-off c = sym c.contains.ensures ∙ c.if-contains.false
-
-counted : (c : goal.In_ok-renew) → length c.insert.new.self ≡ length c.args.self.now.marks + 1
-counted c = count_more c.args.self.now.marks c.insert.new.self c.in_ok-id.id c.args.self.now.rising c.insert.ensures.ascending (off c) (put c)
-
-last : (c : goal.In_ok-renew) → IsLater c.args.self.now.numbers.nodes c.renew.new.numbers.nodes c.args.self.now.numbers.users c.renew.new.numbers.users
-last c = later_further c.args.self.now.numbers.nodes c.numbered.new.numbers.nodes c.renew.new.numbers.nodes c.args.self.now.numbers.users c.numbered.new.numbers.users c.renew.new.numbers.users
-    c.in_ok-id.ensures.later c.renew.ensures.later
-
-pub invariant_of-self-2 : goal.invariant_of-self-2
-invariant_of-self-2 c = record {
+pub invariant_of-self-3 : goal.invariant_of-self-3
+invariant_of-self-3 c = record {
   whole = c.renew.ensures.whole;
-  few = let count = counted c in let room = c.is_full.ensures.room c.if-is_full.false in omega (arith, count, room);
+  few = let count = count_more c.args.self.now.marks c.insert.new.self c.in_ok-id.id c.args.self.now.rising c.insert.ensures.ascending (sym c.contains.ensures ∙ c.if-contains.false)
+          (put_in c.args.self.now.marks c.in_ok-marks.marks c.insert.new.self c.in_ok-id.id c.in_ok-marks.ensures c.in_ok-insert.ensures.members) in let room = c.is_full.ensures.room c.if-is_full.false in omega (arith, count, room);
   rising = c.insert.ensures.ascending;
 }
 
@@ -162,10 +149,12 @@ pub returns-clause-hot : goal.returns-clause-hot
 returns-clause-hot c = λ is.
     let hot = c.args.self.now in
     let end = c.renew.new.numbers in
+    let last = later_further c.args.self.now.numbers.nodes c.numbered.new.numbers.nodes c.renew.new.numbers.nodes c.args.self.now.numbers.users c.numbered.new.numbers.users c.renew.new.numbers.users
+        c.in_ok-id.ensures.later c.renew.ensures.later in
     record {
       valid = is.valid;
       kept = kept_marked c.args.view.now hot.numbers.nodes end.nodes hot.numbers.users end.users hot.marks c.insert.new.self _ hot.sets.rows c.renew.new.sets.rows _ _
-          is.valid (last c) (turned_one hot.marks c.insert.new.self c.in_ok-id.id (put c)) is.kept c.in_ok-renew.ensures.refreshed;
+          is.valid last (turned_one hot.marks c.insert.new.self c.in_ok-id.id (put_in c.args.self.now.marks c.in_ok-marks.marks c.insert.new.self c.in_ok-id.id c.in_ok-marks.ensures c.in_ok-insert.ensures.members)) is.kept c.in_ok-renew.ensures.refreshed;
       distinct = c.renew.ensures.later.nodes_distinct c.in_ok-id.ensures.distinct;
     }
 
@@ -173,11 +162,14 @@ pub returns-clause-ok : goal.returns-clause-ok
 returns-clause-ok c = λ is.
     let hot = c.args.self.now in
     let end = c.renew.new.numbers in
+    let last = later_further c.args.self.now.numbers.nodes c.numbered.new.numbers.nodes c.renew.new.numbers.nodes c.args.self.now.numbers.users c.numbered.new.numbers.users c.renew.new.numbers.users
+        c.in_ok-id.ensures.later c.renew.ensures.later in
     let at = grew_get c.numbered.new.numbers.nodes end.nodes c.in_ok-id.id c.args.node.now c.renew.ensures.later.nodes_grew c.in_ok-id.ensures.id in
     record {
-      nodes = λ n. marked_more hot.numbers.nodes end.nodes hot.marks c.insert.new.self c.in_ok-id.id c.args.node.now (last c).nodes_grew at (put c)
+      nodes = λ n. marked_more hot.numbers.nodes end.nodes hot.marks c.insert.new.self c.in_ok-id.id c.args.node.now last.nodes_grew at (put_in c.args.self.now.marks c.in_ok-marks.marks c.insert.new.self c.in_ok-id.id c.in_ok-marks.ensures c.in_ok-insert.ensures.members)
           (marks_there c.args.view.now hot.numbers.nodes hot.numbers.users hot.marks hot.sets.rows is.kept) n;
       again = λ was. absurd (not_marked hot.numbers.nodes c.numbered.new.numbers.nodes hot.marks c.in_ok-id.id c.args.node.now c.in_ok-id.ensures.later.nodes_grew c.in_ok-id.ensures.distinct
-          c.in_ok-id.ensures.id (off c) was);
-      more = λ _. counted c;
+          c.in_ok-id.ensures.id (sym c.contains.ensures ∙ c.if-contains.false) was);
+      more = λ _. count_more c.args.self.now.marks c.insert.new.self c.in_ok-id.id c.args.self.now.rising c.insert.ensures.ascending (sym c.contains.ensures ∙ c.if-contains.false)
+          (put_in c.args.self.now.marks c.in_ok-marks.marks c.insert.new.self c.in_ok-id.id c.in_ok-marks.ensures c.in_ok-insert.ensures.members);
     }

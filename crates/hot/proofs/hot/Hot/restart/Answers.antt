@@ -1,16 +1,17 @@
 use Rattle.std.proofs.Common.{refl}
+use Rattle.region.proofs.Listing.{on_err_all}
 use Rattle.hot.proofs.Marks.{kept_anew, kept_same, marked_same, marks_there}
 use Rattle.hot.proofs.hot.Hot.restart.Goals as goal
 
 pub returns-in_err-renew-clause-err : goal.returns-in_err-renew-clause-err
-returns-in_err-renew-clause-err c = λ S is.
+returns-in_err-renew-clause-err c = on_err_all c.from_residual.result (λ S is.
     let hot = c.args.self.now in
     let now = c.renew.new.numbers in
     record {
       valid = is.valid;
       kept = kept_same S hot.numbers.nodes now.nodes hot.numbers.users now.users hot.marks hot.sets.rows hot.sets.rows (λ n. refl) c.renew.ensures.later is.kept;
       distinct = c.renew.ensures.later.nodes_distinct is.distinct;
-    }
+    })
 
 pub returns-in_err-renew-clause-marked : goal.returns-in_err-renew-clause-marked
 returns-in_err-renew-clause-marked c = λ S is.
@@ -26,7 +27,7 @@ returns-clause-hot c = λ S is.
     let hot = c.args.self.now in
     let now = c.renew.new.numbers in
     let later = c.renew.ensures.later in
-    let r = rw c.as_slice.ensures.ids at c.in_ok-renew.ensures.refreshed in
+    let r = rw c.as_slice-marks.ensures.ids at c.in_ok-renew.ensures.refreshed in
     record {
       valid = c.each_view_is_valid.ensures;
       kept = kept_anew c.args.view.now hot.numbers.nodes now.nodes hot.numbers.users now.users hot.marks c.new-sets.result.rows c.renew.new.sets.rows _ _
