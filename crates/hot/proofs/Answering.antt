@@ -38,7 +38,7 @@ module _ (hot : Hot) (S : Snap) (is : IsHot hot S) where
   kept_exactly id n at = (
     λ h. kept_led S hot.numbers.nodes hot.numbers.users hot.marks hot.sets.rows is.valid is.kept n id at h,
     λ u. (let found = led_kept S hot.numbers.nodes hot.numbers.users hot.marks hot.sets.rows is.valid is.kept u.0 n u.1.0 u.1.1 u.1.2 u.2 in
-      subst (λ i. kept hot.sets.rows i ≡ true) (is.distinct found.0 id n found.1 at) found.2),
+        subst (λ i. kept hot.sets.rows i ≡ true) (is.distinct found.0 id n found.1 at) found.2),
   )
 
   -- one without a number is under none

@@ -29,7 +29,7 @@ swapped false false = refl
 pub count_more : (a b : List ℕ) (id : ℕ) → IsStrictlyIncreasing a → IsStrictlyIncreasing b → has a id ≡ false → ((o : ℕ) → has b o ≡ (nat_eq o id || has a o)) → length b ≡ length a + 1
 count_more a b id up_a up_b off e =
     let same : length (a ++ id ∷ []) ≡ length b = length-from_same_keys nat_eq_equiv (a ++ id ∷ []) b (IsDistinct-push nat_eq_equiv a id (distinct_rising a up_a) off) (distinct_rising b up_b)
-        (λ q. has_push a id q ∙ swapped (has a q) (nat_eq q id) ∙ sym (e q)) in
+    (λ q. has_push a id q ∙ swapped (has a q) (nat_eq q id) ∙ sym (e q)) in
     omega (arith, same, length-append a (id ∷ []))
 
 -- one mark less

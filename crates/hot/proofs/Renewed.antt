@@ -17,7 +17,7 @@ module _ (tells : ℕ → Fact → Type 0) (old new : Rows) (roots turned change
     (once : IsAskedOnce told before after) (same : asked ≡ after)
     (nodes : (n : ℕ) → kept new n ≡ in_region old dropped told n)
     (held : (was world : ℕ → Fact) (first roots turned changed : List ℕ) → IsLevelled world → IsHeld was first old → IsTurned first roots turned
-        → IsGathered world old roots turned changed told dropped → IsSameElsewhere was world old changed → IsHeld world roots new) where
+    → IsGathered world old roots turned changed told dropped → IsSameElsewhere was world old changed → IsHeld world roots new) where
   pub refreshed : IsRefreshed tells old new roots turned changed before asked
   refreshed =
       let got = gathered agree.0 agree.1 in

@@ -33,7 +33,8 @@ impl Hot {
     ghost use Rattle.meaning.specs.History.{after_commit};
     ghost use Rattle.meaning.specs.Snap.{Snap};
     ghost use Rattle.meaning.specs.Reads.{IsValid};
-    ghost use Rattle.hot.specs.Kept.{IsHot, IsMarked, HasMarked, HasUnmarked, HasSameMarks, marks_of, HasNumber, WasAskedFew, MarkCause};
+    ghost use Rattle.hot.specs.Kept.{IsHot, IsMarked, marks_of, HasNumber, MarkCause};
+    ghost use Rattle.hot.specs.Kept.{HasMarked, HasUnmarked, HasSameMarks, WasAskedFew};
 
     /// Nothing is marked, which is so at each revision. It takes no memory.
     pub fn new(alloc: Global) -> Hot
@@ -60,7 +61,7 @@ impl Hot {
         ensures full { result ≡ true → MAX_MARKS ≤ marks_of self.now }
         ensures room { result ≡ false → marks_of self.now < MAX_MARKS }
     {
-        self.marks.len() >= MAX_MARKS
+        MAX_MARKS <= self.marks.len()
     }
 
     /// The node with a number.
@@ -103,7 +104,8 @@ impl Hot {
         events: &[Event],
         view: &View,
     ) -> Result<Vec<u64>, AllocError>
-        ensures hot { OnOk result ((S : Snap) → IsHot self.old S → view.now ≡ after_commit S (Tuples events.now) → IsHot self.new view.now) }
+        ensures hot { OnOk result ((S : Snap) → IsHot self.old S → view.now ≡ after_commit S (Tuples events.now)
+            → IsHot self.new view.now) }
         ensures asked { IfOk result (λ asked. (S : Snap) → IsHot self.old S → view.now ≡ after_commit S (Tuples events.now)
             → WasAskedFew self.old self.new S events.now asked.items) }
         ensures err { OnErr result ((S : Snap) → IsHot self.old S → IsHot self.new S) }

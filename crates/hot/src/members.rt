@@ -26,7 +26,8 @@ impl Hot {
 
     /// The members of a node that is kept. No order is promised.
     pub fn members(&self, alloc: Global, node: &Node) -> Result<Option<Vec<Object>>, AllocError>
-        ensures exactly { IfOk result (λ found. (S : Snap) → IsHot self.now S → IsTrue (is_some found) ↔ IsUnderMark self.now S node.now) }
+        ensures exactly { IfOk result (λ found. (S : Snap) → IsHot self.now S
+            → IsTrue (is_some found) ↔ IsUnderMark self.now S node.now) }
         ensures members { IfOk result (λ found. IfSome found (λ users. (S : Snap) → IsHot self.now S
             → (u : Object) → Contains users.items u ↔ IsMember S u node.now)) }
     {
@@ -67,7 +68,8 @@ fn named(alloc: Global, users: &Ids<Object>, ids: &[u64]) -> Result<Vec<Object>,
 
 /// Adds the user with a number, where there is one.
 fn push_named(users: &Ids<Object>, found: &mut Vec<Object>, id: u64) -> Result<(), AllocError>
-    ensures { OnOk result ((ids : List ℕ) → AreNamed users.now ids found.old.items → AreNamed users.now (ids ++ id ∷ []) found.new.items) }
+    ensures { OnOk result ((ids : List ℕ) → AreNamed users.now ids found.old.items
+        → AreNamed users.now (ids ++ id ∷ []) found.new.items) }
 {
     match users.name(id) {
         Some(user) => {

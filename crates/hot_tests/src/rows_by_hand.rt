@@ -8,11 +8,14 @@ use rows::Rows;
 use std::alloc::Global;
 use std::test::Fail;
 
-const NODES: &str = "doc:1#viewer doc:1#banned doc:1#owner folder:f#viewer group:a#member group:b#member \
+const NODES: &str =
+    "doc:1#viewer doc:1#banned doc:1#owner folder:f#viewer group:a#member group:b#member \
     group:c#member group:v#member group:z#member";
+
 const USERS: &str = "user:ann user:bob user:zoe";
 
-const DOCUMENT: &str = "doc:1#parent@folder:f folder:f#viewer@group:v#member group:v#member@user:ann \
+const DOCUMENT: &str =
+    "doc:1#parent@folder:f folder:f#viewer@group:v#member group:v#member@user:ann \
     group:a#member@group:b#member group:b#member@group:a#member group:b#member@group:c#member \
     group:c#member@user:ann";
 

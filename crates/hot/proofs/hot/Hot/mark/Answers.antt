@@ -71,9 +71,10 @@ returns-then-is_full-clause-err c = λ is.
 pub returns-then-is_full-clause-cause : goal.returns-then-is_full-clause-cause
 returns-then-is_full-clause-cause c =
     let hot = c.args.self.now in
-    let off : has hot.marks c.in_ok-id.id ≡ false = sym c.contains.ensures ∙ c.if-contains.false in
-    (c.is_full.ensures.full c.if-is_full.true,
-      not_marked hot.numbers.nodes c.numbered.new.numbers.nodes hot.marks c.in_ok-id.id c.args.node.now c.in_ok-id.ensures.later.nodes_grew c.in_ok-id.ensures.distinct c.in_ok-id.ensures.id off)
+    let off : has hot.marks c.in_ok-id.id ≡ false = sym c.contains.ensures ∙ c.if-contains.false in (
+      c.is_full.ensures.full c.if-is_full.true,
+      not_marked hot.numbers.nodes c.numbered.new.numbers.nodes hot.marks c.in_ok-id.id c.args.node.now c.in_ok-id.ensures.later.nodes_grew c.in_ok-id.ensures.distinct c.in_ok-id.ensures.id off,
+    )
 
 pub returns-in_err-marks-clause-hot : goal.returns-in_err-marks-clause-hot
 returns-in_err-marks-clause-hot c = λ is.
@@ -141,7 +142,7 @@ pub invariant_of-self-3 : goal.invariant_of-self-3
 invariant_of-self-3 c = record {
   whole = c.renew.ensures.whole;
   few = let count = count_more c.args.self.now.marks c.insert.new.self c.in_ok-id.id c.args.self.now.rising c.insert.ensures.ascending (sym c.contains.ensures ∙ c.if-contains.false)
-          (put_in c.args.self.now.marks c.in_ok-marks.marks c.insert.new.self c.in_ok-id.id c.in_ok-marks.ensures c.in_ok-insert.ensures.members) in let room = c.is_full.ensures.room c.if-is_full.false in omega (arith, count, room);
+      (put_in c.args.self.now.marks c.in_ok-marks.marks c.insert.new.self c.in_ok-id.id c.in_ok-marks.ensures c.in_ok-insert.ensures.members) in let room = c.is_full.ensures.room c.if-is_full.false in omega (arith, count, room);
   rising = c.insert.ensures.ascending;
 }
 
@@ -150,7 +151,7 @@ returns-clause-hot c = λ is.
     let hot = c.args.self.now in
     let end = c.renew.new.numbers in
     let last = later_further c.args.self.now.numbers.nodes c.numbered.new.numbers.nodes c.renew.new.numbers.nodes c.args.self.now.numbers.users c.numbered.new.numbers.users c.renew.new.numbers.users
-        c.in_ok-id.ensures.later c.renew.ensures.later in
+    c.in_ok-id.ensures.later c.renew.ensures.later in
     record {
       valid = is.valid;
       kept = kept_marked c.args.view.now hot.numbers.nodes end.nodes hot.numbers.users end.users hot.marks c.insert.new.self _ hot.sets.rows c.renew.new.sets.rows _ _
@@ -163,7 +164,7 @@ returns-clause-ok c = λ is.
     let hot = c.args.self.now in
     let end = c.renew.new.numbers in
     let last = later_further c.args.self.now.numbers.nodes c.numbered.new.numbers.nodes c.renew.new.numbers.nodes c.args.self.now.numbers.users c.numbered.new.numbers.users c.renew.new.numbers.users
-        c.in_ok-id.ensures.later c.renew.ensures.later in
+    c.in_ok-id.ensures.later c.renew.ensures.later in
     let at = grew_get c.numbered.new.numbers.nodes end.nodes c.in_ok-id.id c.args.node.now c.renew.ensures.later.nodes_grew c.in_ok-id.ensures.id in
     record {
       nodes = λ n. marked_more hot.numbers.nodes end.nodes hot.marks c.insert.new.self c.in_ok-id.id c.args.node.now last.nodes_grew at (put_in c.args.self.now.marks c.in_ok-marks.marks c.insert.new.self c.in_ok-id.id c.in_ok-marks.ensures c.in_ok-insert.ensures.members)

@@ -33,8 +33,8 @@ returns-clause-asked c = if_ok _ _ c.renew.result
     let later = c.renew.ensures.later in
     let are = subst (λ xs. AreOfEvents hot.numbers.nodes c.args.events.now xs) (sym c.deref.ensures.value) c.in_ok-changed.ensures in
     let kept : AreKept c.args.view.now now.nodes now.users hot.marks c.renew.new.sets.rows =
-        kept_after S c.args.view.now c.args.events.now hot.numbers.nodes now.nodes hot.numbers.users now.users hot.marks _ hot.sets.rows c.renew.new.sets.rows _ _
-        is.valid c.each_view_is_valid.ensures view are later is.kept r in
+    kept_after S c.args.view.now c.args.events.now hot.numbers.nodes now.nodes hot.numbers.users now.users hot.marks _ hot.sets.rows c.renew.new.sets.rows _ _
+    is.valid c.each_view_is_valid.ensures view are later is.kept r in
     let distinct = later.nodes_distinct is.distinct in
     record {
       once = asked_once S c.args.view.now c.args.events.now hot.numbers.nodes now.nodes hot.numbers.users now.users hot.marks _ hot.sets.rows c.renew.new.sets.rows asked.items
