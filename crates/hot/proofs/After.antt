@@ -1,5 +1,5 @@
 -- What is kept after a refresh.
-use Rattle.std.proofs.Common.{ℕ, ◌≡◌, ◌≤◌, ◌<◌, Bool, true, false, cond, ◌||◌, nat_eq, List, [], ◌∷◌, refl, sym, ◌∙◌, ap, subst, arith, ⊎_elim, ◌⊎◌, inl, inr}
+use Rattle.std.proofs.Common.{ℕ, ◌≡◌, ◌≤◌, ◌<◌, true, false, cond, nat_eq, List, [], ◌∷◌, refl, sym, ◌∙◌, ap, subst, ⊎_elim, ◌⊎◌, inl, inr}
 use Rattle.std.proofs.lemmas.Bool.{or_cases, or_left, or_right, cases_Bool, false≢true, eqb-true, eq-eqb}
 use Rattle.names.specs.declared.object.Object.{Object}
 use Rattle.names.specs.declared.node.Node.{Node}
@@ -8,10 +8,9 @@ use Rattle.meaning.specs.Config.{Configured}
 use Rattle.meaning.specs.Reads.{IsValid}
 use Rattle.least_sets.specs.World.{Fact, AnyOf, has, arcs_of, plain_of, taken_of}
 use Rattle.least_sets.specs.Least.{IsLevelled}
-use Rattle.least_sets.specs.Walks.{IsTouched, arc_of}
+use Rattle.least_sets.specs.Walks.{IsTouched}
 use Rattle.least_sets.proofs.Gives.{plain_named, taken_named}
 use Rattle.region.specs.declared.rule.Told.{Told}
-use Rattle.region.specs.Rules.{fact_of}
 use Rattle.region.specs.Steps.{is_told, Tells, AreTold}
 use Rattle.region.specs.Tables.{Rows, kept, arc_in}
 use Rattle.region.specs.Gathered.{IsTurned, IsSameElsewhere}

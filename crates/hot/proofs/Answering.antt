@@ -1,23 +1,19 @@
 -- What is answered of a node.
-use Rattle.std.proofs.Common.{ℕ, ◌≡◌, Bool, true, false, List, [], ◌∷◌, refl, sym, ◌∙◌, ap, subst, ⊎_elim, ◌⊎◌, inl, inr}
-use Rattle.std.specs.Prelude.{◌↔◌, Option, Some, None, Contains, is_some, IsTrue}
+use Rattle.std.proofs.Common.{ℕ, ◌≡◌, true, false, List, refl, sym, ◌∙◌, ap, subst, ⊎_elim}
+use Rattle.std.specs.Prelude.{◌↔◌, Option, Some, None, Contains, is_some}
 use Rattle.std.specs.List.{slice_get}
 use Rattle.std.specs.Option.{option_map}
-use Rattle.std.proofs.lemmas.Bool.{false≢true}
 use Rattle.std.proofs.lemmas.Option.{none-some, same_Some}
 use Rattle.names.specs.declared.object.Object.{Object}
 use Rattle.names.specs.declared.node.Node.{Node}
 use Rattle.meaning.specs.Snap.{Snap}
 use Rattle.meaning.specs.Membership.{IsMember}
-use Rattle.meaning.specs.Reads.{IsValid}
-use Rattle.idsets.specs.Naming.{AreDistinct}
 use Rattle.least_sets.specs.World.{has}
 use Rattle.region.specs.declared.sets.Row.{Row}
-use Rattle.region.specs.Tables.{Rows, row_of, kept, holds, members_or_none}
-use Rattle.facts.specs.Numbers.{user_at, node_at}
-use Rattle.hot.specs.Depending.{Leads}
-use Rattle.facts.specs.inside.Tables.{node_is, user_is, user_got}
-use Rattle.hot.specs.Kept.{AreKept, IsHot, IsUnderMark}
+use Rattle.region.specs.Tables.{row_of, kept, holds, members_or_none}
+use Rattle.facts.specs.Numbers.{user_at}
+use Rattle.facts.specs.inside.Tables.{node_is, user_is}
+use Rattle.hot.specs.Kept.{IsHot, IsUnderMark}
 use Rattle.hot.specs.inside.Named.{AreNamed}
 use Rattle.hot.specs.declared.hot.Hot.{Hot}
 use Rattle.hot.proofs.Memberships.{find_user, member_of, stranger}

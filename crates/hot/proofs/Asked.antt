@@ -13,7 +13,6 @@ use Rattle.region.specs.Steps.{is_told}
 use Rattle.region.specs.Tables.{Rows, kept}
 use Rattle.region.specs.Refreshed.{IsRefreshed}
 use Rattle.region.proofs.Walked.{told_nodes}
-use Rattle.facts.specs.Numbers.{node_at}
 use Rattle.facts.specs.Telling.{MayTell, IsLater}
 use Rattle.facts.specs.inside.Tables.{grew_get, node_is}
 use Rattle.hot.specs.Depending.{IsTouchedBy}

@@ -1,5 +1,5 @@
 -- What may be told of a node may be told of it after a commit that has no event on it, nor on what it names.
-use Rattle.std.proofs.Common.{ℕ, ◌≡◌, ◌<◌, Bool, true, false, not, ◌&&◌, ◌||◌, List, [], ◌∷◌, refl, sym, ◌∙◌, ap, subst, ⊎_elim, ◌⊎◌, inl, inr}
+use Rattle.std.proofs.Common.{ℕ, ◌≡◌, true, false, not, ◌&&◌, ◌||◌, List, [], ◌∷◌, refl, sym, ◌∙◌, ap, subst, ⊎_elim, inl, inr}
 use Rattle.std.specs.Prelude.{◌↔◌, Contains, Some}
 use Rattle.std.specs.List.{slice_get}
 use Rattle.std.specs.Ordering.{eq_by_cmp}
@@ -16,13 +16,11 @@ use Rattle.names.specs.declared.commit.EventKind.{EventKind}
 use Rattle.names.specs.declared.commit.EventKind.TheVariants.{Put, Del}
 use Rattle.meaning.specs.Snap.{Snap, Tuples, one, set_of}
 use Rattle.meaning.specs.TupleSet as set
-use Rattle.meaning.specs.Config.{Configured, Defined, Defines, Has, IsAt, rel_of}
+use Rattle.meaning.specs.Config.{Configured, Defines, Has, IsAt, rel_of}
 use Rattle.meaning.specs.History.{replay, after_event, after_kind}
-use Rattle.meaning.specs.Membership.{HasOne, HasSet}
 use Rattle.meaning.proofs.Lists.{contains_here, contains_there}
 use Rattle.meaning.proofs.TupleSets.{exact_tuples, contains_iff, contains_insert, contains_remove}
 use Rattle.least_sets.specs.World.{Fact, has, arcs_of}
-use Rattle.graphs.specs.Graph.{IsShapeOf}
 use Rattle.facts.specs.Numbers.{user_at, node_at}
 use Rattle.facts.specs.Telling.{MayTell}
 use Rattle.facts.specs.inside.Tables.{node_got}

@@ -1,14 +1,14 @@
 -- The arcs of a shape are the dependences of its node.
-use Rattle.std.proofs.Common.{ℕ, ◌≡◌, ◌<◌, Bool, true, List, [], ◌∷◌, ◌++◌, refl, sym, ◌∙◌, ap, subst, ⊎_elim, ◌⊎◌, inl, inr}
+use Rattle.std.proofs.Common.{ℕ, ◌≡◌, true, List, ◌++◌, sym, subst, ⊎_elim, inl, inr}
 use Rattle.std.proofs.lemmas.Bool.{false≢true}
 use Rattle.names.specs.declared.object.Object.{Object}
 use Rattle.names.specs.declared.node.Node.{Node}
 use Rattle.meaning.specs.Snap.{Snap}
 use Rattle.meaning.specs.Form.{Form, Forms, none, more}
 use Rattle.meaning.specs.Form as form
-use Rattle.meaning.specs.Config.{Defined, Defines, Has, rel_of}
+use Rattle.meaning.specs.Config.{Defined, rel_of}
 use Rattle.meaning.specs.Reads.{IsValid}
-use Rattle.least_sets.specs.World.{Fact, Shape, AnyOf, Either, Both, Except, has, arcs_of}
+use Rattle.least_sets.specs.World.{Fact, Shape, has, arcs_of}
 use Rattle.least_sets.proofs.Gives.{has_cases, has_left, has_right}
 use Rattle.graphs.specs.Graph.{IsNone, IsShapeOf, IsAnyOf, IsEachOf}
 use Rattle.facts.specs.Numbers.{user_at, node_at}

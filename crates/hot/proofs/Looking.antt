@@ -1,5 +1,5 @@
 -- What a shape names is what its rewrite looks up, and its levels go down.
-use Rattle.std.proofs.Common.{ℕ, zero, suc, ◌≡◌, ◌≤◌, ◌<◌, Bool, true, false, List, [], ◌∷◌, ◌++◌, refl, sym, ◌∙◌, ap, subst, arith, ⊎_elim, ◌⊎◌, inl, inr}
+use Rattle.std.proofs.Common.{ℕ, suc, ◌≡◌, ◌≤◌, ◌<◌, Bool, true, false, List, [], ◌++◌, refl, subst, arith, ⊎_elim, ◌⊎◌, inl, inr}
 use Rattle.std.proofs.lemmas.Bool.{false≢true}
 use Rattle.names.specs.declared.object.Object.{Object}
 use Rattle.names.specs.declared.node.Node.{Node}
@@ -7,7 +7,7 @@ use Rattle.meaning.specs.Snap.{Snap}
 use Rattle.meaning.specs.Form.{Form, Forms, none, more}
 use Rattle.meaning.specs.Form as form
 use Rattle.meaning.specs.Levels.{plain, subtracted, stop}
-use Rattle.meaning.specs.Config.{Configured, Defined, Defines, Has, IsAt, Step, rel_of}
+use Rattle.meaning.specs.Config.{Configured, Defined, Defines, Has, IsAt, rel_of}
 use Rattle.meaning.specs.Reads.{IsValid, SomeReads}
 use Rattle.meaning.specs.Reads as reading
 use Rattle.meaning.proofs.ReadsLemmas.{reads_steps}

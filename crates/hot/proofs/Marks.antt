@@ -1,8 +1,8 @@
 -- Marks, and what is kept before and after a change.
-use Rattle.std.proofs.Common.{ℕ, ◌≡◌, ◌≤◌, ◌<◌, Bool, true, false, ◌||◌, ◌&&◌, not, nat_eq, List, [], ◌∷◌, length, refl, sym, ◌∙◌, ap, subst, arith, ⊎_elim, ◌⊎◌, inl, inr}
-use Rattle.std.specs.Prelude.{◌↔◌, Option, Some, None, Contains, is_some}
+use Rattle.std.proofs.Common.{ℕ, ◌≡◌, Bool, true, false, ◌||◌, ◌&&◌, not, nat_eq, List, [], ◌∷◌, refl, sym, ◌∙◌, ap, subst, ⊎_elim, ◌⊎◌, inl, inr}
+use Rattle.std.specs.Prelude.{◌↔◌, Option, Some, None, is_some}
 use Rattle.std.specs.List.{slice_get}
-use Rattle.std.proofs.lemmas.Bool.{or_cases, or_left, or_right, and_parts, and_from, cases_Bool, false≢true, eqb-true, eq-eqb, not_from_false}
+use Rattle.std.proofs.lemmas.Bool.{or_cases, or_left, or_right, and_parts, and_from, cases_Bool, false≢true, eqb-true, eq-eqb}
 use Rattle.std.proofs.Math.Path.{fun_ext}
 use Rattle.std.proofs.lemmas.Option.{same_Some}
 use Rattle.names.specs.declared.object.Object.{Object}
@@ -13,19 +13,19 @@ use Rattle.meaning.specs.Snap.{Snap}
 use Rattle.meaning.specs.History.{after_commit}
 use Rattle.meaning.specs.Reads.{IsValid}
 use Rattle.idsets.specs.Naming.{AreDistinct}
-use Rattle.least_sets.specs.World.{Fact, AnyOf, has, arcs_of}
+use Rattle.least_sets.specs.World.{Fact, AnyOf, has}
 use Rattle.least_sets.specs.Least.{IsLevelled, IsLeastIn}
-use Rattle.least_sets.specs.Walks.{Walk, IsTouched, IsReached, arc_of, here, on}
+use Rattle.least_sets.specs.Walks.{here, on}
 use Rattle.region.specs.declared.sets.Row.{Row}
-use Rattle.region.specs.Tables.{Rows, row_of, kept, arc_in, holds, arcs_or_none, members_or_none}
+use Rattle.region.specs.Tables.{Rows, row_of, kept, holds, arcs_or_none, members_or_none}
 use Rattle.region.specs.Sets.{IsHeld}
 use Rattle.region.specs.Gathered.{IsTurned}
 use Rattle.region.specs.Refreshed.{IsRefreshed}
-use Rattle.facts.specs.Numbers.{Grew, node_at}
+use Rattle.facts.specs.Numbers.{Grew}
 use Rattle.facts.specs.Telling.{MayTell, IsLater}
-use Rattle.facts.specs.inside.Tables.{grew_get, node_got}
+use Rattle.facts.specs.inside.Tables.{grew_get}
 use Rattle.facts.specs.inside.Growing.{may_more}
-use Rattle.hot.proofs.Changing.{IsQuietAt, may_after}
+use Rattle.hot.proofs.Changing.{may_after}
 use Rattle.hot.specs.Kept.{AreKept}
 use Rattle.hot.specs.inside.Events.{AreOfEvents}
 use Rattle.hot.proofs.After.{after}

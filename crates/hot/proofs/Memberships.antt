@@ -1,6 +1,6 @@
 -- Who is kept of a node is who is a member of it.
-use Rattle.std.proofs.Common.{ℕ, zero, suc, ◌≡◌, ◌≤◌, ◌<◌, Bool, true, false, cond, not, ◌&&◌, ◌||◌, nat_eq, List, [], ◌∷◌, length, refl, sym, ◌∙◌, ap, subst, arith, ⊎_elim, ◌⊎◌, inl, inr}
-use Rattle.std.specs.Prelude.{◌↔◌, Some, None}
+use Rattle.std.proofs.Common.{ℕ, zero, suc, ◌≡◌, Bool, true, false, cond, not, nat_eq, List, [], ◌∷◌, length, refl, sym, ◌∙◌, ap, subst, arith, ⊎_elim, ◌⊎◌, inl, inr}
+use Rattle.std.specs.Prelude.{◌↔◌, Some}
 use Rattle.std.specs.List.{slice_get, list_any}
 use Rattle.std.specs.Cmp.{eq_by_cmp_equiv}
 use Rattle.std.specs.Ordering.{eq_by_cmp}
@@ -14,14 +14,13 @@ use Rattle.meaning.specs.Snap.{Snap}
 use Rattle.meaning.specs.Membership.{HasOne, IsMember}
 use Rattle.meaning.specs.Reads.{IsValid}
 use Rattle.meaning.proofs.TupleSets.{objects_total, exact_objects}
-use Rattle.least_sets.specs.World.{Fact, Shape, Own, AnyOf, Reads, Either, Both, Except, has, gives, arcs_of, plain_of}
+use Rattle.least_sets.specs.World.{Shape, Own, AnyOf, Reads, Either, Both, Except, has, gives, arcs_of}
 use Rattle.least_sets.specs.Least.{Derived, outside, follows}
 use Rattle.least_sets.proofs.Gives.{plain_named}
 use Rattle.region.specs.Tables.{Rows, kept, holds}
-use Rattle.graphs.specs.Graph.{IsShapeOf, IsFactOf, IsGraphOf}
+use Rattle.graphs.specs.Graph.{IsGraphOf}
 use Rattle.graphs.proofs.Memberships.{membership}
 use Rattle.facts.specs.Numbers.{user_at, node_at}
-use Rattle.facts.specs.Telling.{MayTell}
 use Rattle.facts.specs.inside.Tables.{past_none}
 use Rattle.facts.specs.inside.Shapes.{shape_same}
 use Rattle.hot.specs.Kept.{AreKept}

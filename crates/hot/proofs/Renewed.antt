@@ -1,5 +1,5 @@
 -- A gathering and a filling are a refresh.
-use Rattle.std.proofs.Common.{ℕ, ◌≡◌, true, List, sym, ◌∙◌, ⊎_elim, inl, inr}
+use Rattle.std.proofs.Common.{ℕ, ◌≡◌, List, sym, ◌∙◌, ⊎_elim, inl, inr}
 use Rattle.std.proofs.lemmas.Bool.{or_right, or_cases}
 use Rattle.least_sets.specs.World.{Fact}
 use Rattle.least_sets.specs.Least.{IsLevelled}

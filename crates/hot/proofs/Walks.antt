@@ -1,19 +1,18 @@
 -- What is kept is what the marked nodes lead to.
-use Rattle.std.proofs.Common.{ℕ, ◌≡◌, ◌≤◌, ◌<◌, Bool, true, false, List, [], ◌∷◌, length, refl, sym, ◌∙◌, ap, subst, ⊎_elim, ◌⊎◌, inl, inr}
-use Rattle.std.specs.Prelude.{◌↔◌, Some, Contains}
+use Rattle.std.proofs.Common.{ℕ, ◌≡◌, ◌<◌, Bool, true, List, length, sym, ◌∙◌, ap, subst}
+use Rattle.std.specs.Prelude.{Some}
 use Rattle.std.specs.List.{slice_get}
-use Rattle.std.proofs.lemmas.Option.{same_Some, slice_get_within}
+use Rattle.std.proofs.lemmas.Option.{slice_get_within}
 use Rattle.names.specs.declared.object.Object.{Object}
 use Rattle.names.specs.declared.node.Node.{Node}
 use Rattle.names.specs.declared.commit.Event.{Event}
 use Rattle.meaning.specs.Snap.{Snap}
 use Rattle.meaning.specs.Reads.{IsValid}
-use Rattle.least_sets.specs.World.{Fact, has, arcs_of}
+use Rattle.least_sets.specs.World.{has}
 use Rattle.least_sets.specs.Walks.{Walk, IsTouched, arc_of}
 use Rattle.least_sets.specs.Walks as walks
 use Rattle.region.specs.Tables.{Rows, kept, arc_in}
 use Rattle.facts.specs.Numbers.{node_at}
-use Rattle.facts.specs.Telling.{MayTell}
 use Rattle.hot.specs.Depending.{DependsOn, Leads, IsTouchedBy, here, on}
 use Rattle.facts.specs.inside.Tables.{node_is, node_got}
 use Rattle.hot.proofs.Depends.{told_depends, depends_told}

@@ -1,5 +1,5 @@
 -- On which nodes a node depends: those that may give it members or take them away, and the node of each tupleset.
-use Rattle.std.specs.Prelude.{ℕ, ◌≡◌, List, ◌⊎◌, Contains}
+use Rattle.std.specs.Prelude.{◌≡◌, List, ◌⊎◌, Contains}
 use Rattle.names.specs.declared.node.Node.{Node}
 use Rattle.names.specs.declared.commit.Event.{Event}
 use Rattle.meaning.specs.Snap.{Snap}

@@ -1,10 +1,6 @@
 use Rattle.std.proofs.Common.{sym, refl, subst}
-use Rattle.std.specs.Prelude.{List, ℕ, []}
-use Rattle.region.specs.Refreshed.{IsRefreshed}
-use Rattle.facts.specs.Telling.{MayTell}
-use Rattle.meaning.specs.Snap.{Snap}
 use Rattle.hot.specs.inside.Events.{AreOfEvents}
-use Rattle.hot.specs.Kept.{IsHot, AreKept}
+use Rattle.hot.specs.Kept.{AreKept}
 use Rattle.hot.proofs.Outcomes.{ok_then, if_ok, err_then}
 use Rattle.hot.proofs.Marks.{kept_after, kept_same, marked_same, marks_there}
 use Rattle.hot.proofs.Asked.{asked_once, asked_few}
