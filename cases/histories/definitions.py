@@ -13,8 +13,8 @@ STATUSES = {400: (1, 2, 3, 4, 9, 11, 12, 16), 409: (5, 6, 7, 10, 13, 17, 18, 19)
 MALFORMED, BAD_ZOOKIE = Refusal(1, "Malformed"), Refusal(11, "BadZookie")
 UNKNOWN, UNTYPED, TWICE = Refusal(2, "UnknownRelation"), Refusal(3, "TypeRefused"), Refusal(4, "TwiceInOneWrite")
 FOREIGN, FUTURE, EXPIRED, TOO_LARGE = Refusal(12, "ForeignZookie"), Refusal(13, "Future"), Refusal(14, "Expired"), Refusal(15, "TooLarge")
-NOT_INDEXED, IN_USE = Refusal(16, "NotIndexed"), Refusal(17, "InUse")
-MOST_TREE_NODES = 4096
+NOT_INDEXED, IN_USE, FULL = Refusal(16, "NotIndexed"), Refusal(17, "InUse"), Refusal(8, "Full")
+MOST_TREE_NODES, MOST_MARKS = 4096, 256
 
 
 class Refused(Exception):
@@ -376,6 +376,7 @@ class History:
     def __init__(self):
         self.commits, self.snapshots = [], [Snapshot(Config({}), ())]
         self.base = self.index = self.hot = self.floor = 0
+        self.marks = frozenset()
 
     @property
     def newest(self):
@@ -392,6 +393,7 @@ class History:
 
     def opened_again(self):
         self.base = self.index = self.hot = self.newest
+        self.marks = frozenset()
 
     def events(self, text):
         """The revisions of the events on a tuple."""
@@ -440,6 +442,28 @@ class History:
             self.base = max([self.base, *taken])
         return {"cursor": zookie_of(cursor), "shown": True}
 
+    def rebuild(self):
+        """Makes the base of the newest revision; the index comes to it too."""
+        self.base = self.index = self.newest
+        return {"base": zookie_of(self.base), "shown": True}
+
+    def mark(self, node):
+        """Marks a node, once, whose relation the newest configuration must have."""
+        self.snapshots[-1].needs(node)
+        marks = self.marks | {node}
+        if len(marks) > MOST_MARKS:
+            raise Refused(FULL)
+        self.marks = marks
+        return self.marked()
+
+    def unmark(self, node):
+        """Takes a node's mark away, where it has one."""
+        self.marks -= {node}
+        return self.marked()
+
+    def marked(self):
+        return {"marked": len(self.marks), "shown": True}
+
     def trim(self, zookie):
         """Raises the floor to the zookie's revision, which no cursor may be below, or leaves it where it is."""
         revision = self.within(zookie, False)
@@ -451,7 +475,7 @@ class History:
     def state(self):
         puts = sum(is_put for it in self.commits[self.floor :] if not isinstance(it, Config) for _, is_put in it)
         revisions = {name: zookie_of(getattr(self, name)) for name in ("base", "floor", "hot", "index", "newest")}
-        return {**revisions, "marked": 0, "rows": len(self.snapshots[self.floor].tuples) + puts, "tuples": len(self.snapshots[-1].tuples)}
+        return {**revisions, "marked": len(self.marks), "rows": len(self.snapshots[self.floor].tuples) + puts, "tuples": len(self.snapshots[-1].tuples)}
 
     # -- changes
 

@@ -4,8 +4,8 @@
 usage: histories.py PROGRAM [--histories N] [--calls N] [--seed N]      2,000 histories of 40 calls each
 
 cases/run runs fewer of them as a case. A history is a configuration and random calls: configurations, writes, checks, trees, groups,
-pages of tuples and of events, catch-ups, at random revisions; every other one is in a file, which is opened again after half of the calls.
-The answers are compared as texts, but for the cycle of a configuration, of which there may be several.
+pages of tuples and of events, catch-ups, floors, marks and rebuilds, at random revisions; every other one is in a file, which is opened again
+after half of the calls. The answers are compared as texts, but for the cycle of a configuration, of which there may be several.
 """
 import argparse
 import json
@@ -298,6 +298,38 @@ class Script:
 
         self.add("catchup", {"commits": commits, "part": part}, answer)
 
+    def marking(self):
+        """A mark, or its removal, often of a node that is marked; or so many marks that not all of them can be."""
+        choose, marks = self.choose, sorted(self.history.marks)
+        if some(choose, 0.03):
+            namespace = choose.choice(list(RELATIONS))
+            for number in range(270):
+                self.mark_or_not("mark", f"{namespace}:n{number}#{choose.choice(RELATIONS[namespace])}")
+        of = choose.choice(marks) if marks and some(choose, 0.4) else node(choose, 0.1)
+        self.mark_or_not(choose.choice(["mark", "mark", "unmark"]), of)
+
+    def mark_or_not(self, kind, of):
+        body = {kind: of}
+        if some(self.choose, 0.03):
+            body[self.choose.choice(["mark", "unmark", "node"])] = self.choose.choice([of, of.partition("#")[0], None])
+
+        def answer():
+            if list(body) != [kind] or body[kind] != of:
+                raise Refused(MALFORMED)
+            return self.history.mark(of) if kind == "mark" else self.history.unmark(of)
+
+        self.add("hot", body, answer)
+
+    def rebuild(self):
+        body = {"commits": 1} if some(self.choose, 0.05) else {}
+
+        def answer():
+            if body:
+                raise Refused(MALFORMED)
+            return self.history.rebuild()
+
+        self.add("rebuild", body, answer)
+
     def trim(self):
         """A floor, often one that both cursors have come to."""
         reached = min(self.history.index, self.history.hot)
@@ -308,7 +340,8 @@ class Script:
         self.add("state", {}, self.history.state)
 
     def go_on(self, calls):
-        kinds = [self.configure] + [self.write] * 8 + [self.check] * 8 + [self.expand] * 4 + [self.read] * 4 + [self.leopard] * 4 + [self.watch] * 3 + [self.catch_up] * 2 + [self.trim, self.state]
+        kinds = [self.configure] + [self.write] * 8 + [self.check] * 8 + [self.expand] * 4 + [self.read] * 4 + [self.leopard] * 4 + [self.watch] * 3 + [self.catch_up] * 2
+        kinds += [self.marking] * 2 + [self.trim, self.rebuild, self.state]
         for _ in range(calls):
             self.choose.choice(kinds)()
 

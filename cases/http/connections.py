@@ -477,6 +477,36 @@ def one_worker_alone_leaves_the_parts_to_its_callers(program, folder):
         same("a trim", (200, f'{{"floor":"{newest}","shown":true}}'), ask(stream, *trim))
 
 
+def marks_of(server, number, told):
+    """Marks forty nodes of its own, and between them one that is marked already, and keeps what it was told of its own."""
+    with server.connect() as stream:
+        for turn in range(40):
+            told.append(ask(stream, "hot", f'{{"mark":"group:g{number}.{turn}#member"}}'))
+            same("a node that is marked already", 200, ask(stream, "hot", '{"mark":"group:a#member"}')[0])
+
+
+def many_connections_mark_no_more_nodes_than_may_be_marked(program, folder):
+    with Server(program, folder, "--workers", "6", "--db", "marked.db", "--store", "1") as server:
+        with server.connect() as stream:
+            same("config", 200, ask(stream, "config", CONFIG)[0])
+            same("a mark", (200, '{"marked":1,"shown":true}'), ask(stream, "hot", '{"mark":"group:a#member"}'))
+        told = [[] for _ in range(8)]
+        threads = [threading.Thread(target=marks_of, args=(server, number, its)) for number, its in enumerate(told)]
+        for it in threads:
+            it.start()
+        for it in threads:
+            it.join(LIMIT)
+        found = sorted(it for its in told for it in its)
+        full = (503, '{"error":{"code":8,"name":"Full"}}')
+        wanted = [(200, f'{{"marked":{count},"shown":true}}') for count in range(2, 257)] + [full] * (8 * 40 - 255)
+        same("what they were told", sorted(wanted), found)
+        with server.connect() as stream:
+            same("one more", full, ask(stream, "hot", '{"mark":"group:b#member"}'))
+            same("the state", 256, state_of(stream)["marked"])
+    state = answered(program, folder, [("state", "")], "--db", "marked.db")[0][1]
+    same("the state, opened again", 0, json.loads(state)["marked"])
+
+
 def writes_until(server, end):
     """The zookies of the writes that were accepted until the server is gone, which is killed at this time."""
     zookies = []
@@ -575,6 +605,7 @@ CASES = [
     a_port_that_is_given_is_listened_on,
     what_is_written_is_read_by_the_parts,
     one_worker_alone_leaves_the_parts_to_its_callers,
+    many_connections_mark_no_more_nodes_than_may_be_marked,
     what_was_accepted_is_there_after_a_kill,
     what_many_were_told_is_there_after_a_kill,
 ]

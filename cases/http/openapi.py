@@ -10,10 +10,8 @@ from collections import namedtuple
 
 sys.dont_write_bytecode = True
 sys.path.insert(0, os.path.dirname(os.path.realpath(__file__)))
-from connections import NO_ROUTE, TOP, Server, ask, same
+from connections import TOP, Server, ask, same
 
-# The calls of a later stage: they have their routes, and are answered as if they had none.
-LATER = ["hot", "rebuild"]
 # What the connection refuses has no number of its own.
 OF_CONNECTIONS = {(0, "LengthRequired", 411), (0, "BodyTooLarge", 413)}
 # Malformed and BadZookie: what is refused so does not fit its schema, and all else does.
@@ -103,16 +101,11 @@ def defined(function, text):
     return dict(re.findall(rf'^{function} \(?(\w+)[^=\n]*= (?:codes )?"?(\w+)"?$', text, re.M))
 
 
-def the_routes_are_those_of_the_table(program, folder):
+def the_routes_are_those_of_the_table(_program, _folder):
     text = text_of("crates/http_api/specs/Routes.antt")
     verbs = defined("verb", text)
     table = {(path, verbs.get(call, verbs["_"])) for call, path in re.findall(r'\broute (\w+) \(codes "([^"]+)"\)', text)}
-    later = {(f"/v1/{call}", "POST") for call in LATER}
-    same("routes of a later stage", sorted(later), sorted(later & table))
-    same("routes", sorted(table - later), sorted((path, method.upper()) for path, method, _ in operations(document())))
-    with Server(program, folder) as server, server.connect() as stream:
-        for call in LATER:
-            same(call, (404, NO_ROUTE), ask(stream, call, "{}"))
+    same("routes", sorted(table), sorted((path, method.upper()) for path, method, _ in operations(document())))
 
 
 def each_example_is_answered_as_it_says(program, folder):

@@ -24,7 +24,7 @@ both true b h = (refl, h)
 both false b h = absurd (true≢false (sym h))
 
 -- a text is one word alone
-is_same : (w a b : List ℕ) → is_text w a ≡ true → is_text w b ≡ true → is_text a b ≡ true
+pub is_same : (w a b : List ℕ) → is_text w a ≡ true → is_text w b ≡ true → is_text a b ≡ true
 is_same [] [] b p q = q
 is_same [] (x ∷ a) b p q = absurd (true≢false (sym p))
 is_same (z ∷ w) [] b p q = absurd (true≢false (sym p))

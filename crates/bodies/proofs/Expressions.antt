@@ -1,5 +1,5 @@
 -- What the values of expressions over groups are, one after another.
-use Rattle.std.proofs.Common.{◌≡◌, ℕ, ◌<◌, ◌+◌, true, false, List, [], ◌∷◌, ◌++◌, length, take, drop, get_or, None, Vec, Global, refl, sym, ap, ◌∙◌, subst, arith, drop-cons, add-one, true≢false}
+use Rattle.std.proofs.Common.{◌≡◌, ℕ, ◌<◌, ◌+◌, false, List, [], ◌∷◌, ◌++◌, length, take, drop, get_or, None, Vec, Global, refl, sym, ap, ◌∙◌, subst, arith, drop-cons, add-one, true≢false}
 use Rattle.std.specs.Prelude.{codes}
 use Rattle.std.specs.Cmp.Lexicographic.{bytes_decides}
 use Rattle.std.proofs.lemmas.List.{take-append-drop}

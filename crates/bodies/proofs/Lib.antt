@@ -14,3 +14,4 @@ pub mod Events
 pub mod Expressions
 pub mod Alike
 pub mod Grouped
+pub mod Marks

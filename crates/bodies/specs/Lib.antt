@@ -5,6 +5,7 @@ pub mod Expanding
 pub mod Trees
 pub mod Watching
 pub mod Trimming
+pub mod Marking
 pub mod Pages
 pub mod Paging
 pub mod Grouping

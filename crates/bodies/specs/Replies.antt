@@ -45,18 +45,28 @@ abbrev pub floor_data : List ℕ → Bool → Data
 floor_data floor shown =
     object (text_member (codes "floor") floor (flag_member (codes "shown") shown no_members))
 
+-- `{"marked": .., "shown": ..}`
+abbrev pub marked_data : ℕ → Bool → Data
+marked_data marked shown =
+    object (number_member (codes "marked") marked (flag_member (codes "shown") shown no_members))
+
+-- `{"base": .., "shown": ..}`
+abbrev pub base_data : List ℕ → Bool → Data
+base_data base shown =
+    object (text_member (codes "base") base (flag_member (codes "shown") shown no_members))
+
 -- the member is the zookie of a revision of the store
 abbrev pub rev_member : List ℕ → ℕ → ℕ → Members → Members
 rev_member name store rev rest = text_member name (zookie_text store rev) rest
 
--- the numbers of a store's published state; no node is marked yet
+-- the numbers of a store's published state
 abbrev pub state_data : ℕ → State → Data
 state_data store s = object (
     rev_member (codes "base") store s.base (
     rev_member (codes "floor") store s.floor (
     rev_member (codes "hot") store s.hot (
     rev_member (codes "index") store s.index (
-    number_member (codes "marked") 0 (
+    number_member (codes "marked") s.marked (
     rev_member (codes "newest") store s.newest (
     number_member (codes "rows") s.rows (
     number_member (codes "tuples") s.tuples no_members))))))))

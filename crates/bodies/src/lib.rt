@@ -4,6 +4,7 @@
 mod conditions;
 mod exprs;
 pub mod grouping;
+pub mod marking;
 mod ops;
 pub mod pages;
 pub mod paging;

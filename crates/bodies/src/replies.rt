@@ -5,7 +5,7 @@ ghost use Rattle.serde_json.specs.Data.{string};
 ghost use Rattle.serde_json.specs.View.{view};
 ghost use Rattle.serde_json.specs.Written.{has_float};
 ghost use Rattle.zookie.specs.Text.{zookie_text};
-ghost use Rattle.bodies.specs.Replies.{Says, SaysText, receipt_data, answer_data, cursor_data, floor_data, state_data, no_route_data};
+ghost use Rattle.bodies.specs.Replies.{Says, SaysText, receipt_data, answer_data, base_data, cursor_data, floor_data, marked_data, state_data, no_route_data};
 
 use names::{Reply, State};
 use serde_json::{Value, json};
@@ -91,6 +91,26 @@ pub fn floor(alloc: Global, floor: &Zookie, shown: bool) -> Reply
     say(alloc, 200, value)
 }
 
+/// What an accepted `hot` is answered: how many nodes are marked after it, and whether all that is posted is shown.
+pub fn marked(alloc: Global, marked: u64, shown: bool) -> Reply
+    ensures { Says (told result) 200 (marked_data marked shown) }
+{
+    let value = json!(in alloc; {"marked": marked, "shown": shown});
+    say(alloc, 200, value)
+}
+
+/// What an accepted `rebuild` is answered: the base of the index after it, and whether all that is posted is shown.
+pub fn base(alloc: Global, base: &Zookie, shown: bool) -> Reply
+    ensures { Says (told result) 200
+        (base_data (zookie_text base.now.store base.now.rev) shown) }
+{
+    let Ok(text) = base.to_text(alloc) else {
+        return Reply::NoMemory;
+    };
+    let value = json!(in alloc; {"base": text.as_str(), "shown": shown});
+    say(alloc, 200, value)
+}
+
 /// The zookie of a revision of a store, as a value.
 pub(crate) fn rev_value(alloc: Global, store: u64, rev: u64) -> Result<Value, AllocError>
     ensures { IfOk result (λ v. view v ≡ string (zookie_text store rev)) }
@@ -109,7 +129,7 @@ fn state_value(alloc: Global, store: u64, state: &State) -> Result<Value, AllocE
     let index = rev_value(alloc, store, state.index)?;
     let newest = rev_value(alloc, store, state.newest)?;
     json!(in alloc; {
-        "base": base, "floor": floor, "hot": hot, "index": index, "marked": 0u64, "newest": newest,
+        "base": base, "floor": floor, "hot": hot, "index": index, "marked": state.marked, "newest": newest,
         "rows": state.rows, "tuples": state.tuples
     })
 }

@@ -1,5 +1,5 @@
 -- A change, from the readiness for it on.
-use Rattle.std.proofs.Common.{◌≡◌, Bool, true, false, List, [], ◌∷◌, ◌++◌, ◌<◌, ◌≤◌, ℕ, refl, ap, sym, ◌∙◌, subst, arith, true≢false}
+use Rattle.std.proofs.Common.{◌≡◌, Bool, true, false, List, [], ◌∷◌, ◌++◌, length, ◌<◌, ◌≤◌, ℕ, refl, ap, sym, ◌∙◌, subst, arith, true≢false}
 use Rattle.std.specs.Prelude.{Result, Ok, Err, IfOk, IfErr, IsErrAnd, OnOk, Option, Some, None}
 use Rattle.names.specs.declared.limits.TheConstants.{MAX_CATCH_UP}
 use Rattle.names.specs.declared.tuple.Tuple.{Tuple}
@@ -11,15 +11,17 @@ use Rattle.names.specs.declared.refusal.Refusal.TheVariants.{Malformed, Memory, 
 use Rattle.meaning.specs.Config.{Configured}
 use Rattle.meaning.specs.Verdict.{Newest, config_cause, or_else, in_the_way, refused_if}
 use Rattle.zookie.specs.declared.Zookie.{Zookie}
-use Rattle.rows.specs.Retained.{Retained, newest_of}
+use Rattle.rows.specs.Retained.{Retained, newest, newest_of}
 use Rattle.rows.specs.Follows.{AreEventsOf}
 use Rattle.rows.specs.Judging.{ConfigRefused}
 use Rattle.verdict.specs.Verdict.{AcceptsWrite, RefusesWrite}
 use Rattle.shown.specs.declared.step.Step.{Step}
+use Rattle.names.specs.declared.marking.Marking.{Marking}
 use Rattle.names.specs.declared.part.Part.{Part}
-use Rattle.shown.specs.declared.step.Step.TheVariants.{Commit, Take, Trim}
-use Rattle.shown.specs.Standing.{Standing, standing, cursor_of}
-use Rattle.shown.specs.Raising.{floor_cause, RefusesFloor}
+use Rattle.shown.specs.declared.step.Step.TheVariants.{Commit, Take, Trim, Marking as MarkingStep, Rebase}
+use Rattle.shown.specs.Marks.{marking_cause}
+use Rattle.shown.specs.Standing.{Standing, standing, base_cause, cursor_of}
+use Rattle.shown.specs.Raising.{floor_cause, RefusesFloor, RefusesMarking, RefusesBase}
 use Rattle.tables.specs.Device.{IsOpen, HasFailed, Lasts}
 use Rattle.tables.specs.Storing.{one_more}
 use Rattle.tables.specs.declared.tables.Tables.{Ghosts}
@@ -27,16 +29,16 @@ use Rattle.tables.proofs.Lasting.{lasts_self}
 use Rattle.desk.specs.TableChanges.{TableChange, Adds, Raises, changed, CanChange}
 use Rattle.desk.specs.Posts.{Posts, ShowsMore, SameTables, PostsStep, newest_posted}
 use Rattle.published.specs.Receipts.{ReceiptFacts}
-use Rattle.desk.specs.Changes.{Tells, TellsShown, IsStored, WriteAccepted, ConfigAccepted, CatchUpAccepted, TrimAccepted, trim_raises, CatchUpJudged, IsCommitOfWrite, IsRaiseTo, IsNoChange, MayLeave, Touches, leaves_alone, adds_one, Refuses, IsRefused, IsUnopposed}
+use Rattle.desk.specs.Changes.{Tells, TellsShown, IsStored, WriteAccepted, ConfigAccepted, CatchUpAccepted, TrimAccepted, MarkingAccepted, RebuildAccepted, trim_raises, CatchUpJudged, IsCommitOfWrite, IsRaiseTo, IsNoChange, MayLeave, Touches, leaves_alone, adds_one, Refuses, IsRefused, IsUnopposed}
 use Rattle.desk.specs.inside.Posting.{NoCause}
 use Rattle.published.proofs.Prefixes.{prefix_trans}
-use Rattle.desk.proofs.Judged.{write_reopens, write_faults, write_wants, floor_reopens, floor_faults, floor_wants}
+use Rattle.desk.proofs.Judged.{write_reopens, write_faults, write_wants, floor_reopens, floor_faults, floor_wants, marking_reopens, marking_faults, marking_wants, base_reopens, base_faults, base_wants}
 
 -- a cause is none
 pub unlike : {o : Option Refusal} → o ≡ None → IsUnopposed (λ why. o ≡ Some why)
 unlike none why is = absurd (cc (sym none ∙ is))
 
-few_unopposed : (commits : ℕ) → commits ≤ MAX_CATCH_UP → IsUnopposed (CatchUpJudged commits)
+pub few_unopposed : (commits : ℕ) → commits ≤ MAX_CATCH_UP → IsUnopposed (CatchUpJudged commits)
 few_unopposed commits few Malformed many = absurd (omega (arith, few, many))
 few_unopposed commits few _ judged = absurd judged
 
@@ -129,6 +131,29 @@ module _ {T : Type 0} (g : Ghosts T) (old mid : Posts T) (more : ShowsMore old m
         (refused_judged (IsRaiseTo stood zookie) (RefusesFloor stood zookie) why (floor_reopens stood zookie) (floor_faults stood zookie) (floor_wants stood zookie)
         (subst (λ (steps : List Step). floor_cause (standing steps) zookie ≡ Some why) more.posted is))
 
+    -- a marking is refused for the relation, or for a limit
+    pub marking_refused : {A : Type 0} (r : Result A Refusal) (marking : Marking) (why : Refusal) → IsErrAnd r (λ e. e ≡ why) → RefusesMarking (standing mid.posted) marking why
+        → IfErr r (λ e. IsRefused g old IsNoChange (RefusesMarking (standing old.posted) marking) e mid)
+    marking_refused r marking why was is =
+        let stood = standing old.posted in
+        refused_exit (λ e. IsRefused g old IsNoChange (RefusesMarking stood marking) e mid) r why was
+        (refused_judged IsNoChange (RefusesMarking stood marking) why (marking_reopens stood marking) (marking_faults stood marking) (marking_wants stood marking)
+        (subst (λ (steps : List Step). RefusesMarking (standing steps) marking why) more.posted is))
+
+    newest_still : (rev : ℕ) → rev ≡ newest (standing mid.posted).kept → rev ≡ newest (standing old.posted).kept
+    newest_still rev is = is ∙ ap (λ (steps : List Step). newest (standing steps).kept) more.posted
+
+    -- a base is refused for its revision
+    pub base_refused : {A : Type 0} (r : Result A Refusal) (rev : ℕ) (why : Refusal) → IsErrAnd r (λ e. e ≡ why) → rev ≡ newest (standing mid.posted).kept → RefusesBase (standing mid.posted) rev why
+        → IfErr r (λ e. IsRefused g old IsNoChange (RefusesBase (standing old.posted) (newest (standing old.posted).kept)) e mid)
+    base_refused r rev why was of_newest is =
+        let stood = standing old.posted in
+        let to = newest stood.kept in
+        let here : RefusesBase stood rev why = subst (λ (steps : List Step). RefusesBase (standing steps) rev why) more.posted is in
+        refused_exit (λ e. IsRefused g old IsNoChange (RefusesBase stood to) e mid) r why was
+        (refused_judged IsNoChange (RefusesBase stood to) why (base_reopens stood to) (base_faults stood to) (base_wants stood to)
+        (subst (λ (n : ℕ). RefusesBase stood n why) (newest_still rev of_newest) here))
+
     -- too many commits at once
     pub too_many : (commits : ℕ) → MAX_CATCH_UP < commits → IsRefused g old IsNoChange (CatchUpJudged commits) Malformed mid
     too_many commits many = refused_early IsNoChange (CatchUpJudged commits) Malformed (works, same.1 ∙ works, same.2, same.0, many)
@@ -199,12 +224,46 @@ module _ {T : Type 0} (g : Ghosts T) (old mid : Posts T) (more : ShowsMore old m
           record { works = works; few = few; posts = posts_on (Take part commits) posts; tables = tables ∙ same.0; stored = sound; moved = moved; tells = tells }
       caught_up value receipt part commits (Err why) few posts tables sound moved tells = tt
 
+      module _ (marking : Marking) (accepted : marking_cause (newest_posted mid).held.config (standing mid.posted).marks marking ≡ Option.None) where
+        pub marking_still : marking_cause (newest_posted old).held.config (standing old.posted).marks marking ≡ Option.None
+        marking_still = subst (λ (steps : List Step). marking_cause (newest_of (standing steps).kept).held.config (standing steps).marks marking ≡ Option.None) more.posted accepted
+
+        -- the node is marked, or is so no longer
+        pub marking_accepted : {A : Type 0} (value : A → ℕ) (receipt : A → ReceiptFacts) (r : Result A Refusal)
+            → OnOk r (PostsStep mid (MarkingStep marking) new) → new.tables ≡ mid.tables → new.failed ≡ false → IfOk r (λ p. value p ≡ length (standing new.posted).marks) → IfOk r (λ p. TellsShown (receipt p) new)
+            → IfOk r (λ p. MarkingAccepted old marking (value p) (receipt p) new)
+        marking_accepted value receipt (Ok p) posts tables sound told tells =
+            record { works = works; accepted = marking_still; posts = posts_on (MarkingStep marking) posts; tables = tables ∙ same.0; stored = sound; told = told; tells = tells }
+        marking_accepted value receipt (Err why) posts tables sound told tells = tt
+
+      module _ (rev : ℕ) (of_newest : rev ≡ newest (standing mid.posted).kept) (accepted : base_cause (standing mid.posted) rev ≡ Option.None) where
+        pub base_still : base_cause (standing old.posted) (newest (standing old.posted).kept) ≡ Option.None
+        base_still =
+            subst (λ (n : ℕ). base_cause (standing old.posted) n ≡ Option.None) (newest_still rev of_newest)
+            (subst (λ (steps : List Step). base_cause (standing steps) rev ≡ Option.None) more.posted accepted)
+
+        -- the base is made
+        pub rebuild_accepted : {A : Type 0} (value : A → ℕ) (receipt : A → ReceiptFacts) (r : Result A Refusal)
+            → OnOk r (PostsStep mid (Rebase rev) new) → new.tables ≡ mid.tables → new.failed ≡ false → IfOk r (λ p. value p ≡ (standing new.posted).base) → IfOk r (λ p. TellsShown (receipt p) new)
+            → IfOk r (λ p. RebuildAccepted old (value p) (receipt p) new)
+        rebuild_accepted value receipt (Ok p) posts tables sound told tells =
+            record {
+              works = works;
+              accepted = base_still;
+              posts = subst (λ (n : ℕ). PostsStep old (Rebase n) new) (newest_still rev of_newest) (posts_on (Rebase rev) posts);
+              tables = tables ∙ same.0;
+              stored = sound;
+              told = told;
+              tells = tells;
+            }
+        rebuild_accepted value receipt (Err why) posts tables sound told tells = tt
+
       -- there was no room for its step
-      pub not_caught_up : {A : Type 0} (commits : ℕ) (r : Result A Refusal) → commits ≤ MAX_CATCH_UP → IfErr r (λ why. (why ≡ Memory) × (new ≡ mid)) → IfErr r (λ why. IsRefused g old IsNoChange (CatchUpJudged commits) why new)
-      not_caught_up commits (Ok p) few is = tt
-      not_caught_up commits (Err why) few is =
-          subst (λ (d : Posts T). IsRefused g old IsNoChange (CatchUpJudged commits) why d) (sym is.1)
-          (subst (λ (e : Refusal). IsRefused g old IsNoChange (CatchUpJudged commits) e mid) (sym is.0) (refused_early IsNoChange (CatchUpJudged commits) Memory (works, same.1 ∙ works, same.2, few_unopposed commits few)))
+      pub not_posted : {A : Type 0} (judged : Refusal → Type 0) (r : Result A Refusal) → IsUnopposed judged → IfErr r (λ why. (why ≡ Memory) × (new ≡ mid)) → IfErr r (λ why. IsRefused g old IsNoChange judged why new)
+      not_posted judged (Ok p) unopposed is = tt
+      not_posted judged (Err why) unopposed is =
+          subst (λ (d : Posts T). IsRefused g old IsNoChange judged why d) (sym is.1)
+          (subst (λ (e : Refusal). IsRefused g old IsNoChange judged e mid) (sym is.0) (refused_early IsNoChange judged Memory (works, same.1 ∙ works, same.2, unopposed)))
 
       cause_on : (judged : Refusal → Type 0) (why : Refusal) → IsUnopposed judged → Refuses g mid NoCause why new → Refuses g old judged why new
       cause_on judged Reopen memory cause = absurd (true≢false (sym cause.0 ∙ same.1 ∙ works))

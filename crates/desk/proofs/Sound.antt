@@ -1,17 +1,17 @@
 -- A desk stays sound.
 use Rattle.std.proofs.Common.{◌≡◌, ℕ, Bool, List, [], ◌∷◌, ◌++◌, refl, ap, sym, ◌∙◌, subst, ◌⊎◌, inl, inr}
 use mathlib.Core.List.{IsPrefix}
-use Rattle.names.specs.declared.part.Part.{Part}
 use Rattle.names.specs.declared.part.Part.TheVariants.{Index, Hot}
 use Rattle.tables.specs.declared.tables.Tables.{Ghosts}
 use Rattle.shown.specs.declared.step.Step.{Step}
-use Rattle.shown.specs.declared.step.Step.TheVariants.{Open, Commit, Take, Trim}
+use Rattle.shown.specs.declared.step.Step.TheVariants.{Open, Commit, Take, Trim, Marking, Rebase}
 use Rattle.shown.specs.Standing.{Standing, standing, after_step}
 use Rattle.published.specs.Publishing.{Publishing}
 use Rattle.published.specs.Posts.{IsLater}
 use Rattle.published.proofs.Prefixes.{prefix_self, prefix_trans, prefix_whole, prefix_length}
 use Rattle.desk.specs.Posts.{Agrees}
 use Rattle.desk.specs.Invariant.{IsSound, AreOfOneStore}
+use Rattle.desk.specs.inside.Posting.{LeavesHistory}
 use Rattle.desk.proofs.Standings.{standing_next}
 
 -- a beginning of a list and one item more is a beginning of the list, or all of it
@@ -26,10 +26,23 @@ prefix_next (x ∷ xs) (z ∷ ys) y p =
     let heads : x ≡ z = cc (p.1) in
     elim (prefix_next xs ys y (p.0, cc (p.1))) [ inl q ↦ inl (q.0, cc (heads, q.1)) | inr is ↦ inr (cc (heads, is)) ]
 
--- a part that takes commits leaves the history as it is
-taken_kept : (s : Standing) (part : Part) (n : ℕ) → (after_step s (Take part n)).kept ≡ s.kept
-taken_kept s Index n = refl
-taken_kept s Hot n = refl
+-- what leaves the history as it is
+history_stays : (s : Standing) (step : Step) → LeavesHistory step → (after_step s step).kept ≡ s.kept
+history_stays s (Open loaded) leaves = absurd leaves
+history_stays s (Commit commit) leaves = absurd leaves
+history_stays s (Take Index n) leaves = refl
+history_stays s (Take Hot n) leaves = refl
+history_stays s (Trim floor) leaves = absurd leaves
+history_stays s (Marking marking) leaves = refl
+history_stays s (Rebase rev) leaves = refl
+
+pub later_step : (step : Step) → LeavesHistory step → IsLater step
+later_step (Open loaded) leaves = absurd leaves
+later_step (Commit commit) leaves = absurd leaves
+later_step (Take part n) leaves = tt
+later_step (Trim floor) leaves = absurd leaves
+later_step (Marking marking) leaves = tt
+later_step (Rebase rev) leaves = tt
 
 -- no later step changes the store's number
 number_stays : (s : Standing) (step : Step) → IsLater step → (after_step s step).kept.number ≡ s.kept.number
@@ -38,6 +51,8 @@ number_stays s (Commit commit) later = refl
 number_stays s (Take Index n) later = refl
 number_stays s (Take Hot n) later = refl
 number_stays s (Trim floor) later = refl
+number_stays s (Marking marking) later = refl
+number_stays s (Rebase rev) later = refl
 
 number_next : (posted : List Step) (step : Step) → IsLater step → (standing (posted ++ step ∷ [])).kept.number ≡ (standing posted).kept.number
 number_next posted step later = ap (λ (s : Standing). s.kept.number) (standing_next posted step) ∙ number_stays (standing posted) step later
@@ -90,7 +105,8 @@ module _ {T : Type 0} (g : Ghosts T) (failed : Bool) (tables : T) (own : Standin
           agrees = subst (λ (s : Standing). Agrees g fails after s.kept) all agrees;
         }
 
-    pub sound_taken : (part : Part) (n : ℕ) → q.posted ≡ p.posted ++ Take part n ∷ [] → q.shown ≡ p.shown → (stood : Standing) → stood ≡ after_step own (Take part n) → IsSound g failed tables stood q
-    sound_taken part n more shown stood steps =
-        let same : stood.kept ≡ (standing p.posted).kept = ap (λ (s : Standing). s.kept) steps ∙ taken_kept own part n ∙ ap (λ (s : Standing). s.kept) sound.stands in
-        sound_next (Take part n) tt more shown failed tables stood steps (subst (Agrees g failed tables) (sym same) sound.agrees)
+    -- one that the tables need not know of
+    pub sound_unstored : (step : Step) → LeavesHistory step → q.posted ≡ p.posted ++ step ∷ [] → q.shown ≡ p.shown → (stood : Standing) → stood ≡ after_step own step → IsSound g failed tables stood q
+    sound_unstored step leaves more shown stood steps =
+        let same : stood.kept ≡ (standing p.posted).kept = ap (λ (s : Standing). s.kept) steps ∙ history_stays own step leaves ∙ ap (λ (s : Standing). s.kept) sound.stands in
+        sound_next step (later_step step leaves) more shown failed tables stood steps (subst (Agrees g failed tables) (sym same) sound.agrees)

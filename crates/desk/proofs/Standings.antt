@@ -24,4 +24,4 @@ can_go_back s commit steady =
     record { above = omega (arith, more, steady.index_there); index_before = omega (arith, more, steady.index_there); hot_before = omega (arith, more, steady.hot_there) }
 
 pub back_again : (s : Standing) (commit : Stored Configured) → before_commit (after_step s (Commit commit)) ≡ s
-back_again s commit = ap (λ (h : History). record { kept = record { number = s.kept.number; floor = s.kept.floor; base = s.kept.base; commits = h }; base = s.base; index = s.index; hot = s.hot }) (one_more s.kept.commits commit)
+back_again s commit = ap (λ (h : History). record { kept = record { number = s.kept.number; floor = s.kept.floor; base = s.kept.base; commits = h }; base = s.base; index = s.index; hot = s.hot; marks = s.marks }) (one_more s.kept.commits commit)

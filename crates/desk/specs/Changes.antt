@@ -1,5 +1,5 @@
 -- What an accepted change leaves and tells, and why one is refused.
-use Rattle.std.specs.Prelude.{◌≡◌, ◌<◌, ◌≤◌, ◌↔◌, ℕ, List, [], ◌∷◌, Bool, true, false, IsTrue, Option}
+use Rattle.std.specs.Prelude.{◌≡◌, length, ◌<◌, ◌≤◌, ◌↔◌, ℕ, List, [], ◌∷◌, Bool, true, false, IsTrue, Option}
 use Rattle.names.specs.declared.limits.TheConstants.{MAX_CATCH_UP}
 use Rattle.names.specs.declared.write.Op.{Op}
 use Rattle.names.specs.declared.write.Write.{Write}
@@ -17,9 +17,11 @@ use Rattle.verdict.specs.Verdict.{AcceptsWrite}
 use Rattle.tables.specs.Device.{IsOpen, Lasts, HasFailed}
 use Rattle.tables.specs.Storing.{one_more}
 use Rattle.tables.specs.declared.tables.Tables.{Ghosts}
+use Rattle.names.specs.declared.marking.Marking.{Marking}
 use Rattle.names.specs.declared.part.Part.{Part}
-use Rattle.shown.specs.declared.step.Step.TheVariants.{Commit as CommitStep, Take, Trim}
-use Rattle.shown.specs.Standing.{Standing, standing, cursor_of}
+use Rattle.shown.specs.declared.step.Step.TheVariants.{Commit as CommitStep, Take, Trim, Marking as MarkingStep, Rebase}
+use Rattle.shown.specs.Marks.{marking_cause}
+use Rattle.shown.specs.Standing.{Standing, standing, cursor_of, base_cause}
 use Rattle.shown.specs.Raising.{floor_cause}
 use Rattle.published.specs.Receipts.{ReceiptFacts}
 use Rattle.desk.specs.TableChanges.{TableChange, Adds, Raises, changed, CanChange}
@@ -104,6 +106,31 @@ pub record TrimAccepted {T : Type 0} (g : Ghosts T)
   pub accepted : floor_cause (standing old.posted) zookie ≡ Option.None
   pub done : IsTrimmed g old zookie.rev new
   pub told : floor ≡ (standing new.posted).kept.floor
+  pub tells : TellsShown receipt new
+
+-- The node is marked, or its mark is taken away, which is posted and changes nothing of the tables. It is told how many nodes
+-- are marked then, and the receipt names the newest shown revision.
+pub record MarkingAccepted {T : Type 0}
+    (old : Posts T) (marking : Marking) (marked : ℕ) (receipt : ReceiptFacts) (new : Posts T) : Type 0 where
+  pub works : old.failed ≡ false
+  pub accepted :
+      marking_cause (newest_posted old).held.config (standing old.posted).marks marking ≡ Option.None
+  pub posts : PostsStep old (MarkingStep marking) new
+  pub tables : new.tables ≡ old.tables
+  pub stored : new.failed ≡ false
+  pub told : marked ≡ length (standing new.posted).marks
+  pub tells : TellsShown receipt new
+
+-- The base of the index is made of the newest posted revision, which is posted and changes nothing of the tables. It is told,
+-- and the receipt names the newest shown revision.
+pub record RebuildAccepted {T : Type 0}
+    (old : Posts T) (base : ℕ) (receipt : ReceiptFacts) (new : Posts T) : Type 0 where
+  pub works : old.failed ≡ false
+  pub accepted : base_cause (standing old.posted) (newest (standing old.posted).kept) ≡ Option.None
+  pub posts : PostsStep old (Rebase (newest (standing old.posted).kept)) new
+  pub tables : new.tables ≡ old.tables
+  pub stored : new.failed ≡ false
+  pub told : base ≡ (standing new.posted).base
   pub tells : TellsShown receipt new
 
 -- too many commits at once

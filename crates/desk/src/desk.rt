@@ -1,5 +1,5 @@
 //! The desk: what lies under a store's lock.
-ghost use Rattle.std.specs.Prelude.{◌≡◌, ◌<◌, ◌≤◌, ◌↔◌, ◌⊎◌, ◌+◌, ◌∷◌, [], None, Some, true, false, Err, IsTrue, IfOk, IfErr, OnOk};
+ghost use Rattle.std.specs.Prelude.{◌≡◌, ◌<◌, ◌≤◌, ◌↔◌, ◌⊎◌, ◌+◌, ◌∷◌, [], length, None, Some, true, false, Err, IsTrue, IfOk, IfErr, OnOk};
 ghost use mathlib.Core.List.{IsPrefix};
 ghost use Rattle.names.specs.declared.commit.Commit.TheVariants.{Config as ConfigCommit};
 ghost use Rattle.names.specs.declared.refusal.Refusal.TheVariants.{Memory, NoSeat, Reopen};
@@ -9,9 +9,10 @@ ghost use Rattle.rows.specs.Retained.{newest};
 ghost use Rattle.rows.specs.Follows.{IsAccepted, IsNext};
 ghost use Rattle.rows.specs.Judging.{ConfigRefused};
 ghost use Rattle.verdict.specs.Verdict.{AcceptsWrite, RefusesWrite};
-ghost use Rattle.shown.specs.declared.step.Step.TheVariants.{Commit as CommitStep, Take, Trim};
-ghost use Rattle.shown.specs.Standing.{standing, state_of, cursor_of, CanRaise};
-ghost use Rattle.shown.specs.Raising.{floor_cause, RefusesFloor};
+ghost use Rattle.shown.specs.declared.step.Step.TheVariants.{Commit as CommitStep, Marking as MarkingStep, Rebase, Take, Trim};
+ghost use Rattle.shown.specs.Standing.{standing, state_of, base_cause, cursor_of, CanRaise, HasRoom};
+ghost use Rattle.shown.specs.Marks.{marking_cause};
+ghost use Rattle.shown.specs.Raising.{floor_cause, RefusesFloor, RefusesMarking, RefusesBase};
 ghost use Rattle.expand.specs.declared.limits.TheConstants.{MAX_DEPTH};
 ghost use Rattle.shown.specs.Answers.{IsAnswer, IsRefusal};
 ghost use Rattle.shown.specs.Expanding.{IsTree, IsTreeRefusal};
@@ -26,8 +27,8 @@ ghost use Rattle.published.specs.declared.publication.TheConstants.{MAX_SESSIONS
 ghost use Rattle.published.specs.Known.{Begins};
 ghost use Rattle.desk.specs.TableChanges.{Adds, Raises};
 ghost use Rattle.desk.specs.Posts.{Agrees, OpensWith, ComesBack, FailsToLoad, SameTables, ShowsMore, PostsStep, newest_posted, shown_by};
-ghost use Rattle.desk.specs.Changes.{Tells, TellsShown, IsStored, WriteAccepted, ConfigAccepted, CatchUpAccepted, TrimAccepted, IsRefused, IsCommitOfWrite, IsRaiseTo, IsNoChange, CatchUpJudged, receipt_at};
-ghost use Rattle.desk.specs.inside.Posting.{NoCause};
+ghost use Rattle.desk.specs.Changes.{Tells, TellsShown, IsStored, WriteAccepted, ConfigAccepted, CatchUpAccepted, TrimAccepted, MarkingAccepted, RebuildAccepted, IsRefused, IsCommitOfWrite, IsRaiseTo, IsNoChange, CatchUpJudged, receipt_at};
+ghost use Rattle.desk.specs.inside.Posting.{NoCause, LeavesHistory};
 
 use crate::latched_tables::{LatchedTables, load};
 use crate::opening::publish_first;
@@ -36,7 +37,7 @@ use config::Config;
 use expand::Tree;
 use leopard::Expr;
 use names::limits::MAX_CATCH_UP;
-use names::{Commit, Items, Node, Object, Part, Refusal, State, Tuple, Write};
+use names::{Commit, Items, Marking, Node, Object, Part, Refusal, State, Tuple, Write};
 use published::{Opened, Publication, Receipt, Session};
 use rows::{Tupleset, events_of, refuses_what_no_write_gives};
 use shown::{Answer, Refused, Shown, Step};
@@ -48,8 +49,9 @@ use tuple_keys::KeptCommit;
 use watch::{Namespaces, Page};
 use zookie::{Consistency, Zookie};
 
-/// What a caller is told of a part that takes commits, and of a floor: the revision up to which the part has read them,
-/// once all that is posted is shown, or the floor; and the receipt, which names the newest shown revision.
+/// What a caller is told of a part that takes commits, a floor, a marking and a base: the revision up to which the part has
+/// read them, once all that is posted is shown, the floor, how many nodes are marked, or the base's revision; and the receipt,
+/// which names the newest shown revision.
 #[derive(Drop)]
 pub struct Posted {
     pub value: u64,
@@ -197,6 +199,36 @@ impl<T: Tables + Drop, R: Wait + Drop> Desk<T, R> {
             return Ok(self.tell_floor());
         }
         self.raise(floor.rev)
+    }
+
+    /// Marks a node, or takes its mark away. It is refused where the relation of a node to be marked is not there at the newest
+    /// revision, and where more than 256 nodes would be marked. The tables are not changed: marks are not stored.
+    pub fn mark(&mut self, marking: Marking) -> Result<Posted, Refusal>
+        ensures ok { IfOk result (λ posted.
+            MarkingAccepted self.old marking posted.value posted.receipt self.new) }
+        ensures err { IfErr result (λ why.
+            IsRefused T.Tables self.old IsNoChange
+            (RefusesMarking (standing self.old.posted) marking) why self.new) }
+        ensures seats { self.new.seats ≡ self.old.seats }
+    {
+        self.make_ready()?;
+        self.judge_marking(&marking)?;
+        self.remark(marking)
+    }
+
+    /// Makes the base of the group index of the newest posted revision. The tables are not changed.
+    pub fn rebuild(&mut self) -> Result<Posted, Refusal>
+        ensures ok { IfOk result (λ posted.
+            RebuildAccepted self.old posted.value posted.receipt self.new) }
+        ensures err { IfErr result (λ why.
+            IsRefused T.Tables self.old IsNoChange
+            (RefusesBase (standing self.old.posted) (newest (standing self.old.posted).kept)) why self.new) }
+        ensures seats { self.new.seats ≡ self.old.seats }
+    {
+        self.make_ready()?;
+        let rev = self.last_posted();
+        self.judge_base(rev)?;
+        self.rebase(rev)
     }
 
     /// A session that knows what is shown now. It is refused exactly where all have been given out; the place of
@@ -392,6 +424,23 @@ impl<T: Tables + Drop, R: Wait + Drop> Desk<T, R> {
         self.own.judge_floor(floor)
     }
 
+    // Why a node is not marked, if it is not.
+    fn judge_marking(&self, marking: &Marking) -> Result<(), Refusal>
+        ensures ok { OnOk result
+            (marking_cause (newest_posted self.now).held.config (standing self.now.posted).marks marking.now ≡ None) }
+        ensures err { IfErr result (RefusesMarking (standing self.now.posted) marking.now) }
+    {
+        self.own.judge_marking(marking)
+    }
+
+    // Why the base of the index cannot be made of a revision, if it cannot.
+    fn judge_base(&self, rev: u64) -> Result<(), Refusal>
+        ensures ok { OnOk result (base_cause (standing self.now.posted) rev ≡ None) }
+        ensures err { IfErr result (RefusesBase (standing self.now.posted) rev) }
+    {
+        self.own.judge_base(rev)
+    }
+
     // Stores a commit, posts it, and shows it. All who keep it share it. Room is taken for its step first.
     fn post(&mut self, commit: Commit<Config>, puts: Puts) -> Result<Receipt, Refusal>
         requires open { self.old.failed ≡ false }
@@ -423,14 +472,60 @@ impl<T: Tables + Drop, R: Wait + Drop> Desk<T, R> {
         ensures err { IfErr result (λ why. (why ≡ Memory) × (self.new ≡ self.old)) }
         ensures seats { self.new.seats ≡ self.old.seats }
     {
+        let receipt = self.post_unstored(Step::Take(part, commits))?;
+        let value = self.cursor(part);
+        Ok(Posted { value, receipt })
+    }
+
+    // Posts that a node is marked, or is so no longer, and shows it.
+    fn remark(&mut self, marking: Marking) -> Result<Posted, Refusal>
+        requires open { self.old.failed ≡ false }
+        requires accepted { marking_cause (newest_posted self.old).held.config (standing self.old.posted).marks marking ≡ None }
+        ensures posted { OnOk result (PostsStep self.old (MarkingStep marking) self.new) }
+        ensures same { (self.new.tables ≡ self.old.tables) × (self.new.failed ≡ false) }
+        ensures told { IfOk result (λ posted.
+            posted.value ≡ length (standing self.new.posted).marks) }
+        ensures tells { IfOk result (λ posted. TellsShown posted.receipt self.new) }
+        ensures err { IfErr result (λ why. (why ≡ Memory) × (self.new ≡ self.old)) }
+        ensures seats { self.new.seats ≡ self.old.seats }
+    {
+        let receipt = self.post_unstored(Step::Marking(marking))?;
+        let value = self.marked();
+        Ok(Posted { value, receipt })
+    }
+
+    // Posts that the base of the index is made of a revision, and shows it.
+    fn rebase(&mut self, rev: u64) -> Result<Posted, Refusal>
+        requires open { self.old.failed ≡ false }
+        requires accepted { base_cause (standing self.old.posted) rev ≡ None }
+        ensures posted { OnOk result (PostsStep self.old (Rebase rev) self.new) }
+        ensures same { (self.new.tables ≡ self.old.tables) × (self.new.failed ≡ false) }
+        ensures told { IfOk result (λ posted. posted.value ≡ (standing self.new.posted).base) }
+        ensures tells { IfOk result (λ posted. TellsShown posted.receipt self.new) }
+        ensures err { IfErr result (λ why. (why ≡ Memory) × (self.new ≡ self.old)) }
+        ensures seats { self.new.seats ≡ self.old.seats }
+    {
+        let receipt = self.post_unstored(Step::Rebase(rev))?;
+        let value = self.base();
+        Ok(Posted { value, receipt })
+    }
+
+    // Posts a step of which the tables need not know, and shows it.
+    fn post_unstored(&mut self, step: Step) -> Result<Receipt, Refusal>
+        requires open { self.old.failed ≡ false }
+        requires room { HasRoom (standing self.old.posted) step }
+        requires history { LeavesHistory step }
+        ensures posted { OnOk result (PostsStep self.old step self.new) }
+        ensures same { (self.new.tables ≡ self.old.tables) × (self.new.failed ≡ false) }
+        ensures tells { IfOk result (λ receipt. TellsShown receipt self.new) }
+        ensures err { IfErr result (λ why. (why ≡ Memory) × (self.new ≡ self.old)) }
+        ensures seats { self.new.seats ≡ self.old.seats }
+    {
         self.publication.reserve()?;
-        let step = Step::Take(part, commits);
         self.own.apply(&step)?;
         self.publication.post(step);
         let shown = self.publish();
-        let value = self.cursor(part);
-        let receipt = self.shown_receipt(shown);
-        Ok(Posted { value, receipt })
+        Ok(self.shown_receipt(shown))
     }
 
     // Stores a higher floor, posts it, and shows it. Room is taken for its step first.
@@ -472,6 +567,27 @@ impl<T: Tables + Drop, R: Wait + Drop> Desk<T, R> {
         ensures { result ≡ (standing self.now.posted).kept.floor }
     {
         self.own.state().floor
+    }
+
+    // The newest posted revision.
+    fn last_posted(&self) -> u64
+        ensures { result ≡ newest (standing self.now.posted).kept }
+    {
+        self.own.newest()
+    }
+
+    // How many nodes are marked.
+    fn marked(&self) -> u64
+        ensures { result ≡ length (standing self.now.posted).marks }
+    {
+        self.own.state().marked
+    }
+
+    // The revision of the index's base.
+    fn base(&self) -> u64
+        ensures { result ≡ (standing self.now.posted).base }
+    {
+        self.own.state().base
     }
 
     // The cursor of a part.

@@ -3,7 +3,7 @@ ghost use Rattle.std.specs.Prelude.{◌≡◌, true};
 
 use config::Config;
 use desk::Desk;
-use names::{Items, Node, Object, Op, OpKind, Part, Refusal, Tuple, Write};
+use names::{Items, Marking, Node, Object, Op, OpKind, Part, Refusal, Tuple, Write};
 use published::{Opened, Receipt, Session, StepPrefix};
 use rows::Loaded;
 use std::alloc::Global;
@@ -208,4 +208,37 @@ fn sessions_learn<H: Wait + Drop>(alloc: Global, rt: H) -> bool {
 #[test]
 fn sessions_know_what_they_are_told(rt: HostRuntime) {
     assert!(rt; sessions_learn(rt.alloc(), &rt));
+}
+
+// A node is marked once however often it is asked for, one whose relation is not there is refused with 2, and a mark is taken
+// away.
+fn marks<H: Wait + Drop>(alloc: Global, desk: &mut Desk<Listed, H>) -> Result<bool, Refusal> {
+    configure(alloc, desk)?;
+    let first = desk.mark(Marking::Mark(Node::parse("group:a#member")?))?;
+    let again = desk.mark(Marking::Mark(Node::parse("group:a#member")?))?;
+    let unknown = number_of(&desk.mark(Marking::Mark(Node::parse("group:a#owner")?)));
+    let last = desk.mark(Marking::Unmark(Node::parse("group:a#member")?))?;
+    Ok(first.value == 1 && again.value == 1 && unknown == 2 && last.value == 0)
+}
+
+// The base comes to the newest revision, and the index with it.
+fn rebuilds<H: Wait + Drop>(desk: &mut Desk<Listed, H>) -> Result<bool, Refusal> {
+    let rebuilt = desk.rebuild()?;
+    let state = desk.state();
+    Ok(rebuilt.value == 1 && state.base == 1 && state.index == 1 && state.hot == 0)
+}
+
+fn steps_without_tables<H: Wait + Drop>(alloc: Global, rt: H) -> bool {
+    match Desk::open(alloc, rt, Opened::new(), Listed::new(alloc, 7)) {
+        Ok(mut desk) => {
+            let marked = marks(alloc, &mut desk).unwrap_or(false);
+            marked && rebuilds(&mut desk).unwrap_or(false)
+        }
+        Err(_) => false,
+    }
+}
+
+#[test]
+fn nodes_are_marked_and_the_base_is_made_anew(rt: HostRuntime) {
+    assert!(rt; steps_without_tables(rt.alloc(), &rt));
 }

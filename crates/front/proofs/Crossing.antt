@@ -8,6 +8,7 @@ use denote.Enum.Declared as E
 use Rattle.std.proofs.Crossing.{crosses, Vec-send, Vec-sync}
 use Rattle.config_text.proofs.rewrite.Rewrite.TheLaws.TheKnot.{crosses as rewrites_cross}
 use Rattle.names.proofs.name.Name.TheSendSync as Name
+use Rattle.names.proofs.node.Node.TheSendSync as Node
 use Rattle.names.proofs.relation.RelationName.TheSendSync as RelationName
 use Rattle.names.proofs.relation.SubjectType.TheSendSync as SubjectType
 use Rattle.versions.proofs.version_map.VersionMap.TheSendSync as VersionMap
@@ -15,6 +16,10 @@ use Rattle.config_text.specs.contracts.rewrite.Rewrite as Rewrite
 use Rattle.config_text.specs.contracts.relation.Relation as Relation
 use Rattle.names.proofs.tuple.Tuple.TheSendSync as Tuple
 use Rattle.config.specs.contracts.config.Config as Config
+use Rattle.idsets.proofs.ids.Ids.TheSendSync as Ids
+use Rattle.idsets.proofs.set.IdSet.TheSendSync as IdSet
+use Rattle.names.proofs.object.Object.TheSendSync as Object
+use Rattle.leopard.specs.contracts.built.Built as Built
 use Rattle.tuple_keys.specs.contracts.kept_commit.KeptCommit as KeptCommit
 use Rattle.rows.specs.contracts.loaded.Loaded as Loaded
 use Rattle.shown.specs.contracts.shown.Shown as Shown
@@ -29,6 +34,7 @@ use Rattle.published.specs.contracts.post.Post as Post
 use Rattle.published.specs.contracts.publisher.Publisher as Publisher
 use Rattle.published.specs.contracts.publication.Publication as Publication
 use Rattle.left_right.proofs.writer.Writer.TheSendSync as Writer
+use Rattle.names.proofs.marking.Marking.TheSendSync as Marking
 use Rattle.names.proofs.write.Op.TheSendSync as Op
 use Rattle.names.proofs.items.Items.TheSendSync as Items
 
@@ -60,11 +66,17 @@ KeptCommit-send = search (Config-send, Config-sync, crosses, sendable) depth 40
 pub KeptCommit-sync : IsSync KeptCommit.the_row
 KeptCommit-sync = search (Config-send, Config-sync, crosses, sendable) depth 40
 
+pub Built-send : IsSend Built.the_row
+Built-send = search (Config-send, Node.the_send, Object.the_send, Ids.the_send, IdSet.the_send, crosses, sendable) depth 40
+
+pub Built-sync : IsSync Built.the_row
+Built-sync = search (Config-sync, Node.the_sync, Object.the_sync, Ids.the_sync, IdSet.the_sync, crosses, sendable) depth 40
+
 pub Shown-send : IsSend Shown.the_row
-Shown-send = search (Config-send, KeptCommit-send, VersionMap.the_send, crosses, sendable) depth 40
+Shown-send = search (Config-send, KeptCommit-send, Built-send, VersionMap.the_send, Node.the_send, crosses, sendable) depth 40
 
 pub Shown-sync : IsSync Shown.the_row
-Shown-sync = search (Config-sync, KeptCommit-sync, VersionMap.the_sync, crosses, sendable) depth 40
+Shown-sync = search (Config-sync, KeptCommit-sync, Built-sync, VersionMap.the_sync, Node.the_sync, crosses, sendable) depth 40
 
 pub Loaded-send : IsSend Loaded.the_row
 Loaded-send = search (Config-send, KeptCommit-send, Tuple.the_send, crosses, sendable) depth 40
@@ -79,10 +91,10 @@ Loaded-field-sync : IsSync (Struct (S.shape Loaded.the_type))
 Loaded-field-sync = search (Config-sync, KeptCommit-sync, Tuple.the_sync, crosses, sendable) depth 40
 
 Step-field-send : IsSend (Enum (E.shape Step.the_type))
-Step-field-send = enum_send (E.shape Step.the_type) ((Loaded-field-send, tt), ((KeptCommit-send, tt), ((search sendable, (search sendable, tt)), ((search sendable, tt), tt))))
+Step-field-send = enum_send (E.shape Step.the_type) ((Loaded-field-send, tt), ((KeptCommit-send, tt), ((search sendable, (search sendable, tt)), ((search sendable, tt), ((Marking.the_field_send, tt), ((search sendable, tt), tt))))))
 
 Step-field-sync : IsSync (Enum (E.shape Step.the_type))
-Step-field-sync = enum_sync (E.shape Step.the_type) ((Loaded-field-sync, tt), ((KeptCommit-sync, tt), ((search sendable, (search sendable, tt)), ((search sendable, tt), tt))))
+Step-field-sync = enum_sync (E.shape Step.the_type) ((Loaded-field-sync, tt), ((KeptCommit-sync, tt), ((search sendable, (search sendable, tt)), ((search sendable, tt), ((Marking.the_field_sync, tt), ((search sendable, tt), tt))))))
 
 pub Step-send : IsSend Step.the_row
 Step-send = let T = Step.the_type in recorded_send _ _ T.to T.to_one Step-field-send

@@ -3,24 +3,35 @@ use Rattle.std.specs.Prelude.{ℕ, ◌≡◌, List, Option}
 use Rattle.names.specs.declared.call.Call.{Call}
 use Rattle.names.specs.declared.call.Call.TheVariants.{Check, Read, Expand, Leopard, Watch, State}
 use Rattle.tables.specs.declared.tables.Tables.{Ghosts}
+use Rattle.logbook.specs.Pages.{Book}
 use Rattle.published.specs.Known.{Known, Begins}
+use Rattle.published.specs.Receipts.{ReceiptFacts}
 use Rattle.desk.specs.Posts.{Posts, shown_by}
+use Rattle.desk.specs.Changes.{TellsShown}
 use Rattle.keeper.specs.Rules.{DeskStep}
+use Rattle.front.specs.Kept.{IsKept}
 use Rattle.front.specs.Questions.{CheckFrom, StateFrom}
 use Rattle.front.specs.Tuples.{ReadFrom}
 use Rattle.front.specs.Trees.{ExpandFrom}
 use Rattle.front.specs.Groups.{GroupsFrom}
 use Rattle.front.specs.Pages.{WatchFrom}
 
--- A change, or a call that is not served: whatever a desk holds, it would tell this and stay as it is, and no desk was
--- asked; or a desk was, which its rules let tell this, and the session then knows no less than it did, and all that the
--- desk shows after it.
+-- A change: whatever a desk holds, it would tell this and stay as it is, and no desk was asked; or a desk was, which its
+-- rules let tell this, and the session then knows no less than it did, and all that the desk shows after it.
 pub data ChangeFrom {T : Type 0} (g : Ghosts T)
     (old : Known) (call : Call) (body : List ℕ) (told : Option (ℕ × List ℕ)) (new : Known) : Type 0 where
   off_the_desk : ((desk : Posts T) → DeskStep g desk call body told desk) → new ≡ old
       → ChangeFrom g old call body told new
   on_a_desk : (before after : Posts T) → DeskStep g before call body told after
       → Begins old new → Begins (shown_by after) new → ChangeFrom g old call body told new
+
+-- A desk of the book told this of itself: its store's number, its newest shown revision, and whether all that is posted is
+-- shown. The session then knows all that the desk shows.
+pub record ToldByDesk (T : Type 0) (book : Book) (receipt : ReceiptFacts) (new : Known) : Type 0 where
+  pub desk : Posts T
+  pub kept : IsKept book desk
+  pub tells : TellsShown receipt desk
+  pub known : Begins (shown_by desk) new
 
 -- from what its session knows, the front may tell this to the call with this body, and then its session knows this
 abbrev pub FrontStep : {T : Type 0}

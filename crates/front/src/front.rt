@@ -1,7 +1,7 @@
 //! Calls by bytes, of one worker.
 ghost use Rattle.std.specs.Prelude.{◌≡◌, IfOk, IfErr};
 ghost use Rattle.names.specs.Calls.{told};
-ghost use Rattle.names.specs.declared.call.Call.TheVariants.{Write, Config, Trim, CatchUp};
+ghost use Rattle.names.specs.declared.call.Call.TheVariants.{Write, Config, Trim, CatchUp, Hot, Rebuild};
 ghost use Rattle.names.specs.declared.refusal.Refusal.TheVariants.{NoSeat};
 ghost use Rattle.published.specs.Known.{Begins};
 ghost use Rattle.front.specs.Kept.{IsKnownIn};
@@ -10,7 +10,7 @@ ghost use Rattle.front.specs.Trees.{IsTreeAsked, ExpandFrom};
 ghost use Rattle.front.specs.Tuples.{AreTuplesAsked, ReadFrom};
 ghost use Rattle.front.specs.Groups.{AreGroupsAsked, GroupsFrom};
 ghost use Rattle.front.specs.Pages.{IsPageAsked, WatchFrom};
-ghost use Rattle.front.specs.Fronts.{ChangeFrom, FrontStep};
+ghost use Rattle.front.specs.Fronts.{ChangeFrom, FrontStep, ToldByDesk};
 
 use crate::groups::{AskedGroups, groups_again, groups_from};
 use crate::lock::Keeper;
@@ -18,8 +18,8 @@ use crate::pages::{AskedPage, watch_again, watch_from};
 use crate::questions::{Asked, check_again, check_from, state_from};
 use crate::trees::{AskedTree, expand_again, expand_from};
 use crate::tuples::{AskedTuples, read_again, read_from};
+use bodies::marking::{hot_body, rebuild_body};
 use bodies::refusals::refusal;
-use bodies::replies::no_route;
 use bodies::requests::catch_up_body;
 use bodies::trimming::trim_body;
 use bodies::writing::write_body;
@@ -31,8 +31,9 @@ use std::marker::Model;
 use std::sync::Wait;
 use tables::Tables;
 
-/// A keeper, and a session of it. A question is answered by the session, with no lock and no wait; the desk is held for
-/// a change whose body was read, and for a refresh. Contracts see it as what the session knows.
+/// A keeper, and a session of it. A question is asked of the session alone, with no lock and no wait: by the type of
+/// [`check_from`] and its like, which no clause says. The desk is held for a change whose body was read, and for a refresh.
+/// Contracts see it as what the session knows.
 #[derive(Drop)]
 pub struct Front<'k, T: Tables + Drop, J: Naming, R: Wait + Drop> {
     alloc: Global,
@@ -72,47 +73,47 @@ impl<'k, T: Tables + Drop, J: Naming, R: Wait + Drop> Front<'k, T, J, R> {
         })
     }
 
-    /// Reads a `check` and asks it, with no lock. Where its zookie is of a revision that the session does not know yet,
-    /// it comes back.
+    /// Reads a `check` and asks it of the session alone. Where its zookie is of a revision that the session does not know
+    /// yet, it comes back.
     pub fn ask(&mut self, body: &[u8]) -> Asked
         ensures { IsAsked self.old body.now result self.new }
     {
         check_from(self.alloc, &mut self.session, body)
     }
 
-    /// Reads an `expand` and asks it, with no lock. Where its zookie is of a revision that the session does not know yet,
-    /// it comes back.
+    /// Reads an `expand` and asks it of the session alone. Where its zookie is of a revision that the session does not know
+    /// yet, it comes back.
     pub fn ask_for_tree(&mut self, body: &[u8]) -> AskedTree
         ensures { IsTreeAsked self.old body.now result self.new }
     {
         expand_from(self.alloc, &mut self.session, body)
     }
 
-    /// Reads a `read` and asks it, with no lock. Where its zookie is of a revision that the session does not know yet,
-    /// it comes back.
+    /// Reads a `read` and asks it of the session alone. Where its zookie is of a revision that the session does not know
+    /// yet, it comes back.
     pub fn ask_for_tuples(&mut self, body: &[u8]) -> AskedTuples
         ensures { AreTuplesAsked self.old body.now result self.new }
     {
         read_from(self.alloc, &mut self.session, body)
     }
 
-    /// Reads a `leopard` and asks it, with no lock. Where its zookie is of a revision that the session does not know yet,
-    /// it comes back.
+    /// Reads a `leopard` and asks it of the session alone. Where its zookie is of a revision that the session does not know
+    /// yet, it comes back.
     pub fn ask_for_groups(&mut self, body: &[u8]) -> AskedGroups
         ensures { AreGroupsAsked self.old body.now result self.new }
     {
         groups_from(self.alloc, &mut self.session, body)
     }
 
-    /// Reads a `watch` and asks it, with no lock. Where its cursor is of a revision that the session does not know yet,
-    /// it comes back.
+    /// Reads a `watch` and asks it of the session alone. Where its cursor is of a revision that the session does not know
+    /// yet, it comes back.
     pub fn ask_for_page(&mut self, body: &[u8]) -> AskedPage
         ensures { IsPageAsked self.old body.now result self.new }
     {
         watch_from(self.alloc, &mut self.session, body)
     }
 
-    /// Answers `state`, with no lock.
+    /// Answers `state` from the session alone.
     pub fn state(&mut self) -> Reply
         ensures { StateFrom self.old (told result) self.new }
     {
@@ -123,6 +124,7 @@ impl<'k, T: Tables + Drop, J: Naming, R: Wait + Drop> Front<'k, T, J, R> {
     pub fn refresh<W: Wait>(&mut self, rt: &W) -> Receipt
         ensures kept { Begins self.old self.new }
         ensures told { Begins result.published self.new }
+        ensures tells { ToldByDesk T J.book result self.new }
     {
         self.keeper.hold(rt).refresh(&mut self.session)
     }
@@ -245,6 +247,33 @@ impl<'k, T: Tables + Drop, J: Naming, R: Wait + Drop> Front<'k, T, J, R> {
         }
     }
 
+    /// Answers `hot`. The desk is held once the body is read.
+    pub fn hot<W: Wait>(&mut self, rt: &W, body: &[u8]) -> Reply
+        ensures { ChangeFrom T.Tables self.old Hot body.now (told result) self.new }
+    {
+        match hot_body(self.alloc, body) {
+            Ok(marking) => {
+                self.keeper
+                    .hold(rt)
+                    .change_marks(self.alloc, &mut self.session, marking)
+            }
+            Err(why) => refusal(self.alloc, &why),
+        }
+    }
+
+    /// Answers `rebuild`. The desk is held once the body is read.
+    pub fn rebuild<W: Wait>(&mut self, rt: &W, body: &[u8]) -> Reply
+        ensures { ChangeFrom T.Tables self.old Rebuild body.now (told result) self.new }
+    {
+        match rebuild_body(self.alloc, body) {
+            Ok(()) => self
+                .keeper
+                .hold(rt)
+                .move_base(self.alloc, &mut self.session),
+            Err(why) => refusal(self.alloc, &why),
+        }
+    }
+
     /// Answers a call, whose body is these bytes.
     pub fn answer<W: Wait>(&mut self, rt: &W, call: Call, body: &[u8]) -> Reply
         ensures { FrontStep T.Tables self.old call body.now (told result) self.new }
@@ -259,8 +288,9 @@ impl<'k, T: Tables + Drop, J: Naming, R: Wait + Drop> Front<'k, T, J, R> {
             Call::Watch => self.watch(rt, body),
             Call::Trim => self.trim(rt, body),
             Call::CatchUp => self.catch_up(rt, body),
+            Call::Hot => self.hot(rt, body),
+            Call::Rebuild => self.rebuild(rt, body),
             Call::State => self.state(),
-            _ => no_route(self.alloc),
         }
     }
 }

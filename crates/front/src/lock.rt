@@ -1,26 +1,33 @@
 //! The lock over a desk.
 ghost use Rattle.std.specs.Prelude.{◌≡◌, ◌↔◌, ◌+◌, ℕ, List, Err, IfOk, IfErr};
+ghost use Rattle.std.specs.Sync.Mutex.{mutex_guard_value};
 ghost use Rattle.names.specs.Calls.{told};
 ghost use Rattle.names.specs.declared.refusal.Refusal.TheVariants.{NoSeat, StoreFault};
 ghost use Rattle.config.specs.Causes.{Accepts};
+ghost use Rattle.bodies.specs.Marking.{AsksHot, AsksRebuild};
 ghost use Rattle.bodies.specs.Requests.{AsksCatchUp};
 ghost use Rattle.bodies.specs.Trimming.{AsksTrim};
 ghost use Rattle.bodies.specs.Writing.{AsksWrite};
+ghost use Rattle.rows.specs.Retained.{newest};
 ghost use Rattle.tables.specs.Device.{IsOpen};
 ghost use Rattle.tables.specs.Opening.{CannotOpen};
+ghost use Rattle.shown.specs.Raising.{RefusesBase, RefusesMarking};
+ghost use Rattle.shown.specs.Standing.{standing};
 ghost use Rattle.published.specs.Known.{Begins};
 ghost use Rattle.desk.specs.Posts.{ComesBack, FailsToLoad, SameTables, ShowsMore, shown_by};
-ghost use Rattle.desk.specs.Changes.{CatchUpAccepted, CatchUpJudged, IsNoChange, IsRefused, TellsShown};
+ghost use Rattle.desk.specs.Changes.{CatchUpAccepted, CatchUpJudged, IsNoChange, IsRefused, MarkingAccepted, RebuildAccepted, TellsShown};
 ghost use Rattle.keeper.specs.calls.Write.{WriteStep};
 ghost use Rattle.keeper.specs.calls.Config.{ConfigStep};
 ghost use Rattle.keeper.specs.calls.Trim.{TrimStep};
 ghost use Rattle.keeper.specs.calls.CatchUp.{CatchUpStep};
+ghost use Rattle.keeper.specs.calls.Hot.{HotStep};
+ghost use Rattle.keeper.specs.calls.Rebuild.{RebuildStep};
 ghost use Rattle.front.specs.Kept.{IsKept, IsKnownIn, WereKept};
 
 use config::Config;
 use desk::{Desk, Posted};
-use keeper::{catch_up_on, configure_on, trim_on, write_on};
-use names::{Part, Refusal, Reply, Write};
+use keeper::{catch_up_on, configure_on, mark_on, rebuild_on, trim_on, write_on};
+use names::{Marking, Part, Refusal, Reply, Write};
 use published::{Naming, Opened, Receipt, Session};
 use std::alloc::Global;
 use std::marker::{Model, PhantomData};
@@ -58,6 +65,13 @@ impl<T: Tables + Drop, J: Naming, R: Wait + Drop> KeptDesk<T, J, R> {
             desk,
             of: PhantomData,
         }
+    }
+
+    // What is true of every one: a function knows it where it looks at a field.
+    fn see(&self)
+        ensures { IsKept J.book self.now }
+    {
+        let _ = &self.desk;
     }
 
     /// Gives the tables back. Sessions are answered no more.
@@ -103,6 +117,30 @@ impl<T: Tables + Drop, J: Naming, R: Wait + Drop> KeptDesk<T, J, R> {
         ensures seats { self.new.seats ≡ self.old.seats }
     {
         self.desk.catch_up(part, commits)
+    }
+
+    /// Marks a node, or takes its mark away.
+    pub fn mark(&mut self, marking: Marking) -> Result<Posted, Refusal>
+        ensures ok { IfOk result (λ posted.
+            MarkingAccepted self.old marking posted.value posted.receipt self.new) }
+        ensures err { IfErr result (λ why.
+            IsRefused T.Tables self.old IsNoChange
+            (RefusesMarking (standing self.old.posted) marking) why self.new) }
+        ensures seats { self.new.seats ≡ self.old.seats }
+    {
+        self.desk.mark(marking)
+    }
+
+    /// Makes the base of the group index of the newest posted revision.
+    pub fn rebuild(&mut self) -> Result<Posted, Refusal>
+        ensures ok { IfOk result (λ posted.
+            RebuildAccepted self.old posted.value posted.receipt self.new) }
+        ensures err { IfErr result (λ why.
+            IsRefused T.Tables self.old IsNoChange
+            (RefusesBase (standing self.old.posted) (newest (standing self.old.posted).kept)) why self.new) }
+        ensures seats { self.new.seats ≡ self.old.seats }
+    {
+        self.desk.rebuild()
     }
 
     /// Does the operations that a body asks for, as one commit, if its conditions hold, and tells of it.
@@ -154,6 +192,28 @@ impl<T: Tables + Drop, J: Naming, R: Wait + Drop> KeptDesk<T, J, R> {
     {
         catch_up_on(alloc, &mut self.desk, session, part, commits)
     }
+
+    /// Marks a node, or takes its mark away, as a body asks, and tells how many are marked.
+    pub fn change_marks(&mut self, alloc: Global, session: &mut Session, marking: Marking) -> Reply
+        requires { session.old.book ≡ J.book }
+        ensures step { (body : List ℕ) → AsksHot body marking
+            → HotStep T.Tables self.old body (told result) self.new }
+        ensures kept { Begins session.old session.new }
+        ensures known { Begins (shown_by self.new) session.new }
+    {
+        mark_on(alloc, &mut self.desk, session, marking)
+    }
+
+    /// Makes the base of the group index of the newest posted revision, and tells where it is.
+    pub fn move_base(&mut self, alloc: Global, session: &mut Session) -> Reply
+        requires { session.old.book ≡ J.book }
+        ensures step { (body : List ℕ) → AsksRebuild body
+            → RebuildStep T.Tables self.old body (told result) self.new }
+        ensures kept { Begins session.old session.new }
+        ensures known { Begins (shown_by self.new) session.new }
+    {
+        rebuild_on(alloc, &mut self.desk, session)
+    }
 }
 
 /// One lock over a desk. What is known of the desk each time the lock is taken is what is true of every `KeptDesk`.
@@ -185,8 +245,12 @@ impl<T: Tables + Drop, J: Naming, R: Wait + Drop> Keeper<T, J, R> {
     }
 
     /// The desk, for as long as the guard lives. No other call takes the lock.
-    pub fn hold<W: Wait>(&self, rt: &W) -> MutexGuard<'_, KeptDesk<T, J, R>> {
-        self.desk.lock(rt)
+    pub fn hold<W: Wait>(&self, rt: &W) -> MutexGuard<'_, KeptDesk<T, J, R>>
+        ensures { IsKept J.book (mutex_guard_value result) }
+    {
+        let desk = self.desk.lock(rt);
+        desk.see();
+        desk
     }
 
     /// Gives the tables back. Sessions are answered no more.

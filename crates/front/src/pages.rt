@@ -1,4 +1,4 @@
-//! Questions for pages of watched events by bytes, of a session alone: with no lock and no wait.
+//! Questions for pages of watched events by bytes, of a session alone: with no lock and no wait, by their type.
 ghost use Rattle.std.specs.Prelude.{◌≡◌, IfOk, IfErr};
 ghost use Rattle.names.specs.Calls.{told};
 ghost use Rattle.bodies.specs.Replies.{Says, SaysRefusal};

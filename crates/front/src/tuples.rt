@@ -1,4 +1,4 @@
-//! Questions for tuples by bytes, of a session alone: with no lock and no wait.
+//! Questions for tuples by bytes, of a session alone: with no lock and no wait, by their type.
 ghost use Rattle.std.specs.Prelude.{◌≡◌, IfOk, IfErr, option_map};
 ghost use Rattle.names.specs.Calls.{told};
 ghost use Rattle.bodies.specs.Replies.{Says, SaysRefusalAt};

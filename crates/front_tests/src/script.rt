@@ -13,7 +13,7 @@ use std::test::*;
 use tables::Listed;
 
 // The calls of the stored script, and calls that are refused.
-const CALLS: [(Call, &str); 31] = [
+const CALLS: [(Call, &str); 37] = [
     (
         Call::Config,
         r#"{"namespaces":{"group":{"member":{"types":["user","group#member"]}},"user":{}}}"#,
@@ -90,6 +90,12 @@ const CALLS: [(Call, &str); 31] = [
     (Call::CatchUp, r#"{"part":"hot","commits":2}"#),
     (Call::Trim, r#"{"floor":"AQAAAAAAAAABAAAAAAAAAAI"}"#),
     (Call::Hot, "{}"),
+    (Call::Hot, r#"{"mark":"group:a#member"}"#),
+    (Call::Hot, r#"{"mark":"group:a#owner"}"#),
+    (Call::Rebuild, "[]"),
+    (Call::Rebuild, "{}"),
+    (Call::Hot, r#"{"unmark":"group:a#member"}"#),
+    (Call::Hot, r#"{"unmark":"group:a#member"}"#),
 ];
 
 // What the program answers to the stored script.
@@ -98,6 +104,16 @@ const STORED: &str = r#"200 {"shown":true,"zookie":"AQAAAAAAAAABAAAAAAAAAAE"}
 200 {"allowed":true,"zookie":"AQAAAAAAAAABAAAAAAAAAAI"}
 200 {"shown":true,"zookie":"AQAAAAAAAAABAAAAAAAAAAM"}
 200 {"allowed":false,"zookie":"AQAAAAAAAAABAAAAAAAAAAM"}
+"#;
+
+// What the calls that mark nodes and rebuild the index are answered, which are the last ones.
+const MARKED: &str = r#"400 {"error":{"code":1,"name":"Malformed"}}
+200 {"marked":1,"shown":true}
+400 {"error":{"code":2,"name":"UnknownRelation"}}
+400 {"error":{"code":1,"name":"Malformed"}}
+200 {"base":"AQAAAAAAAAABAAAAAAAAAAM","shown":true}
+200 {"marked":0,"shown":true}
+200 {"marked":0,"shown":true}
 "#;
 
 fn put(text: &mut Vec<u8>, reply: Reply) -> Result<(), AllocError> {
@@ -154,5 +170,6 @@ fn a_worker_is_answered_as_one_who_holds_the_desk(rt: HostRuntime) {
         rt.alloc(),
     ));
     assert!(rt; locked.as_slice().starts_with(STORED.as_bytes()));
+    assert!(rt; locked.as_slice().ends_with(MARKED.as_bytes()));
     assert!(rt; locked.as_slice() == lent.as_slice());
 }

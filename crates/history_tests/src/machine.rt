@@ -2,7 +2,8 @@
 
 use crate::histories::written;
 use config::Config;
-use names::{Items, Node, Object, Part, Refusal};
+use names::limits::MAX_MARKS;
+use names::{Items, Marking, Node, Object, Part, Refusal};
 use publication::{Event, Outcome, Posting, Question, World};
 use rows::Loaded;
 use std::alloc::Global;
@@ -122,4 +123,77 @@ fn is_raised(alloc: Global) -> bool {
 #[test]
 fn the_floor_is_raised_to_where_no_cursor_is_below(rt: HostRuntime) {
     assert!(rt; is_raised(rt.alloc()));
+}
+
+fn marks(world: &mut World, node: &str) -> Result<bool, Refusal> {
+    let marking = Marking::Mark(Node::parse(node)?);
+    comes(world, Event::Posted(Posting::Marking(marking)))
+}
+
+fn unmarks(world: &mut World, node: &str) -> Result<bool, Refusal> {
+    let marking = Marking::Unmark(Node::parse(node)?);
+    comes(world, Event::Posted(Posting::Marking(marking)))
+}
+
+fn marks_numbered(alloc: Global, world: &mut World, number: usize) -> Result<bool, Refusal> {
+    let node = format!(in alloc; "group:{number}#member")?;
+    marks(world, &node)
+}
+
+fn marks_as_many_as_may_be(alloc: Global, world: &mut World) -> Result<bool, Refusal> {
+    for number in 0..MAX_MARKS {
+        if !marks_numbered(alloc, world, number)? {
+            return Ok(false);
+        }
+    }
+    Ok(true)
+}
+
+// A node is marked once, however often, and only if its relation is there.
+fn is_marked_and_not(alloc: Global, world: &mut World) -> Result<bool, Refusal> {
+    let early = marks(world, "group:a#member")?;
+    let opened = !early && opens(alloc, world)?;
+    let marked = opened && marks(world, "group:a#member")? && marks(world, "group:a#member")?;
+    Ok(marked && !marks(world, "group:a#owner")? && unmarks(world, "group:a#member")?)
+}
+
+// Where as many nodes are marked as may be, another is marked only in the place of one.
+fn is_full_then(alloc: Global, world: &mut World) -> Result<bool, Refusal> {
+    let full = marks_as_many_as_may_be(alloc, world)? && !marks(world, "group:a#member")?;
+    let again = full && marks(world, "group:0#member")? && unmarks(world, "group:0#member")?;
+    Ok(again && marks(world, "group:a#member")? && !marks(world, "group:0#member")?)
+}
+
+fn keeps_marks(alloc: Global) -> bool {
+    let mut world = World::new(alloc);
+    let one = is_marked_and_not(alloc, &mut world).unwrap_or(false);
+    one && is_full_then(alloc, &mut world).unwrap_or(false)
+}
+
+#[test]
+fn no_more_nodes_are_marked_than_may_be(rt: HostRuntime) {
+    assert!(rt; keeps_marks(rt.alloc()));
+}
+
+fn rebases(world: &mut World, rev: u64) -> Result<bool, Refusal> {
+    comes(world, Event::Posted(Posting::Rebasing(rev)))
+}
+
+fn is_rebased(alloc: Global, world: &mut World) -> Result<bool, Refusal> {
+    let opened = opens(alloc, world)? && !rebases(world, 0)? && rebases(world, 1)?;
+    let ahead = opened && !rebases(world, 2)? && puts_ann(alloc, world)?;
+    Ok(ahead && rebases(world, 2)? && !rebases(world, 1)?)
+}
+
+// The index has read as far as its base.
+fn is_seen_at_the_base(alloc: Global) -> bool {
+    let mut world = World::new(alloc);
+    let rebased = is_rebased(alloc, &mut world).unwrap_or(false);
+    let published = rebased && comes(&mut world, Event::Published(3)).unwrap_or(false);
+    published && matches!(asked(alloc, &mut world), Ok(Some((4, 2, true))))
+}
+
+#[test]
+fn no_base_is_below_the_last(rt: HostRuntime) {
+    assert!(rt; is_seen_at_the_base(rt.alloc()));
 }

@@ -9,5 +9,7 @@ pub mod Grouping
 pub mod Watching
 pub mod CatchingUp
 pub mod Trimming
+pub mod Marking
+pub mod Rebuilding
 pub mod Stating
 pub mod Answering

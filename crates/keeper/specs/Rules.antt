@@ -1,10 +1,9 @@
 -- What the desk may answer to a call, and what it holds after that.
 use Rattle.std.specs.Prelude.{ℕ, ◌≡◌, List, Option}
 use Rattle.names.specs.declared.call.Call.{Call}
-use Rattle.names.specs.declared.call.Call.TheVariants.{Write, Config, Check, Read, Expand, Leopard, Watch, Trim, CatchUp, State}
+use Rattle.names.specs.declared.call.Call.TheVariants.{Write, Config, Check, Read, Expand, Leopard, Watch, Trim, CatchUp, Hot, Rebuild, State}
 use Rattle.tables.specs.declared.tables.Tables.{Ghosts}
 use Rattle.desk.specs.Posts.{Posts}
-use Rattle.bodies.specs.Replies.{Says, no_route_data}
 use Rattle.keeper.specs.calls.Write.{WriteStep}
 use Rattle.keeper.specs.calls.Config.{ConfigStep}
 use Rattle.keeper.specs.calls.Check.{CheckStep}
@@ -14,6 +13,8 @@ use Rattle.keeper.specs.calls.Groups.{GroupsStep}
 use Rattle.keeper.specs.calls.Watch.{WatchStep}
 use Rattle.keeper.specs.calls.Trim.{TrimStep}
 use Rattle.keeper.specs.calls.CatchUp.{CatchUpStep}
+use Rattle.keeper.specs.calls.Hot.{HotStep}
+use Rattle.keeper.specs.calls.Rebuild.{RebuildStep}
 use Rattle.keeper.specs.calls.State.{StateStep}
 
 -- from old, the desk may tell this to the call with this body, and go on to new
@@ -28,5 +29,6 @@ DeskStep g old Leopard body told new = GroupsStep old body told new
 DeskStep g old Watch body told new = WatchStep old body told new
 DeskStep g old Trim body told new = TrimStep g old body told new
 DeskStep g old CatchUp body told new = CatchUpStep g old body told new
+DeskStep g old Hot body told new = HotStep g old body told new
+DeskStep g old Rebuild body told new = RebuildStep g old body told new
 DeskStep g old State body told new = StateStep old told new
-DeskStep g old _ body told new = Says told 404 no_route_data × (new ≡ old)

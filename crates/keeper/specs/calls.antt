@@ -8,4 +8,6 @@ pub mod Groups
 pub mod Watch
 pub mod Trim
 pub mod CatchUp
+pub mod Hot
+pub mod Rebuild
 pub mod State

@@ -9,12 +9,13 @@ use crate::calls::check::answer_check;
 use crate::calls::configuring::answer_config;
 use crate::calls::expanding::answer_expand;
 use crate::calls::grouping::answer_groups;
+use crate::calls::hot::answer_hot;
 use crate::calls::reading::answer_read;
+use crate::calls::rebuilding::answer_rebuild;
 use crate::calls::state::answer_state;
 use crate::calls::trim::answer_trim;
 use crate::calls::watching::answer_watch;
 use crate::calls::write::answer_write;
-use bodies::replies::no_route;
 use desk::Desk;
 use names::{Call, Reply};
 use published::Session;
@@ -45,7 +46,8 @@ pub fn answer_on<T: Tables + Drop, R: Wait + Drop>(
         Call::Watch => answer_watch(alloc, desk, session, body),
         Call::Trim => answer_trim(alloc, desk, session, body),
         Call::CatchUp => answer_catch_up(alloc, desk, session, body),
+        Call::Hot => answer_hot(alloc, desk, session, body),
+        Call::Rebuild => answer_rebuild(alloc, desk, session, body),
         Call::State => answer_state(alloc, desk),
-        _ => no_route(alloc),
     }
 }

@@ -25,6 +25,10 @@ subject_cmp a b = ordering_then (object_cmp a.object b.object) (option_cmp (slic
 abbrev pub tuple_cmp : Tuple → Tuple → Ordering
 tuple_cmp a b = ordering_then (node_cmp a.node b.node) (subject_cmp a.subject b.subject)
 
+-- the two are one node
+abbrev pub is_same_node : Node → Node → Bool
+is_same_node a b = eq_by_cmp node_cmp a b
+
 -- the two are one tuple
 abbrev pub is_same_tuple : Tuple → Tuple → Bool
 is_same_tuple a b = eq_by_cmp tuple_cmp a b

@@ -24,6 +24,8 @@ pub const MAX_BODY_LEN: usize = 65_536;
 pub const MAX_OPS: usize = 256;
 /// The most commits that a cursor is asked to take at once.
 pub const MAX_CATCH_UP: u64 = 65_536;
+/// The most nodes that are marked.
+pub const MAX_MARKS: usize = 256;
 
 /// The most current tuples.
 pub const MAX_TUPLES: u64 = 1_000_000;

@@ -11,6 +11,8 @@ pub struct State {
     pub hot: u64,
     /// The revision up to which the group index has read.
     pub index: u64,
+    /// The nodes that are marked.
+    pub marked: u64,
     /// The newest revision.
     pub newest: u64,
     /// The retained spans of revisions, each of one tuple.

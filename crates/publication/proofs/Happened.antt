@@ -4,20 +4,21 @@ use Rattle.std.proofs.lemmas.Bool.Decides.{nat_tests}
 use Rattle.std.specs.Prelude.{◌&&◌, not, is_some, Option, Some, None}
 use mathlib.Core.Bool.{true≢false}
 use Rattle.names.specs.declared.commit.Commit.{Commit as CommitOf}
+use Rattle.names.specs.declared.marking.Marking.{Marking}
 use Rattle.meaning.specs.Config.{Configured}
 use Rattle.meaning.specs.History.{History}
 use Rattle.rows.specs.Retained.{Retained, after_trim}
 use Rattle.rows.specs.Loads.{retained_of}
 use Rattle.rows.specs.declared.loaded.Loaded.{Loaded}
 use Rattle.shown.specs.declared.step.Step.{Step}
-use Rattle.shown.specs.declared.step.Step.TheVariants.{Open, Commit, Trim}
+use Rattle.shown.specs.declared.step.Step.TheVariants.{Open, Commit, Trim, Marking as MarkingStep, Rebase}
 use Rattle.publication.specs.declared.event.Event.{Event}
 use Rattle.publication.specs.declared.event.Event.TheVariants.{Posted}
-use Rattle.publication.specs.declared.event.Posting.TheVariants.{NextCommit, Opening, Trimming}
+use Rattle.publication.specs.declared.event.Posting.TheVariants.{NextCommit, Opening, Trimming, Marking as MarkingPosted, Rebasing}
 use Rattle.publication.specs.declared.event.Outcome.{Outcome}
 use Rattle.publication.specs.declared.event.Outcome.TheVariants.{Done}
 use Rattle.shown.specs.Standing.{Standing, standing}
-use Rattle.publication.specs.World.{State, has_begun, is_within, waiting_commits, can_raise, can_come, after_coming, after_event, IsComing, HasOutcome, Happens}
+use Rattle.publication.specs.World.{State, has_begun, is_within, waiting_commits, can_raise, can_mark, can_rebase, can_come, after_coming, IsComing, Happens}
 use Rattle.publication.specs.WorldParts.{Fit}
 use Rattle.shown.specs.Standing.{CanRaise}
 use Rattle.publication.proofs.Raising.{raises_where}
@@ -64,6 +65,24 @@ raise_next posted posted' floor newest newest' shown begun can more raised =
     happens s (Posted (Trimming floor)) Done _ (both_true (has_begun posted) (can_raise (standing posted) floor) begun ((raises_where (standing posted) floor).1 can)) refl
     (λ i. record { stored = raised i; posted = more i; shown = shown })
 
+-- a node is marked, or its mark is taken away
+pub mark_next : (posted posted' : List Step) (marking : Marking) (newest : Retained) (shown : ℕ) → has_begun posted ≡ true → can_mark (standing posted) marking ≡ true
+    → posted' ≡ posted ++ MarkingStep marking ∷ []
+    → Happens (record { stored = newest; posted = posted; shown = shown }) (Posted (MarkingPosted marking)) Done (record { stored = newest; posted = posted'; shown = shown })
+mark_next posted posted' marking newest shown begun can more =
+    let s : State = record { stored = newest; posted = posted; shown = shown } in
+    happens s (Posted (MarkingPosted marking)) Done _ (both_true (has_begun posted) (can_mark (standing posted) marking) begun can) refl
+    (ap (λ (xs : List Step). record { stored = newest; posted = xs; shown = shown }) more)
+
+-- the base of the index is made anew
+pub rebase_next : (posted posted' : List Step) (rev : ℕ) (newest : Retained) (shown : ℕ) → has_begun posted ≡ true → can_rebase (standing posted) rev ≡ true
+    → posted' ≡ posted ++ Rebase rev ∷ []
+    → Happens (record { stored = newest; posted = posted; shown = shown }) (Posted (Rebasing rev)) Done (record { stored = newest; posted = posted'; shown = shown })
+rebase_next posted posted' rev newest shown begun can more =
+    let s : State = record { stored = newest; posted = posted; shown = shown } in
+    happens s (Posted (Rebasing rev)) Done _ (both_true (has_begun posted) (can_rebase (standing posted) rev) begun can) refl
+    (ap (λ (xs : List Step). record { stored = newest; posted = xs; shown = shown }) more)
+
 not_both : (a b : Bool) → a ≡ false → b ≡ true → (not a && b) ≡ true
 not_both true b h k = absurd (true≢false h)
 not_both false b h k = k
@@ -80,3 +99,8 @@ open_first posted posted' loaded newest newest' shown unbegun within empty more 
 pub is_none : {A : Type 0} (o : Option A) → is_some o ≡ false → o ≡ None
 is_none None h = refl
 is_none (Some x) h = absurd cc
+
+-- what nothing speaks against
+pub none_told : {A : Type 0} (o : Option A) → not (is_some o) ≡ true → o ≡ None
+none_told None h = refl
+none_told (Some x) h = absurd (true≢false (sym h))

@@ -1,10 +1,9 @@
 -- Posted steps come in order.
-use Rattle.std.proofs.Common.{true, false, ◌≡◌, ◌<◌, ◌≤◌, ℕ, Bool, List, [], ◌∷◌, ◌++◌, length, take, drop, map, refl, ap, sym, subst, ◌∙◌, append_assoc, append-nil, length-append, if◌then◌else◌, arith}
+use Rattle.std.proofs.Common.{true, false, ◌≡◌, ◌≤◌, ℕ, Bool, List, [], ◌∷◌, ◌++◌, length, take, drop, map, refl, ap, sym, subst, ◌∙◌, append_assoc, append-nil, length-append, if◌then◌else◌, arith}
 use Rattle.std.proofs.Math.Seq.{drop-append_seam}
 use Rattle.std.proofs.lemmas.List.{take-append-drop}
 use Rattle.std.specs.List.{list_any}
 use mathlib.Core.Bool.{true≢false}
-use Rattle.names.specs.declared.part.Part.{Part}
 use Rattle.names.specs.declared.commit.Commit.{Commit as CommitOf}
 use Rattle.meaning.specs.Config.{Configured}
 use Rattle.meaning.specs.History.{History}
@@ -12,15 +11,15 @@ use Rattle.rows.specs.Retained.{Retained, IsRetained, newest, with_commit, after
 use Rattle.rows.specs.Loads.{retained_of}
 use Rattle.rows.specs.declared.loaded.Loaded.{Loaded}
 use Rattle.shown.specs.declared.step.Step.{Step}
-use Rattle.shown.specs.declared.step.Step.TheVariants.{Open, Commit, Take, Trim}
+use Rattle.shown.specs.declared.step.Step.TheVariants.{Open, Commit, Take, Trim, Marking as MarkingStep, Rebase}
 use Rattle.publication.specs.declared.event.Event.{Event}
 use Rattle.publication.specs.declared.event.Event.TheVariants.{Stored, Posted, Published, Entered, Notified}
-use Rattle.publication.specs.declared.event.Posting.TheVariants.{Opening, NextCommit, Taking, Trimming}
+use Rattle.publication.specs.declared.event.Posting.TheVariants.{Opening, NextCommit, Taking, Trimming, Marking as MarkingPosted, Rebasing}
 use Rattle.shown.specs.Standing.{Standing, standing, CanRaise}
 use Rattle.publication.specs.World.{State, start, has_begun, waiting_commits, next_step, can_come, can_raise, after_coming, after_event}
 use Rattle.publication.specs.Runs.{after_events, commits_of, floor_after, is_opening, with_commits, all_after, kept_after, ComeInOrder, IsOrdered, PostsStored}
 use Rattle.publication.proofs.Raising.{trim_none, trim_more, trim_again, newest_stays, raises_where}
-use Rattle.publication.proofs.Waiting.{standing_next, with_none, kept_all, takes_none}
+use Rattle.publication.proofs.Waiting.{standing_next, with_none, kept_all, IsBeside, take_beside, marking_beside, rebase_beside}
 use Rattle.publication.proofs.Rising.{and_left, and_right, within_after}
 
 come_in_order : (posted : List Step) (s : State) → has_begun posted ≡ true → IsOrdered posted s → ComeInOrder s
@@ -43,6 +42,8 @@ commits_on (Open loaded ∷ steps) more = commits_on steps more
 commits_on (Commit commit ∷ steps) more = ap (λ (h : History). commit ∷ h) (commits_on steps more)
 commits_on (Take part n ∷ steps) more = commits_on steps more
 commits_on (Trim floor ∷ steps) more = commits_on steps more
+commits_on (MarkingStep marking ∷ steps) more = commits_on steps more
+commits_on (Rebase rev ∷ steps) more = commits_on steps more
 
 commits_back : (h : History) → commits_of (map (λ c. Commit c) h) ≡ h
 commits_back [] = refl
@@ -54,6 +55,8 @@ floor_on floor (Open loaded ∷ steps) more = floor_on floor steps more
 floor_on floor (Commit commit ∷ steps) more = floor_on floor steps more
 floor_on floor (Take part n ∷ steps) more = floor_on floor steps more
 floor_on floor (Trim higher ∷ steps) more = floor_on higher steps more
+floor_on floor (MarkingStep marking ∷ steps) more = floor_on floor steps more
+floor_on floor (Rebase rev ∷ steps) more = floor_on floor steps more
 
 floor_same : (floor : ℕ) (h : History) → floor_after floor (map (λ c. Commit c) h) ≡ floor
 floor_same floor [] = refl
@@ -69,6 +72,8 @@ once_on (Open loaded ∷ steps) more h k = absurd (true≢false h)
 once_on (Commit commit ∷ steps) more h k = once_on steps more h k
 once_on (Take part n ∷ steps) more h k = once_on steps more h k
 once_on (Trim floor ∷ steps) more h k = once_on steps more h k
+once_on (MarkingStep marking ∷ steps) more h k = once_on steps more h k
+once_on (Rebase rev ∷ steps) more h k = once_on steps more h k
 
 -- commits, one list after the other
 with_both : (r : Retained) (g h : History) → with_commits (with_commits r g) h ≡ with_commits r (g ++ h)
@@ -151,23 +156,31 @@ commits_in_order s h waits is first =
       stored = is.stored ∙ ap (λ (g : History). with_commits kept g) (sym first) ∙ sym (with_both kept h waits) ∙ ap (λ (r : Retained). with_commits r waits) (sym more);
     }
 
--- a part takes commits
-taken_in_order : (s : State) (part : Part) (n : ℕ) (is : ComeInOrder s) → ComeInOrder (record { stored = s.stored; posted = s.posted ++ Take part n ∷ []; shown = s.shown })
-taken_in_order s part n is =
-    let steps = Take part n ∷ [] in
-    let kept = kept_same is.loaded is.later (Take part n) refl in
-    let all = all_same is.loaded is.later (Take part n) refl in
+-- a step comes that leaves the history as it is
+beside_in_order : (s : State) (step : Step) (is : ComeInOrder s) → IsBeside step → ComeInOrder (record { stored = s.stored; posted = s.posted ++ step ∷ []; shown = s.shown })
+beside_in_order s step is beside =
+    let steps = step ∷ [] in
+    let whole = all_after is.loaded is.later in
+    let floor = floor_after is.loaded.floor is.later in
+    let all = all_same is.loaded is.later step beside.none in
+    let stays = beside.floor floor in
+    let kept : kept_after is.loaded (is.later ++ steps) ≡ kept_after is.loaded is.later = kept_same is.loaded is.later step beside.none ∙ ap (λ (n : ℕ). after_trim whole n) stays in
     record {
       loaded = is.loaded;
       later = is.later ++ steps;
       waits = is.waits;
       steps = ap (λ (xs : List Step). xs ++ steps) is.steps;
-      once = once_on is.later steps is.once refl;
-      floor = subst (λ (n : ℕ). IsRetained (all_after is.loaded (is.later ++ steps)) n) (sym (floor_on is.loaded.floor is.later steps))
-          (subst (λ (r : Retained). IsRetained r (floor_after is.loaded.floor is.later)) (sym all) is.floor);
-      left = ap (λ (t : Standing). t.kept) (standing_next s.posted (Take part n)) ∙ takes_none (standing s.posted) part n ∙ is.left ∙ sym kept;
+      once = once_on is.later steps is.once beside.later;
+      floor = subst (λ (n : ℕ). IsRetained (all_after is.loaded (is.later ++ steps)) n) (sym (floor_on is.loaded.floor is.later steps ∙ stays))
+          (subst (λ (r : Retained). IsRetained r floor) (sym all) is.floor);
+      left = ap (λ (t : Standing). t.kept) (standing_next s.posted step) ∙ beside.kept (standing s.posted) ∙ is.left ∙ sym kept;
       stored = is.stored ∙ ap (λ (r : Retained). with_commits r is.waits) (sym kept);
     }
+
+ordered_beside : (s : State) (step : Step) → has_begun s.posted ≡ true → IsOrdered s.posted s → IsBeside step
+    → let t : State = record { stored = s.stored; posted = s.posted ++ step ∷ []; shown = s.shown } in IsOrdered t.posted t
+ordered_beside s step begun is beside =
+    ordered (s.posted ++ step ∷ []) _ (begun_on s.posted (step ∷ []) begun) (beside_in_order s step (come_in_order s.posted s begun is) beside)
 
 -- the floor is raised
 trimmed_in_order : (s : State) (floor : ℕ) (is : ComeInOrder s) → CanRaise (standing s.posted) floor
@@ -224,11 +237,13 @@ comes_ordered s (Posted NextCommit) can is =
     ordered (s.posted ++ next_step s) _ (begun_on s.posted (next_step s) begun) (commits_in_order s (take 1 (waiting_commits s)) (drop 1 (waiting_commits s)) here first)
 comes_ordered s (Posted (Taking part commits)) can is =
     let begun = and_left (has_begun s.posted) _ can in
-    ordered (s.posted ++ Take part commits ∷ []) _ (begun_on s.posted (Take part commits ∷ []) begun) (taken_in_order s part commits (come_in_order s.posted s begun is))
+    ordered_beside s (Take part commits) begun is (take_beside part commits)
 comes_ordered s (Posted (Trimming floor)) can is =
     let begun = and_left (has_begun s.posted) _ can in
     let raised = (raises_where (standing s.posted) floor).0 (and_right (has_begun s.posted) (can_raise (standing s.posted) floor) can) in
     ordered (s.posted ++ Trim floor ∷ []) _ (begun_on s.posted (Trim floor ∷ []) begun) (trimmed_in_order s floor (come_in_order s.posted s begun is) raised)
+comes_ordered s (Posted (MarkingPosted marking)) can is = ordered_beside s (MarkingStep marking) (and_left (has_begun s.posted) _ can) is (marking_beside marking)
+comes_ordered s (Posted (Rebasing rev)) can is = ordered_beside s (Rebase rev) (and_left (has_begun s.posted) _ can) is (rebase_beside rev)
 comes_ordered s (Published steps) can is = same_steps s.posted is
   where
     same_steps : (posted : List Step) → IsOrdered posted s → IsOrdered posted (after_coming s (Published steps))

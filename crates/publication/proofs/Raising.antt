@@ -1,6 +1,6 @@
 -- What a higher floor keeps.
 use Rattle.std.proofs.Common.{◌≡◌, ℕ, ◌+◌, ◌-◌, ◌<◌, ◌≤◌, Bool, true, false, List, [], ◌∷◌, ◌++◌, length, take, drop, map, refl, ap, sym, subst, ◌∙◌, arith, Option, Some, None}
-use Rattle.std.specs.Prelude.{◌||◌, ◌&&◌, not, nat_lt, nat_le}
+use Rattle.std.specs.Prelude.{◌||◌, not, nat_lt}
 use Rattle.std.specs.List.{list_any}
 use Rattle.std.proofs.Math.Seq.{take-add}
 use Rattle.std.proofs.lemmas.List.{take-append-drop, take-append-le, drop-append-le, drop-drop, length-drop}
@@ -22,7 +22,6 @@ use Rattle.rows.specs.Follows.{commit_cause, touch_of, is_in_order, IsNext}
 use Rattle.rows.proofs.Committing.{tuples_within}
 use Rattle.rows.proofs.Trimming.{spans_split}
 use Rattle.shown.specs.Standing.{Standing, CanRaise}
-use Rattle.shown.specs.Raising.{is_in_use}
 use Rattle.publication.specs.Keeping.{KeepsRetained}
 use Rattle.publication.specs.World.{can_raise}
 use Rattle.publication.specs.Runs.{with_commits}

@@ -7,10 +7,10 @@ use mathlib.Core.Bool.{true≢false}
 use Rattle.shown.specs.declared.answer.Answer.{Answer}
 use Rattle.shown.specs.declared.answer.Refused.{Refused}
 use Rattle.shown.specs.declared.step.Step.{Step}
-use Rattle.shown.specs.declared.step.Step.TheVariants.{Take, Trim}
+use Rattle.shown.specs.declared.step.Step.TheVariants.{Take, Trim, Marking as MarkingStep, Rebase}
 use Rattle.publication.specs.declared.event.Event.{Event}
 use Rattle.publication.specs.declared.event.Event.TheVariants.{Stored, Posted, Published, Entered, Notified}
-use Rattle.publication.specs.declared.event.Posting.TheVariants.{Opening, NextCommit, Taking, Trimming}
+use Rattle.publication.specs.declared.event.Posting.TheVariants.{Opening, NextCommit, Taking, Trimming, Marking as MarkingPosted, Rebasing}
 use Rattle.publication.specs.declared.event.Question.{Question}
 use Rattle.publication.specs.declared.event.Outcome.{Outcome}
 use Rattle.publication.specs.declared.event.Outcome.TheVariants.{No, Done, Answered}
@@ -44,6 +44,8 @@ comes_on s (Posted (Opening loaded)) can held =
 comes_on s (Posted NextCommit) can held = (omega (arith, held, length-append s.posted (next_step s)), le_refl s.shown)
 comes_on s (Posted (Taking part commits)) can held = (omega (arith, held, length-append s.posted (Take part commits ∷ [])), le_refl s.shown)
 comes_on s (Posted (Trimming floor)) can held = (omega (arith, held, length-append s.posted (Trim floor ∷ [])), le_refl s.shown)
+comes_on s (Posted (MarkingPosted marking)) can held = (omega (arith, held, length-append s.posted (MarkingStep marking ∷ [])), le_refl s.shown)
+comes_on s (Posted (Rebasing rev)) can held = (omega (arith, held, length-append s.posted (Rebase rev ∷ [])), le_refl s.shown)
 comes_on s (Published steps) can held =
     (at_most (s.shown + steps) (length s.posted) (and_right (nat_le 1 steps) (nat_le (s.shown + steps) (length s.posted)) can), omega arith)
 comes_on s (Entered seat question) can held = (held, le_refl s.shown)

@@ -2,7 +2,7 @@
 use mathlib.Core.Bool.{true≢false}
 use Rattle.std.proofs.Common.{true, false, ◌≡◌, ◌≤◌, ℕ, List, [], ◌∷◌, ◌++◌, length, take, drop, map, refl, ap, sym, ◌∙◌, subst, append_assoc, append-nil, arith, length-append}
 use Rattle.std.proofs.lemmas.List.Sums.{fold-append}
-use Rattle.std.specs.List.{fold}
+use Rattle.std.specs.List.{fold, list_any}
 use Rattle.std.proofs.Math.Seq.{drop-append_seam}
 use Rattle.std.proofs.lemmas.List.{take-append-drop, take-append-le}
 use Rattle.names.specs.declared.commit.Commit.{Commit as CommitOf}
@@ -14,12 +14,13 @@ use Rattle.rows.specs.Loads.{IsWithin, retained_of}
 use Rattle.rows.specs.declared.loaded.Loaded.{Loaded}
 use Rattle.names.specs.declared.part.Part.{Part}
 use Rattle.names.specs.declared.part.Part.TheVariants.{Index, Hot}
+use Rattle.names.specs.declared.marking.Marking.{Marking}
 use Rattle.shown.specs.declared.step.Step.{Step}
-use Rattle.shown.specs.declared.step.Step.TheVariants.{Open, Commit, Take, Trim}
+use Rattle.shown.specs.declared.step.Step.TheVariants.{Open, Commit, Take, Trim, Marking as MarkingStep, Rebase}
 use Rattle.shown.specs.Standing.{Standing, nothing, after_step, after_take, standing, CanRaise, HasRoom}
 use Rattle.publication.specs.World.{has_begun}
 use Rattle.publication.specs.WorldParts.{HaveRoom, all_steps, Fit}
-use Rattle.publication.specs.Runs.{with_commits}
+use Rattle.publication.specs.Runs.{with_commits, commits_of, floor_after, is_opening}
 use Rattle.publication.proofs.Raising.{trim_commit, trim_more, trim_next}
 
 pub standing_next : (steps : List Step) (step : Step) → standing (steps ++ step ∷ []) ≡ after_step (standing steps) step
@@ -86,9 +87,25 @@ room_same s t [] same have = tt
 room_same s t (c ∷ waiting) same have =
     (subst (λ (r : Retained). IsNext r c) same have.0, room_same (after_step s (Commit c)) (after_step t (Commit c)) waiting (ap (λ (r : Retained). with_commit r c) same) have.1)
 
-pub takes_none : (s : Standing) (part : Part) (n : ℕ) → (after_take s part n).kept ≡ s.kept
+takes_none : (s : Standing) (part : Part) (n : ℕ) → (after_take s part n).kept ≡ s.kept
 takes_none s Index n = refl
 takes_none s Hot n = refl
+
+-- the step leaves the history as it is
+pub record IsBeside (step : Step) : Type 0 where
+  pub none : commits_of (step ∷ []) ≡ []
+  pub later : list_any is_opening (step ∷ []) ≡ false
+  pub floor : (n : ℕ) → floor_after n (step ∷ []) ≡ n
+  pub kept : (s : Standing) → (after_step s step).kept ≡ s.kept
+
+pub take_beside : (part : Part) (n : ℕ) → IsBeside (Take part n)
+take_beside part n = record { none = refl; later = refl; floor = λ _. refl; kept = λ s. takes_none s part n }
+
+pub marking_beside : (marking : Marking) → IsBeside (MarkingStep marking)
+marking_beside marking = record { none = refl; later = refl; floor = λ _. refl; kept = λ _. refl }
+
+pub rebase_beside : (rev : ℕ) → IsBeside (Rebase rev)
+rebase_beside rev = record { none = refl; later = refl; floor = λ _. refl; kept = λ _. refl }
 
 still_unopened : (posted : List Step) (waiting : History) → has_begun posted ≡ true → posted ≡ [] → waiting ≡ []
 still_unopened posted waiting begun empty = absurd (true≢false (sym begun ∙ ap (λ (xs : List Step). has_begun xs) empty))
@@ -135,20 +152,21 @@ begun_on : (posted : List Step) (step : Step) → has_begun posted ≡ true → 
 begun_on [] step begun = absurd (true≢false (sym begun))
 begun_on (x ∷ posted) step begun = refl
 
--- after a part takes commits
-pub fit_taken : (posted posted' : List Step) (waiting : History) (part : Part) (n : ℕ) (newest : Retained) (shown : ℕ) (published : Standing)
-    → Fit posted waiting newest shown published → posted' ≡ posted ++ Take part n ∷ [] → has_begun posted ≡ true → Fit posted' waiting newest shown published
-fit_taken posted posted' waiting part n newest shown published fit more begun =
+-- after a step that leaves the history as it is
+pub fit_beside : (posted posted' : List Step) (waiting : History) (step : Step) (newest : Retained) (shown : ℕ) (published : Standing)
+    → Fit posted waiting newest shown published → posted' ≡ posted ++ step ∷ [] → has_begun posted ≡ true → IsBeside step → HasRoom (standing posted) step → Fit posted' waiting newest shown published
+fit_beside posted posted' waiting step newest shown published fit more begun beside has =
     let rest = map (λ c. Commit c) waiting in
-    let kept : (standing (posted ++ Take part n ∷ [])).kept ≡ (standing posted).kept = ap (λ (s : Standing). s.kept) (standing_next posted (Take part n)) ∙ takes_none (standing posted) part n in
-    let later = room_same (standing posted) (standing (posted ++ Take part n ∷ [])) waiting (sym kept) (room_later nothing posted rest fit.room) in
-    let before = room_more nothing posted (Take part n) (room_before nothing posted rest fit.room) tt in
+    let steps = posted ++ step ∷ [] in
+    let kept : (standing steps).kept ≡ (standing posted).kept = ap (λ (s : Standing). s.kept) (standing_next posted step) ∙ beside.kept (standing posted) in
+    let later = room_same (standing posted) (standing steps) waiting (sym kept) (room_later nothing posted rest fit.room) in
+    let before = room_more nothing posted step (room_before nothing posted rest fit.room) has in
     record {
-      room = subst (λ (xs : List Step). HaveRoom nothing (all_steps xs waiting)) (sym more) (room_both nothing (posted ++ Take part n ∷ []) rest before later);
-      stored = fit.stored ∙ kept_all posted waiting ∙ ap (λ (r : Retained). with_commits r waiting) (sym kept) ∙ sym (kept_all (posted ++ Take part n ∷ []) waiting) ∙ ap (λ (xs : List Step). (standing (all_steps xs waiting)).kept) (sym more);
-      unopened = still_unopened posted' waiting (ap (λ (xs : List Step). has_begun xs) more ∙ begun_on posted (Take part n) begun);
-      within = no_less posted posted' (Take part n) shown more fit.within;
-      stands = fit.stands ∙ same_shown posted posted' (Take part n) shown more fit.within;
+      room = subst (λ (xs : List Step). HaveRoom nothing (all_steps xs waiting)) (sym more) (room_both nothing steps rest before later);
+      stored = fit.stored ∙ kept_all posted waiting ∙ ap (λ (r : Retained). with_commits r waiting) (sym kept) ∙ sym (kept_all steps waiting) ∙ ap (λ (xs : List Step). (standing (all_steps xs waiting)).kept) (sym more);
+      unopened = still_unopened posted' waiting (ap (λ (xs : List Step). has_begun xs) more ∙ begun_on posted step begun);
+      within = no_less posted posted' step shown more fit.within;
+      stands = fit.stands ∙ same_shown posted posted' step shown more fit.within;
     }
 
 -- commits have room where they had it before the floor was raised

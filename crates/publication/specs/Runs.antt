@@ -11,7 +11,7 @@ use Rattle.shown.specs.declared.answer.Answer.{Answer}
 use Rattle.shown.specs.declared.answer.Refused.{Refused}
 use Rattle.shown.specs.declared.step.Step.{Step}
 use Rattle.rows.specs.declared.loaded.Loaded.{Loaded}
-use Rattle.shown.specs.declared.step.Step.TheVariants.{Open, Commit, Take, Trim}
+use Rattle.shown.specs.declared.step.Step.TheVariants.{Open, Commit, Take, Trim, Marking, Rebase}
 use Rattle.publication.specs.declared.event.Event.{Event}
 use Rattle.publication.specs.declared.event.Event.TheVariants.{Entered, Notified}
 use Rattle.publication.specs.declared.event.Question.{Question}
@@ -58,6 +58,8 @@ commits_of (Open loaded ∷ steps) = commits_of steps
 commits_of (Commit commit ∷ steps) = commit ∷ commits_of steps
 commits_of (Take part commits ∷ steps) = commits_of steps
 commits_of (Trim floor ∷ steps) = commits_of steps
+commits_of (Marking marking ∷ steps) = commits_of steps
+commits_of (Rebase rev ∷ steps) = commits_of steps
 
 -- the floor after the steps: the last to which one of them raises it
 abbrev pub floor_after : ℕ → List Step → ℕ
@@ -66,12 +68,16 @@ floor_after floor (Open loaded ∷ steps) = floor_after floor steps
 floor_after floor (Commit commit ∷ steps) = floor_after floor steps
 floor_after floor (Take part commits ∷ steps) = floor_after floor steps
 floor_after floor (Trim higher ∷ steps) = floor_after higher steps
+floor_after floor (Marking marking ∷ steps) = floor_after floor steps
+floor_after floor (Rebase rev ∷ steps) = floor_after floor steps
 
 abbrev pub is_opening : Step → Bool
 is_opening (Open loaded) = true
 is_opening (Commit commit) = false
 is_opening (Take part commits) = false
 is_opening (Trim floor) = false
+is_opening (Marking marking) = false
+is_opening (Rebase rev) = false
 
 -- the history with more commits
 abbrev pub with_commits : Retained → History → Retained

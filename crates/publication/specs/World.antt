@@ -7,6 +7,7 @@ use Rattle.std.specs.Ordering.{is_lt}
 use Rattle.names.specs.declared.limits.TheConstants.{MAX_CATCH_UP, MAX_REV, MAX_ROWS}
 use Rattle.names.specs.Order.{tuple_cmp}
 use Rattle.names.specs.declared.tuple.Tuple.{Tuple}
+use Rattle.names.specs.declared.marking.Marking.{Marking}
 use Rattle.meaning.specs.TupleSet as set
 use Rattle.meaning.specs.Snap.{Snap}
 use Rattle.meaning.specs.Admits.{admits}
@@ -18,15 +19,16 @@ use Rattle.rows.specs.declared.loaded.Loaded.{Loaded}
 use Rattle.shown.specs.declared.answer.Answer.{Answer}
 use Rattle.shown.specs.declared.answer.Refused.{Refused}
 use Rattle.shown.specs.declared.step.Step.{Step}
-use Rattle.shown.specs.declared.step.Step.TheVariants.{Open, Commit, Take, Trim}
+use Rattle.shown.specs.declared.step.Step.TheVariants.{Open, Commit, Take, Trim, Marking as MarkingStep, Rebase}
 use Rattle.publication.specs.declared.event.Event.{Event}
 use Rattle.publication.specs.declared.event.Event.TheVariants.{Stored, Posted, Published, Entered, Notified}
-use Rattle.publication.specs.declared.event.Posting.TheVariants.{Opening, NextCommit, Taking, Trimming}
+use Rattle.publication.specs.declared.event.Posting.TheVariants.{Opening, NextCommit, Taking, Trimming, Marking as MarkingPosted, Rebasing}
 use Rattle.publication.specs.declared.event.Question.{Question}
 use Rattle.publication.specs.declared.event.Question.TheVariants.{Check}
 use Rattle.publication.specs.declared.event.Outcome.{Outcome}
 use Rattle.publication.specs.declared.event.Outcome.TheVariants.{No, Done, Answered}
-use Rattle.shown.specs.Standing.{Standing, nothing_kept, standing}
+use Rattle.shown.specs.Standing.{Standing, nothing_kept, standing, base_cause}
+use Rattle.shown.specs.Marks.{marking_cause}
 use Rattle.shown.specs.Raising.{is_in_use}
 use Rattle.shown.specs.Answers.{IsAnswer, IsRefusal}
 
@@ -88,9 +90,18 @@ is_within l = is_limited l && are_admitted (retained_of l).base l.commits
 abbrev pub can_raise : Standing → ℕ → Bool
 can_raise s floor = nat_lt s.kept.floor floor && (nat_le floor (newest s.kept) && not (is_in_use s floor))
 
+-- nothing speaks against the marking
+abbrev pub can_mark : Standing → Marking → Bool
+can_mark s marking = not (is_some (marking_cause (newest_of s.kept).held.config s.marks marking))
+
+-- nothing speaks against a base of the revision
+abbrev pub can_rebase : Standing → ℕ → Bool
+can_rebase s rev = not (is_some (base_cause s rev))
+
 -- The opening comes first, and once. Then a commit that is not refused can be stored, the step of a stored one
--- be posted, a part take commits, the floor be raised, what waits be published, a session be told of what is published, and
--- a question be asked where something is published.
+-- be posted, a part take commits, the floor be raised, a node be marked or its mark taken away, the base of the index be
+-- made anew, what waits be published, a session be told of what is published, and a question be asked where something is
+-- published.
 abbrev pub can_come : State → Event → Bool
 can_come s (Stored commit) =
     has_begun s.posted && not (is_some (commit_cause (newest_of s.stored) commit))
@@ -98,6 +109,8 @@ can_come s (Posted (Opening loaded)) = not (has_begun s.posted) && is_within loa
 can_come s (Posted NextCommit) = has_begun s.posted && nat_le 1 (length (waiting_commits s))
 can_come s (Posted (Taking part commits)) = has_begun s.posted && nat_le commits MAX_CATCH_UP
 can_come s (Posted (Trimming floor)) = has_begun s.posted && can_raise (standing s.posted) floor
+can_come s (Posted (MarkingPosted marking)) = has_begun s.posted && can_mark (standing s.posted) marking
+can_come s (Posted (Rebasing rev)) = has_begun s.posted && can_rebase (standing s.posted) rev
 can_come s (Published steps) = nat_le 1 steps && nat_le (s.shown + steps) (length s.posted)
 can_come s (Entered seat question) = nat_le 1 s.shown
 can_come s (Notified seat steps) = has_begun s.posted && nat_le steps s.shown
@@ -114,6 +127,10 @@ after_coming s (Posted (Taking part commits)) =
     record { stored = s.stored; posted = s.posted ++ Take part commits ∷ []; shown = s.shown }
 after_coming s (Posted (Trimming floor)) =
     record { stored = after_trim s.stored floor; posted = s.posted ++ Trim floor ∷ []; shown = s.shown }
+after_coming s (Posted (MarkingPosted marking)) =
+    record { stored = s.stored; posted = s.posted ++ MarkingStep marking ∷ []; shown = s.shown }
+after_coming s (Posted (Rebasing rev)) =
+    record { stored = s.stored; posted = s.posted ++ Rebase rev ∷ []; shown = s.shown }
 after_coming s (Published steps) =
     record { stored = s.stored; posted = s.posted; shown = s.shown + steps }
 after_coming s (Entered seat question) = s

@@ -1,7 +1,7 @@
 //! What can happen to a published state, and what comes of it.
 
 use config::Config;
-use names::{Commit, Node, Object, Part};
+use names::{Commit, Marking, Node, Object, Part};
 use rows::Loaded;
 use shown::{Answer, Refused};
 use zookie::Consistency;
@@ -33,6 +33,10 @@ pub enum Posting {
     Taking(Part, u32),
     /// The floor is raised to a revision above it that no cursor is below, in what is stored too.
     Trimming(u64),
+    /// A node is marked, or its mark is taken away.
+    Marking(Marking),
+    /// The base of the group index is made anew, of a revision that is not below it.
+    Rebasing(u64),
 }
 
 /// What a session asks.

@@ -2,7 +2,7 @@
 //! of sessions are answered. It is the plain one, and makes the published state anew at each publication.
 ghost use Rattle.std.specs.Prelude.{◌≡◌, ◌≤◌, IfOk, OnErr};
 ghost use Rattle.publication.specs.declared.event.Event.TheVariants.{Stored, Posted, Published, Entered, Notified};
-ghost use Rattle.publication.specs.declared.event.Posting.TheVariants.{Opening, NextCommit, Taking, Trimming};
+ghost use Rattle.publication.specs.declared.event.Posting.TheVariants.{Opening, NextCommit, Taking, Trimming, Marking as MarkingPosted, Rebasing};
 ghost use Rattle.shown.specs.Standing.{standing, nothing};
 ghost use Rattle.publication.specs.WorldParts.{HaveRoom};
 
@@ -10,7 +10,7 @@ use crate::event::{Event, Outcome, Posting, Question};
 use crate::within::is_within;
 use config::Config;
 use names::limits::MAX_CATCH_UP;
-use names::{Commit, Part, Refusal};
+use names::{Commit, Marking, Part, Refusal};
 use rows::{Loaded, Rows, what_follows_has_room};
 use shown::{Shown, Step};
 use std::alloc::{AllocError, Global};
@@ -44,7 +44,7 @@ impl Model for World {
 }
 
 impl World {
-    ghost use Rattle.publication.specs.World.{start, has_begun, Happens, after_event, HasOutcome};
+    ghost use Rattle.publication.specs.World.{start, has_begun, can_mark, can_rebase, Happens, after_event, HasOutcome};
 
     /// The machine before the first event.
     pub fn new(alloc: Global) -> World
@@ -72,6 +72,8 @@ impl World {
             Event::Posted(Posting::NextCommit) => self.post(),
             Event::Posted(Posting::Taking(part, commits)) => self.take(part, commits),
             Event::Posted(Posting::Trimming(floor)) => self.trim(floor),
+            Event::Posted(Posting::Marking(marking)) => self.mark(marking),
+            Event::Posted(Posting::Rebasing(rev)) => self.rebase(rev),
             Event::Published(steps) => self.publish(steps),
             Event::Entered(seat, question) => self.answer(seat, &question),
             Event::Notified(seat, steps) => Ok(self.notify(seat, steps)),
@@ -140,12 +142,53 @@ impl World {
         ensures ok { IfOk result (λ o. Happens self.old (Posted (Trimming floor)) o self.new) }
         ensures err { OnErr result (self.new ≡ self.old) }
     {
-        if !self.has_begun() || !standing_of(self.alloc, &self.posted)?.can_raise(floor) {
+        if !self.has_begun() || !self.standing()?.can_raise(floor) {
             return Ok(Outcome::No);
         }
         self.posted.push(Step::Trim(floor))?;
         self.newest.trim(floor);
         Ok(Outcome::Done)
+    }
+
+    fn mark(&mut self, marking: Marking) -> Result<Outcome, AllocError>
+        ensures ok { IfOk result (λ o. Happens self.old (Posted (MarkingPosted marking)) o self.new) }
+        ensures err { OnErr result (self.new ≡ self.old) }
+    {
+        if !self.has_begun() || !self.can_mark(&marking)? {
+            return Ok(Outcome::No);
+        }
+        self.posted.push(Step::Marking(marking))?;
+        Ok(Outcome::Done)
+    }
+
+    fn rebase(&mut self, rev: u64) -> Result<Outcome, AllocError>
+        ensures ok { IfOk result (λ o. Happens self.old (Posted (Rebasing rev)) o self.new) }
+        ensures err { OnErr result (self.new ≡ self.old) }
+    {
+        if !self.has_begun() || !self.can_rebase(rev)? {
+            return Ok(Outcome::No);
+        }
+        self.posted.push(Step::Rebase(rev))?;
+        Ok(Outcome::Done)
+    }
+
+    fn can_mark(&self, marking: &Marking) -> Result<bool, AllocError>
+        ensures { IfOk result (λ yes. yes ≡ can_mark (standing self.now.posted) marking.now) }
+    {
+        Ok(self.standing()?.judge_marking(marking).is_ok())
+    }
+
+    fn can_rebase(&self, rev: u64) -> Result<bool, AllocError>
+        ensures { IfOk result (λ yes. yes ≡ can_rebase (standing self.now.posted) rev) }
+    {
+        Ok(self.standing()?.judge_base(rev).is_ok())
+    }
+
+    /// What the posted steps leave.
+    fn standing(&self) -> Result<Shown, AllocError>
+        ensures { IfOk result (λ s. s ≡ standing self.now.posted) }
+    {
+        standing_of(self.alloc, &self.posted)
     }
 
     fn publish(&mut self, steps: u32) -> Result<Outcome, AllocError>

@@ -5,3 +5,4 @@ pub mod Standings
 pub mod Rules
 pub mod Chains
 pub mod Leading
+pub mod Postable

@@ -33,6 +33,8 @@ pub(crate) fn can_follow(shown: &Shown, post: &Post) -> bool
         },
         Step::Take(_, _) => true,
         Step::Trim(floor) => shown.can_raise(*floor),
+        Step::Marking(marking) => shown.judge_marking(marking).is_ok(),
+        Step::Rebase(rev) => shown.judge_base(*rev).is_ok(),
     }
 }
 

@@ -13,12 +13,12 @@ use Rattle.zookie.specs.declared.Zookie.{Zookie}
 use Rattle.bodies.specs.Writing.{AsksWrite}
 use Rattle.names.specs.declared.part.Part.{Part}
 use Rattle.names.specs.declared.part.Part.TheVariants.{Index, Hot}
-use Rattle.rows.specs.Retained.{Retained}
+use Rattle.rows.specs.Retained.{Retained, newest}
 use Rattle.tables.specs.Device.{Device, Lasts}
 use Rattle.tables.specs.Leaving.{IsOneOf, AreAmong}
 use Rattle.tables.specs.declared.tables.Tables.{Ghosts}
 use Rattle.shown.specs.declared.step.Step.{Step}
-use Rattle.shown.specs.declared.step.Step.TheVariants.{Take}
+use Rattle.shown.specs.declared.step.Step.TheVariants.{Take, Marking, Rebase}
 use Rattle.shown.specs.Standing.{Standing, standing, nothing, after_step, after_take}
 use Rattle.std.proofs.lemmas.List.Sums.{fold-append}
 use Rattle.desk.specs.TableChanges.{TableChange, Adds, Raises, changed, CanChange}
@@ -35,6 +35,8 @@ use Rattle.keeper.specs.calls.Groups.{GroupsStep, groups_malformed, groups_bad_z
 use Rattle.keeper.specs.calls.Watch.{WatchStep, watch_malformed, watch_bad_zookie, watch_answered, watch_refused, watch_unread}
 use Rattle.keeper.specs.calls.Trim.{TrimStep, trim_malformed, trim_bad_zookie, trim_accepted, trim_refused, trim_unread}
 use Rattle.keeper.specs.calls.CatchUp.{CatchUpStep, catch_up_malformed, catch_up_accepted, catch_up_refused, catch_up_unread}
+use Rattle.keeper.specs.calls.Hot.{HotStep, hot_malformed, hot_accepted, hot_refused, hot_unread}
+use Rattle.keeper.specs.calls.Rebuild.{RebuildStep, rebuild_malformed, rebuild_accepted, rebuild_refused, rebuild_unread}
 use Rattle.lines.specs.Text.{word_of, body_of}
 use Rattle.lines.specs.Machine.{IsAnswer, Run}
 use Rattle.runs.specs.Runs.{kept_by, AsksChange, LineAsks, IsAskedIn}
@@ -162,6 +164,20 @@ module _ {T : Type 0} (g : Ghosts T) (weaker : Weaker g) (P : TableChange → Ty
   after_catch_up old body told new (catch_up_refused part commits why asks is says) h = refused old new _ _ why (λ c none. absurd none) is h
   after_catch_up old body told new (catch_up_unread none same) h = same_desk old new same h
 
+  after_hot : (old : Posts T) (body : List ℕ) (told : Option (ℕ × List ℕ)) (new : Posts T) → HotStep g old body told new → HasLeft g P start old → HasLeft g P start new
+  after_hot old body told new (hot_malformed asks says same) h = same_desk old new same h
+  after_hot old body told new (hot_accepted marking marked receipt asks is says) h =
+      same_tables old new is.tables (ap (λ (steps : List Step). (standing steps).kept) is.posts.posted ∙ ap (λ (s : Standing). s.kept) (fold-append after_step nothing old.posted (Marking marking ∷ []))) h
+  after_hot old body told new (hot_refused marking why asks is says) h = refused old new _ _ why (λ c none. absurd none) is h
+  after_hot old body told new (hot_unread none same) h = same_desk old new same h
+
+  after_rebuild : (old : Posts T) (body : List ℕ) (told : Option (ℕ × List ℕ)) (new : Posts T) → RebuildStep g old body told new → HasLeft g P start old → HasLeft g P start new
+  after_rebuild old body told new (rebuild_malformed asks says same) h = same_desk old new same h
+  after_rebuild old body told new (rebuild_accepted base receipt asks is says) h =
+      same_tables old new is.tables (ap (λ (steps : List Step). (standing steps).kept) is.posts.posted ∙ ap (λ (s : Standing). s.kept) (fold-append after_step nothing old.posted (Rebase (newest (kept_by old)) ∷ []))) h
+  after_rebuild old body told new (rebuild_refused why asks is says) h = refused old new _ _ why (λ c none. absurd none) is h
+  after_rebuild old body told new (rebuild_unread none same) h = same_desk old new same h
+
   trimmed : (old new : Posts T) (rev : ℕ) → IsTrimmed g old rev new → HasLeft g P start old → HasLeft g P start new
   trimmed old new rev (trim_raises above posts is) h = stored old new is h
   trimmed old new rev (trim_stays below shows same) h = same_tables old new same.0 (ap (λ (steps : List Step). (standing steps).kept) shows.posted) h
@@ -185,9 +201,9 @@ module _ {T : Type 0} (g : Ghosts T) (weaker : Weaker g) (P : TableChange → Ty
   after_step_of old call.Expand body told new asked s h = after_expand old body told new s h
   after_step_of old call.Watch body told new asked s h = after_watch old body told new s h
   after_step_of old call.Leopard body told new asked s h = after_groups old body told new s h
-  after_step_of old call.Hot body told new asked s h = same_desk old new s.1 h
+  after_step_of old call.Hot body told new asked s h = after_hot old body told new s h
   after_step_of old call.Trim body told new asked s h = after_trim old body told new asked s h
-  after_step_of old call.Rebuild body told new asked s h = same_desk old new s.1 h
+  after_step_of old call.Rebuild body told new asked s h = after_rebuild old body told new s h
 
   after_answer : (old : Posts T) (fits : Bool) (k : Option Call) (body text : List ℕ) (new : Posts T) → ((it : Call) → k ≡ Some it → (c : TableChange) → AsksChange it body c → P c)
       → IsAnswer (DeskStep g) old fits k body text new → HasLeft g P start old → HasLeft g P start new

@@ -1,5 +1,5 @@
 //! One connection over TCP.
-ghost use Rattle.std.specs.Prelude.{◌≡◌, false, true, IfSome};
+ghost use Rattle.std.specs.Prelude.{◌≡◌, ◌≤◌, ◌*◌, ◌⊎◌, false, true, IfSome};
 ghost use Rattle.http_api.specs.Routes.{table};
 ghost use Rattle.server.specs.Attending.{Attended};
 
@@ -16,8 +16,11 @@ use tracked_io::{TrackedReader, TrackedWriter};
 /// For how many milliseconds a read waits for a peer that was refused to end its side.
 const LINGER: u64 = 100;
 
-/// How many pieces are read of what such a peer still sends, each of 4,096 bytes at most.
-const PIECES: u32 = 256;
+/// How many pieces are read of what such a peer still sends.
+const PIECES: u64 = 256;
+
+/// How many bytes a piece has at most.
+const PIECE_LEN: usize = 4_096;
 
 /// What a connection is read and written by.
 pub type Sides<'a> = (
@@ -59,23 +62,35 @@ pub fn serve_stream<A: Answers>(
 
 /// Before a connection is closed that ended so: where its peer was refused, it ends the sending side, and reads for a
 /// while what the peer had sent before it knew. A socket that is closed with bytes unread resets the connection, and the
-/// peer may lose the reply that it was just sent (RFC 9112, section 9.6).
-pub fn take_leave(stream: &TcpStream, end: End) {
+/// peer may lose the reply that it was just sent (RFC 9112, section 9.6). It answers how many bytes it has thrown away.
+pub fn take_leave(stream: &TcpStream, end: End) -> u64
+    ensures refused { (result ≡ 0) ⊎ ((end ≡ End.Asked) ⊎ (end ≡ End.Memory)) }
+    ensures bounded { result ≤ PIECES * PIECE_LEN }
+{
     if end != End::Asked && end != End::Memory {
-        return;
+        return 0;
     }
     let told = stream.shutdown(Shutdown::Write);
     let bounded = stream.set_read_timeout(Some(Duration::from_millis(LINGER)));
     if told.is_err() || bounded.is_err() {
-        return;
+        return 0;
     }
     let mut from = stream;
-    let mut piece = [0u8; 4096];
+    throw_away(&mut from)
+}
+
+// Reads what comes until it ends or fails, and so many pieces of it at most.
+fn throw_away<R: Read>(from: &mut R) -> u64
+    ensures { result ≤ PIECES * PIECE_LEN }
+{
+    let mut piece = [0u8; PIECE_LEN];
+    let mut thrown = 0u64;
     for _ in 0..PIECES {
         match from.read(&mut piece) {
-            Ok(0) => return,
-            Ok(_) => {}
-            Err(_) => return,
+            Ok(0) => return thrown,
+            Ok(n) => thrown += n as u64,
+            Err(_) => return thrown,
         }
     }
+    thrown
 }

@@ -41,7 +41,7 @@ impl<'a, A: Answers, R: Wait> Answers for Waking<'a, A, R> {
 // Whether a call may change what is shown, be it by showing what waited.
 fn is_change(call: Call) -> bool {
     match call {
-        Call::Write | Call::Config | Call::Trim | Call::CatchUp => true,
+        Call::Write | Call::Config | Call::Trim | Call::CatchUp | Call::Hot | Call::Rebuild => true,
         _ => false,
     }
 }

@@ -1,3 +1,4 @@
+pub mod Marks
 pub mod Standing
 pub mod Raising
 pub mod Answers

@@ -3,6 +3,7 @@
 #![tactic(auto)]
 
 mod answer;
+mod marks;
 mod shown;
 mod step;
 

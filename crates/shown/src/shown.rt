@@ -2,6 +2,7 @@
 ghost use Rattle.std.specs.Prelude.{◌≡◌, ◌<◌, ◌≤◌, ◌↔◌, min, None, Some, true, false, IsTrue, IfOk, IfErr, OnOk, OnErr};
 ghost use Rattle.names.specs.declared.limits.TheConstants.{MAX_REV};
 ghost use Rattle.names.specs.declared.part.Part.TheVariants.{Index, Hot};
+ghost use Rattle.names.specs.declared.marking.Marking.TheVariants.{Mark};
 ghost use Rattle.meaning.specs.Admits.{has_relation};
 ghost use Rattle.meaning.specs.Causes.{CheckCause};
 ghost use Rattle.meaning.specs.Config.{rel_of};
@@ -11,8 +12,9 @@ ghost use Rattle.rows.specs.Follows.{IsAccepted};
 ghost use Rattle.rows.specs.Judging.{WriteRefused, ConfigRefused};
 ghost use Rattle.verdict.specs.Verdict.{AcceptsWrite, RefusesWrite};
 ghost use Rattle.rows.specs.Retained.{IsRetained, newest, newest_of, snap_at, commits_between, last_config};
-ghost use Rattle.shown.specs.Standing.{nothing, after_step, after_take, before_commit, cursor_after, state_of, CanGoBack, CanRaise, HasRoom, IsSteady};
-ghost use Rattle.shown.specs.Raising.{is_in_use, floor_cause};
+ghost use Rattle.shown.specs.Standing.{nothing, after_step, after_take, base_cause, before_commit, cursor_after, state_of, CanGoBack, CanRaise, HasRoom, IsSteady};
+ghost use Rattle.shown.specs.Marks.{marking_cause};
+ghost use Rattle.shown.specs.Raising.{is_in_use, floor_cause, RefusesMarking, RefusesBase};
 ghost use Rattle.expand.specs.declared.limits.TheConstants.{MAX_DEPTH};
 ghost use Rattle.expand.specs.Causes.{ExpandCause};
 ghost use Rattle.expand.specs.Viewed.{tree_of};
@@ -24,16 +26,19 @@ ghost use Rattle.leopard.specs.Answers.{AreFirst};
 ghost use Rattle.leopard.specs.Causes.{IsAnswerable, AskCause};
 ghost use Rattle.leopard.specs.Exprs.{query_of};
 ghost use Rattle.leopard.specs.Groups.{Means};
+ghost use Rattle.leopard.specs.Index.{IsIndexOf};
 ghost use Rattle.leopard.specs.Query.{is_allowed};
 ghost use Rattle.shown.specs.Grouping.{AreGroups, IsGroupsRefusal};
 
 use crate::answer::{Answer, Refused};
+use crate::marks::{count_with, remark};
 use crate::step::Step;
 use config::Config;
 use decide::Nothing;
 use expand::Tree;
-use leopard::Expr;
-use names::{Items, Node, Object, Op, Part, Refusal, State, Tuple, Write};
+use leopard::{Built, Expr};
+use names::limits::MAX_MARKS;
+use names::{Items, Marking, Node, Object, Op, Part, Refusal, State, Tuple, Write};
 use rows::{Loaded, Rows, Tupleset, what_follows_has_room};
 use std::alloc::{AllocError, Global};
 use std::marker::Model;
@@ -49,25 +54,42 @@ pub struct Shown {
     base: u64,
     index: u64,
     hot: u64,
+    marks: Vec<Node>,
+    keeps_index: bool,
+    built: Option<Built>,
 }
 
 impl Model for Shown {
-    ghost use Rattle.shown.specs.Standing.{Standing, IsSteady};
+    ghost use Rattle.shown.specs.Standing.{Standing};
     ghost use Rattle.shown.specs.inside.Codes.{coded_standing};
+    ghost use Rattle.shown.specs.inside.Basing.{IsSound};
 
     ghost Value = { Standing };
 
     ghost coded = { coded_standing };
 
-    ghost view = { λ s. record { kept = s.rows; base = s.base; index = s.index; hot = s.hot } };
+    ghost view = { λ s. record { kept = s.rows; base = s.base; index = s.index; hot = s.hot; marks = s.marks.items } };
 
     ghost invariant = { λ s.
-        IsSteady (record { kept = s.rows; base = s.base; index = s.index; hot = s.hot }) };
+        IsSound (record { kept = s.rows; base = s.base; index = s.index; hot = s.hot; marks = s.marks.items }) s.built };
 }
 
 impl Shown {
-    /// The state before the first step.
+    /// The state before the first step. Once a base is asked for, its index is kept.
     pub fn new(alloc: Global) -> Shown
+        ensures { result ≡ nothing }
+    {
+        Shown::before_all(alloc, true)
+    }
+
+    /// The state before the first step, for one who judges changes alone: no index is kept.
+    pub fn without_index(alloc: Global) -> Shown
+        ensures { result ≡ nothing }
+    {
+        Shown::before_all(alloc, false)
+    }
+
+    fn before_all(alloc: Global, keeps_index: bool) -> Shown
         ensures { result ≡ nothing }
     {
         Shown {
@@ -76,6 +98,9 @@ impl Shown {
             base: 0,
             index: 0,
             hot: 0,
+            marks: Vec::new(alloc),
+            keeps_index,
+            built: None,
         }
     }
 
@@ -96,6 +121,8 @@ impl Shown {
                 self.raise(*floor);
                 Ok(())
             }
+            Step::Marking(marking) => remark(&mut self.marks, marking),
+            Step::Rebase(rev) => self.build(*rev),
         }
     }
 
@@ -138,6 +165,83 @@ impl Shown {
         ensures { IsTrue result ↔ CanRaise self.now floor }
     {
         self.rows.floor() < floor && floor <= self.index && floor <= self.hot
+    }
+
+    /// Why a node is not marked, if it is not: its relation is not there at the newest revision, or 256 others are marked. A
+    /// mark is taken away whatever it is. It takes no memory.
+    pub fn judge_marking(&self, marking: &Marking) -> Result<(), Refusal>
+        ensures ok { OnOk result
+            (marking_cause (newest_of self.now.kept).held.config self.now.marks marking.now ≡ None) }
+        ensures err { IfErr result (RefusesMarking self.now marking.now) }
+    {
+        match marking {
+            Marking::Mark(node) => self.judge_mark(node),
+            Marking::Unmark(_) => Ok(()),
+        }
+    }
+
+    fn judge_mark(&self, node: &Node) -> Result<(), Refusal>
+        ensures ok { OnOk result
+            (marking_cause (newest_of self.now.kept).held.config self.now.marks (Mark node.now) ≡ None) }
+        ensures err { IfErr result (RefusesMarking self.now (Mark node.now)) }
+    {
+        if !has_relation(self.rows.at(self.rows.newest()).config(), node) {
+            return Err(Refusal::UnknownRelation);
+        }
+        if count_with(&self.marks, node) > MAX_MARKS {
+            return Err(Refusal::Full);
+        }
+        Ok(())
+    }
+
+    /// Why the base of the index cannot be made of a revision, if it cannot: it is below the floor or the base, or above the
+    /// newest revision. It takes no memory.
+    pub fn judge_base(&self, rev: u64) -> Result<(), Refusal>
+        ensures ok { OnOk result (base_cause self.now rev ≡ None) }
+        ensures err { IfErr result (RefusesBase self.now rev) }
+    {
+        if rev < self.rows.floor() || rev < self.base {
+            return Err(Refusal::StaleBuild);
+        }
+        if rev > self.rows.newest() {
+            return Err(Refusal::WrongBuild);
+        }
+        Ok(())
+    }
+
+    /// Makes the index anew, of a revision.
+    fn build(&mut self, rev: u64) -> Result<(), AllocError>
+        requires { base_cause self.old rev ≡ None }
+        ensures ok { OnOk result (self.new ≡ after_step self.old (Step.Rebase rev)) }
+        ensures err { OnErr result (self.new ≡ self.old) }
+    {
+        if !self.keeps_index {
+            self.rebase(rev);
+            return Ok(());
+        }
+        let Ok(built) = self.index_of(rev) else {
+            return Err(AllocError);
+        };
+        self.rebase(rev);
+        self.built = Some(built);
+        Ok(())
+    }
+
+    fn index_of(&self, rev: u64) -> Result<Built, Refusal>
+        requires { IsRetained self.now.kept rev }
+        ensures index { IfOk result (λ built. IsIndexOf (snap_at self.now.kept rev) built) }
+        ensures rev { IfOk result (λ built. built.rev ≡ rev) }
+    {
+        let view = self.rows.at(rev);
+        Built::of(self.alloc, &view, rev)
+    }
+
+    fn rebase(&mut self, rev: u64)
+        requires { base_cause self.old rev ≡ None }
+        ensures { self.new ≡ after_step self.old (Step.Rebase rev) }
+    {
+        self.base = rev;
+        self.index = self.index.max(rev);
     }
 
     /// The revision of the last configuration that comes to lie at or below a higher floor, or 0.
@@ -183,6 +287,7 @@ impl Shown {
             floor: self.rows.floor(),
             hot: self.hot,
             index: self.index,
+            marked: self.marks.len() as u64,
             newest: self.rows.newest(),
             rows: counts.rows,
             tuples: counts.tuples,
@@ -366,6 +471,11 @@ impl Shown {
         ensures err { IfErr result
             (AskCause (snap_at self.now.kept rev).config (query_of expr.now) limit) }
     {
+        if let Some(built) = &self.built {
+            if rev == built.rev() {
+                return built.groups(self.alloc, expr, limit);
+            }
+        }
         let view = self.rows.at(rev);
         leopard::groups_at(self.alloc, &view, expr, limit)
     }
@@ -402,10 +512,12 @@ impl Shown {
     {
         let rows = Rows::new(self.alloc, loaded)?;
         let newest = rows.newest();
+        self.built = None;
         self.rows = rows;
         self.base = newest;
         self.index = newest;
         self.hot = newest;
+        self.marks.clear();
         Ok(())
     }
 
@@ -444,5 +556,14 @@ impl Shown {
     {
         let newest = self.rows.newest();
         (cursor + commits as u64).min(newest)
+    }
+}
+
+fn has_relation(config: &Config, node: &Node) -> bool
+    ensures { result ≡ has_relation config.now (rel_of node.now) }
+{
+    match config.place_of(node) {
+        Some(_place) => true,
+        None => false,
     }
 }

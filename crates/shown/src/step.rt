@@ -1,6 +1,6 @@
 //! Steps.
 
-use names::Part;
+use names::{Marking, Part};
 use rows::Loaded;
 use tuple_keys::KeptCommit;
 
@@ -15,4 +15,8 @@ pub enum Step {
     Take(Part, u32),
     /// The floor was raised to a revision above it that no cursor is below.
     Trim(u64),
+    /// A node was marked, or its mark was taken away.
+    Marking(Marking),
+    /// The base of the group index was made anew, of a revision that is not below it.
+    Rebase(u64),
 }

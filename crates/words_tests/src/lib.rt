@@ -9,6 +9,8 @@ mod connections;
 #[cfg(test)]
 mod groups;
 #[cfg(test)]
+mod marks;
+#[cfg(test)]
 mod replies;
 #[cfg(test)]
 mod words;

@@ -1,8 +1,8 @@
 //! Replies that no run of the program gives, or only for want of memory.
 
 use bodies::refusals::refusal;
-use bodies::replies::{cursor, receipt};
-use names::{Refusal, Reply};
+use bodies::replies::{cursor, receipt, state};
+use names::{Refusal, Reply, State};
 use std::alloc::Global;
 use zookie::Zookie;
 
@@ -42,4 +42,26 @@ fn names_its_operation(alloc: Global) -> bool {
 #[test]
 fn a_condition_that_failed_is_named(rt: HostRuntime) {
     assert!(rt; names_its_operation(rt.alloc()));
+}
+
+fn has_each_number(alloc: Global) -> bool {
+    let numbers = State {
+        base: 2,
+        floor: 1,
+        hot: 3,
+        index: 4,
+        marked: 256,
+        newest: 5,
+        rows: 7,
+        tuples: 6,
+    };
+    let told = "{\"base\":\"AQAAAAAAAAABAAAAAAAAAAI\",\"floor\":\"AQAAAAAAAAABAAAAAAAAAAE\",\
+        \"hot\":\"AQAAAAAAAAABAAAAAAAAAAM\",\"index\":\"AQAAAAAAAAABAAAAAAAAAAQ\",\"marked\":256,\
+        \"newest\":\"AQAAAAAAAAABAAAAAAAAAAU\",\"rows\":7,\"tuples\":6}";
+    says(&state(alloc, 1, &numbers), 200, told)
+}
+
+#[test]
+fn a_state_has_each_number_in_its_place(rt: HostRuntime) {
+    assert!(rt; has_each_number(rt.alloc()));
 }

@@ -1,4 +1,4 @@
-use Rattle.names.specs.declared.call.Call.TheVariants.{Write, Config, Check, Read, Expand, Leopard, Watch, Trim, CatchUp, State}
+use Rattle.names.specs.declared.call.Call.TheVariants.{Write, Config, Check, Read, Expand, Leopard, Watch, Trim, CatchUp, Hot, Rebuild, State}
 use Rattle.keeper.proofs.Answering.{step_of}
 use Rattle.keeper.proofs.answer.answer_on.Goals as goal
 
@@ -28,6 +28,12 @@ returns-in-Trim-clause-step g c = step_of g.T.Tables c.args.desk.now _ Trim _ _ 
 
 pub returns-in-CatchUp-clause-step : goal.returns-in-CatchUp-clause-step
 returns-in-CatchUp-clause-step g c = step_of g.T.Tables c.args.desk.now _ CatchUp _ _ _ c.in-CatchUp.is c.answer_catch_up.ensures.step
+
+pub returns-in-Hot-clause-step : goal.returns-in-Hot-clause-step
+returns-in-Hot-clause-step g c = step_of g.T.Tables c.args.desk.now _ Hot _ _ _ c.in-Hot.is c.answer_hot.ensures.step
+
+pub returns-in-Rebuild-clause-step : goal.returns-in-Rebuild-clause-step
+returns-in-Rebuild-clause-step g c = step_of g.T.Tables c.args.desk.now _ Rebuild _ _ _ c.in-Rebuild.is c.answer_rebuild.ensures.step
 
 pub returns-in-State-clause-step : goal.returns-in-State-clause-step
 returns-in-State-clause-step g c = step_of g.T.Tables c.args.desk.now _ State _ _ _ c.in-State.is c.answer_state.ensures

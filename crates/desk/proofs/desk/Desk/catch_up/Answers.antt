@@ -1,4 +1,4 @@
-use Rattle.desk.proofs.Changed.{not_ready, caught_up, not_caught_up}
+use Rattle.desk.proofs.Changed.{few_unopposed, not_ready, caught_up, not_posted}
 use Rattle.desk.specs.declared.desk.Posted.{Posted}
 use Rattle.desk.proofs.desk.Desk.catch_up.Goals as goal
 
@@ -10,7 +10,7 @@ returns-in_err-make_ready-clause-err g c =
 pub returns-clause-err : goal.returns-clause-err
 returns-clause-err g c =
     let ready = c.in_ok-make_ready.ensures in
-    not_caught_up g.T.Tables c.args.self.now c.make_ready.new.self ready.more ready.same ready.ok c.take.new.self c.args.commits c.take.result c.if-commits-gt-MAX_CATCH_UP.false c.take.ensures.err
+    not_posted g.T.Tables c.args.self.now c.make_ready.new.self ready.more ready.same ready.ok c.take.new.self _ c.take.result (few_unopposed c.args.commits c.if-commits-gt-MAX_CATCH_UP.false) c.take.ensures.err
 
 pub returns-clause-ok : goal.returns-clause-ok
 returns-clause-ok g c =

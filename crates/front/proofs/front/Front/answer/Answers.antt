@@ -1,4 +1,4 @@
-use Rattle.names.specs.declared.call.Call.TheVariants.{Write, Config, Check, Read, Expand, Leopard, Watch, Trim, CatchUp}
+use Rattle.names.specs.declared.call.Call.TheVariants.{Write, Config, Check, Read, Expand, Leopard, Watch, Trim, CatchUp, Hot, Rebuild}
 use Rattle.front.proofs.Changed.{step_of}
 use Rattle.front.proofs.front.Front.answer.Goals as goal
 
@@ -28,3 +28,9 @@ returns-in-Trim g c = step_of g.T.Tables c.args.self.now c.args.call Trim c.args
 
 pub returns-in-CatchUp : goal.returns-in-CatchUp
 returns-in-CatchUp g c = step_of g.T.Tables c.args.self.now c.args.call CatchUp c.args.body.now _ c.catch_up.new.self c.in-CatchUp.is c.catch_up.ensures
+
+pub returns-in-Hot : goal.returns-in-Hot
+returns-in-Hot g c = step_of g.T.Tables c.args.self.now c.args.call Hot c.args.body.now _ c.hot.new.self c.in-Hot.is c.hot.ensures
+
+pub returns-in-Rebuild : goal.returns-in-Rebuild
+returns-in-Rebuild g c = step_of g.T.Tables c.args.self.now c.args.call Rebuild c.args.body.now _ c.rebuild.new.self c.in-Rebuild.is c.rebuild.ensures

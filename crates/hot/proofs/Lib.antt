@@ -1,0 +1,13 @@
+mod Looking
+mod Depends
+mod Changing
+mod After
+mod Memberships
+mod Walks
+mod Marks
+mod Asked
+mod Counting
+mod Renewed
+mod Outcomes
+mod Answering
+mod Lists

@@ -1,0 +1,45 @@
+use Rattle.std.proofs.Common.{refl}
+use Rattle.region.proofs.Listing.{on_err_all}
+use Rattle.hot.proofs.Marks.{kept_anew, kept_same, marked_same, marks_there}
+use Rattle.hot.proofs.hot.Hot.restart.Goals as goal
+
+pub returns-in_err-renew-clause-err : goal.returns-in_err-renew-clause-err
+returns-in_err-renew-clause-err c = on_err_all c.from_residual.result (λ S is.
+    let hot = c.args.self.now in
+    let now = c.renew.new.numbers in
+    record {
+      valid = is.valid;
+      kept = kept_same S hot.numbers.nodes now.nodes hot.numbers.users now.users hot.marks hot.sets.rows hot.sets.rows (λ n. refl) c.renew.ensures.later is.kept;
+      distinct = c.renew.ensures.later.nodes_distinct is.distinct;
+    })
+
+pub returns-in_err-renew-clause-marked : goal.returns-in_err-renew-clause-marked
+returns-in_err-renew-clause-marked c = λ S is.
+    let hot = c.args.self.now in
+    record {
+      nodes = λ n. marked_same hot.numbers.nodes c.renew.new.numbers.nodes hot.marks c.renew.ensures.later.nodes_grew
+          (marks_there S hot.numbers.nodes hot.numbers.users hot.marks hot.sets.rows is.kept) n;
+      count = refl;
+    }
+
+pub returns-clause-hot : goal.returns-clause-hot
+returns-clause-hot c = λ S is.
+    let hot = c.args.self.now in
+    let now = c.renew.new.numbers in
+    let later = c.renew.ensures.later in
+    let r = rw c.as_slice-marks.ensures.ids at c.in_ok-renew.ensures.refreshed in
+    record {
+      valid = c.each_view_is_valid.ensures;
+      kept = kept_anew c.args.view.now hot.numbers.nodes now.nodes hot.numbers.users now.users hot.marks c.new-sets.result.rows c.renew.new.sets.rows _ _
+          c.each_view_is_valid.ensures c.new-sets.ensures.none later r;
+      distinct = later.nodes_distinct is.distinct;
+    }
+
+pub returns-clause-marked : goal.returns-clause-marked
+returns-clause-marked c = λ S is.
+    let hot = c.args.self.now in
+    record {
+      nodes = λ n. marked_same hot.numbers.nodes c.renew.new.numbers.nodes hot.marks c.renew.ensures.later.nodes_grew
+          (marks_there S hot.numbers.nodes hot.numbers.users hot.marks hot.sets.rows is.kept) n;
+      count = refl;
+    }

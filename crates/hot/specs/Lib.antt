@@ -1,0 +1,3 @@
+pub mod Depending
+pub mod Kept
+pub mod inside

@@ -1,0 +1,154 @@
+//! The marked nodes.
+ghost use Rattle.std.specs.Prelude.{◌≤◌, length};
+ghost use Rattle.std.specs.List.Sorted.{IsStrictlyIncreasing};
+ghost use Rattle.names.specs.declared.limits.TheConstants.{MAX_MARKS};
+ghost use Rattle.region.specs.Sets.{IsWhole};
+
+use crate::changed::changed_by;
+use crate::numbering::numbered;
+use crate::renewing::renew;
+use facts::{Numbers, each_view_is_valid};
+use idsets::IdSet;
+use names::limits::MAX_MARKS;
+use names::{Event, Node, Refusal};
+use region::{Sets, sweep};
+use rows::View;
+use std::alloc::{AllocError, Global};
+
+/// The marked nodes, and who is a member of them and of all that they depend on, at one revision: the cursor.
+#[derive(Drop)]
+pub struct Hot {
+    pub(crate) numbers: Numbers,
+    pub(crate) marks: IdSet,
+    pub(crate) sets: Sets,
+    ghost whole: { IsWhole sets },
+    ghost few: { length marks ≤ MAX_MARKS },
+    ghost rising: { IsStrictlyIncreasing marks },
+}
+
+impl Hot {
+    ghost use Rattle.std.specs.Prelude.{◌≡◌, ◌<◌, true, false, OnOk, OnErr, IfErr, IfOk, IfSome, IfNone};
+    ghost use Rattle.names.specs.declared.commit.Commit.TheVariants.{Tuples};
+    ghost use Rattle.names.specs.declared.node.Node.{Node};
+    ghost use Rattle.meaning.specs.History.{after_commit};
+    ghost use Rattle.meaning.specs.Snap.{Snap};
+    ghost use Rattle.meaning.specs.Reads.{IsValid};
+    ghost use Rattle.hot.specs.Kept.{IsHot, IsMarked, marks_of, HasNumber, MarkCause};
+    ghost use Rattle.hot.specs.Kept.{HasMarked, HasUnmarked, HasSameMarks, WasAskedFew};
+
+    /// Nothing is marked, which is so at each revision. It takes no memory.
+    pub fn new(alloc: Global) -> Hot
+        ensures hot { (S : Snap) → IsValid S → IsHot result S }
+        ensures marked { (n : Node) → IsMarked result n → ⊥ }
+    {
+        Hot {
+            numbers: Numbers::new(alloc),
+            marks: IdSet::new(alloc),
+            sets: Sets::new(alloc),
+        }
+    }
+
+    /// How many nodes are marked.
+    pub fn marked(&self) -> usize
+        ensures marked { result ≡ marks_of self.now }
+        ensures few { result ≤ MAX_MARKS }
+    {
+        self.marks.len()
+    }
+
+    // Whether there is no room for one more mark.
+    fn is_full(&self) -> bool
+        ensures full { result ≡ true → MAX_MARKS ≤ marks_of self.now }
+        ensures room { result ≡ false → marks_of self.now < MAX_MARKS }
+    {
+        MAX_MARKS <= self.marks.len()
+    }
+
+    /// The node with a number.
+    pub fn node(&self, number: u64) -> Option<&Node>
+        ensures found { IfSome result (λ node. HasNumber self.now node.now number) }
+        ensures missing { IfNone result ((n : Node) → HasNumber self.now n number → ⊥) }
+    {
+        self.numbers.nodes.name(number)
+    }
+
+    /// Marks a node, at the revision that is kept. It is refused with `Full` where so many are marked that there is no
+    /// room for one more, and for want of memory; then what is marked and kept is what it was.
+    pub fn mark(&mut self, alloc: Global, view: &View, node: &Node) -> Result<(), Refusal>
+        ensures hot { IsHot self.old view.now → IsHot self.new view.now }
+        ensures ok { OnOk result (IsHot self.old view.now → HasMarked self.old self.new node.now) }
+        ensures err { OnErr result (IsHot self.old view.now → HasSameMarks self.old self.new) }
+        ensures cause { IfErr result (MarkCause self.old node.now) }
+    {
+        let id = numbered(&mut self.numbers, node)?;
+        if self.marks.contains(id) {
+            return Ok(());
+        }
+        if self.is_full() {
+            return Err(Refusal::Full);
+        }
+        let mut marks = self.marks.again()?;
+        marks.insert(id)?;
+        let (numbers, sets) = (&mut self.numbers, &mut self.sets);
+        renew(alloc, view, numbers, sets, &marks, &[id], &[])?;
+        self.marks = marks;
+        Ok(())
+    }
+
+    /// Takes a commit of events, of which the view has the snapshot after it, and gives the numbers of the nodes that
+    /// the view was asked for, in order. For want of memory what is marked and kept is what it was, at the revision at
+    /// which it was.
+    pub fn take(
+        &mut self,
+        alloc: Global,
+        events: &[Event],
+        view: &View,
+    ) -> Result<Vec<u64>, AllocError>
+        ensures hot { OnOk result ((S : Snap) → IsHot self.old S → view.now ≡ after_commit S (Tuples events.now)
+            → IsHot self.new view.now) }
+        ensures asked { IfOk result (λ asked. (S : Snap) → IsHot self.old S → view.now ≡ after_commit S (Tuples events.now)
+            → WasAskedFew self.old self.new S events.now asked.items) }
+        ensures err { OnErr result ((S : Snap) → IsHot self.old S → IsHot self.new S) }
+        ensures marked { (S : Snap) → IsHot self.old S → HasSameMarks self.old self.new }
+    {
+        let changed = changed_by(alloc, &self.numbers.nodes, events)?;
+        each_view_is_valid(view);
+        let (numbers, sets) = (&mut self.numbers, &mut self.sets);
+        renew(alloc, view, numbers, sets, &self.marks, &[], &changed)
+    }
+
+    /// Begins anew with a view, as after a commit of a configuration. For want of memory what is marked and kept is
+    /// what it was, at the revision at which it was.
+    pub fn restart(&mut self, alloc: Global, view: &View) -> Result<(), AllocError>
+        ensures hot { OnOk result ((S : Snap) → IsHot self.old S → IsHot self.new view.now) }
+        ensures err { OnErr result ((S : Snap) → IsHot self.old S → IsHot self.new S) }
+        ensures marked { (S : Snap) → IsHot self.old S → HasSameMarks self.old self.new }
+    {
+        each_view_is_valid(view);
+        let mut sets = Sets::new(alloc);
+        let (numbers, marks) = (&mut self.numbers, self.marks.as_slice());
+        renew(alloc, view, numbers, &mut sets, &self.marks, marks, &[])?;
+        self.sets = sets;
+        Ok(())
+    }
+
+    /// Takes a mark off a node, and drops what no marked node depends on any more. For want of memory nothing changes.
+    pub fn unmark(&mut self, alloc: Global, node: &Node) -> Result<(), AllocError>
+        ensures hot { (S : Snap) → IsHot self.old S → IsHot self.new S }
+        ensures ok { OnOk result (HasUnmarked self.old self.new node.now) }
+        ensures err { OnErr result (HasSameMarks self.old self.new) }
+    {
+        let _ = self.numbers.nodes.len();
+        let Some(id) = self.numbers.nodes.id_of(node) else {
+            return Ok(());
+        };
+        if !self.marks.contains(id) {
+            return Ok(());
+        }
+        let mut marks = self.marks.again()?;
+        marks.remove(id);
+        sweep(alloc, &mut self.sets, &marks, &[id])?;
+        self.marks = marks;
+        Ok(())
+    }
+}

@@ -1,0 +1,12 @@
+use Rattle.std.proofs.Common.{sym}
+use Rattle.keeper.proofs.Rebuilding.{rebuild_unasked}
+use Rattle.keeper.proofs.calls.rebuilding.answer_rebuild.Goals as goal
+
+pub returns-in-Err-clause-step : goal.returns-in-Err-clause-step
+returns-in-Err-clause-step g c = rebuild_unasked g.T.Tables c.args.desk.now _ c.in-Err.why _ c.in-Err.ensures.err c.refusal.ensures
+
+pub rebuild_on-requires : goal.rebuild_on-requires
+rebuild_on-requires g c = sym c.requires.0
+
+pub returns-in-Ok-clause-step : goal.returns-in-Ok-clause-step
+returns-in-Ok-clause-step g c = c.rebuild_on.ensures.step _ c.in-Ok.ensures.ok

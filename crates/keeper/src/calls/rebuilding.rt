@@ -1,0 +1,63 @@
+//! The call `rebuild`.
+ghost use Rattle.std.specs.Prelude.{◌≡◌, ℕ, List};
+ghost use mathlib.Core.List.{IsPrefix};
+ghost use Rattle.names.specs.Calls.{told};
+ghost use Rattle.bodies.specs.Marking.{AsksRebuild};
+ghost use Rattle.published.specs.Known.{Begins};
+ghost use Rattle.desk.specs.Posts.{shown_by};
+ghost use Rattle.keeper.specs.calls.Rebuild.{RebuildStep};
+
+use crate::calls::refusing::refuse;
+use bodies::marking::rebuild_body;
+use bodies::refusals::refusal;
+use bodies::replies::base;
+use desk::Desk;
+use names::Reply;
+use published::Session;
+use std::alloc::Global;
+use std::sync::Wait;
+use tables::Tables;
+use zookie::Zookie;
+
+/// Makes the base of the group index of the newest posted revision, and tells it. The session then knows no less than it did,
+/// and all that is shown.
+pub fn rebuild_on<T: Tables + Drop, R: Wait + Drop>(
+    alloc: Global,
+    desk: &mut Desk<T, R>,
+    session: &mut Session,
+) -> Reply
+    requires { session.old.book ≡ desk.old.book }
+    ensures step { (body : List ℕ) → AsksRebuild body
+        → RebuildStep T.Tables desk.old body (told result) desk.new }
+    ensures book { desk.new.book ≡ desk.old.book }
+    ensures later { IsPrefix desk.old.shown desk.new.shown }
+    ensures kept { Begins session.old session.new }
+    ensures known { Begins (shown_by desk.new) session.new }
+{
+    match desk.rebuild() {
+        Ok(posted) => {
+            session.learn(&posted.receipt);
+            let rev = posted.value;
+            let store = posted.receipt.zookie().store;
+            base(alloc, &Zookie { store, rev }, posted.receipt.is_shown())
+        }
+        Err(why) => refuse(alloc, desk, session, &why),
+    }
+}
+
+/// Answers a `rebuild`.
+pub(crate) fn answer_rebuild<T: Tables + Drop, R: Wait + Drop>(
+    alloc: Global,
+    desk: &mut Desk<T, R>,
+    session: &mut Session,
+    body: &[u8],
+) -> Reply
+    requires { Begins (shown_by desk.old) session.old }
+    ensures step { RebuildStep T.Tables desk.old body.now (told result) desk.new }
+    ensures known { Begins (shown_by desk.new) session.new }
+{
+    match rebuild_body(alloc, body) {
+        Ok(()) => rebuild_on(alloc, desk, session),
+        Err(why) => refusal(alloc, &why),
+    }
+}

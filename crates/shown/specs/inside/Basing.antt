@@ -1,0 +1,14 @@
+-- The group index that is kept.
+use Rattle.std.specs.Prelude.{◌≤◌, Option, Some, None}
+use Rattle.leopard.specs.Index.{Index, IsIndexOf}
+use Rattle.rows.specs.Retained.{snap_at}
+use Rattle.shown.specs.Standing.{Standing, IsSteady}
+
+-- if there is one, it is that of its revision, to which the cursor has come, as long as this is retained
+abbrev pub IsKeptIndex : Standing → Option Index → Type 0
+IsKeptIndex s None = Unit {0}
+IsKeptIndex s (Some x) = (x.rev ≤ s.index) × (s.kept.floor ≤ x.rev → IsIndexOf (snap_at s.kept x.rev) x)
+
+pub record IsSound (s : Standing) (index : Option Index) : Type 0 where
+  pub steady : IsSteady s
+  pub index_right : IsKeptIndex s index
