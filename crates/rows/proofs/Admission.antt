@@ -19,7 +19,8 @@ use Rattle.meaning.specs.Verdict.{Newest, or_else, refused_if, event_of, is_full
 use Rattle.rows.specs.Retained.{Retained, newest, newest_of, spans_of, AreAdmitted, HasRoom}
 use Rattle.std.specs.Prelude.{is_some}
 use Rattle.names.specs.declared.limits.TheConstants.{MAX_REV, MAX_ROWS, MAX_TUPLES}
-use Rattle.rows.specs.Follows.{commit_cause, touch_of, touch_kind, is_in_order, IsNext}
+use Rattle.rows.specs.Ordered.{is_in_order, is_ordered}
+use Rattle.rows.specs.Follows.{commit_cause, touch_of, touch_kind, IsNext}
 use Rattle.rows.proofs.Admitting.{within_events, within_config}
 
 pub later_none : {A : Type 0} (a b : Option A) → or_else a b ≡ None → b ≡ None
