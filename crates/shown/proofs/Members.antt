@@ -1,16 +1,16 @@
 -- Members of marked nodes while the history grows, loses its newest commit, or is trimmed, and while its commits are taken.
-use Rattle.std.proofs.Common.{◌≡◌, ℕ, ◌+◌, ◌-◌, ◌<◌, ◌≤◌, List, [], ◌∷◌, ◌++◌, length, take, drop, suc, refl, ap, sym, subst, ◌∙◌, arith, get_or}
+use Rattle.std.proofs.Common.{◌≡◌, ℕ, ◌+◌, ◌-◌, ◌<◌, ◌≤◌, length, take, drop, suc, ap, sym, subst, ◌∙◌, arith, get_or}
 use Rattle.std.specs.Prelude.{Option, Some, None}
 use Rattle.std.proofs.lemmas.List.{take-take, length-drop}
 use Rattle.names.specs.declared.commit.Commit.{Commit}
 use Rattle.meaning.specs.Config.{Configured}
 use Rattle.meaning.specs.Snap.{Snap}
-use Rattle.meaning.specs.History.{History, after_commit, after_commits}
+use Rattle.meaning.specs.History.{after_commit, after_commits}
 use Rattle.versions.proofs.Settling.{after_push, take_more}
 use Rattle.leopard.specs.Index.{Index}
 use Rattle.hot.specs.Kept.{IsHot}
 use Rattle.hot.specs.declared.hot.Hot.{Hot}
-use Rattle.rows.specs.Retained.{Retained, newest, snap_at, with_commit, after_trim, commits_between}
+use Rattle.rows.specs.Retained.{Retained, snap_at, with_commit, after_trim, commits_between}
 use Rattle.shown.specs.Standing.{Standing, IsSteady, CanGoBack, CanRaise, before_commit}
 use Rattle.shown.specs.inside.Basing.{AreKeptMembers, IsSound}
 use Rattle.shown.proofs.Basing.{snap_with, snap_without, snap_above, after_parts, kept_above}

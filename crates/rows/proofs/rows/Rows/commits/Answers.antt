@@ -1,6 +1,6 @@
 use Rattle.std.proofs.Common.{sym, subst}
 use Rattle.rows.specs.Ordered.{AreOrdered}
-use Rattle.rows.specs.Retained.{Retained, commits_between}
+use Rattle.rows.specs.Retained.{Retained}
 use Rattle.rows.proofs.Ordering.{ordered_between}
 use Rattle.rows.proofs.rows.Rows.commits.Goals as goal
 
