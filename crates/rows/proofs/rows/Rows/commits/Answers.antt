@@ -1,5 +1,4 @@
-use Rattle.std.proofs.Common.{◌-◌, take, drop, sym, subst}
-use Rattle.meaning.specs.History.{History}
+use Rattle.std.proofs.Common.{◌-◌, drop, sym, subst}
 use Rattle.rows.specs.Ordered.{AreOrdered}
 use Rattle.rows.proofs.Ordering.{ordered_take, ordered_drop}
 use Rattle.rows.proofs.rows.Rows.commits.Goals as goal
