@@ -1,12 +1,13 @@
 -- What is watched of commits whose events are in order is in order.
 use Rattle.std.proofs.Common.{◌≡◌, ℕ, ◌+◌, ◌<◌, ◌≤◌, Bool, true, false, cond, List, [], ◌∷◌, ◌++◌, refl, ap, sym, ◌∙◌, arith, true≢false}
-use Rattle.std.specs.Prelude.{◌&&◌, map, filter}
+use Rattle.std.specs.Prelude.{map, filter}
 use Rattle.std.specs.List.{AllByRecursion, list_all}
 use Rattle.std.specs.List.Sorted.{IsStrictlySortedBy}
 use Rattle.std.specs.Ordering.{is_lt, nat_cmp, ordering_then}
 use Rattle.std.specs.Cmp.{nat_cmp_is}
 use Rattle.std.specs.declared.cmp.Ordering.{Ordering}
 use Rattle.std.specs.declared.cmp.Ordering.TheVariants.{Less, Equal, Greater}
+use Rattle.std.proofs.lemmas.Bool.{and_parts}
 use Rattle.names.specs.Order.{tuple_cmp}
 use Rattle.names.specs.declared.commit.Event.{Event}
 use Rattle.names.specs.declared.commit.Commit.{Commit}
@@ -18,10 +19,6 @@ use Rattle.rows.specs.Ordered.{is_below, is_in_order, is_ordered, AreOrdered}
 use Rattle.watch.specs.declared.watched.Namespaces.{Namespaces}
 use Rattle.watch.specs.declared.watched.WatchedEvent.{WatchedEvent}
 use Rattle.watch.specs.Watched.{is_watched, watched_of, watched_in, watched, watched_cmp}
-
-both : (a b : Bool) → (a && b) ≡ true → (a ≡ true) × (b ≡ true)
-both true b h = (refl, h)
-both false b h = absurd (true≢false (sym h))
 
 is_less : (o : Ordering) → is_lt o ≡ true → o ≡ Less
 is_less Less h = refl
@@ -64,7 +61,7 @@ module _ (n : Namespaces) where
     all_after : (e : Event) (es : List Event) (ws : List WatchedEvent) → is_below e es ≡ true → is_in_order es ≡ true → AllByRecursion (IsAbove rev) ws → AllByRecursion (IsAfter e) (watched_of n rev es ++ ws)
     all_after e [] ws below order later = all_later e ws later
     all_after e (f ∷ fs) ws below order later =
-        let parts = both (is_below f fs) (is_in_order fs) order in
+        let parts = and_parts (is_below f fs) (is_in_order fs) order in
         go (is_watched n f.tuple) (all_after e fs ws (through e f fs under parts.0) parts.1 later)
       where
         under : tuple_cmp e.tuple f.tuple ≡ Less
@@ -81,7 +78,7 @@ module _ (n : Namespaces) where
     events_then (e ∷ es) ws order later sorted = go (is_watched n e.tuple) (events_then es ws parts.1 later sorted)
       where
         parts : (is_below e es ≡ true) × (is_in_order es ≡ true)
-        parts = both (is_below e es) (is_in_order es) order
+        parts = and_parts (is_below e es) (is_in_order es) order
 
         go : (b : Bool) → IsStrictlySortedBy watched_cmp (watched_of n rev es ++ ws)
             → IsStrictlySortedBy watched_cmp (map at (cond b (e ∷ filter (λ g. is_watched n g.tuple) es) (filter (λ g. is_watched n g.tuple) es)) ++ ws)
@@ -112,5 +109,5 @@ pub watched_ordered : (n : Namespaces) (above : ℕ) (h : History) → AreOrdere
 unfolding IsStrictlySortedBy
 watched_ordered n above [] ordered = tt
 watched_ordered n above (c ∷ cs) ordered =
-    let parts = both (is_ordered c) (list_all is_ordered cs) ordered in
+    let parts = and_parts (is_ordered c) (list_all is_ordered cs) ordered in
     commit_then n (above + 1) c (watched n (above + 1) cs) parts.0 (all_above n (above + 1) (above + 1) cs (omega arith)) (watched_ordered n (above + 1) cs parts.1)
