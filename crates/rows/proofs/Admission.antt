@@ -89,8 +89,8 @@ holds true h = refl
 holds false h = absurd cc
 
 -- the events of a commit that is not refused are in order
-in_order : {o : Option Refusal} (events : List Event) → or_else (refused_if Malformed (not (is_in_order events))) o ≡ None → is_in_order events ≡ true
-in_order {o = o} events h = holds (is_in_order events) (not_refused Malformed (not (is_in_order events)) (first_none (refused_if Malformed (not (is_in_order events))) o h))
+in_order : (o : Option Refusal) (events : List Event) → or_else (refused_if Malformed (not (is_in_order events))) o ≡ None → is_in_order events ≡ true
+in_order o events h = holds (is_in_order events) (not_refused Malformed (not (is_in_order events)) (first_none (refused_if Malformed (not (is_in_order events))) o h))
 
 -- and there are some
 in_range : (n : Newest) (ops : List Op) → write_cause n ops ≡ None → is_in_range ops ≡ true
@@ -110,7 +110,7 @@ has_room r (Tuples events) old h =
       revs = at_most MAX_REV (newest r + 1) (right_false (many || long) late short);
       rows = room (spans_of r) (puts_in events) fits;
       admitted = within_events n.held.config n.held.tuples events old (never_untyped n (map touch_of events) written);
-      ordered = ordered_write events (in_order events h) (in_range n (map touch_of events) written);
+      ordered = ordered_write events (in_order _ events h) (in_range n (map touch_of events) written);
     }
 has_room r (Config config) old h =
     let n = newest_of r in

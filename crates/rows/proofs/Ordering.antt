@@ -1,5 +1,5 @@
 -- What keeps each commit's events in order.
-use Rattle.std.proofs.Common.{◌≡◌, ℕ, ◌<◌, true, List, [], ◌∷◌, ◌++◌, ◌-◌, map, length, take, drop, zero, suc, refl, sym, subst, get_or}
+use Rattle.std.proofs.Common.{◌≡◌, ℕ, ◌<◌, true, List, [], ◌∷◌, ◌++◌, map, length, take, drop, zero, suc, refl, sym, subst, get_or}
 use Rattle.std.specs.List.{list_all}
 use Rattle.std.proofs.lemmas.Bool.{true≢false, and_parts, and_from}
 use Rattle.names.specs.declared.commit.Event.{Event}
@@ -10,7 +10,6 @@ use Rattle.meaning.specs.History.{History}
 use Rattle.meaning.specs.Verdict.{is_in_range}
 use Rattle.rows.specs.Ordered.{is_in_order, is_ordered, AreOrdered}
 use Rattle.rows.specs.Follows.{touch_of}
-use Rattle.rows.specs.Retained.{Retained, commits_between}
 use Rattle.versions.proofs.VersionRuns.{take_none}
 use Rattle.versions.proofs.Settling.{drop_none, take_more}
 
@@ -45,10 +44,6 @@ ordered_last (d ∷ h) c all = ordered_last h c (and_parts (is_ordered d) (list_
 -- the commit at one place
 pub ordered_at : (h : History) (k : ℕ) (c : Commit Configured) → k < length h → c ≡ get_or h k c → AreOrdered h → is_ordered c ≡ true
 ordered_at h k c small is all = ordered_last (take k h) c (subst AreOrdered (take_more h k c small is) (ordered_take (suc k) h all))
-
--- those of some revisions
-pub ordered_between : (r : Retained) (from to : ℕ) → AreOrdered r.commits → AreOrdered (commits_between r from to)
-ordered_between r from to all = ordered_take (to - from) (drop (from - r.floor) r.commits) (ordered_drop (from - r.floor) r.commits all)
 
 -- a write that is accepted has an operation
 pub ordered_write : (events : List Event) → is_in_order events ≡ true → is_in_range (map touch_of events) ≡ true → is_ordered (kinds.Tuples events) ≡ true
