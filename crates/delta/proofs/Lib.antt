@@ -1,0 +1,12 @@
+mod Lists
+mod Closures
+mod After
+mod Bare
+mod Rows
+mod Replayed
+mod Telling
+mod Taken
+mod Asked
+mod Outcomes
+mod Renewed
+mod Numbered

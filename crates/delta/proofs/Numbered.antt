@@ -1,0 +1,48 @@
+-- Numbers of groups above tuples.
+use Rattle.std.proofs.Common.{ℕ, ◌≡◌, true, List, [], ◌∷◌, ◌++◌, refl, sym, ◌∙◌, ap, subst, ⊎_elim, ◌⊎◌, inl, inr}
+use Rattle.std.specs.Prelude.{◌↔◌, Contains, Some}
+use Rattle.std.specs.List.{slice_get}
+use Rattle.std.proofs.lemmas.List.Elements.{Contains-append_left, Contains-append_right, Contains-append_cases, Contains-push, Contains-push_cases}
+use Rattle.names.specs.declared.node.Node.{Node}
+use Rattle.names.specs.declared.tuple.Tuple.{Tuple}
+use Rattle.meaning.specs.Config.{Configured}
+use Rattle.meaning.proofs.Lists.{contains_none}
+use Rattle.least_sets.specs.World.{has}
+use Rattle.graphs.specs.Groups.{GroupWalk}
+use Rattle.facts.specs.Numbers.{AreNumbersOf}
+use Rattle.facts.specs.inside.Tables.{grew_none, numbers_none, numbers_keep}
+use Rattle.leopard.specs.Groups.{IsGroup}
+use Rattle.leopard.specs.Index.{bare}
+use Rattle.delta.specs.Layers.{IsAbove, IsOfSet}
+use Rattle.delta.specs.inside.Leading.{LeadsTo}
+
+module _ (config : Configured) where
+  pub above_none : (nodes : List Node) (ids : List ℕ) → ids ≡ [] → AreNumbersOf nodes ids (IsAbove config (Contains []))
+  above_none nodes ids e = numbers_none nodes ids (IsAbove config (Contains [])) e (λ g (group, t, c, of, along). contains_none t c)
+
+  -- a tuple that is not of a userset adds nothing
+  pub above_passed : (ts : List Tuple) (t : Tuple) → (IsOfSet t → ⊥) → (g : Node) → IsAbove config (Contains ts) g ↔ IsAbove config (Contains (ts ++ t ∷ [])) g
+  above_passed ts t not g = (
+    λ (group, x, c, of, along). (group, x, Contains-append_left ts (t ∷ []) x c, of, along),
+    λ (group, x, c, of, along). ⊎_elim
+        (λ d. (group, x, d, of, along))
+        (λ d. absurd (not (subst IsOfSet (sym d) of)))
+        (Contains-push_cases ts t x c),
+  )
+
+  -- one that is adds the groups that lead to its node
+  pub above_more : (ts : List Tuple) (t : Tuple) → IsOfSet t → (found : List Node) → ((g : Node) → Contains found g ↔ LeadsTo config t.node g) → (g : Node)
+      → (IsAbove config (Contains ts) g ⊎ Contains found g) ↔ IsAbove config (Contains (ts ++ t ∷ [])) g
+  above_more ts t of found are g = (
+    λ h. ⊎_elim
+        (λ (group, x, c, set, along). (group, x, Contains-append_left ts (t ∷ []) x c, set, along))
+        (λ c. let l = (are g).0 c in (l.0, t, Contains-push ts t, of, l.1))
+        h,
+    λ (group, x, c, set, along). ⊎_elim
+        (λ d. inl (group, x, d, set, along))
+        (λ d. inr ((are g).1 (group, subst (λ (y : Tuple). GroupWalk (bare config) g y.node) d along)))
+        (Contains-push_cases ts t x c),
+  )
+
+pub numbers_as : (nodes : List Node) (ids : List ℕ) (P Q : Node → Type 0) → ((n : Node) → P n ↔ Q n) → AreNumbersOf nodes ids P → AreNumbersOf nodes ids Q
+numbers_as nodes ids P Q both are = numbers_keep nodes nodes ids P Q (grew_none nodes) both are
