@@ -126,3 +126,12 @@ module _ (S T : Snap) (nodes nodes' : List Node) (old new : Rows) (first roots t
   pub told_reached : (i : ℕ) → is_told r.told i ≡ true → IsReached (arc_of (groups after.arcs)) roots i
   unfolding after
   told_reached i h = r.reached (groups arcs) tells i h
+
+-- What is kept after all was asked, where nothing was kept before.
+pub anew : (T : Snap) (nodes' : List Node) (old new : Rows) (roots turned asked asked' : List ℕ) → ((n : ℕ) → row_of old n ≡ None) → ((n : ℕ) → has turned n ≡ has roots n)
+    → IsRefreshed (MayTell T nodes') old new roots turned [] asked asked' → AreKept T nodes' roots new
+anew T nodes' old new roots turned asked asked' none same r =
+    after T T nodes' nodes' old new [] roots turned [] asked asked' (kept_none T nodes' old none)
+    (λ i h off. absurd (false≢true (sym (ap (λ (x : Option Row). is_some x) (none i)) ∙ h)))
+    (λ n h. sym (same n) ∙ h)
+    r

@@ -33,7 +33,7 @@ use Rattle.delta.specs.inside.Changing.{AreOfEvents}
 use Rattle.delta.proofs.After.{after, arcs_stay, told_reached, may_tell}
 use Rattle.delta.proofs.Bare.{bare_walk}
 use Rattle.delta.proofs.Closures.{along, arc_kept, ends_of, kept_named, walked}
-use Rattle.delta.proofs.Taken.{tuples_of, was1, turns, stays, now_kept}
+use Rattle.delta.proofs.Taken.{tuples_of, was1, turns, stays}
 
 module _ (S T : Snap) (events : List Event) (next : T ≡ after_commit S (Tuples events)) (nodes nodes1 nodes' : List Node) (roots turned roots' changed asked : List ℕ) (old new : Rows)
     (first : IsMore nodes nodes1) (then : IsMore nodes1 nodes') (distinct : AreDistinct nodes')
@@ -42,11 +42,13 @@ module _ (S T : Snap) (events : List Event) (next : T ≡ after_commit S (Tuples
     (all : (i : ℕ) → has roots' i ≡ (has roots i || has turned i))
     (was : AreKept S nodes roots old) (had : AreRoots S nodes roots)
     (r : IsRefreshed (MayTell T nodes') old new roots' turned changed [] asked) where
-  k : AreKept S nodes1 roots old
+  abbrev k : AreKept S nodes1 roots old
   k = was1 S T events next nodes nodes1 nodes' roots turned roots' changed asked old new first then above are all was had r
 
-  now : AreKept T nodes' roots' new
-  now = now_kept S T events next nodes nodes1 nodes' roots turned roots' changed asked old new first then above are all was had r
+  abbrev now : AreKept T nodes' roots' new
+  now = after S T nodes1 nodes' old new roots roots' turned changed [] asked k
+      (stays S T events next nodes nodes1 nodes' roots turned roots' changed asked old new first then above are all was had r)
+      (turns S T events next nodes nodes1 nodes' roots turned roots' changed asked old new first then above are all was had r) r
 
   pub asked_once : IsDistinct nat_eq asked
   asked_once = subst (λ xs. IsDistinct nat_eq xs) (sym r.asked_is) r.once
@@ -104,14 +106,14 @@ module _ (S T : Snap) (events : List Event) (next : T ≡ after_commit S (Tuples
               (λ q. absurd (off (untouched_kept s i h q.1 w).0))
               (r.nodes s (now.held.from_roots s ((all s) ∙ or_left (has roots s) (has turned s) root))))
       touched_start s g there (inr turn) w =
-          let (x, (group, t, c, of, along), named) = above.sound s turn in
+          let (x, (group, (t, c, of, along)), named) = above.sound s turn in
           let back = contains_map_back (λ (e : Event). e.tuple) events t c in
           let same : x ≡ g = same_Some x g (sym (grew_get nodes1 nodes' s x then.grew named) ∙ there) in
           subst (λ y. layers.IsTouched S T events y) same (back.0, back.1, inl (subst (λ (q : Tuple). GroupWalk S x q.node) back.2 (bare_walk S x t.node along)))
 
       unnamed : (g : Node) → IsGroup S.config g → HasSet S g n → ⊥
       unnamed g group names =
-          let root = had g (group, record { node = g; subject = set_of n }, names, (n, refl), groups.here) in
+          let root = had g (group, (record { node = g; subject = set_of n }, names, (n, refl), groups.here)) in
           let h = was.held.from_roots root.0 root.1 in
           let h1 : kept old root.0 ≡ true = h in
           let found = (ends_of S nodes roots old was root.0 g h root.2).complete n (inl names) in

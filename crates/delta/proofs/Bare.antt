@@ -16,9 +16,9 @@ pub bare_walk : (S : Snap) (g n : Node) → GroupWalk (bare S.config) g n → Gr
 bare_walk S g n here = here
 bare_walk S g n (on {g = m} w a) = on (bare_walk S g m w) (bare_arc S m n a)
 
--- where no tuple leads on, a walk is one by computed usersets
+-- where stop tuple leads on, a walk is one by computed usersets
 pub walk_bare : (S : Snap) (g n : Node) → ((h m : Node) → GroupWalk (bare S.config) g h → HasSet S h m → ⊥) → GroupWalk S g n → GroupWalk (bare S.config) g n
-walk_bare S g n no here = here
-walk_bare S g n no (on {g = m} w a) =
-    let before = walk_bare S g m no w in
-    on before (⊎_elim (λ t. absurd (no m n before t)) (λ c. inr c) a)
+walk_bare S g n stop here = here
+walk_bare S g n stop (on {g = m} w a) =
+    let before = walk_bare S g m stop w in
+    on before (⊎_elim (λ t. absurd (stop m n before t)) (λ c. inr c) a)

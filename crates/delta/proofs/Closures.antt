@@ -45,11 +45,11 @@ module _ (S : Snap) (nodes : List Node) (roots : List ℕ) (rows : Rows) (k : Ar
   -- a walk by numbers is one of groups
   pub walked : (i j : ℕ) (g : Node) → kept rows i ≡ true → slice_get nodes i ≡ Some g → Walk (along k.arcs) i j
       → (kept rows j ≡ true) × ((n : Node) × (slice_get nodes j ≡ Some n) × GroupWalk S g n)
-  walked i j g h at walks.here = (h, g, at, here)
+  walked i j g h at walks.here = (h, (g, at, here))
   walked i j g h at (walks.on {b = b} w e) =
       let before = walked i b g h at w in
       let found = (ends_of b before.1.0 before.0 before.1.1).sound j e in
-      (arc_kept b j before.0 e, found.0, found.2, on before.1.2 found.1)
+      (arc_kept b j before.0 e, (found.0, found.2, on before.1.2 found.1))
 
   -- a walk of groups is one by numbers
   pub walked_by : (i : ℕ) (g n : Node) → kept rows i ≡ true → slice_get nodes i ≡ Some g → GroupWalk S g n

@@ -4,9 +4,12 @@ mod After
 mod Bare
 mod Rows
 mod Replayed
-mod Telling
+mod Told
 mod Taken
 mod Asked
 mod Outcomes
 mod Renewed
 mod Numbered
+mod Same
+mod Above
+mod Noting

@@ -2,7 +2,7 @@
 use Rattle.std.proofs.Common.{ℕ, ◌≡◌, ◌≤◌, ◌<◌, ◌+◌, Bool, true, false, cond, ◌&&◌, nat_eq, nat_lt, List, [], ◌∷◌, ◌++◌, refl, sym, ◌∙◌, ap, subst, arith, ⊎_elim, ◌⊎◌, inl, inr}
 use Rattle.std.specs.Prelude.{Option, Contains, filter}
 use Rattle.std.specs.Option.{option_map}
-use Rattle.std.proofs.lemmas.Bool.{cases_Bool, false≢true, and_parts, eqb-true, eq-eqb, ltb-lt, lt-ltb, cases_lt}
+use Rattle.std.proofs.lemmas.Bool.{cases_Bool, false≢true, and_parts, eqb-true, eq-eqb, ltb-true, lt-ltb, le-ltb, cases_lt}
 use Rattle.std.proofs.lemmas.List.Elements.{Contains-append_cases}
 use Rattle.meaning.proofs.Lists.{contains_here, contains_there, contains_cases, contains_none}
 use Rattle.region.specs.declared.sets.Row.{Row}
@@ -18,7 +18,7 @@ led_now (e ∷ es) rows i rev low =
     ∙ led_now es rows i rev (λ x c. low x (contains_there e x es c))
   where
     not_later : (a b : ℕ) → b ≤ a → nat_lt a b ≡ false
-    not_later a b le = ⊎_elim (λ t. absurd (omega (arith, ltb-lt a b t, le))) (λ f. f) (cases_Bool (nat_lt a b))
+    not_later a b le = ⊎_elim (λ t. absurd (omega (arith, ltb-true a b t, le))) (λ f. f) (cases_Bool (nat_lt a b))
 
 pub led_same : (es : List Earlier) (a b : Rows) (i rev : ℕ) → ((n : ℕ) → row_of b n ≡ row_of a n) → led_at es b i rev ≡ led_at es a i rev
 led_same [] a b i rev e = ap (λ (r : Option Row). option_map (λ (row : Row). row.members) r) (e i)
@@ -72,4 +72,4 @@ led_filtered base (e ∷ es) rows i rev le = ⊎_elim
     (cases_Bool (nat_lt base e.rev))
   where
     over : nat_lt base e.rev ≡ false → nat_lt rev e.rev ≡ false
-    over f = ⊎_elim (λ t. absurd (false≢true (sym f ∙ lt-ltb base e.rev (let l = ltb-lt rev e.rev t in omega (arith, l, le))))) (λ q. q) (cases_Bool (nat_lt rev e.rev))
+    over f = ⊎_elim (λ t. absurd (false≢true (sym f ∙ lt-ltb base e.rev (let l = ltb-true rev e.rev t in omega (arith, l, le))))) (λ q. q) (cases_Bool (nat_lt rev e.rev))

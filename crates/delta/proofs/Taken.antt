@@ -3,6 +3,7 @@ use Rattle.std.proofs.Common.{ℕ, ◌+◌, ◌≡◌, ◌≤◌, ◌<◌, true,
 use Rattle.std.specs.Prelude.{◌↔◌, Bool, [], Some, Contains}
 use Rattle.std.specs.List.{slice_get}
 use Rattle.std.proofs.lemmas.Bool.{cases_lt, or_left, or_right}
+use Rattle.std.proofs.lemmas.Option.{same_Some}
 use Rattle.names.specs.declared.node.Node.{Node}
 use Rattle.names.specs.declared.tuple.Tuple.{Tuple}
 use Rattle.names.specs.declared.commit.Event.{Event}
@@ -35,7 +36,7 @@ use Rattle.delta.specs.inside.Growing.{may_more, more_both}
 use Rattle.delta.proofs.After.{after, kept_same}
 use Rattle.delta.proofs.Replayed.{tuple_or_same}
 use Rattle.delta.proofs.Rows.{noted_before, noted_low, led_same}
-use Rattle.delta.proofs.Telling.{tells_now, tells_still}
+use Rattle.delta.proofs.Told.{tells_now, tells_still}
 
 abbrev pub tuples_of : List Event → List Tuple
 tuples_of events = map (λ (e : Event). e.tuple) events
@@ -84,8 +85,9 @@ module _ (S T : Snap) (events : List Event) (next : T ≡ after_commit S (Tuples
   pub stays : (i : ℕ) → kept old i ≡ true → (IsTouched (arc_in old) changed i → ⊥) → MayTell T nodes' i (groups was1.arcs i)
   stays i h off =
       let may = may_more S nodes1 nodes' i (groups was1.arcs i) then (was1.told i h) in
+      let same : (was1.told i h).group ≡ may.group = same_Some (was1.told i h).group may.group (sym (grew_get nodes1 nodes' i (was1.told i h).group then.grew (was1.told i h).named) ∙ may.named) in
       let quiet : (e : Event) → Contains events e → IsOfSet e.tuple → e.tuple.node ≡ may.group → ⊥ = λ e c of is.
-          off (record { end = i; among = are.complete e i c of ((was1.told i h).named ∙ ap (λ x. Some x) (sym is)); walk = here }) in
+          off (record { end = i; among = are.complete e i c of ((was1.told i h).named ∙ ap (λ x. Some x) (same ∙ sym is)); walk = here }) in
       record {
         group = may.group;
         named = may.named;
@@ -98,12 +100,12 @@ module _ (S T : Snap) (events : List Event) (next : T ≡ after_commit S (Tuples
   now_kept = after S T nodes1 nodes' old new roots roots' turned changed [] asked was1 stays turns r
 
   pub now_roots : AreRoots T nodes' roots'
-  now_roots g (group, t, there, of, along) = ⊎_elim
+  now_roots g (group, (t, there, of, along)) = ⊎_elim
       (λ (e, c, is). (
-          let found = above.complete g (before group, t, subst (λ (x : Tuple). Contains (tuples_of events) x) is (mapped events e c), of, before_walk along) in
+          let found = above.complete g (before group, (t, subst (λ (x : Tuple). Contains (tuples_of events) x) is (mapped events e c), of, before_walk along)) in
           (found.0, all found.0 ∙ or_right (has roots found.0) (has turned found.0) found.1, grew_get nodes1 nodes' found.0 g then.grew found.2)))
       (λ same. (
-          let found = had g (before group, t, same.1 there, of, before_walk along) in
+          let found = had g (before group, (t, same.1 there, of, before_walk along)) in
           (found.0, all found.0 ∙ or_left (has roots found.0) (has turned found.0) found.1, grew_get nodes1 nodes' found.0 g then.grew (grew_get nodes nodes1 found.0 g first.grew found.2))))
       (tuple_or_same t S T events next)
     where

@@ -50,7 +50,8 @@ pub(crate) fn computes(
     ensures { IfOk result (λ leads. IsTrue leads ↔ GroupWalk (bare config.now) from.now to.now) }
 {
     let ends = led_to(alloc, config, from)?;
-    Ok(ends.contains(to))
+    let leads = ends.contains(to);
+    Ok(leads)
 }
 
 /// The nodes with some numbers.

@@ -1,7 +1,6 @@
 //! What groups led to before a commit.
-ghost use Rattle.std.specs.Prelude.{◌≡◌, ◌≤◌, ◌⊎◌, ◌++◌, ◌∷◌, [], ℕ, List, Option, true, Contains, IfOk, OnOk};
+ghost use Rattle.std.specs.Prelude.{◌≡◌, ◌++◌, ◌∷◌, [], ℕ, List, IfOk, OnOk};
 ghost use Rattle.std.specs.Option.{option_map};
-ghost use Rattle.least_sets.specs.World.{has};
 ghost use Rattle.delta.specs.Noted.{led_in, led_at};
 ghost use Rattle.delta.specs.inside.Noting.{AreNotedOf};
 
@@ -42,30 +41,14 @@ pub(crate) fn noted(
     rev: u64,
     sets: &Sets,
     groups: &[u64],
-    others: &[u64],
 ) -> Result<Vec<Earlier>, AllocError>
-    ensures { IfOk result (λ v. AreNotedOf rev (led_in sets.now.rows) (groups.now ++ others.now) v.items) }
+    ensures { IfOk result (λ v. AreNotedOf rev (led_in sets.now.rows) groups.now v.items) }
 {
     let mut list = Vec::new(alloc);
-    note(rev, sets, groups, &mut list)?;
-    note(rev, sets, others, &mut list)?;
-    Ok(list)
-}
-
-/// Notes what some groups lead to now.
-fn note(
-    rev: u64,
-    sets: &Sets,
-    groups: &[u64],
-    list: &mut Vec<Earlier>,
-) -> Result<(), AllocError>
-    ensures { OnOk result ((before : List ℕ) → AreNotedOf rev (led_in sets.now.rows) before list.old.items
-        → AreNotedOf rev (led_in sets.now.rows) (before ++ groups.now) list.new.items) }
-{
     for group in groups {
-        push_noted(rev, sets, *group, list)?;
+        push_noted(rev, sets, *group, &mut list)?;
     }
-    Ok(())
+    Ok(list)
 }
 
 fn push_noted(
@@ -83,7 +66,7 @@ fn push_noted(
 }
 
 fn copy_of(ids: Option<&IdSet>) -> Result<Option<IdSet>, AllocError>
-    ensures { IfOk result (λ copy. copy ≡ option_map (λ x. x.now) ids) }
+    ensures { IfOk result (λ copy. option_map (λ x. x.now) ids ≡ copy) }
 {
     match ids {
         Some(ids) => Ok(Some(ids.again()?)),

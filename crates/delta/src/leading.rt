@@ -16,7 +16,7 @@ ghost use Rattle.delta.specs.inside.Changing.{AreOfEvents};
 ghost use Rattle.delta.specs.inside.Leading.{LeadsTo, IsOneOf};
 
 use crate::closing::computes;
-use crate::telling::push_number;
+use crate::telling::numbers_of;
 use config::Config;
 use config_text::Relation;
 use idsets::Ids;
@@ -28,8 +28,9 @@ use std::alloc::{AllocError, Global};
 fn leading_to(alloc: Global, config: &Config, node: &Node) -> Result<Vec<Node>, AllocError>
     ensures { IfOk result (λ v. AreAll (LeadsTo config.now node.now) v.items) }
 {
+    let relations = config.relations();
     let mut groups = Vec::new(alloc);
-    for relation in config.relations() {
+    for relation in relations {
         push_leading(alloc, config, relation, node, &mut groups)?;
     }
     Ok(groups)
@@ -45,16 +46,20 @@ fn push_leading(
 ) -> Result<(), AllocError>
     ensures { OnOk result (Gains (IsOneOf config.now (defined_of relation.now) node.now) groups.old.items groups.new.items) }
 {
-    if !relation.indexed || relation.name.namespace != node.object.namespace {
+    if !relation.indexed {
+        return Ok(());
+    }
+    if relation.name.namespace != node.object.namespace {
         return Ok(());
     }
     let group = Node {
         object: node.object.clone()?,
         relation: relation.name.relation.clone()?,
     };
-    if computes(alloc, config, &group, node)? {
-        groups.push(group)?;
+    if !computes(alloc, config, &group, node)? {
+        return Ok(());
     }
+    groups.push(group)?;
     Ok(())
 }
 
@@ -105,28 +110,15 @@ fn push_above(
         → AreNumbersOf nodes.new ids.new.items (IsAbove config.now (Contains (ts ++ tuple.now ∷ [])))) }
 {
     let _ = nodes.len();
-    if tuple.subject.relation.is_none() {
-        return Ok(());
+    match &tuple.subject.relation {
+        None => Ok(()),
+        Some(_) => {
+            let groups = leading_to(alloc, config, &tuple.node)?;
+            let more = numbers_of(alloc, nodes, &groups)?;
+            ids.extend_from_slice(&more)?;
+            Ok(())
+        }
     }
-    let groups = leading_to(alloc, config, &tuple.node)?;
-    push_numbers(nodes, ids, &groups)
-}
-
-/// Adds the numbers of some nodes.
-fn push_numbers(
-    nodes: &mut Ids<Node>,
-    ids: &mut Vec<u64>,
-    names: &[Node],
-) -> Result<(), AllocError>
-    ensures more { IsMore nodes.old nodes.new }
-    ensures numbers { OnOk result ((P : NodeValue → Type 0) → AreNumbersOf nodes.old ids.old.items P
-        → AreNumbersOf nodes.new ids.new.items (λ n. P n ⊎ Contains names.now n)) }
-{
-    let _ = nodes.len();
-    for name in names {
-        push_number(nodes, ids, name)?;
-    }
-    Ok(())
 }
 
 /// The numbers of the nodes on which there are events of usersets, as far as they have one.
@@ -151,9 +143,9 @@ fn push_changed(nodes: &Ids<Node>, ids: &mut Vec<u64>, event: &Event) -> Result<
     ensures { OnOk result ((events : List EventValue) → AreOfEvents nodes.now events ids.old.items
         → AreOfEvents nodes.now (events ++ event.now ∷ []) ids.new.items) }
 {
-    if event.tuple.subject.relation.is_none() {
+    let Some(_) = &event.tuple.subject.relation else {
         return Ok(());
-    }
+    };
     match nodes.id_of(&event.tuple.node) {
         Some(id) => {
             ids.push(id)?;

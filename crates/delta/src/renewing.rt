@@ -1,5 +1,6 @@
 //! Asking a view for what a change touches.
-ghost use Rattle.std.specs.Prelude.{◌≡◌, ℕ, [], IfOk, OnOk, OnErr};
+ghost use Rattle.std.specs.Prelude.{◌≡◌, ◌||◌, ℕ, [], IfOk, OnOk, OnErr};
+ghost use Rattle.least_sets.specs.World.{has};
 ghost use Rattle.region.specs.Tables.{row_of};
 ghost use Rattle.region.specs.Sets.{IsWhole};
 ghost use Rattle.region.specs.Refreshed.{IsRefreshed};
@@ -73,7 +74,8 @@ fn renew_by<'a>(
 {
     let region = gather(alloc, sets, roots, turned, changed, facts)?;
     let asked = facts.asked.clone()?;
-    let mut before = noted(alloc, rev, sets, &asked, &region.dropped)?;
+    let touched = touched_in(&asked, &region.dropped)?;
+    let mut before = noted(alloc, rev, sets, touched.as_slice())?;
     let count = earlier.len();
     earlier.append(&mut before)?;
     match fill(alloc, sets, region) {
@@ -83,4 +85,13 @@ fn renew_by<'a>(
             Err(e)
         }
     }
+}
+
+// The nodes of two lists, each once.
+fn touched_in(asked: &Vec<u64>, dropped: &[u64]) -> Result<IdSet, AllocError>
+    ensures { IfOk result (λ ids. (i : ℕ) → has ids i ≡ (has asked.now.items i || has dropped.now i)) }
+{
+    let mut both = asked.clone()?;
+    both.extend_from_slice(dropped)?;
+    Ok(IdSet::of(both))
 }

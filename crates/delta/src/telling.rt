@@ -1,7 +1,6 @@
 //! A group that is asked for where it leads.
-ghost use Rattle.std.specs.Prelude.{◌≡◌, ℕ, ◌∷◌, [], Contains, Some, List, IfOk, OnOk};
+ghost use Rattle.std.specs.Prelude.{◌≡◌, ℕ, ◌++◌, ◌∷◌, [], Contains, Some, IfOk, OnOk};
 ghost use Rattle.std.specs.List.{slice_get};
-ghost use Rattle.names.specs.declared.node.Node.{Node};
 ghost use Rattle.least_sets.specs.World.{Either, Own, AnyOf};
 ghost use Rattle.region.specs.Rules.{fact_of, shape_of};
 ghost use Rattle.facts.specs.Numbers.{AreNumbersOf};
@@ -78,7 +77,7 @@ fn tell<A: Arcs>(
 }
 
 /// The numbers of some nodes, new ones for those that were not seen before.
-fn numbers_of(
+pub(crate) fn numbers_of(
     alloc: Global,
     nodes: &mut Ids<Node>,
     names: &[Node],
@@ -94,14 +93,13 @@ fn numbers_of(
 }
 
 /// Adds the number of a node.
-pub(crate) fn push_number(
+fn push_number(
     nodes: &mut Ids<Node>,
     ids: &mut Vec<u64>,
     name: &Node,
 ) -> Result<(), AllocError>
     ensures more { IsMore nodes.old nodes.new }
-    ensures numbers { OnOk result ((P Q : Node → Type 0) → AreNumbersOf nodes.old ids.old.items P
-        → ((n : Node) → P n → Q n) → ((n : Node) → Q n → P n ⊎ (n ≡ name.now)) → Q name.now → AreNumbersOf nodes.new ids.new.items Q) }
+    ensures number { OnOk result ((id : ℕ) × (ids.new.items ≡ ids.old.items ++ id ∷ []) × (slice_get nodes.new id ≡ Some name.now)) }
 {
     let _ = nodes.len();
     let id = number_of(nodes, name)?;

@@ -38,7 +38,7 @@ module _ (law : GroupsAreWalks) (layer : Layer) (rev : ℕ) (S : Snap) (config :
   kept_tells g n ids (i, at, led) = closure S layer.nodes layer.roots layer.sets.rows k law i g ids at (sym (now i) ∙ led) n
 
   is_kept : (g : Node) (i : ℕ) → slice_get layer.nodes i ≡ Some g → kept layer.sets.rows i ≡ true → (ids : List ℕ) × KeepsAt layer rev g ids
-  is_kept g i at h = let there = there_row (row_of layer.sets.rows i) h in (there.0, i, at, now i ∙ there.1)
+  is_kept g i at h = let there = there_row (row_of layer.sets.rows i) h in (there.0, (i, at, now i ∙ there.1))
 
   -- it is kept, or it is not
   either : (g : Node) → ((ids : List ℕ) × KeepsAt layer rev g ids) ⊎ ((ids : List ℕ) → KeepsAt layer rev g ids → ⊥)
@@ -58,7 +58,7 @@ module _ (law : GroupsAreWalks) (layer : Layer) (rev : ℕ) (S : Snap) (config :
   leads_bare g n group none w = walk_bare S g n
       (λ h m along there.
       let t : Tuple = record { node = h; subject = set_of m } in
-      let root = roots g (group, t, there, (m, refl), along) in
+      let root = roots g (group, (t, there, (m, refl), along)) in
       let found = is_kept g root.0 root.2 (k.held.from_roots root.0 root.1) in
       none found.0 found.1)
       w
