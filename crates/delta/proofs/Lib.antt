@@ -13,3 +13,5 @@ mod Numbered
 mod Same
 mod Above
 mod Noting
+mod Led
+mod Layered

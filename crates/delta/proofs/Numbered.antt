@@ -70,3 +70,10 @@ list_push a b ids ids' id n xs g is at are = subst (λ is. AreNumbersOf b is (Co
     (Contains-push xs n)
     (λ m c. Contains-append_left xs (n ∷ []) m c)
     (λ m c. ⊎_elim (λ d. inl d) (λ d. inr (sym d)) (Contains-push_cases xs n m c)))
+
+-- the same numbers
+pub numbers_set : (nodes : List Node) (a b : List ℕ) (P : Node → Type 0) → ((i : ℕ) → has b i ≡ has a i) → AreNumbersOf nodes a P → AreNumbersOf nodes b P
+numbers_set nodes a b P same are = record {
+  sound = λ i h. are.sound i (sym (same i) ∙ h);
+  complete = λ n p. let s = are.complete n p in (s.0, same s.0 ∙ s.1, s.2);
+}

@@ -73,3 +73,13 @@ led_filtered base (e ∷ es) rows i rev le = ⊎_elim
   where
     over : nat_lt base e.rev ≡ false → nat_lt rev e.rev ≡ false
     over f = ⊎_elim (λ t. absurd (false≢true (sym f ∙ lt-ltb base e.rev (let l = ltb-true rev e.rev t in omega (arith, l, le))))) (λ q. q) (cases_Bool (nat_lt rev e.rev))
+
+pub filtered_there : (base : ℕ) (es : List Earlier) (e : Earlier) → Contains (filter (λ (x : Earlier). nat_lt base x.rev) es) e → Contains es e
+filtered_there base [] e c = c
+filtered_there base (x ∷ es) e c = ⊎_elim
+    (λ t. ⊎_elim
+        (λ is. subst (λ y. Contains (x ∷ es) y) is (contains_here x es))
+        (λ d. contains_there x e es (filtered_there base es e d))
+        (contains_cases x e (filter (λ (y : Earlier). nat_lt base y.rev) es) (subst (λ b. Contains (cond b (x ∷ filter (λ (y : Earlier). nat_lt base y.rev) es) (filter (λ (y : Earlier). nat_lt base y.rev) es)) e) t c)))
+    (λ f. contains_there x e es (filtered_there base es e (subst (λ b. Contains (cond b (x ∷ filter (λ (y : Earlier). nat_lt base y.rev) es) (filter (λ (y : Earlier). nat_lt base y.rev) es)) e) f c)))
+    (cases_Bool (nat_lt base x.rev))
