@@ -20,7 +20,7 @@ use Rattle.names.specs.declared.marking.Marking.{Marking}
 use Rattle.names.specs.declared.part.Part.{Part}
 use Rattle.shown.specs.declared.step.Step.TheVariants.{Commit, Take, Trim, Marking as MarkingStep, Rebase}
 use Rattle.shown.specs.Marks.{marking_cause}
-use Rattle.shown.specs.Standing.{Standing, standing, base_cause, cursor_of}
+use Rattle.shown.specs.Standing.{standing, base_cause, cursor_of}
 use Rattle.shown.specs.Raising.{floor_cause, RefusesFloor, RefusesMarking, RefusesBase}
 use Rattle.tables.specs.Device.{IsOpen, HasFailed, Lasts}
 use Rattle.tables.specs.Storing.{one_more}

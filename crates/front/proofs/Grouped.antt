@@ -6,7 +6,6 @@ use Rattle.names.specs.declared.refusal.Refusal.TheVariants.{Malformed, BadZooki
 use Rattle.names.specs.declared.node.Node.{Node}
 use Rattle.zookie.specs.Text.{zookie_text}
 use Rattle.zookie.specs.declared.consistency.Consistency.{Consistency}
-use Rattle.leopard.specs.Exprs.{query_of}
 use Rattle.leopard.specs.Query.{Query}
 use Rattle.shown.specs.declared.answer.Answer.{Answer}
 use Rattle.shown.specs.declared.answer.Refused.{Refused}

@@ -1,5 +1,5 @@
 -- A desk that was opened, once its first session was given out.
-use Rattle.std.proofs.Common.{◌≡◌, ◌≤◌, false, List, [], ◌∷◌, length, sym, ◌∙◌, ap, subst}
+use Rattle.std.proofs.Common.{◌≡◌, ◌≤◌, false, List, [], ◌∷◌, length, sym, ◌∙◌, subst}
 use Rattle.rows.specs.Loads.{retained_of}
 use Rattle.shown.specs.declared.step.Step.{Step}
 use Rattle.shown.specs.Standing.{standing}

@@ -1,6 +1,6 @@
 -- What was done over tables was done over their connection.
-use Rattle.std.proofs.Common.{◌≡◌, ℕ, List, [], ◌∷◌, map, refl, sym, ap, subst, ◌∙◌, inl, inr}
-use Rattle.std.specs.Prelude.{Option, Some, None}
+use Rattle.std.proofs.Common.{◌≡◌, ℕ, List, [], ◌∷◌, map, sym, ap, subst, ◌∙◌}
+use Rattle.std.specs.Prelude.{None}
 use Rattle.std.proofs.Math.Logic.{∥∥₁_map}
 use Rattle.sqlite_wal.specs.Recovery.{Image}
 use Rattle.sqlite.specs.Store.{Ghosts}
@@ -12,16 +12,15 @@ use Rattle.rows.specs.declared.loaded.Loaded.{Loaded}
 use Rattle.shown.specs.declared.step.Step.{Step}
 use Rattle.shown.specs.declared.step.Step.TheVariants.{Open}
 use Rattle.shown.specs.Standing.{standing, after_opening}
-use Rattle.tables.specs.Leaving.{IsOneOf}
 use Rattle.desk.specs.TableChanges.{changed}
 use Rattle.desk.specs.Posts.{Posts}
 use Rattle.store.specs.History.{KeepsHistory, LeavesHistory}
 use Rattle.store.specs.StoreParts.{connection}
 use Rattle.store.specs.declared.store.Store.{Store}
-use Rattle.runs.specs.Files.{ImageHolds, HoldsOneOf}
+use Rattle.runs.specs.Files.{HoldsOneOf}
 use Rattle.runs.specs.Runs.{Began, Ended, kept_by}
 use Rattle.runs.specs.Connections.{HasServed}
-use Rattle.runs.specs.Over.{over, Begins, BeginsIn, EndedOver, OpenedOver, GoesOn}
+use Rattle.runs.specs.Over.{over, BeginsIn, EndedOver, OpenedOver, GoesOn}
 
 pub ended_over : {S : Type 0} (g : Ghosts S) (tables back : Store S g) (From : Retained → Type 0) (left : Held S) (input : List ℕ) (Did : Posts (Store S g) → Posts (Store S g) → Type 0)
     → left ≡ connection back → ((loaded : Loaded) → KeepsHistory g (connection tables) (retained_of loaded) → ((r : Retained) → KeepsHistory g (connection tables) r → retained_of loaded ≡ r) → From (retained_of loaded))

@@ -1,10 +1,8 @@
 -- A desk was opened, answered lines, and was closed.
-use Rattle.std.proofs.Common.{◌≡◌, ℕ, Bool, false, List, [], ◌∷◌, map, take, refl, sym, ap, subst, ◌∙◌}
+use Rattle.std.proofs.Common.{◌≡◌, ℕ, List, [], ◌∷◌, map, take, sym, ap, subst, ◌∙◌}
 use Rattle.std.specs.Prelude.{Option}
 use Rattle.std.proofs.lemmas.List.Elements.{All-nil}
-use Rattle.rows.specs.Retained.{Retained}
-use Rattle.rows.specs.Loads.{retained_of}
-use Rattle.tables.specs.Device.{IsClean, Lasts}
+use Rattle.tables.specs.Device.{Lasts}
 use Rattle.tables.specs.declared.tables.Tables.{Ghosts}
 use Rattle.tables.proofs.Lasting.{lasts_self, lasts_trans, clean_before}
 use Rattle.desk.specs.TableChanges.{TableChange, changed, CanChange}

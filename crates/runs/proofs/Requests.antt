@@ -3,7 +3,7 @@ use Rattle.std.proofs.Common.{◌≡◌, ℕ, Bool, true, false, List, [], ◌�
 use Rattle.std.specs.Prelude.{Option, Some, None}
 use Rattle.std.proofs.lemmas.List.Elements.{All-nil, All-weaker}
 use Rattle.httparse.specs.Grammar.{RequestHead}
-use Rattle.tables.specs.Device.{Device, Lasts}
+use Rattle.tables.specs.Device.{Device}
 use Rattle.tables.specs.declared.tables.Tables.{Ghosts}
 use Rattle.tables.proofs.Lasting.{lasts_self}
 use Rattle.desk.specs.TableChanges.{TableChange, CanChange}

@@ -1,5 +1,5 @@
 -- Why a task was not done, or that it was.
-use Rattle.std.proofs.Common.{◌≡◌, ◌≢◌, ◌⊎◌, ℕ, List, Global, String, Option, true, refl, sym, ap, subst, ◌∙◌, arith}
+use Rattle.std.proofs.Common.{◌≡◌, ℕ, List, Option, refl, sym, ap, subst, ◌∙◌, arith}
 use Rattle.std.specs.Prelude.{None, Result, Err, IfErr}
 use Rattle.sqlite_disk.specs.declared.Disk as disk
 use Rattle.sqlite_wal.specs.Recovery.{Image}
@@ -10,11 +10,11 @@ use Rattle.command_line.specs.declared.fault.Fault.{Fault}
 use Rattle.command_line.specs.declared.fault.Fault.TheVariants.{CommandLine, Refused, CannotRead, CannotWrite, CannotListen}
 use Rattle.command_line.specs.declared.words.Place.{Place}
 use Rattle.command_line.specs.declared.words.Task.{Task}
-use Rattle.command_line.specs.declared.words.Task.TheVariants.{Run, Serve, Config}
+use Rattle.command_line.specs.declared.words.Task.TheVariants.{Run, Serve}
 use Rattle.runs.specs.Files.{Remains}
 use Rattle.runs.specs.Runs.{is_read_fault, is_write_fault}
 use Rattle.zanz.specs.Listening.{Announced, StoppedServing}
-use Rattle.zanz.specs.Ran.{all_lines, whole_lines, first_lines, RanAt, RefusedAt, RunStopped, input_failed, output_failed, run_refused, Reported, BeganReport, IsReport, DoneOf, StoppedOf}
+use Rattle.zanz.specs.Ran.{all_lines, whole_lines, first_lines, RanAt, RefusedAt, RunStopped, input_failed, output_failed, run_refused, DoneOf, StoppedOf}
 use Rattle.zanz.proofs.Results.{err_at}
 
 module _ {R W D : Type 0} {g : disk.Ghosts D} (image : Image) (remaining : R → Option (List ℕ)) (contents : W → Option (List ℕ)) (reader reader_after : TrackedReading R) (writer writer_after : TrackedWriting W) (left : Remains g) where
