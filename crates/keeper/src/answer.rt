@@ -9,7 +9,7 @@ use crate::calls::check::answer_check;
 use crate::calls::configuring::answer_config;
 use crate::calls::expanding::answer_expand;
 use crate::calls::grouping::answer_groups;
-use crate::calls::hot::answer_hot;
+use crate::calls::marking::answer_hot;
 use crate::calls::reading::answer_read;
 use crate::calls::rebuilding::answer_rebuild;
 use crate::calls::state::answer_state;

@@ -25,7 +25,7 @@ snap_with r c rev there = ap (after_commits r.base) (take-append-le (rev - r.flo
 pub snap_without : (r : Retained) (rev : ℕ) → rev < newest r → r.floor < newest r → snap_at (without_newest r) rev ≡ snap_at r rev
 snap_without r rev there above = ap (after_commits r.base) (take-take (rev - r.floor) (length r.commits - 1) r.commits (omega (arith, there, above)))
 
-after_append : (s : Snap) (g h : History) → after_commits s (g ++ h) ≡ after_commits (after_commits s g) h
+pub after_append : (s : Snap) (g h : History) → after_commits s (g ++ h) ≡ after_commits (after_commits s g) h
 after_append s [] h = refl
 after_append s (c ∷ g) h = after_append (after_commit s c) g h
 

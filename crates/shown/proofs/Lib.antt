@@ -1,3 +1,3 @@
 pub mod Watching
 pub mod Basing
-pub mod Members
+pub mod Following

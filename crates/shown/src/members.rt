@@ -20,7 +20,7 @@ pub(crate) struct Known<'a> {
 }
 
 impl Oracle for Known<'_> {
-    ghost tells = { λ known S. IsHot known.hot S };
+    ghost tells = { λ known S. IsHot known.hot.now S };
 
     fn knows(&mut self, node: &Node, user: &Object) -> Option<bool> {
         self.hot.has(node, user)

@@ -1,7 +1,6 @@
 //! The published state.
 ghost use Rattle.std.specs.Prelude.{◌≡◌, ◌<◌, ◌≤◌, ◌↔◌, min, None, Some, true, false, IsTrue, IfOk, IfErr, IfSome, OnOk, OnErr};
 ghost use Rattle.names.specs.declared.limits.TheConstants.{MAX_REV};
-ghost use Rattle.names.specs.declared.part.Part.TheVariants.{Index, Hot};
 ghost use Rattle.names.specs.declared.marking.Marking.TheVariants.{Mark};
 ghost use Rattle.meaning.specs.Admits.{has_relation};
 ghost use Rattle.meaning.specs.Causes.{CheckCause};
@@ -76,7 +75,7 @@ impl Model for Shown {
 
     ghost invariant = { λ s.
         IsSound (record { kept = s.rows; base = s.base; index = s.index; hot = s.hot; marks = s.marks.items })
-            s.built s.members };
+        s.built s.members };
 }
 
 impl Shown {
@@ -577,7 +576,7 @@ impl Shown {
     }
 
     fn take_index(&mut self, commits: u32)
-        ensures { self.new ≡ after_take self.old Index commits }
+        ensures { self.new ≡ after_take self.old Part.Index commits }
     {
         let to = self.cursor_after(self.index, commits);
         self.base = self.rows.last_config(self.base, self.index, to);
@@ -585,7 +584,7 @@ impl Shown {
     }
 
     fn take_hot(&mut self, commits: u32)
-        ensures { self.new ≡ after_take self.old Hot commits }
+        ensures { self.new ≡ after_take self.old Part.Hot commits }
     {
         let to = self.cursor_after(self.hot, commits);
         self.members = if self.keeps_parts {

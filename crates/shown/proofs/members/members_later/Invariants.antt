@@ -1,5 +1,5 @@
 use Rattle.hot.specs.Kept.{IsHot}
-use Rattle.shown.proofs.Members.{snap_in}
+use Rattle.shown.proofs.Following.{snap_in}
 use Rattle.shown.proofs.members.members_later.Given as goal
 
 -- it has taken the commits so far

@@ -1,4 +1,4 @@
-use Rattle.shown.proofs.Members.{sound_above}
+use Rattle.shown.proofs.Following.{sound_above}
 use Rattle.shown.proofs.shown.Shown.raise.Goals as goal
 
 pub invariant_of-self : goal.invariant_of-self

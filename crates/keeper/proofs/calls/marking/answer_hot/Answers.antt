@@ -1,6 +1,6 @@
 use Rattle.std.proofs.Common.{sym}
 use Rattle.keeper.proofs.Marking.{hot_unasked}
-use Rattle.keeper.proofs.calls.hot.answer_hot.Goals as goal
+use Rattle.keeper.proofs.calls.marking.answer_hot.Goals as goal
 
 pub returns-in-Err-clause-step : goal.returns-in-Err-clause-step
 returns-in-Err-clause-step g c = hot_unasked g.T.Tables c.args.desk.now _ c.in-Err.why _ c.in-Err.ensures.err c.refusal.ensures

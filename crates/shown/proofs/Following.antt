@@ -1,19 +1,19 @@
 -- Members of marked nodes while the history grows, loses its newest commit, or is trimmed, and while its commits are taken.
-use Rattle.std.proofs.Common.{◌≡◌, ℕ, ◌+◌, ◌-◌, ◌<◌, ◌≤◌, length, take, drop, suc, ap, sym, subst, ◌∙◌, arith, get_or}
-use Rattle.std.specs.Prelude.{Option, Some, None}
-use Rattle.std.proofs.lemmas.List.{take-take, length-drop}
+use Rattle.std.proofs.Common.{◌≡◌, ℕ, ◌+◌, ◌-◌, ◌<◌, ◌≤◌, ◌++◌, ◌∷◌, [], length, take, drop, ap, sym, subst, ◌∙◌, arith, get_or}
+use Rattle.std.specs.Prelude.{Bool, Option, Some, None, Result, Ok, Err, OnOk, IfSome}
+use Rattle.std.specs.Result.{result_ok}
+use Rattle.std.proofs.lemmas.List.{take-take, take_more, length-drop, length-take-le}
 use Rattle.names.specs.declared.commit.Commit.{Commit}
 use Rattle.meaning.specs.Config.{Configured}
 use Rattle.meaning.specs.Snap.{Snap}
 use Rattle.meaning.specs.History.{after_commit, after_commits}
-use Rattle.versions.proofs.Settling.{after_push, take_more}
 use Rattle.leopard.specs.Index.{Index}
 use Rattle.hot.specs.Kept.{IsHot}
 use Rattle.hot.specs.declared.hot.Hot.{Hot}
-use Rattle.rows.specs.Retained.{Retained, snap_at, with_commit, after_trim, commits_between}
+use Rattle.rows.specs.Retained.{Retained, newest, snap_at, with_commit, after_trim, commits_between}
 use Rattle.shown.specs.Standing.{Standing, IsSteady, CanGoBack, CanRaise, before_commit}
 use Rattle.shown.specs.inside.Basing.{AreKeptMembers, IsSound}
-use Rattle.shown.proofs.Basing.{snap_with, snap_without, snap_above, after_parts, kept_above}
+use Rattle.shown.proofs.Basing.{snap_with, snap_without, snap_above, after_append, after_parts, kept_above}
 
 -- ---- the members that are kept
 
@@ -51,10 +51,39 @@ snap_between r from to i rev retained few is =
     ∙ ap (λ (n : ℕ). after_commits r.base (take n r.commits)) sum
 
 pub snap_next : (r : Retained) (from to i : ℕ) (c : Commit Configured) → i < length (commits_between r from to) → c ≡ get_or (commits_between r from to) i c
-    → snap_in r from to (suc i) ≡ after_commit (snap_in r from to i) c
+    → snap_in r from to (i + 1) ≡ after_commit (snap_in r from to i) c
 snap_next r from to i c small is =
     let commits = commits_between r from to in
-    ap (after_commits (snap_at r from)) (take_more commits i c small is) ∙ after_push (snap_at r from) (take i commits) c
+    ap (after_commits (snap_at r from)) (take_more commits i c small ∙ ap (λ (d : Commit Configured). take i commits ++ d ∷ []) (sym is))
+    ∙ after_append (snap_at r from) (take i commits) (c ∷ [])
+
+pub length_between : (r : Retained) (from to : ℕ) → r.floor ≤ from → from ≤ to → to ≤ newest r → length (commits_between r from to) ≡ to - from
+length_between r from to retained order there =
+    let left = length-drop (from - r.floor) r.commits in
+    length-take-le (to - from) (drop (from - r.floor) r.commits) (omega (arith, left, retained, order, there))
+
+-- the snapshot of the next revision
+pub view_next : (r : Retained) (from to i : ℕ) (c : Commit Configured) (view : Snap) → r.floor ≤ from → from ≤ to → to ≤ newest r → i < length (commits_between r from to) → c ≡ get_or (commits_between r from to) i c
+    → view ≡ snap_at r (from + i + 1) → (view ≡ snap_in r from to (i + 1)) × (view ≡ after_commit (snap_in r from to i) c)
+view_next r from to i c view retained order there small is seen =
+    let long = length_between r from to retained order there in
+    let at = seen ∙ sym (snap_between r from to (i + 1) (from + i + 1) retained (omega (arith, small, long)) (omega arith)) in
+    (at, at ∙ snap_next r from to i c small is)
+
+pub all_taken : (r : Retained) (from to i : ℕ) → r.floor ≤ from → from ≤ to → to ≤ newest r → length (commits_between r from to) ≤ i → i ≤ length (commits_between r from to) → snap_in r from to i ≡ snap_at r to
+all_taken r from to i retained order there more few =
+    let long = length_between r from to retained order there in
+    snap_between r from to i to retained (omega (arith, few, long)) (omega (arith, order, more, few, long))
+
+-- ---- what is done, and what is known
+
+pub done : {E P : Type 0} (r : Result (Unit {0}) E) (u : Unit {0}) → Some u ≡ result_ok r → OnOk r P → P
+done (Ok x) u is p = p
+done (Err e) u is p = absurd cc
+
+pub known : (o : Option Bool) (Is : Snap → Type 0) (T : Snap → Bool → Type 0) → IfSome o (λ b. (S : Snap) → Is S → T S b) → (S : Snap) → Is S → IfSome o (T S)
+known None Is T h S is = tt
+known (Some b) Is T h S is = h S is
 
 -- ---- a higher floor
 

@@ -2,7 +2,7 @@ use Rattle.std.proofs.Common.{ap, sym, ◌∙◌, subst}
 use Rattle.published.specs.Known.{Known, Begins}
 use Rattle.keeper.proofs.Changing.{shown_later}
 use Rattle.keeper.proofs.Marking.{hot_done, hot_not_done}
-use Rattle.keeper.proofs.calls.hot.mark_on.Goals as goal
+use Rattle.keeper.proofs.calls.marking.mark_on.Goals as goal
 
 pub learn-requires : goal.learn-requires
 learn-requires g c =
