@@ -1,7 +1,7 @@
 //! Replies that no run of the program gives, or only for want of memory.
 
 use bodies::refusals::refusal;
-use bodies::replies::{cursor, no_route, receipt, state};
+use bodies::replies::{cursor, receipt, state};
 use names::{Refusal, Reply, State};
 use std::alloc::Global;
 use zookie::Zookie;
@@ -64,14 +64,4 @@ fn has_each_number(alloc: Global) -> bool {
 #[test]
 fn a_state_has_each_number_in_its_place(rt: HostRuntime) {
     assert!(rt; has_each_number(rt.alloc()));
-}
-
-fn is_not_served(alloc: Global) -> bool {
-    let told = r#"{"error":{"code":0,"name":"NoRoute"}}"#;
-    says(&no_route(alloc), 404, told)
-}
-
-#[test]
-fn a_call_that_is_not_served_has_no_route(rt: HostRuntime) {
-    assert!(rt; is_not_served(rt.alloc()));
 }
