@@ -2,14 +2,11 @@
 //! and what they keep, at values from outside.
 #![tactic(auto)]
 
-mod table;
-
-pub use table::{Known, Table, gather_by, refresh_by};
-
 #[cfg(test)]
 mod marked;
 #[cfg(test)]
 mod parts;
+mod table;
 #[cfg(test)]
 mod views;
 #[cfg(test)]
