@@ -6,6 +6,7 @@
 mod marked;
 #[cfg(test)]
 mod parts;
+// What specs/ says of it is read without the tests too.
 mod table;
 #[cfg(test)]
 mod views;
