@@ -13,3 +13,4 @@ pub mod Marking
 pub mod Rebuilding
 pub mod Stating
 pub mod Answering
+pub mod Beginning

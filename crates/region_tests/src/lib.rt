@@ -2,14 +2,12 @@
 //! and what they keep, at values from outside.
 #![tactic(auto)]
 
-mod table;
-
-pub use table::{Known, Table, gather_by, refresh_by};
-
 #[cfg(test)]
 mod marked;
 #[cfg(test)]
 mod parts;
+// What specs/ says of it is read without the tests too.
+mod table;
 #[cfg(test)]
 mod views;
 #[cfg(test)]

@@ -1,11 +1,10 @@
 //! The pure machine of publication, which no program runs.
 
-use crate::histories::written;
 use config::Config;
 use names::limits::MAX_MARKS;
-use names::{Items, Marking, Node, Object, Part, Refusal};
+use names::{Commit, Items, Marking, Node, Object, Op, OpKind, Part, Refusal, Tuple};
 use publication::{Event, Outcome, Posting, Question, World};
-use rows::Loaded;
+use rows::{Loaded, events_of};
 use std::alloc::Global;
 use tuple_keys::KeptCommit;
 use zookie::{Consistency, Zookie};
@@ -40,9 +39,20 @@ fn opens(alloc: Global, world: &mut World) -> Result<bool, Refusal> {
     Ok(posted && comes(world, Event::Published(1))?)
 }
 
+// A commit that puts ann.
+fn put_of_ann(alloc: Global) -> Result<Commit<Config>, Refusal> {
+    let tuple = Tuple::parse(ANN)?;
+    let mut ops = Vec::new(alloc);
+    ops.push(Op {
+        kind: OpKind::Touch,
+        tuple,
+    })?;
+    Ok(Commit::Tuples(events_of(Items::of(ops))?))
+}
+
 // Whether ann can be put, and the commit be posted.
 fn puts_ann(alloc: Global, world: &mut World) -> Result<bool, Refusal> {
-    let commit = written(alloc, ANN)?;
+    let commit = put_of_ann(alloc)?;
     Ok(comes(world, Event::Stored(commit))? && comes(world, Event::Posted(Posting::NextCommit))?)
 }
 
