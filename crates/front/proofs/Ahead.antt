@@ -14,17 +14,17 @@ use Rattle.front.specs.Kept.{KnowsADesk}
 use Rattle.front.specs.Fronts.{ToldByDesk}
 
 pub not_found : (future : Bool) → future ≡ true → ¬ (future ≡ false)
-not_found future yes no = true≢false (sym yes ∙ no)
+not_found future met unmet = true≢false (sym met ∙ unmet)
 
 module _ {A : Type 0} where
   -- it is not
   pub never_ahead : (r : Result A Refused) (future : Bool) → IfErr r (λ refused. (future ≡ true) ↔ (refused.why ≡ Future)) → future ≡ false → IfErr r (λ refused. refused.why ≡ Future → ⊥)
-  never_ahead (Ok found) future when no = tt
-  never_ahead (Err refused) future when no = iff_false when no
+  never_ahead (Ok found) future when unmet = tt
+  never_ahead (Err refused) future when unmet = iff_false when unmet
 
   pub page_never_ahead : (r : Result A Refusal) (future : Bool) → IfErr r (λ why. (future ≡ true) ↔ (why ≡ Future)) → future ≡ false → IfErr r (λ why. why ≡ Future → ⊥)
-  page_never_ahead (Ok found) future when no = tt
-  page_never_ahead (Err why) future when no = iff_false when no
+  page_never_ahead (Ok found) future when unmet = tt
+  page_never_ahead (Err why) future when unmet = iff_false when unmet
 
   -- it may be
   pub maybe_ahead : (r : Result A Refused) → IfErr r (λ refused. refused.why ≡ Future → ⊤)

@@ -56,8 +56,8 @@ groups_asked_later old body (NotYet question) new is = is.1
 -- the zookie is of a revision that is not known yet
 pub groups_are_ahead : (steps : List Step) (consistency : Consistency) (asked : Query) (limit : ℕ) (found : Result (Answer (List Node)) Refused) (future : Bool) → IfErr found (IsGroupsRefusal (standing steps) consistency asked limit)
     → IfOk found (λ groups. future ≡ false) → IfErr found (λ refused. (future ≡ true) ↔ (refused.why ≡ Future)) → future ≡ true → IsAhead steps consistency
-groups_are_ahead steps consistency asked limit (Ok groups) future err no when yes = absurd (not_found future yes no)
-groups_are_ahead steps consistency asked limit (Err refused) future err no when yes = (subst (λ (why : Refusal). GroupsRefused (standing steps) consistency asked limit why refused.at) (when.0 yes) err).1
+groups_are_ahead steps consistency asked limit (Ok groups) future err unmet when met = absurd (not_found future met unmet)
+groups_are_ahead steps consistency asked limit (Err refused) future err unmet when met = (subst (λ (why : Refusal). GroupsRefused (standing steps) consistency asked limit why refused.at) (when.0 met) err).1
 
 -- what is told stays so where more was sought
 told_when : {A B : Type 0} (steps : List Step) (consistency : Consistency) (asked : Query) (limit : ℕ) (told : Option (ℕ × List ℕ)) → (A → B) → GroupsTold steps A consistency asked limit told → GroupsTold steps B consistency asked limit told
@@ -68,7 +68,7 @@ told_when steps consistency asked limit told more (told_none says) = told_none s
 pub groups_alone : {sought : Type 0} (old : Known) (body : List ℕ) (told : Option (ℕ × List ℕ)) (new : Known) → GroupsFrom ⊥ old body told new → GroupsFrom sought old body told new
 groups_alone old body told new (groups_malformed none says same) = groups_malformed none says same
 groups_alone old body told new (groups_bad_zookie none says same) = groups_bad_zookie none says same
-groups_alone old body told new (groups_asked consistency asked limit asks is later) = groups_asked consistency asked limit asks (told_when {A = ⊥} new.steps consistency asked limit told (λ no. absurd no) is) later
+groups_alone old body told new (groups_asked consistency asked limit asks is later) = groups_asked consistency asked limit asks (told_when {A = ⊥} new.steps consistency asked limit told (λ none. absurd none) is) later
 groups_alone old body told new (groups_unread none same) = groups_unread none same
 
 -- the question was asked once more

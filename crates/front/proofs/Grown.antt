@@ -58,8 +58,8 @@ tree_asked_later old body (NotYet question) new is = is.1
 -- the zookie is of a revision that is not known yet
 pub tree_is_ahead : (steps : List Step) (consistency : Consistency) (node : Node) (depth : ℕ) (found : Result (Answer Tree) Refused) (future : Bool) → IfErr found (IsTreeRefusal (standing steps) consistency node depth)
     → IfOk found (λ tree. future ≡ false) → IfErr found (λ refused. (future ≡ true) ↔ (refused.why ≡ Future)) → future ≡ true → IsAhead steps consistency
-tree_is_ahead steps consistency node depth (Ok tree) future err no when yes = absurd (not_found future yes no)
-tree_is_ahead steps consistency node depth (Err refused) future err no when yes = (subst (λ (why : Refusal). ExpandRefused (standing steps) consistency node depth why refused.at) (when.0 yes) err).0
+tree_is_ahead steps consistency node depth (Ok tree) future err unmet when met = absurd (not_found future met unmet)
+tree_is_ahead steps consistency node depth (Err refused) future err unmet when met = (subst (λ (why : Refusal). ExpandRefused (standing steps) consistency node depth why refused.at) (when.0 met) err).0
 
 -- what is told stays so where more was sought
 told_when : {A B : Type 0} (steps : List Step) (consistency : Consistency) (node : Node) (depth : ℕ) (told : Option (ℕ × List ℕ)) → (A → B) → TreeTold steps A consistency node depth told → TreeTold steps B consistency node depth told
@@ -70,7 +70,7 @@ told_when steps consistency node depth told more (told_no_more says) = told_no_m
 pub tree_alone : {sought : Type 0} (old : Known) (body : List ℕ) (told : Option (ℕ × List ℕ)) (new : Known) → ExpandFrom ⊥ old body told new → ExpandFrom sought old body told new
 tree_alone old body told new (tree_malformed none says same) = tree_malformed none says same
 tree_alone old body told new (tree_bad_zookie none says same) = tree_bad_zookie none says same
-tree_alone old body told new (tree_asked consistency node depth asks is later) = tree_asked consistency node depth asks (told_when {A = ⊥} new.steps consistency node depth told (λ no. absurd no) is) later
+tree_alone old body told new (tree_asked consistency node depth asks is later) = tree_asked consistency node depth asks (told_when {A = ⊥} new.steps consistency node depth told (λ none. absurd none) is) later
 tree_alone old body told new (tree_unread none same) = tree_unread none same
 
 -- the question was asked once more

@@ -56,8 +56,8 @@ tuples_asked_later old body (NotYet question) new is = is.1
 -- the zookie is of a revision that is not known yet
 pub read_is_ahead : (steps : List Step) (consistency : Consistency) (found : Result (Answer (List Tuple)) Refused) (future : Bool) → IfErr found (IsPageRefusal (standing steps) consistency)
     → IfOk found (λ tuples. future ≡ false) → IfErr found (λ refused. (future ≡ true) ↔ (refused.why ≡ Future)) → future ≡ true → IsAhead steps consistency
-read_is_ahead steps consistency (Ok tuples) future err no when yes = absurd (not_found future yes no)
-read_is_ahead steps consistency (Err refused) future err no when yes = (subst (λ (why : Refusal). ReadRefused (standing steps) consistency why refused.at) (when.0 yes) err).0
+read_is_ahead steps consistency (Ok tuples) future err unmet when met = absurd (not_found future met unmet)
+read_is_ahead steps consistency (Err refused) future err unmet when met = (subst (λ (why : Refusal). ReadRefused (standing steps) consistency why refused.at) (when.0 met) err).0
 
 -- what is told stays so where more was sought
 told_when : {A B : Type 0} (steps : List Step) (consistency : Consistency) (asked : Tupleset) (told : Option (ℕ × List ℕ)) → (A → B) → TuplesTold steps A consistency asked told → TuplesTold steps B consistency asked told
@@ -68,7 +68,7 @@ told_when steps consistency asked told more (told_nothing says) = told_nothing s
 pub tuples_alone : {sought : Type 0} (old : Known) (body : List ℕ) (told : Option (ℕ × List ℕ)) (new : Known) → ReadFrom ⊥ old body told new → ReadFrom sought old body told new
 tuples_alone old body told new (tuples_malformed none says same) = tuples_malformed none says same
 tuples_alone old body told new (tuples_bad_zookie none says same) = tuples_bad_zookie none says same
-tuples_alone old body told new (tuples_asked consistency asked asks is later) = tuples_asked consistency asked asks (told_when {A = ⊥} new.steps consistency asked told (λ no. absurd no) is) later
+tuples_alone old body told new (tuples_asked consistency asked asks is later) = tuples_asked consistency asked asks (told_when {A = ⊥} new.steps consistency asked told (λ none. absurd none) is) later
 tuples_alone old body told new (tuples_unread none same) = tuples_unread none same
 
 -- the question was asked once more

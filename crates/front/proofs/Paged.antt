@@ -51,8 +51,8 @@ page_asked_later old body (NotYet question) new is = is.1
 -- the cursor is of a revision that is not known yet
 pub page_is_ahead : (steps : List Step) (cursor : Zookie) (found : Result Page Refusal) (future : Bool) → IfErr found (WatchRefused (standing steps) cursor)
     → IfOk found (λ page. future ≡ false) → IfErr found (λ why. (future ≡ true) ↔ (why ≡ Future)) → future ≡ true → IsAhead steps (Exactly cursor)
-page_is_ahead steps cursor (Ok page) future err no when yes = absurd (not_found future yes no)
-page_is_ahead steps cursor (Err why) future err no when yes = subst (λ (w : Refusal). WatchRefused (standing steps) cursor w) (when.0 yes) err
+page_is_ahead steps cursor (Ok page) future err unmet when met = absurd (not_found future met unmet)
+page_is_ahead steps cursor (Err why) future err unmet when met = subst (λ (w : Refusal). WatchRefused (standing steps) cursor w) (when.0 met) err
 
 -- what is told stays so where more was sought
 told_when : {A B : Type 0} (steps : List Step) (cursor : Zookie) (namespaces : Namespaces) (commits : ℕ) (told : Option (ℕ × List ℕ)) → (A → B) → PageTold steps A cursor namespaces commits told → PageTold steps B cursor namespaces commits told
@@ -63,7 +63,7 @@ told_when steps cursor namespaces commits told more (told_none says) = told_none
 pub page_alone : {sought : Type 0} (old : Known) (body : List ℕ) (told : Option (ℕ × List ℕ)) (new : Known) → WatchFrom ⊥ old body told new → WatchFrom sought old body told new
 page_alone old body told new (page_malformed none says same) = page_malformed none says same
 page_alone old body told new (page_bad_zookie none says same) = page_bad_zookie none says same
-page_alone old body told new (page_asked cursor namespaces commits asks is later) = page_asked cursor namespaces commits asks (told_when {A = ⊥} new.steps cursor namespaces commits told (λ no. absurd no) is) later
+page_alone old body told new (page_asked cursor namespaces commits asks is later) = page_asked cursor namespaces commits asks (told_when {A = ⊥} new.steps cursor namespaces commits told (λ none. absurd none) is) later
 page_alone old body told new (page_unread none same) = page_unread none same
 
 -- the question was asked once more

@@ -65,8 +65,8 @@ state_later old told new (inr is) = subst (Begins old) (sym is.1) (begins_self o
 -- the zookie is of a revision that is not known yet
 pub check_is_ahead : (steps : List Step) (consistency : Consistency) (node : Node) (checked : Result (Answer Bool) Refused) (future : Bool) → IfErr checked (IsRefusal (standing steps) consistency node)
     → IfOk checked (λ found. future ≡ false) → IfErr checked (λ refused. (future ≡ true) ↔ (refused.why ≡ Future)) → future ≡ true → IsAhead steps consistency
-check_is_ahead steps consistency node (Ok found) future err no when yes = absurd (not_found future yes no)
-check_is_ahead steps consistency node (Err refused) future err no when yes = (subst (λ (why : Refusal). CheckRefused (standing steps) consistency node why refused.at) (when.0 yes) err).0
+check_is_ahead steps consistency node (Ok found) future err unmet when met = absurd (not_found future met unmet)
+check_is_ahead steps consistency node (Err refused) future err unmet when met = (subst (λ (why : Refusal). CheckRefused (standing steps) consistency node why refused.at) (when.0 met) err).0
 
 -- what is told stays so where more was sought
 told_when : {A B : Type 0} (steps : List Step) (consistency : Consistency) (node : Node) (user : Object) (told : Option (ℕ × List ℕ)) → (A → B) → CheckTold steps A consistency node user told → CheckTold steps B consistency node user told
@@ -77,7 +77,7 @@ told_when steps consistency node user told more (told_shut says) = told_shut say
 pub check_alone : {sought : Type 0} (old : Known) (body : List ℕ) (told : Option (ℕ × List ℕ)) (new : Known) → CheckFrom ⊥ old body told new → CheckFrom sought old body told new
 check_alone old body told new (from_malformed none says same) = from_malformed none says same
 check_alone old body told new (from_bad_zookie none says same) = from_bad_zookie none says same
-check_alone old body told new (from_asked consistency node user asks is later) = from_asked consistency node user asks (told_when {A = ⊥} new.steps consistency node user told (λ no. absurd no) is) later
+check_alone old body told new (from_asked consistency node user asks is later) = from_asked consistency node user asks (told_when {A = ⊥} new.steps consistency node user told (λ none. absurd none) is) later
 check_alone old body told new (from_unread none same) = from_unread none same
 
 -- the question was asked once more

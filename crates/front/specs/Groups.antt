@@ -17,8 +17,8 @@ use Rattle.front.specs.declared.groups.AskedGroups.{AskedGroups}
 use Rattle.front.specs.declared.groups.AskedGroups.TheVariants.{Told, NotYet}
 use Rattle.front.specs.Questions.{zookie_in, IsAhead}
 
--- The groups are told, or refused, by the standing of the steps, and as of the future only where it was sought; or no session
--- can ask any more.
+-- The groups are told, or refused, by the standing of the steps; or no session can ask any more. That the
+-- question is of the future is told only where `sought`.
 pub data GroupsTold (steps : List Step) (sought : Type 0) (consistency : Consistency) (asked : Query) (limit : ℕ)
     (told : Option (ℕ × List ℕ)) : Type 0 where
   told_groups : (rev : ℕ) (found : List Node)

@@ -18,8 +18,8 @@ use Rattle.front.specs.declared.pages.AskedPage.{AskedPage}
 use Rattle.front.specs.declared.pages.AskedPage.TheVariants.{Told, NotYet}
 use Rattle.front.specs.Questions.{IsAhead}
 
--- The page is told, or refused, by the standing of the steps, and as of the future only where it was sought; or no session
--- can ask any more.
+-- The page is told, or refused, by the standing of the steps; or no session can ask any more. That the
+-- question is of the future is told only where `sought`.
 pub data PageTold (steps : List Step) (sought : Type 0) (cursor : Zookie) (namespaces : Namespaces) (commits : ℕ)
     (told : Option (ℕ × List ℕ)) : Type 0 where
   told_page : (page : Page)

@@ -28,8 +28,8 @@ IsAhead steps consistency =
     IsFirstCause consistency (standing steps).kept.number (standing steps).kept.floor
     (newest (standing steps).kept) Future
 
--- The question is answered, or refused, by the standing of the steps, and as one of the future only where it was sought; or
--- no session can ask any more.
+-- The question is answered, or refused, by the standing of the steps; or no session can ask any more. That the
+-- question is of the future is told only where `sought`.
 pub data CheckTold (steps : List Step) (sought : Type 0) (consistency : Consistency) (node : Node) (user : Object)
     (told : Option (ℕ × List ℕ)) : Type 0 where
   told_answer : (rev : ℕ) (allowed : Bool)

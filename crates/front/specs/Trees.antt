@@ -17,8 +17,8 @@ use Rattle.front.specs.declared.trees.AskedTree.{AskedTree}
 use Rattle.front.specs.declared.trees.AskedTree.TheVariants.{Told, NotYet}
 use Rattle.front.specs.Questions.{zookie_in, IsAhead}
 
--- The tree is told, or refused, by the standing of the steps, and as of the future only where it was sought; or no session
--- can ask any more.
+-- The tree is told, or refused, by the standing of the steps; or no session can ask any more. That the
+-- question is of the future is told only where `sought`.
 pub data TreeTold (steps : List Step) (sought : Type 0) (consistency : Consistency) (node : Node) (depth : ℕ)
     (told : Option (ℕ × List ℕ)) : Type 0 where
   told_tree : (rev : ℕ) (found : UsersetTree)

@@ -16,8 +16,8 @@ use Rattle.front.specs.declared.tuples.AskedTuples.{AskedTuples}
 use Rattle.front.specs.declared.tuples.AskedTuples.TheVariants.{Told, NotYet}
 use Rattle.front.specs.Questions.{zookie_in, IsAhead}
 
--- The page of the tupleset is told, or refused, by the standing of the steps, and as of the future only where it was sought; or no session
--- can ask any more.
+-- The page of the tupleset is told, or refused, by the standing of the steps; or no session can ask any more. That the
+-- question is of the future is told only where `sought`.
 pub data TuplesTold (steps : List Step) (sought : Type 0) (consistency : Consistency) (asked : Tupleset)
     (told : Option (ℕ × List ℕ)) : Type 0 where
   told_tuples : (rev : ℕ) (found : List Tuple)
