@@ -1,6 +1,6 @@
 use Rattle.names.specs.declared.call.Call.TheVariants.{Write, Config, Check, Read, Expand, Leopard, Watch, Trim, CatchUp, Hot, Rebuild, State}
 use Rattle.published.proofs.Rules.{begins_self}
-use Rattle.keeper.proofs.Answering.{step_of}
+use Rattle.keeper.proofs.ByCall.{step_of}
 use Rattle.keeper.proofs.answer.answer_on.Goals as goal
 
 pub returns-in-Write-clause-step : goal.returns-in-Write-clause-step
