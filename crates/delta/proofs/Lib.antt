@@ -1,0 +1,17 @@
+mod Lists
+mod Closures
+mod After
+mod Bare
+mod Rows
+mod Replayed
+mod Told
+mod Taken
+mod Asked
+mod Outcomes
+mod Renewed
+mod Numbered
+mod Same
+mod Above
+mod Noting
+mod Led
+mod Layered

@@ -1,0 +1,75 @@
+//! What groups led to before a commit.
+ghost use Rattle.std.specs.Prelude.{◌≡◌, ◌++◌, ◌∷◌, [], ℕ, List, IfOk, OnOk};
+ghost use Rattle.std.specs.Option.{option_map};
+ghost use Rattle.delta.specs.Noted.{led_in, led_at};
+ghost use Rattle.delta.specs.inside.Noting.{AreNotedOf};
+
+use idsets::IdSet;
+use region::Sets;
+use std::alloc::{AllocError, Global};
+
+/// What a group led to before a commit with this revision, by its number; nothing is noted of a group of which nothing
+/// was kept.
+#[derive(Drop)]
+pub struct Earlier {
+    pub rev: u64,
+    pub group: u64,
+    pub led: Option<IdSet>,
+}
+
+/// What the group leads to at a revision, where it is kept there: what was noted first after the revision, or else what
+/// is kept now. All that was noted after the revision is gone over.
+pub(crate) fn led_at<'a>(
+    earlier: &'a [Earlier],
+    sets: &'a Sets,
+    group: u64,
+    rev: u64,
+) -> Option<&'a IdSet>
+    ensures { option_map (λ ids. ids.now) result ≡ led_at earlier.now sets.now.rows group rev }
+{
+    for e in earlier {
+        if rev < e.rev && group == e.group {
+            return e.led.as_ref();
+        }
+    }
+    sets.members(group)
+}
+
+/// What some groups lead to now, to be noted with a revision.
+pub(crate) fn noted(
+    alloc: Global,
+    rev: u64,
+    sets: &Sets,
+    groups: &[u64],
+) -> Result<Vec<Earlier>, AllocError>
+    ensures { IfOk result (λ v. AreNotedOf rev (led_in sets.now.rows) groups.now v.items) }
+{
+    let mut list = Vec::new(alloc);
+    for group in groups {
+        push_noted(rev, sets, *group, &mut list)?;
+    }
+    Ok(list)
+}
+
+fn push_noted(
+    rev: u64,
+    sets: &Sets,
+    group: u64,
+    list: &mut Vec<Earlier>,
+) -> Result<(), AllocError>
+    ensures { OnOk result ((before : List ℕ) → AreNotedOf rev (led_in sets.now.rows) before list.old.items
+        → AreNotedOf rev (led_in sets.now.rows) (before ++ group ∷ []) list.new.items) }
+{
+    let led = copy_of(sets.members(group))?;
+    list.push(Earlier { rev, group, led })?;
+    Ok(())
+}
+
+fn copy_of(ids: Option<&IdSet>) -> Result<Option<IdSet>, AllocError>
+    ensures { IfOk result (λ copy. option_map (λ x. x.now) ids ≡ copy) }
+{
+    match ids {
+        Some(ids) => Ok(Some(ids.again()?)),
+        None => Ok(None),
+    }
+}
