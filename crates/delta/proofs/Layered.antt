@@ -8,7 +8,6 @@ use Rattle.names.specs.declared.tuple.Tuple.{Tuple}
 use Rattle.meaning.specs.TupleSet as set
 use Rattle.meaning.specs.Config.{Configured}
 use Rattle.meaning.specs.Snap.{Snap}
-use Rattle.meaning.proofs.Lists.{contains_none}
 use Rattle.idsets.specs.Naming.{AreDistinct}
 use Rattle.least_sets.specs.World.{has}
 use Rattle.least_sets.specs.Groups.{GroupsAreWalks}
@@ -26,7 +25,7 @@ use Rattle.delta.specs.Noted.{led_at}
 use Rattle.delta.specs.Layers.{AreKept, AreRoots, IsAbove, IsIn, IsLayerOf, KeepsAt, Tells}
 use Rattle.delta.specs.inside.Growing.{more_none}
 use Rattle.delta.specs.inside.Named.{AreNamed}
-use Rattle.delta.proofs.Rows.{led_filtered, filtered_there}
+use Rattle.delta.proofs.Rows.{led_filtered}
 use Rattle.delta.proofs.Told.{tells_now, tells_still}
 
 -- the groups above the tuples of a snapshot are roots
@@ -37,17 +36,16 @@ roots_of T config nodes nodes' tuples turned roots same all above set_is more g 
     (found.0, set_is found.0 ∙ found.1, grew_get nodes nodes' found.0 g more.grew found.2)
 
 pub begun : GroupsAreWalks → (layer : Layer) (snaps : ℕ → Snap) (T : Snap) → snaps layer.cursor ≡ T → layer.base ≡ layer.cursor → layer.config ≡ T.config → AreDistinct layer.nodes
-    → AreKept T layer.nodes layer.roots layer.sets.rows → AreRoots T layer.nodes layer.roots → layer.earlier.items ≡ [] → IsLayerOf layer snaps
-begun law layer snaps T there base config distinct kept roots none = record {
+    → AreKept T layer.nodes layer.roots layer.sets.rows → AreRoots T layer.nodes layer.roots → IsLayerOf layer snaps
+begun law layer snaps T there base config distinct kept roots = record {
   order = omega (arith, base);
   distinct = distinct;
   kept = subst (λ (S : Snap). AreKept S layer.nodes layer.roots layer.sets.rows) (sym there) kept;
   roots = subst (λ (S : Snap). AreRoots S layer.nodes layer.roots) (sym there) roots;
-  noted = λ e c. absurd (contains_none e (subst (λ (xs : List Earlier). Contains xs e) none c));
   tells = λ rev from to.
       subst (λ q. Tells layer q (snaps q)) (let e : layer.cursor ≡ rev = omega (arith, from, to, base) in e)
       (subst (λ (S : Snap). Tells layer layer.cursor S) (sym there)
-      (tells_now law layer layer.cursor T (sym config) distinct kept roots (λ e c. absurd (contains_none e (subst (λ (xs : List Earlier). Contains xs e) none c)))));
+      (tells_now law layer layer.cursor T (sym config) distinct kept roots layer.noted.up_to));
 }
 
 -- what was noted up to the new base is dropped
@@ -64,7 +62,6 @@ rebased before layer snaps rev is up low config base cursor nodes roots rows not
   roots = subst (λ c. AreRoots (snaps c) layer.nodes layer.roots) (sym cursor)
       (subst (λ (ns : List Node). AreRoots (snaps before.cursor) ns layer.roots) (sym nodes)
       (subst (λ xs. AreRoots (snaps before.cursor) before.nodes xs) (sym roots) is.roots));
-  noted = λ e c. subst (λ q. e.rev ≤ q) (sym cursor) (is.noted e (filtered_there rev before.earlier.items e (subst (λ (xs : List Earlier). Contains xs e) noted c)));
   tells = λ at from to. tells_still before layer at (snaps at) config (subst (λ (ns : List Node). IsMore before.nodes ns) (sym nodes) (more_none before.nodes))
       (λ i. ap (λ xs. led_at xs layer.sets.rows i at) noted
           ∙ ap (λ (rs : Rows). led_at (filter (λ (e : Earlier). nat_lt rev e.rev) before.earlier.items) rs i at) rows

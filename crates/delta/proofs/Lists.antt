@@ -1,5 +1,5 @@
 -- Nodes and their numbers, one by one.
-use Rattle.std.proofs.Common.{ℕ, zero, suc, ◌≡◌, ◌≤◌, ◌<◌, ◌+◌, take, get_or, true, false, nat_eq, List, [], ◌∷◌, ◌++◌, length, refl, sym, ◌∙◌, ap, subst, ⊎_elim, ◌⊎◌, inl, inr}
+use Rattle.std.proofs.Common.{ℕ, zero, suc, ◌≡◌, ◌<◌, true, false, nat_eq, List, [], ◌∷◌, ◌++◌, length, refl, sym, ◌∙◌, ap, subst, ⊎_elim, ◌⊎◌, inl, inr}
 use Rattle.std.specs.Prelude.{Some, None, Contains}
 use Rattle.std.specs.List.{slice_get}
 use Rattle.std.specs.Cmp.{eq_by_cmp_equiv}
@@ -7,7 +7,6 @@ use Rattle.std.specs.Ordering.{eq_by_cmp}
 use Rattle.std.proofs.lemmas.Bool.{or_cases, or_left, or_right, cases_Bool, true≢false, false≢true, eqb-true, eq-eqb}
 use Rattle.std.proofs.lemmas.Option.{none-some, same_Some, slice_get_within, slice_get-get_or}
 use Rattle.std.proofs.lemmas.Map.Views.{tells_apart}
-use Rattle.std.proofs.lemmas.List.{take_more, take_all}
 use Rattle.std.proofs.lemmas.List.Elements.{Contains-append_left, Contains-push, Contains-push_cases}
 use Rattle.names.specs.Order.{node_cmp}
 use Rattle.names.specs.declared.node.Node.{Node}
@@ -21,13 +20,6 @@ use Rattle.facts.specs.inside.Tables.{has_push, grew_get}
 use Rattle.delta.specs.Layers.{IsOfSet}
 use Rattle.delta.specs.inside.Changing.{AreOfEvents}
 use Rattle.delta.specs.inside.Named.{AreNamed}
-
--- one item more, and all of them
-pub one_more : {A : Type 0} (xs : List A) (i : ℕ) (x : A) → i < length xs → x ≡ get_or xs i x → take i xs ++ x ∷ [] ≡ take (i + 1) xs
-one_more xs i x lt e = ap (λ y. take i xs ++ y ∷ []) e ∙ sym (take_more xs i x lt)
-
-pub all_of : {A : Type 0} (xs : List A) (i : ℕ) → length xs ≤ i → take i xs ≡ xs
-all_of xs i le = take_all i xs le
 
 -- the node has a number or none
 pub find_node : (nodes : List Node) (n : Node) → ((j : ℕ) × (slice_get nodes j ≡ Some n)) ⊎ ((j : ℕ) → slice_get nodes j ≡ Some n → ⊥)

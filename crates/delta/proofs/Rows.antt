@@ -1,14 +1,21 @@
 -- What was noted of groups, at a revision.
-use Rattle.std.proofs.Common.{ℕ, ◌≡◌, ◌≤◌, ◌<◌, ◌+◌, Bool, true, false, cond, ◌&&◌, nat_eq, nat_lt, List, [], ◌∷◌, ◌++◌, refl, sym, ◌∙◌, ap, subst, arith, ⊎_elim, ◌⊎◌, inl, inr}
+use Rattle.std.proofs.Common.{ℕ, zero, suc, ◌≡◌, ◌≤◌, ◌<◌, ◌+◌, ◌-◌, Bool, true, false, cond, ◌&&◌, nat_eq, nat_lt, List, [], ◌∷◌, ◌++◌, length, drop, get_or, append_assoc, append-nil, refl, sym, ◌∙◌, ap, subst, arith, ⊎_elim, ◌⊎◌, inl, inr}
 use Rattle.std.specs.Prelude.{Option, Contains, filter}
+use Rattle.std.specs.List.{AllWithin}
+use Rattle.std.specs.List.Sorted.{IsNonDecreasingBy}
 use Rattle.std.specs.Option.{option_map}
 use Rattle.std.proofs.lemmas.Bool.{cases_Bool, false≢true, and_parts, eqb-true, eq-eqb, ltb-true, lt-ltb, le-ltb, cases_lt}
-use Rattle.std.proofs.lemmas.List.Elements.{Contains-append_cases}
+use Rattle.std.proofs.lemmas.List.Elements.{Contains-append_cases, Contains-get_or, Contains-push_cases}
+use Rattle.std.proofs.lemmas.List.Kept.{IsNonDecreasingBy-filter}
+use Rattle.std.proofs.lemmas.List.Sorted.{IsNonDecreasingBy-push, IsNonDecreasingBy-short}
 use Rattle.meaning.proofs.Lists.{contains_here, contains_there, contains_cases, contains_none}
 use Rattle.region.specs.declared.sets.Row.{Row}
 use Rattle.region.specs.Tables.{Rows, row_of}
 use Rattle.delta.specs.declared.earlier.Earlier.{Earlier}
-use Rattle.delta.specs.Noted.{led_in, led_at, IsNoted}
+use Rattle.delta.specs.Noted.{led_in, led_at, AreUpTo, IsNoted}
+
+not_later : (a b : ℕ) → b ≤ a → nat_lt a b ≡ false
+not_later a b le = ⊎_elim (λ t. absurd (omega (arith, ltb-true a b t, le))) (λ f. f) (cases_Bool (nat_lt a b))
 
 -- nothing is noted after the revision
 pub led_now : (es : List Earlier) (rows : Rows) (i rev : ℕ) → ((e : Earlier) → Contains es e → e.rev ≤ rev) → led_at es rows i rev ≡ led_in rows i
@@ -16,9 +23,29 @@ led_now [] rows i rev low = refl
 led_now (e ∷ es) rows i rev low =
     ap (λ b. cond (b && nat_eq i e.group) e.led (led_at es rows i rev)) (not_later rev e.rev (low e (contains_here e es)))
     ∙ led_now es rows i rev (λ x c. low x (contains_there e x es c))
+
+-- what was noted up to the revision is passed over
+pub led_past : (es : List Earlier) (rows : Rows) (i rev k : ℕ) → AllWithin (λ (e : Earlier). e.rev ≤ rev) es 0 k → led_at (drop k es) rows i rev ≡ led_at es rows i rev
+led_past es rows i rev zero low = refl
+led_past [] rows i rev (suc k) low = refl
+led_past (e ∷ es) rows i rev (suc k) low =
+    led_past es rows i rev k (λ j d from lt. low (suc j) d (omega arith) (omega (arith, lt)))
+    ∙ sym (ap (λ b. cond (b && nat_eq i e.group) e.led (led_at es rows i rev)) (not_later rev e.rev (low zero e (omega arith) (omega arith))))
+
+-- the first of those that are left is of the group, or of another
+pub led_first : (es rest : List Earlier) (rows : Rows) (i rev : ℕ) (e : Earlier) → es ≡ e ∷ rest → rev < e.rev → nat_eq i e.group ≡ true → led_at es rows i rev ≡ e.led
+led_first es rest rows i rev e is later same = ap (λ xs. led_at xs rows i rev) is
+    ∙ ap (λ b. cond (b && nat_eq i e.group) e.led (led_at rest rows i rev)) (lt-ltb rev e.rev later)
+    ∙ ap (λ b. cond b e.led (led_at rest rows i rev)) same
+
+pub led_next : (es rest : List Earlier) (rows : Rows) (i rev : ℕ) (e : Earlier) → es ≡ e ∷ rest → nat_eq i e.group ≡ false → led_at es rows i rev ≡ led_at rest rows i rev
+led_next es rest rows i rev e is other = ap (λ xs. led_at xs rows i rev) is
+    ∙ ap (λ b. cond (nat_lt rev e.rev && b) e.led (led_at rest rows i rev)) other
+    ∙ passed (nat_lt rev e.rev)
   where
-    not_later : (a b : ℕ) → b ≤ a → nat_lt a b ≡ false
-    not_later a b le = ⊎_elim (λ t. absurd (omega (arith, ltb-true a b t, le))) (λ f. f) (cases_Bool (nat_lt a b))
+    passed : (b : Bool) → cond (b && false) e.led (led_at rest rows i rev) ≡ led_at rest rows i rev
+    passed true = refl
+    passed false = refl
 
 pub led_same : (es : List Earlier) (a b : Rows) (i rev : ℕ) → ((n : ℕ) → row_of b n ≡ row_of a n) → led_at es b i rev ≡ led_at es a i rev
 led_same [] a b i rev e = ap (λ (r : Option Row). option_map (λ (row : Row). row.members) r) (e i)
@@ -53,12 +80,46 @@ module _ (rev : ℕ) (old new : Rows) (i at : ℕ) (before : at < rev) where
   pub noted_before : (es es' : List Earlier) → IsNoted rev old new es es' → led_at es' new i at ≡ led_at es old i at
   noted_before es es' n = ap (λ xs. led_at xs new i at) n.noted ∙ led_before es n.more n.each (n.others i)
 
-pub noted_low : (rev cursor : ℕ) (old new : Rows) (es es' : List Earlier) → IsNoted rev old new es es' → cursor ≤ rev → ((e : Earlier) → Contains es e → e.rev ≤ cursor)
-    → (e : Earlier) → Contains es' e → e.rev ≤ rev
-noted_low rev cursor old new es es' n up low e c = ⊎_elim
-    (λ d. let l = low e d in omega (arith, up, l))
-    (λ d. let is = (n.each e d).0 in omega (arith, is))
-    (Contains-append_cases es n.more e (subst (λ (xs : List Earlier). Contains xs e) n.noted c))
+abbrev rev_of : Earlier → ℕ
+rev_of e = e.rev
+
+pub up_to_none : (cursor : ℕ) (es : List Earlier) → es ≡ [] → AreUpTo cursor es
+up_to_none cursor es none = subst (λ xs. AreUpTo cursor xs) (sym none) (record {
+  order = IsNonDecreasingBy-short rev_of [] (omega arith);
+  up_to = λ e c. absurd (contains_none e c);
+})
+
+in_order : (rev : ℕ) (more es : List Earlier) → IsNonDecreasingBy rev_of es → ((e : Earlier) → Contains es e → e.rev ≤ rev) → ((e : Earlier) → Contains more e → e.rev ≡ rev)
+    → IsNonDecreasingBy rev_of (es ++ more)
+in_order rev [] es order low each = subst (λ xs. IsNonDecreasingBy rev_of xs) (sym (append-nil es)) order
+in_order rev (x ∷ xs) es order low each =
+    subst (λ ys. IsNonDecreasingBy rev_of ys) (append_assoc es (x ∷ []) xs)
+    (in_order rev xs (es ++ x ∷ [])
+    (IsNonDecreasingBy-push rev_of es x order (λ d lt.
+        let last : length es - 1 < length es = omega (arith, lt) in
+        let l = low (get_or es (length es - 1) d) (Contains-get_or es (length es - 1) d last) in
+        omega (arith, l, here)))
+    (λ e c. ⊎_elim
+        (λ d. low e d)
+        (λ d. let is : x.rev ≡ e.rev = ap rev_of d in omega (arith, here, is))
+        (Contains-push_cases es x e c))
+    (λ e c. each e (contains_there x e xs c)))
+  where
+    here : x.rev ≡ rev
+    here = each x (contains_here x xs)
+
+-- what is noted of a revision after the cursor stands at the end
+pub up_to_more : (rev cursor : ℕ) (old new : Rows) (es es' : List Earlier) → IsNoted rev old new es es' → cursor ≤ rev → AreUpTo cursor es → AreUpTo rev es'
+up_to_more rev cursor old new es es' n up are = subst (λ xs. AreUpTo rev xs) (sym n.noted) (record {
+  order = in_order rev n.more es are.order low (λ e c. (n.each e c).0);
+  up_to = λ e c. ⊎_elim
+      (λ d. low e d)
+      (λ d. let is = (n.each e d).0 in omega (arith, is))
+      (Contains-append_cases es n.more e c);
+})
+  where
+    low : (e : Earlier) → Contains es e → e.rev ≤ rev
+    low e c = let l = are.up_to e c in omega (arith, up, l)
 
 -- what was noted up to a revision is not looked at after it
 pub led_filtered : (base : ℕ) (es : List Earlier) (rows : Rows) (i rev : ℕ) → base ≤ rev → led_at (filter (λ (e : Earlier). nat_lt base e.rev) es) rows i rev ≡ led_at es rows i rev
@@ -83,3 +144,9 @@ filtered_there base (x ∷ es) e c = ⊎_elim
         (contains_cases x e (filter (λ (y : Earlier). nat_lt base y.rev) es) (subst (λ b. Contains (cond b (x ∷ filter (λ (y : Earlier). nat_lt base y.rev) es) (filter (λ (y : Earlier). nat_lt base y.rev) es)) e) t c)))
     (λ f. contains_there x e es (filtered_there base es e (subst (λ b. Contains (cond b (x ∷ filter (λ (y : Earlier). nat_lt base y.rev) es) (filter (λ (y : Earlier). nat_lt base y.rev) es)) e) f c)))
     (cases_Bool (nat_lt base x.rev))
+
+pub up_to_filtered : (base cursor : ℕ) (es es' : List Earlier) → es' ≡ filter (λ (e : Earlier). nat_lt base e.rev) es → AreUpTo cursor es → AreUpTo cursor es'
+up_to_filtered base cursor es es' is are = subst (λ xs. AreUpTo cursor xs) (sym is) (record {
+  order = IsNonDecreasingBy-filter rev_of (λ (e : Earlier). nat_lt base e.rev) es are.order;
+  up_to = λ e c. are.up_to e (filtered_there base es e c);
+})

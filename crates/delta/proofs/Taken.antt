@@ -26,7 +26,6 @@ use Rattle.facts.specs.Numbers.{AreNumbersOf}
 use Rattle.facts.specs.inside.Tables.{grew_none, grew_get, numbers_keep}
 use Rattle.leopard.specs.Groups.{IsGroup}
 use Rattle.leopard.specs.Index.{bare}
-use Rattle.delta.specs.declared.earlier.Earlier.{Earlier}
 use Rattle.delta.specs.declared.layer.Layer.{Layer}
 use Rattle.delta.specs.Telling.{IsMore, MayTell}
 use Rattle.delta.specs.Noted.{IsNoted, led_at}
@@ -35,7 +34,7 @@ use Rattle.delta.specs.inside.Changing.{AreOfEvents}
 use Rattle.delta.specs.inside.Growing.{may_more, more_both}
 use Rattle.delta.proofs.After.{after, kept_same}
 use Rattle.delta.proofs.Replayed.{tuple_or_same}
-use Rattle.delta.proofs.Rows.{noted_before, noted_low, led_same}
+use Rattle.delta.proofs.Rows.{noted_before, led_same}
 use Rattle.delta.proofs.Told.{tells_now, tells_still}
 
 abbrev pub tuples_of : List Event → List Tuple
@@ -132,21 +131,17 @@ taken law before layer snaps events T is next config base cursor more kept roots
   distinct = more.distinct is.distinct;
   kept = subst (λ (S : Snap). AreKept S layer.nodes layer.roots layer.sets.rows) (sym there) kept;
   roots = subst (λ (S : Snap). AreRoots S layer.nodes layer.roots) (sym there) roots;
-  noted = low;
   tells = λ rev from to. ⊎_elim
       (λ lt. tells_still before layer rev (snaps rev) config more
           (λ i. noted_before layer.cursor before.sets.rows layer.sets.rows i rev (omega (arith, lt, cursor)) before.earlier.items layer.earlier.items noted)
           (is.tells rev (subst (λ b. b ≤ rev) base from) (omega (arith, lt))))
       (λ le. subst (λ q. Tells layer q (snaps q)) (let e : layer.cursor ≡ rev = omega (arith, le, to, cursor) in e)
-          (subst (λ (S : Snap). Tells layer layer.cursor S) (sym there) (tells_now law layer layer.cursor T same_config (more.distinct is.distinct) kept roots low)))
+          (subst (λ (S : Snap). Tells layer layer.cursor S) (sym there) (tells_now law layer layer.cursor T same_config (more.distinct is.distinct) kept roots layer.noted.up_to)))
       (cases_lt rev (before.cursor + 1));
 }
   where
     there : snaps layer.cursor ≡ T
     there = ap snaps cursor ∙ next.now
-
-    low : (e : Earlier) → Contains layer.earlier.items e → e.rev ≤ layer.cursor
-    low = noted_low layer.cursor before.cursor before.sets.rows layer.sets.rows before.earlier.items layer.earlier.items noted (omega (arith, cursor)) is.noted
 
     same_config : T.config ≡ layer.config
     same_config = ap (λ (x : Snap). x.config) next.after ∙ (is.tells before.cursor is.order (omega arith)).config ∙ sym config
@@ -163,7 +158,6 @@ kept_layer before layer snaps is config base cursor more roots rows noted = reco
   roots = λ g h.
       let found = is.roots g (subst (λ c. IsAbove (snaps c).config (IsIn (snaps c)) g) cursor h) in
       (found.0, subst (λ xs. has xs found.0 ≡ true) (sym roots) found.1, grew_get before.nodes layer.nodes found.0 g more.grew found.2);
-  noted = λ e c. let l = is.noted e (subst (λ (xs : List Earlier). Contains xs e) noted c) in subst (λ q. e.rev ≤ q) (sym cursor) l;
   tells = λ rev from to. tells_still before layer rev (snaps rev) config more
       (λ i. ap (λ xs. led_at xs layer.sets.rows i rev) noted ∙ led_same before.earlier.items before.sets.rows layer.sets.rows i rev rows)
       (is.tells rev (subst (λ b. b ≤ rev) base from) (subst (λ c. rev ≤ c) cursor to));

@@ -20,7 +20,6 @@ use Rattle.leopard.specs.Groups.{IsGroup, GroupToGroup}
 use Rattle.leopard.specs.Index.{bare}
 use Rattle.delta.specs.Telling.{MayTell}
 use Rattle.delta.specs.Noted.{led_at}
-use Rattle.delta.specs.declared.earlier.Earlier.{Earlier}
 use Rattle.delta.specs.declared.layer.Layer.{Layer}
 
 -- the rows are the closures of the roots and of all that they lead to, over the arcs of the snapshot's groups
@@ -67,7 +66,6 @@ pub record IsLayerOf (layer : Layer) (snaps : ℕ → Snap) : Type 0 where
   pub distinct : AreDistinct layer.nodes
   pub kept : AreKept (snaps layer.cursor) layer.nodes layer.roots layer.sets.rows
   pub roots : AreRoots (snaps layer.cursor) layer.nodes layer.roots
-  pub noted : (e : Earlier) → Contains layer.earlier.items e → e.rev ≤ layer.cursor
   pub tells : (rev : ℕ) → layer.base ≤ rev → rev ≤ layer.cursor → Tells layer rev (snaps rev)
 
 -- the view is the snapshot after a commit of events on that of the revision before

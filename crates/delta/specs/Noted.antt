@@ -1,5 +1,6 @@
 -- What a group led to before a commit, where the commit touched it.
-use Rattle.std.specs.Prelude.{ℕ, ◌≡◌, ◌&&◌, ◌⊎◌, ◌++◌, cond, List, [], ◌∷◌, Option, Contains, nat_eq, nat_lt}
+use Rattle.std.specs.Prelude.{ℕ, ◌≡◌, ◌≤◌, ◌&&◌, ◌⊎◌, ◌++◌, cond, List, [], ◌∷◌, Option, Contains, nat_eq, nat_lt}
+use Rattle.std.specs.List.Sorted.{IsNonDecreasingBy}
 use Rattle.std.specs.Option.{option_map}
 use Rattle.region.specs.Tables.{Rows, row_of}
 use Rattle.delta.specs.declared.earlier.Earlier.{Earlier}
@@ -12,6 +13,11 @@ led_in rows i = option_map (λ row. row.members) (row_of rows i)
 abbrev pub led_at : List Earlier → Rows → ℕ → ℕ → Option (List ℕ)
 led_at [] rows i rev = led_in rows i
 led_at (e ∷ es) rows i rev = cond (nat_lt rev e.rev && nat_eq i e.group) e.led (led_at es rows i rev)
+
+-- it was noted in the order of revisions, and none of them is after the cursor
+pub record AreUpTo (cursor : ℕ) (es : List Earlier) : Type 0 where
+  pub order : IsNonDecreasingBy (λ (e : Earlier). e.rev) es
+  pub up_to : (e : Earlier) → Contains es e → e.rev ≤ cursor
 
 -- of some groups it was noted at the end, with a revision, what they led to before; the others lead to what they led to
 pub record IsNoted (rev : ℕ) (old new : Rows) (es es' : List Earlier) : Type 0 where

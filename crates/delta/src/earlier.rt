@@ -1,6 +1,9 @@
 //! What groups led to before a commit.
-ghost use Rattle.std.specs.Prelude.{◌≡◌, ◌++◌, ◌∷◌, [], ℕ, List, IfOk, OnOk};
+ghost use Rattle.std.specs.Prelude.{◌≡◌, ◌<◌, ◌++◌, ◌∷◌, [], ℕ, List, IfOk, OnOk, length};
+ghost use Rattle.std.specs.List.{AllWithin};
+ghost use Rattle.std.specs.List.Sorted.{IsNonDecreasingBy};
 ghost use Rattle.std.specs.Option.{option_map};
+ghost use Rattle.region.specs.Tables.{Rows};
 ghost use Rattle.delta.specs.Noted.{led_in, led_at};
 ghost use Rattle.delta.specs.inside.Noting.{AreNotedOf};
 
@@ -18,21 +21,33 @@ pub struct Earlier {
 }
 
 /// What the group leads to at a revision, where it is kept there: what was noted first after the revision, or else what
-/// is kept now. All that was noted after the revision is gone over.
+/// is kept now. What was noted after the revision is gone over.
 pub(crate) fn led_at<'a>(
     earlier: &'a [Earlier],
     sets: &'a Sets,
     group: u64,
     rev: u64,
 ) -> Option<&'a IdSet>
+    requires { IsNonDecreasingBy (λ e. e.rev) earlier.now }
     ensures { option_map (λ ids. ids.now) result ≡ led_at earlier.now sets.now.rows group rev }
 {
-    for e in earlier {
-        if rev < e.rev && group == e.group {
+    let later = later_than(earlier, rev);
+    for e in later {
+        if group == e.group {
             return e.led.as_ref();
         }
     }
     sets.members(group)
+}
+
+/// What was noted after a revision. It is searched for by halves.
+fn later_than(earlier: &[Earlier], rev: u64) -> &[Earlier]
+    requires { IsNonDecreasingBy (λ e. e.rev) earlier.now }
+    ensures later { AllWithin (λ e. rev < e.rev) result.now 0 (length result.now) }
+    ensures led { (rows : Rows) (i : ℕ) → led_at result.now rows i rev ≡ led_at earlier.now rows i rev }
+{
+    let first = earlier.partition_point(|e| e.rev <= rev);
+    &earlier[first..]
 }
 
 /// What some groups lead to now, to be noted with a revision.

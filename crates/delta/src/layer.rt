@@ -1,5 +1,6 @@
 //! The layer.
 ghost use Rattle.region.specs.Sets.{IsWhole};
+ghost use Rattle.delta.specs.Noted.{AreUpTo};
 
 use crate::closing::{led_to, named};
 use crate::earlier::{Earlier, led_at};
@@ -28,6 +29,7 @@ pub struct Layer {
     pub(crate) sets: Sets,
     pub(crate) earlier: Vec<Earlier>,
     ghost whole: { IsWhole sets },
+    ghost noted: { AreUpTo cursor earlier.items },
 }
 
 impl Layer {

@@ -1,6 +1,6 @@
 use Rattle.std.proofs.Common.{take, refl, subst, arith}
 use Rattle.region.proofs.Listing.{place_same}
-use Rattle.delta.proofs.Lists.{one_more, all_of}
+use Rattle.facts.proofs.Naming.{one_more, all_of}
 use Rattle.delta.specs.inside.Named.{AreNamed}
 use Rattle.delta.proofs.closing.named.Goals as goal
 

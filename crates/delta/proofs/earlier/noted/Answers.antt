@@ -1,8 +1,8 @@
 use Rattle.std.proofs.Common.{take, refl, subst, arith}
 use Rattle.region.proofs.Listing.{place_same}
+use Rattle.facts.proofs.Naming.{one_more, all_of}
 use Rattle.delta.specs.Noted.{led_in}
 use Rattle.delta.specs.inside.Noting.{AreNotedOf}
-use Rattle.delta.proofs.Lists.{one_more, all_of}
 use Rattle.delta.proofs.Noting.{noted_none}
 use Rattle.delta.proofs.earlier.noted.Goals as goal
 

@@ -3,9 +3,9 @@ use Rattle.std.specs.Prelude.{Contains}
 use Rattle.std.proofs.lemmas.List.{map-append}
 use Rattle.names.specs.declared.commit.Event.{Event}
 use Rattle.facts.specs.Numbers.{AreNumbersOf}
+use Rattle.facts.proofs.Naming.{one_more, all_of}
 use Rattle.delta.specs.Layers.{IsAbove}
 use Rattle.delta.specs.inside.Growing.{more_none, more_both}
-use Rattle.delta.proofs.Lists.{one_more, all_of}
 use Rattle.delta.proofs.Numbered.{above_none}
 use Rattle.delta.proofs.Taken.{tuples_of}
 use Rattle.delta.proofs.leading.above_events.Goals as goal

@@ -1,9 +1,9 @@
 use Rattle.std.proofs.Common.{take, [], subst, arith}
 use Rattle.std.specs.Prelude.{Contains}
 use Rattle.facts.specs.Numbers.{AreNumbersOf}
+use Rattle.facts.proofs.Naming.{one_more, all_of}
 use Rattle.delta.specs.Layers.{IsAbove}
 use Rattle.delta.specs.inside.Growing.{more_none, more_both}
-use Rattle.delta.proofs.Lists.{one_more, all_of}
 use Rattle.delta.proofs.Numbered.{above_none}
 use Rattle.delta.proofs.leading.above_tuples.Goals as goal
 

@@ -1,6 +1,7 @@
 use Rattle.std.proofs.Common.{take, subst, arith}
+use Rattle.facts.proofs.Naming.{one_more, all_of}
 use Rattle.delta.specs.inside.Changing.{AreOfEvents}
-use Rattle.delta.proofs.Lists.{events_none, one_more, all_of}
+use Rattle.delta.proofs.Lists.{events_none}
 use Rattle.delta.proofs.leading.changed_by.Goals as goal
 
 pub loop-event-init : goal.loop-event-init

@@ -3,8 +3,8 @@ use Rattle.std.specs.Prelude.{Contains}
 use Rattle.meaning.proofs.Lists.{contains_none}
 use Rattle.facts.specs.Numbers.{AreNumbersOf}
 use Rattle.facts.specs.inside.Tables.{numbers_none}
+use Rattle.facts.proofs.Naming.{one_more, all_of}
 use Rattle.delta.specs.inside.Growing.{more_none, more_both}
-use Rattle.delta.proofs.Lists.{one_more, all_of}
 use Rattle.delta.proofs.Numbered.{list_push}
 use Rattle.delta.proofs.telling.numbers_of.Goals as goal
 
