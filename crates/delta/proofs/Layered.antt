@@ -69,6 +69,19 @@ rebased before layer snaps rev is up low config base cursor nodes roots rows not
       (is.tells at (omega (arith, from, base, up)) (omega (arith, to, cursor)));
 }
 
+-- a layer is that of other snapshots too, which are the same from its base to its cursor
+pub agreed : (layer : Layer) (snaps others : ℕ → Snap) → ((rev : ℕ) → layer.base ≤ rev → rev ≤ layer.cursor → others rev ≡ snaps rev) → IsLayerOf layer snaps → IsLayerOf layer others
+agreed layer snaps others same is = record {
+  order = is.order;
+  distinct = is.distinct;
+  kept = subst (λ (S : Snap). AreKept S layer.nodes layer.roots layer.sets.rows) (sym here) is.kept;
+  roots = subst (λ (S : Snap). AreRoots S layer.nodes layer.roots) (sym here) is.roots;
+  tells = λ rev from to. subst (λ (S : Snap). Tells layer rev S) (sym (same rev from to)) (is.tells rev from to);
+}
+  where
+    here : others layer.cursor ≡ snaps layer.cursor
+    here = same layer.cursor is.order (omega arith)
+
 module _ (layer : Layer) (snaps : ℕ → Snap) (g : Node) (rev : ℕ) (is : IsLayerOf layer snaps) (from : layer.base ≤ rev) (to : rev ≤ layer.cursor) (group : IsGroup (snaps rev).config g) where
   t : Tells layer rev (snaps rev)
   t = is.tells rev from to

@@ -14,4 +14,4 @@ mod Same
 mod Above
 mod Noting
 mod Led
-mod Layered
+pub mod Layered

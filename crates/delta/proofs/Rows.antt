@@ -1,10 +1,11 @@
 -- What was noted of groups, at a revision.
-use Rattle.std.proofs.Common.{ℕ, zero, suc, ◌≡◌, ◌≤◌, ◌<◌, ◌+◌, ◌-◌, Bool, true, false, cond, ◌&&◌, nat_eq, nat_lt, List, [], ◌∷◌, ◌++◌, length, drop, get_or, append_assoc, append-nil, refl, sym, ◌∙◌, ap, subst, arith, ⊎_elim, ◌⊎◌, inl, inr}
+use Rattle.std.proofs.Common.{ℕ, zero, suc, ◌≡◌, ◌≤◌, ◌<◌, ◌+◌, ◌-◌, Bool, true, false, cond, ◌&&◌, nat_eq, nat_lt, List, [], ◌∷◌, ◌++◌, length, take, drop, get_or, append_assoc, append-nil, length-drop, refl, sym, ◌∙◌, ap, subst, arith, ⊎_elim, ◌⊎◌, inl, inr}
 use Rattle.std.specs.Prelude.{Option, Contains, filter}
 use Rattle.std.specs.List.{AllWithin}
 use Rattle.std.specs.List.Sorted.{IsNonDecreasingBy}
 use Rattle.std.specs.Option.{option_map}
 use Rattle.std.proofs.lemmas.Bool.{cases_Bool, false≢true, and_parts, eqb-true, eq-eqb, ltb-true, lt-ltb, le-ltb, cases_lt}
+use Rattle.std.proofs.lemmas.List.{get_or-drop, take_all}
 use Rattle.std.proofs.lemmas.List.Elements.{Contains-append_cases, Contains-get_or, Contains-push_cases}
 use Rattle.std.proofs.lemmas.List.Kept.{IsNonDecreasingBy-filter}
 use Rattle.std.proofs.lemmas.List.Sorted.{IsNonDecreasingBy-push, IsNonDecreasingBy-short}
@@ -32,20 +33,16 @@ led_past (e ∷ es) rows i rev (suc k) low =
     led_past es rows i rev k (λ j d from lt. low (suc j) d (omega arith) (omega (arith, lt)))
     ∙ sym (ap (λ b. cond (b && nat_eq i e.group) e.led (led_at es rows i rev)) (not_later rev e.rev (low zero e (omega arith) (omega arith))))
 
--- the first of those that are left is of the group, or of another
-pub led_first : (es rest : List Earlier) (rows : Rows) (i rev : ℕ) (e : Earlier) → es ≡ e ∷ rest → rev < e.rev → nat_eq i e.group ≡ true → led_at es rows i rev ≡ e.led
-led_first es rest rows i rev e is later same = ap (λ xs. led_at xs rows i rev) is
-    ∙ ap (λ b. cond (b && nat_eq i e.group) e.led (led_at rest rows i rev)) (lt-ltb rev e.rev later)
-    ∙ ap (λ b. cond b e.led (led_at rest rows i rev)) same
+-- all that is left from a place on
+pub rest_of : (es : List Earlier) (first n : ℕ) → length es ≤ first + n → take n (drop first es) ≡ drop first es
+rest_of es first n le = take_all n (drop first es) (omega (arith, le, length-drop first es))
 
-pub led_next : (es rest : List Earlier) (rows : Rows) (i rev : ℕ) (e : Earlier) → es ≡ e ∷ rest → nat_eq i e.group ≡ false → led_at es rows i rev ≡ led_at rest rows i rev
-led_next es rest rows i rev e is other = ap (λ xs. led_at xs rows i rev) is
-    ∙ ap (λ b. cond (nat_lt rev e.rev && b) e.led (led_at rest rows i rev)) other
-    ∙ passed (nat_lt rev e.rev)
-  where
-    passed : (b : Bool) → cond (b && false) e.led (led_at rest rows i rev) ≡ led_at rest rows i rev
-    passed true = refl
-    passed false = refl
+-- those from the first that is later on are later
+pub later_from : (es : List Earlier) (rev first n : ℕ) → length es ≤ first + n → AllWithin (λ (e : Earlier). rev < e.rev) es first (length es)
+    → AllWithin (λ (e : Earlier). rev < e.rev) (take n (drop first es)) 0 (length (take n (drop first es)))
+later_from es rev first n le later =
+    subst (λ xs. AllWithin (λ (e : Earlier). rev < e.rev) xs 0 (length xs)) (sym (rest_of es first n le))
+    (λ k d from lt. subst (λ (e : Earlier). rev < e.rev) (sym (get_or-drop first es k d)) (later (first + k) d (omega arith) (omega (arith, lt, length-drop first es))))
 
 pub led_same : (es : List Earlier) (a b : Rows) (i rev : ℕ) → ((n : ℕ) → row_of b n ≡ row_of a n) → led_at es b i rev ≡ led_at es a i rev
 led_same [] a b i rev e = ap (λ (r : Option Row). option_map (λ (row : Row). row.members) r) (e i)

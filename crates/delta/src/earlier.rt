@@ -81,7 +81,7 @@ fn push_noted(
 }
 
 fn copy_of(ids: Option<&IdSet>) -> Result<Option<IdSet>, AllocError>
-    ensures { IfOk result (λ copy. option_map (λ x. x.now) ids ≡ copy) }
+    ensures { IfOk result (λ copy. copy ≡ option_map (λ x. x.now) ids.entry) }
 {
     match ids {
         Some(ids) => Ok(Some(ids.again()?)),

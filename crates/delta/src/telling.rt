@@ -101,10 +101,9 @@ fn push_number(
     ensures more { IsMore nodes.old nodes.new }
     ensures number { OnOk result ((id : ℕ) × (ids.new.items ≡ ids.old.items ++ id ∷ []) × (slice_get nodes.new id ≡ Some name.now)) }
 {
+    let id = number_of(nodes, name);
     let _ = nodes.len();
-    let id = number_of(nodes, name)?;
-    let _ = nodes.len();
-    ids.push(id)?;
+    ids.push(id?)?;
     Ok(())
 }
 
