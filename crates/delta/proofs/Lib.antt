@@ -7,6 +7,7 @@ mod Replayed
 mod Told
 mod Taken
 mod Asked
+mod Taking
 mod Outcomes
 mod Renewed
 mod Numbered

@@ -7,15 +7,18 @@ use Rattle.std.proofs.lemmas.List.Elements.{Contains-append_left, Contains-appen
 use Rattle.names.specs.declared.node.Node.{Node}
 use Rattle.names.specs.declared.tuple.Tuple.{Tuple}
 use Rattle.meaning.specs.Config.{Configured}
+use Rattle.meaning.specs.Snap.{Snap}
 use Rattle.meaning.proofs.Lists.{contains_none}
-use Rattle.least_sets.specs.World.{has}
-use Rattle.graphs.specs.Groups.{GroupWalk}
+use Rattle.least_sets.specs.World.{Fact, Shape, Own, AnyOf, Either, has}
+use Rattle.graphs.specs.Groups.{IsGroupArc, GroupWalk}
 use Rattle.least_sets.proofs.Gives.{has-append}
 use Rattle.facts.specs.Numbers.{Grew, AreNumbersOf}
 use Rattle.facts.specs.inside.Tables.{grew_none, grew_get, numbers_none, numbers_keep, numbers_push}
 use Rattle.leopard.specs.Groups.{IsGroup}
 use Rattle.leopard.specs.Index.{bare}
+use Rattle.leopard.specs.inside.Asking.{AreAll}
 use Rattle.delta.specs.Layers.{IsAbove, IsOfSet}
+use Rattle.delta.specs.Telling.{MayTell}
 use Rattle.delta.specs.inside.Leading.{LeadsTo}
 
 module _ (config : Configured) where
@@ -76,4 +79,18 @@ pub numbers_set : (nodes : List Node) (a b : List ℕ) (P : Node → Type 0) →
 numbers_set nodes a b P same are = record {
   sound = λ i h. are.sound i (sym (same i) ∙ h);
   complete = λ n p. let s = are.complete n p in (s.0, same s.0 ∙ s.1, s.2);
+}
+
+abbrev fact : Shape → List ℕ → Fact
+fact shape own = record { level = 0; shape = shape; own = own }
+
+-- what is told of a group from the ends of its arcs
+pub told_of : (S : Snap) (nodes nodes' : List Node) (i : ℕ) (group : Node) (ends : List Node) (ids own : List ℕ) (shape : Shape) → Grew nodes nodes' → slice_get nodes i ≡ Some group
+    → AreAll (IsGroupArc S group) ends → AreNumbersOf nodes' ids (Contains ends) → shape ≡ Either Own (AnyOf ids) → own ≡ i ∷ [] → MayTell S nodes' i (fact shape own)
+told_of S nodes nodes' i group ends ids own shape grew at all are shape_is own_is = record {
+  group = group;
+  named = grew_get nodes nodes' i group grew at;
+  arcs = ids;
+  fact_is = ap (λ s. fact s own) shape_is ∙ ap (λ o. fact (Either Own (AnyOf ids)) o) own_is;
+  ends = numbers_as nodes' ids (Contains ends) (IsGroupArc S group) all are;
 }
