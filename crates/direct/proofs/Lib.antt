@@ -1,0 +1,4 @@
+mod Past
+mod Tables
+mod Replaying
+mod Told

@@ -51,7 +51,8 @@ pub record AreKept (config : Configured) (ts : List Tuple) (kept : Memberships) 
 abbrev pub names_by : Configured → Tuples → Object → Node → Bool
 names_by config tuples u n = is_indexed config (rel_of n) && set.contains tuples (tuple_of u n)
 
--- of those with numbers the sets are what the tuples tell
-abbrev pub AreRight : Configured → Memberships → (ℕ → List ℕ) → Tuples → Type 0
-AreRight config kept sets tuples = (u : Object) (n : Node) (user group : ℕ) → slice_get kept.users user ≡ Some u → slice_get kept.groups group ≡ Some n
-    → has (sets user) group ≡ names_by config tuples u n
+-- of those with numbers the sets are what the tuples tell, and no others are kept
+pub record AreRight (config : Configured) (kept : Memberships) (sets : ℕ → List ℕ) (tuples : Tuples) : Type 0 where
+  pub right : (u : Object) (n : Node) (user group : ℕ) → slice_get kept.users user ≡ Some u → slice_get kept.groups group ≡ Some n
+      → has (sets user) group ≡ names_by config tuples u n
+  pub within : AreWithin kept.users kept.groups sets
