@@ -52,9 +52,9 @@ pub set_noted : (rev : ℕ) (a b : List (List ℕ)) (e : EarlierGroups) (user at
 set_noted rev a b e user at before is same [] =
     ap (λ t. cond (t && nat_eq user e.user) e.groups (set_in b user)) (lt-ltb at e.rev before)
     ∙ ⊎_elim
-        (λ t. ap (λ c. cond c e.groups (set_in b user)) t ∙ is ∙ ap (set_in a) (sym (eqb-true user e.user t)))
-        (λ f. ap (λ c. cond c e.groups (set_in b user)) f ∙ same f)
-        (cases_Bool (nat_eq user e.user))
+    (λ t. ap (λ c. cond c e.groups (set_in b user)) t ∙ is ∙ ap (set_in a) (sym (eqb-true user e.user t)))
+    (λ f. ap (λ c. cond c e.groups (set_in b user)) f ∙ same f)
+    (cases_Bool (nat_eq user e.user))
 set_noted rev a b e user at before is same (x ∷ es) = ap (λ s. cond (nat_lt at x.rev && nat_eq user x.user) x.groups s) (set_noted rev a b e user at before is same es)
 
 abbrev rev_of : EarlierGroups → ℕ
@@ -90,10 +90,10 @@ pub set_filtered : (base : ℕ) (es : List EarlierGroups) (sets : List (List ℕ
 set_filtered base [] sets user rev le = refl
 set_filtered base (e ∷ es) sets user rev le = ⊎_elim
     (λ t. ap (λ b. set_at (cond b (e ∷ filter (λ (x : EarlierGroups). nat_lt base x.rev) es) (filter (λ (x : EarlierGroups). nat_lt base x.rev) es)) sets user rev) t
-        ∙ ap (λ s. cond (nat_lt rev e.rev && nat_eq user e.user) e.groups s) (set_filtered base es sets user rev le))
+    ∙ ap (λ s. cond (nat_lt rev e.rev && nat_eq user e.user) e.groups s) (set_filtered base es sets user rev le))
     (λ f. ap (λ b. set_at (cond b (e ∷ filter (λ (x : EarlierGroups). nat_lt base x.rev) es) (filter (λ (x : EarlierGroups). nat_lt base x.rev) es)) sets user rev) f
-        ∙ set_filtered base es sets user rev le
-        ∙ sym (ap (λ b. cond (b && nat_eq user e.user) e.groups (set_at es sets user rev)) (over f)))
+    ∙ set_filtered base es sets user rev le
+    ∙ sym (ap (λ b. cond (b && nat_eq user e.user) e.groups (set_at es sets user rev)) (over f)))
     (cases_Bool (nat_lt base e.rev))
   where
     over : nat_lt base e.rev ≡ false → nat_lt rev e.rev ≡ false
@@ -103,9 +103,9 @@ filtered_there : (base : ℕ) (es : List EarlierGroups) (e : EarlierGroups) → 
 filtered_there base [] e c = c
 filtered_there base (x ∷ es) e c = ⊎_elim
     (λ t. ⊎_elim
-        (λ is. subst (λ y. Contains (x ∷ es) y) is (contains_here x es))
-        (λ d. contains_there x e es (filtered_there base es e d))
-        (contains_cases x e (filter (λ (y : EarlierGroups). nat_lt base y.rev) es) (subst (λ b. Contains (cond b (x ∷ filter (λ (y : EarlierGroups). nat_lt base y.rev) es) (filter (λ (y : EarlierGroups). nat_lt base y.rev) es)) e) t c)))
+    (λ is. subst (λ y. Contains (x ∷ es) y) is (contains_here x es))
+    (λ d. contains_there x e es (filtered_there base es e d))
+    (contains_cases x e (filter (λ (y : EarlierGroups). nat_lt base y.rev) es) (subst (λ b. Contains (cond b (x ∷ filter (λ (y : EarlierGroups). nat_lt base y.rev) es) (filter (λ (y : EarlierGroups). nat_lt base y.rev) es)) e) t c)))
     (λ f. contains_there x e es (filtered_there base es e (subst (λ b. Contains (cond b (x ∷ filter (λ (y : EarlierGroups). nat_lt base y.rev) es) (filter (λ (y : EarlierGroups). nat_lt base y.rev) es)) e) f c)))
     (cases_Bool (nat_lt base x.rev))
 

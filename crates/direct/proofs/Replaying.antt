@@ -49,9 +49,9 @@ event_or_same q [] s = inr refl
 event_or_same q (e ∷ es) s = ⊎_elim
     (λ t. inl (e, contains_here e es, sym (tells_apart exact_tuples q e.tuple t)))
     (λ f. ⊎_elim
-        (λ (x, c, is). inl (x, contains_there e x es c, is))
-        (λ same. inr (same ∙ apart q e.kind e.tuple s f))
-        (event_or_same q es (after_event s e)))
+    (λ (x, c, is). inl (x, contains_there e x es c, is))
+    (λ same. inr (same ∙ apart q e.kind e.tuple s f))
+    (event_or_same q es (after_event s e)))
     (cases_Bool (eq_by_cmp tuple_cmp q e.tuple))
 
 module _ (config : Configured) (tuples : Tuples) (e : Event) (u : Object) (n : Node) where
@@ -84,9 +84,9 @@ right_put config kept f f' tuples e m direct numbers puts are = record {
       puts user group ∙ ap (λ b. cond b (is_put e.kind) (has (f user) group)) t
       ∙ sym (names_put config tuples e u n (tuple_is config e.tuple direct ∙ ap (λ o. tuple_of o e.tuple.node) is.0 ∙ ap (tuple_of u) is.1) (subst (λ x. IsGroup config x) is.1 direct.0)))
       (λ t. puts user group ∙ ap (λ b. cond b (is_put e.kind) (has (f user) group)) t ∙ are.right u n user group user_is group_is
-          ∙ sym (names_same config tuples e u n (λ is in_group. true≢false (sym (both_true (nat_eq user m.user) (nat_eq group m.group)
-          (eq-eqb user m.user (kept.users_apart user m.user u user_is (numbers.user ∙ ap (λ (x : Tuple). Some x.subject.object) is)))
-          (eq-eqb group m.group (kept.groups_apart group m.group n group_is (numbers.group ∙ ap (λ (x : Tuple). Some x.node) is)))) ∙ t))))
+      ∙ sym (names_same config tuples e u n (λ is in_group. true≢false (sym (both_true (nat_eq user m.user) (nat_eq group m.group)
+      (eq-eqb user m.user (kept.users_apart user m.user u user_is (numbers.user ∙ ap (λ (x : Tuple). Some x.subject.object) is)))
+      (eq-eqb group m.group (kept.groups_apart group m.group n group_is (numbers.group ∙ ap (λ (x : Tuple). Some x.node) is)))) ∙ t))))
       (cases_Bool (nat_eq user m.user && nat_eq group m.group));
   within = λ user group h. ⊎_elim
       (λ t.

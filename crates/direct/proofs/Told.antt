@@ -74,9 +74,9 @@ direct_begins direct S rev config base cursor none ts all kept snaps at = record
         config = sym config;
         groups = λ u n. (
           λ h.
-          let told = (kept.names u n).0 (names_before direct.kept.users direct.kept.users direct.kept.groups direct.kept.groups (set_in direct.kept.sets.items) (sets_at direct r)
-          (grew_none direct.kept.users) (grew_none direct.kept.groups) (now r) kept.within u n h) in
-          (subst (λ (c : Configured). IsGroup c n) config told.0, subst (λ xs. Contains xs (tuple_of u n)) all told.1),
+              let told = (kept.names u n).0 (names_before direct.kept.users direct.kept.users direct.kept.groups direct.kept.groups (set_in direct.kept.sets.items) (sets_at direct r)
+              (grew_none direct.kept.users) (grew_none direct.kept.groups) (now r) kept.within u n h) in
+              (subst (λ (c : Configured). IsGroup c n) config told.0, subst (λ xs. Contains xs (tuple_of u n)) all told.1),
           λ h. names_after direct.kept.users direct.kept.users direct.kept.groups direct.kept.groups (set_in direct.kept.sets.items) (sets_at direct r)
               (grew_none direct.kept.users) (grew_none direct.kept.groups) (now r) u n
               ((kept.names u n).1 (subst (λ (c : Configured). IsGroup c n) (sym config) h.0, subst (λ xs. Contains xs (tuple_of u n)) (sym all) h.1)),
@@ -177,8 +177,8 @@ direct_next a b mid events renewed config base cursor users groups more up_to up
   order = let o = is.order in omega (arith, base, cursor, o);
   tells = λ rev from to. ⊎_elim
       (λ lt. tells_more a b rev (snaps rev) config (subst (λ (xs : List Object). Grew a.kept.users xs) (sym users) more.users) (subst (λ (xs : List Node). Grew a.kept.groups xs) (sym groups) more.groups)
-          (λ user. before user rev lt ∙ set_same a.earlier.items a.kept.sets.items mid.sets.items user rev (more.sets user))
-          (is.tells rev (omega (arith, base, from)) (omega (arith, lt))))
+      (λ user. before user rev lt ∙ set_same a.earlier.items a.kept.sets.items mid.sets.items user rev (more.sets user))
+      (is.tells rev (omega (arith, base, from)) (omega (arith, lt))))
       (λ le.
       let here : rev ≡ a.cursor + 1 = omega (arith, cursor, to, le) in
       let last : Tells a a.cursor (snaps a.cursor) = is.tells a.cursor is.order (omega arith) in

@@ -28,10 +28,12 @@ pub(crate) struct Membership {
 }
 
 impl Memberships {
-    ghost use Rattle.std.specs.Prelude.{◌≡◌, ◌++◌, ◌∷◌, [], List, Some, IfOk, OnOk};
+    ghost use Rattle.std.specs.Prelude.{◌≡◌, ◌<◌, ◌++◌, ◌∷◌, ◌||◌, [], ℕ, List, Some, IfOk, OnOk, nat_eq, slice_set};
     ghost use Rattle.std.specs.List.{slice_get};
     ghost use Rattle.names.specs.declared.tuple.Tuple.{Tuple as TupleValue};
     ghost use Rattle.meaning.specs.Config.{Configured};
+    ghost use Rattle.idsets.specs.Sets.{has};
+    ghost use Rattle.direct.specs.Noted.{set_in};
     ghost use Rattle.direct.specs.inside.Keeping.{IsMore, AreNumbers, AreFound, AreKept};
 
     /// The memberships that some tuples tell.
@@ -68,10 +70,21 @@ impl Memberships {
         ensures { OnOk result ((ts : List TupleValue) → AreKept config.now ts self.old
             → AreKept config.now (ts ++ tuple.now ∷ []) self.new) }
     {
-        if let Some(found) = self.number(alloc, config, tuple)? {
-            let set = &mut self.sets[found.user as usize];
-            set.insert(found.group)?;
+        match self.number(alloc, config, tuple)? {
+            Some(found) => self.put(found),
+            None => Ok(()),
         }
+    }
+
+    fn put(&mut self, found: Membership) -> Result<(), AllocError>
+        requires { found.user < length self.old.sets.items }
+        ensures users { self.new.users ≡ self.old.users }
+        ensures groups { self.new.groups ≡ self.old.groups }
+        ensures sets { OnOk result ((set : List ℕ) × (self.new.sets.items ≡ slice_set self.old.sets.items found.user set)
+            × ((other : ℕ) → has set other ≡ (nat_eq other found.group || has (set_in self.old.sets.items found.user) other))) }
+    {
+        let set = &mut self.sets[found.user as usize];
+        set.insert(found.group)?;
         Ok(())
     }
 
