@@ -1,8 +1,8 @@
 -- Users and groups that have numbers, where more of them get one.
-use Rattle.std.proofs.Common.{ℕ, ◌≡◌, ◌<◌, ◌≤◌, ◌&&◌, ◌||◌, Bool, true, false, cond, nat_eq, List, [], ◌∷◌, ◌++◌, length, get_or, refl, sym, ◌∙◌, ap, subst, arith, ⊎_elim, ◌⊎◌, inl, inr}
-use Rattle.std.specs.Prelude.{◌↔◌, Contains, Option, Some, None, nat_lt, slice_set, slice_index_or, if◌then◌else◌}
+use Rattle.std.proofs.Common.{ℕ, zero, suc, ◌≡◌, ◌<◌, ◌≤◌, ◌+◌, ◌&&◌, ◌||◌, Bool, true, false, cond, nat_eq, List, [], ◌∷◌, ◌++◌, length, get_or, refl, sym, ◌∙◌, ap, subst, arith, length-append, ⊎_elim, ◌⊎◌, inl, inr}
+use Rattle.std.specs.Prelude.{◌↔◌, Contains, Result, Ok, Err, IfOk, OnErr, Option, Some, None, is_some, not, nat_lt, slice_set, slice_index_or, if◌then◌else◌}
 use Rattle.std.specs.List.{slice_get}
-use Rattle.std.proofs.lemmas.Bool.{cases_Bool, or_cases, or_left, or_right, false≢true, eqb-true, eq-eqb}
+use Rattle.std.proofs.lemmas.Bool.{cases_Bool, and_parts, or_cases, or_left, or_right, false≢true, eqb-true, eq-eqb}
 use Rattle.std.proofs.lemmas.List.{get_or-set_same, get_or-set_other}
 use Rattle.std.proofs.lemmas.Option.{none-some, same_Some, slice_get_within, slice_get-get_or}
 use Rattle.std.proofs.lemmas.List.Elements.{Contains-append_left, Contains-push, Contains-push_cases}
@@ -10,9 +10,10 @@ use Rattle.names.specs.declared.object.Object.{Object}
 use Rattle.names.specs.declared.node.Node.{Node}
 use Rattle.names.specs.declared.subject.Subject.{Subject}
 use Rattle.names.specs.declared.tuple.Tuple.{Tuple}
-use Rattle.meaning.specs.Config.{Configured}
+use Rattle.meaning.specs.Config.{Configured, rel_of}
 use Rattle.meaning.specs.Snap.{one}
 use Rattle.meaning.proofs.Lists.{contains_none}
+use Rattle.config.specs.Valid.{is_indexed}
 use Rattle.idsets.specs.Sets.{has}
 use Rattle.facts.specs.Numbers.{Grew}
 use Rattle.facts.specs.inside.Tables.{grew_none, grew_both, grew_get, grew_longer}
@@ -59,6 +60,22 @@ module _ (users users' : List Object) (groups groups' : List Node) (f f' : ℕ �
       let x = lt.0 in
       let y = lt.1 in
       (omega (arith, a, x), omega (arith, b, y))
+
+-- ---- a name is seen
+
+pub see_longer : {N E : Type 0} (old new : List N) (n : N) (r : Result ℕ E) → IfOk r (λ id. new ≡ (if nat_lt id (length old) then old else old ++ n ∷ [])) → OnErr r (new ≡ old) → length new ≤ length old + 1
+see_longer old new n (Ok id) ok err = ⊎_elim
+    (λ h. let is : length new ≡ length old = ap length (ok ∙ ap (λ b. if b then old else old ++ n ∷ []) h) in omega (arith, is))
+    (λ h. let is : length new ≡ length (old ++ n ∷ []) = ap length (ok ∙ ap (λ b. if b then old else old ++ n ∷ []) h) in omega (arith, is, length-append old (n ∷ [])))
+    (cases_Bool (nat_lt id (length old)))
+see_longer old new n (Err e) ok err = let is : length new ≡ length old = ap length err in omega (arith, is)
+
+-- a set with nothing more is as none
+pub set_push : (sets : List (List ℕ)) (user : ℕ) → set_in (sets ++ [] ∷ []) user ≡ set_in sets user
+set_push [] zero = refl
+set_push [] (suc user) = refl
+set_push (s ∷ sets) zero = refl
+set_push (s ∷ sets) (suc user) = set_push sets user
 
 -- ---- one set is replaced
 
@@ -202,3 +219,28 @@ numbers_more a b t m more numbers = record {
   user = grew_get a.users b.users m.user _ more.users numbers.user;
   group = grew_get a.groups b.groups m.group _ more.groups numbers.group;
 }
+
+-- a tuple whose subject has no relation names one user
+pub single_is : (t : Tuple) → is_some t.subject.relation ≡ false → t.subject ≡ one t.subject.object
+single_is t none = ap (λ (r : Option (List ℕ)). record { object = t.subject.object; relation = r }) (nothing t.subject.relation none)
+  where
+    nothing : (r : Option (List ℕ)) → is_some r ≡ false → r ≡ None
+    nothing None e = refl
+    nothing (Some x) e = absurd (false≢true (sym e))
+
+pub is_single : (t : Tuple) → t.subject ≡ one t.subject.object → is_some t.subject.relation ≡ false
+is_single t is = ap (λ (s : Subject). is_some s.relation) is
+
+-- what two tests say of a tuple
+pub direct_test : (config : Configured) (t : Tuple) (none indexed : Bool) → is_some t.subject.relation ≡ not none → indexed ≡ is_indexed config (rel_of t.node) → ((none && indexed) ≡ true) ↔ IsDirect config t
+direct_test config t none indexed single group = (
+  λ h. let p = and_parts none indexed h in (sym group ∙ p.1, single_is t (single ∙ ap not p.0)),
+  λ d. both none indexed (not_false none (sym single ∙ is_single t d.1)) (group ∙ d.0),
+)
+  where
+    not_false : (b : Bool) → not b ≡ false → b ≡ true
+    not_false true e = refl
+    not_false false e = absurd (false≢true (sym e))
+
+    both : (a b : Bool) → a ≡ true → b ≡ true → (a && b) ≡ true
+    both a b e f = ap (λ x. x && b) e ∙ f

@@ -2,7 +2,7 @@
 ghost use Rattle.std.specs.Prelude.{◌≤◌, length};
 ghost use Rattle.idsets.specs.Naming.{AreDistinct};
 
-use crate::indexed::is_group;
+use crate::indexed::is_direct;
 use config::Config;
 use idsets::{IdSet, Ids};
 use names::{Node, Object, Tuple};
@@ -99,7 +99,7 @@ impl Memberships {
         ensures more { IsMore self.old self.new }
         ensures numbers { IfOk result (AreNumbers config.now self.new tuple.now) }
     {
-        if tuple.subject.relation.is_some() || !is_group(config, &tuple.node) {
+        if !is_direct(config, tuple) {
             return Ok(None);
         }
         let user = self.see_user(alloc, &tuple.subject.object)?;
@@ -107,18 +107,29 @@ impl Memberships {
         Ok(Some(Membership { user, group }))
     }
 
-    // A set more than there are users is made before there is a user more.
     fn see_user(&mut self, alloc: Global, user: &Object) -> Result<u64, AllocError>
         ensures more { IsMore self.old self.new }
         ensures number { IfOk result (λ number. slice_get self.new.users number ≡ Some user.now) }
     {
         let user = user.clone()?;
-        if self.sets.len() <= self.users.len() {
-            self.sets.push(IdSet::new(alloc))?;
-        }
+        self.make_room(alloc)?;
         let number = self.users.see(user);
         let _ = self.users.len();
         number
+    }
+
+    /// Makes a set for one user more, where there is none yet.
+    fn make_room(&mut self, alloc: Global) -> Result<(), AllocError>
+        ensures users { self.new.users ≡ self.old.users }
+        ensures groups { self.new.groups ≡ self.old.groups }
+        ensures sets { (user : ℕ) → set_in self.new.sets.items user ≡ set_in self.old.sets.items user }
+        ensures room { OnOk result (length self.new.users < length self.new.sets.items) }
+    {
+        if self.users.len() < self.sets.len() {
+            return Ok(());
+        }
+        self.sets.push(IdSet::new(alloc))?;
+        Ok(())
     }
 
     fn see_group(&mut self, group: &Node) -> Result<u64, AllocError>
@@ -134,7 +145,7 @@ impl Memberships {
     pub(crate) fn numbers_of(&self, config: &Config, tuple: &Tuple) -> Option<Membership>
         ensures { AreFound config.now self.now tuple.now result }
     {
-        if tuple.subject.relation.is_some() || !is_group(config, &tuple.node) {
+        if !is_direct(config, tuple) {
             return None;
         }
         let user = self.users.id_of(&tuple.subject.object)?;

@@ -1,0 +1,4 @@
+use Rattle.direct.proofs.direct.Direct.restart.Goals as goal
+
+pub returns-clause-direct : goal.returns-clause-direct
+returns-clause-direct c = ?

@@ -1,0 +1,4 @@
+use Rattle.direct.proofs.indexed.is_direct.Goals as goal
+
+pub returns : goal.returns
+returns c = ?
