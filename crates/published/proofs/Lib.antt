@@ -2,6 +2,8 @@ pub mod Prefixes
 pub mod Adding
 pub mod Beginnings
 pub mod Standings
+pub mod Judging
+pub mod Rising
 pub mod Rules
 pub mod Chains
 pub mod Leading
