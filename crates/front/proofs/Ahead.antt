@@ -1,5 +1,5 @@
 -- Whether a question is refused as one of the future.
-use Rattle.std.proofs.Common.{◌≡◌, ◌∙◌, Bool, true, false, sym, true≢false}
+use Rattle.std.proofs.Common.{◌≡◌, Bool, true, false}
 use Rattle.std.proofs.lemmas.Bool.{iff_false}
 use Rattle.std.specs.Prelude.{◌↔◌, Result, Ok, Err, IfErr, ⊤}
 use Rattle.names.specs.declared.refusal.Refusal.{Refusal}
@@ -12,9 +12,6 @@ use Rattle.shown.specs.declared.answer.Refused.{Refused}
 use Rattle.desk.specs.Posts.{shown_by}
 use Rattle.front.specs.Kept.{KnowsADesk}
 use Rattle.front.specs.Fronts.{ToldByDesk}
-
-pub not_found : (future : Bool) → future ≡ true → ¬ (future ≡ false)
-not_found future met unmet = true≢false (sym met ∙ unmet)
 
 module _ {A : Type 0} where
   -- it is not

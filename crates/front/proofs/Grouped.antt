@@ -1,6 +1,6 @@
 -- What a session's answers to questions about groups tell.
-use Rattle.std.proofs.Common.{◌≡◌, ℕ, Bool, true, false, List, refl, sym, subst}
-use Rattle.std.specs.Prelude.{◌↔◌, Option, option_map, Result, Ok, Err, IfOk, IfErr, ⊤}
+use Rattle.std.proofs.Common.{◌≡◌, ℕ, List, refl, sym, subst}
+use Rattle.std.specs.Prelude.{Option, option_map, Result, Ok, Err, IfOk, IfErr, ⊤}
 use Rattle.names.specs.declared.refusal.Refusal.{Refusal}
 use Rattle.names.specs.declared.refusal.Refusal.TheVariants.{Malformed, BadZookie, Future, Memory}
 use Rattle.names.specs.declared.node.Node.{Node}
@@ -11,16 +11,14 @@ use Rattle.shown.specs.declared.answer.Answer.{Answer}
 use Rattle.shown.specs.declared.answer.Refused.{Refused}
 use Rattle.shown.specs.declared.step.Step.{Step}
 use Rattle.shown.specs.Standing.{standing}
-use Rattle.shown.specs.Grouping.{AreGroups, IsGroupsRefusal, GroupsRefused}
+use Rattle.shown.specs.Grouping.{AreGroups, IsGroupsRefusal}
 use Rattle.published.specs.Known.{Known, Begins}
 use Rattle.published.proofs.Rules.{begins_self, begins_trans}
 use Rattle.bodies.specs.Grouping.{AsksGroups, GroupsBodyCause, groups_data}
 use Rattle.bodies.specs.Replies.{Says, SaysRefusal, SaysRefusalAt}
 use Rattle.front.specs.declared.groups.AskedGroups.{AskedGroups}
 use Rattle.front.specs.declared.groups.AskedGroups.TheVariants.{Told, NotYet}
-use Rattle.front.specs.Questions.{IsAhead}
 use Rattle.front.specs.Groups.{GroupsTold, told_groups, told_no_groups, told_none, GroupsFrom, groups_malformed, groups_bad_zookie, groups_asked, groups_unread, AreGroupsAsked}
-use Rattle.front.proofs.Ahead.{not_found}
 
 -- the body asks for no groups
 pub groups_unasked : {sought : Type 0} (old : Known) (body : List ℕ) (why : Refusal) (told : Option (ℕ × List ℕ)) → GroupsBodyCause body why → SaysRefusal told why → GroupsFrom sought old body told old
@@ -52,12 +50,6 @@ groups_later old body told new (groups_unread none same) = subst (Begins old) (s
 pub groups_asked_later : (old : Known) (body : List ℕ) (asked : AskedGroups) (new : Known) → AreGroupsAsked old body asked new → Begins old new
 groups_asked_later old body (Told reply) new is = groups_later old body _ new is
 groups_asked_later old body (NotYet question) new is = is.1
-
--- the zookie is of a revision that is not known yet
-pub groups_are_ahead : (steps : List Step) (consistency : Consistency) (asked : Query) (limit : ℕ) (found : Result (Answer (List Node)) Refused) (future : Bool) → IfErr found (IsGroupsRefusal (standing steps) consistency asked limit)
-    → IfOk found (λ groups. future ≡ false) → IfErr found (λ refused. (future ≡ true) ↔ (refused.why ≡ Future)) → future ≡ true → IsAhead steps consistency
-groups_are_ahead steps consistency asked limit (Ok groups) future err unmet when met = absurd (not_found future met unmet)
-groups_are_ahead steps consistency asked limit (Err refused) future err unmet when met = (subst (λ (why : Refusal). GroupsRefused (standing steps) consistency asked limit why refused.at) (when.0 met) err).1
 
 -- what is told stays so where more was sought
 told_when : {A B : Type 0} (steps : List Step) (consistency : Consistency) (asked : Query) (limit : ℕ) (told : Option (ℕ × List ℕ)) → (A → B) → GroupsTold steps A consistency asked limit told → GroupsTold steps B consistency asked limit told

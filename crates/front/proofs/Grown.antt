@@ -1,6 +1,6 @@
 -- What a session's answers to questions for trees tell.
-use Rattle.std.proofs.Common.{◌≡◌, ℕ, Bool, true, false, List, refl, sym, subst}
-use Rattle.std.specs.Prelude.{◌↔◌, Option, option_map, Result, Ok, Err, IfOk, IfErr, ⊤}
+use Rattle.std.proofs.Common.{◌≡◌, ℕ, List, refl, sym, subst}
+use Rattle.std.specs.Prelude.{Option, option_map, Result, Ok, Err, IfOk, IfErr, ⊤}
 use Rattle.names.specs.declared.node.Node.{Node}
 use Rattle.names.specs.declared.refusal.Refusal.{Refusal}
 use Rattle.names.specs.declared.refusal.Refusal.TheVariants.{Malformed, BadZookie, Future, Memory}
@@ -12,7 +12,7 @@ use Rattle.shown.specs.declared.answer.Answer.{Answer}
 use Rattle.shown.specs.declared.answer.Refused.{Refused}
 use Rattle.shown.specs.declared.step.Step.{Step}
 use Rattle.shown.specs.Standing.{standing}
-use Rattle.shown.specs.Expanding.{IsTree, IsTreeRefusal, ExpandRefused}
+use Rattle.shown.specs.Expanding.{IsTree, IsTreeRefusal}
 use Rattle.published.specs.Known.{Known, Begins}
 use Rattle.published.proofs.Rules.{begins_self, begins_trans}
 use Rattle.bodies.specs.Expanding.{AsksExpand, ExpandBodyCause}
@@ -20,9 +20,7 @@ use Rattle.bodies.specs.Replies.{Says, SaysRefusal, SaysRefusalAt}
 use Rattle.bodies.specs.Trees.{expanded_data}
 use Rattle.front.specs.declared.trees.AskedTree.{AskedTree}
 use Rattle.front.specs.declared.trees.AskedTree.TheVariants.{Told, NotYet}
-use Rattle.front.specs.Questions.{IsAhead}
 use Rattle.front.specs.Trees.{TreeTold, told_tree, told_no_tree, told_no_more, ExpandFrom, tree_malformed, tree_bad_zookie, tree_asked, tree_unread, IsTreeAsked}
-use Rattle.front.proofs.Ahead.{not_found}
 
 -- the body asks for no tree
 pub tree_unasked : {sought : Type 0} (old : Known) (body : List ℕ) (why : Refusal) (told : Option (ℕ × List ℕ)) → ExpandBodyCause body why → SaysRefusal told why → ExpandFrom sought old body told old
@@ -54,12 +52,6 @@ tree_later old body told new (tree_unread none same) = subst (Begins old) (sym s
 pub tree_asked_later : (old : Known) (body : List ℕ) (asked : AskedTree) (new : Known) → IsTreeAsked old body asked new → Begins old new
 tree_asked_later old body (Told reply) new is = tree_later old body _ new is
 tree_asked_later old body (NotYet question) new is = is.1
-
--- the zookie is of a revision that is not known yet
-pub tree_is_ahead : (steps : List Step) (consistency : Consistency) (node : Node) (depth : ℕ) (found : Result (Answer Tree) Refused) (future : Bool) → IfErr found (IsTreeRefusal (standing steps) consistency node depth)
-    → IfOk found (λ tree. future ≡ false) → IfErr found (λ refused. (future ≡ true) ↔ (refused.why ≡ Future)) → future ≡ true → IsAhead steps consistency
-tree_is_ahead steps consistency node depth (Ok tree) future err unmet when met = absurd (not_found future met unmet)
-tree_is_ahead steps consistency node depth (Err refused) future err unmet when met = (subst (λ (why : Refusal). ExpandRefused (standing steps) consistency node depth why refused.at) (when.0 met) err).0
 
 -- what is told stays so where more was sought
 told_when : {A B : Type 0} (steps : List Step) (consistency : Consistency) (node : Node) (depth : ℕ) (told : Option (ℕ × List ℕ)) → (A → B) → TreeTold steps A consistency node depth told → TreeTold steps B consistency node depth told

@@ -1,6 +1,6 @@
 -- What a session's answers to questions for tuples tell.
-use Rattle.std.proofs.Common.{◌≡◌, ℕ, Bool, true, false, List, refl, sym, subst}
-use Rattle.std.specs.Prelude.{◌↔◌, Option, option_map, Result, Ok, Err, IfOk, IfErr, ⊤}
+use Rattle.std.proofs.Common.{◌≡◌, ℕ, List, refl, sym, subst}
+use Rattle.std.specs.Prelude.{Option, option_map, Result, Ok, Err, IfOk, IfErr, ⊤}
 use Rattle.names.specs.declared.refusal.Refusal.{Refusal}
 use Rattle.names.specs.declared.refusal.Refusal.TheVariants.{Malformed, BadZookie, Future, Memory}
 use Rattle.names.specs.declared.tuple.Tuple.{Tuple}
@@ -11,16 +11,14 @@ use Rattle.shown.specs.declared.answer.Answer.{Answer}
 use Rattle.shown.specs.declared.answer.Refused.{Refused}
 use Rattle.shown.specs.declared.step.Step.{Step}
 use Rattle.shown.specs.Standing.{standing}
-use Rattle.shown.specs.Paging.{IsPage, IsPageRefusal, ReadRefused}
+use Rattle.shown.specs.Paging.{IsPage, IsPageRefusal}
 use Rattle.published.specs.Known.{Known, Begins}
 use Rattle.published.proofs.Rules.{begins_self, begins_trans}
 use Rattle.bodies.specs.Paging.{AsksRead, ReadBodyCause, page_data}
 use Rattle.bodies.specs.Replies.{Says, SaysRefusal, SaysRefusalAt}
 use Rattle.front.specs.declared.tuples.AskedTuples.{AskedTuples}
 use Rattle.front.specs.declared.tuples.AskedTuples.TheVariants.{Told, NotYet}
-use Rattle.front.specs.Questions.{IsAhead}
 use Rattle.front.specs.Tuples.{TuplesTold, told_tuples, told_no_tuples, told_nothing, ReadFrom, tuples_malformed, tuples_bad_zookie, tuples_asked, tuples_unread, AreTuplesAsked}
-use Rattle.front.proofs.Ahead.{not_found}
 
 -- the body asks for no tupleset
 pub tuples_unasked : {sought : Type 0} (old : Known) (body : List ℕ) (why : Refusal) (told : Option (ℕ × List ℕ)) → ReadBodyCause body why → SaysRefusal told why → ReadFrom sought old body told old
@@ -52,12 +50,6 @@ tuples_later old body told new (tuples_unread none same) = subst (Begins old) (s
 pub tuples_asked_later : (old : Known) (body : List ℕ) (asked : AskedTuples) (new : Known) → AreTuplesAsked old body asked new → Begins old new
 tuples_asked_later old body (Told reply) new is = tuples_later old body _ new is
 tuples_asked_later old body (NotYet question) new is = is.1
-
--- the zookie is of a revision that is not known yet
-pub read_is_ahead : (steps : List Step) (consistency : Consistency) (found : Result (Answer (List Tuple)) Refused) (future : Bool) → IfErr found (IsPageRefusal (standing steps) consistency)
-    → IfOk found (λ tuples. future ≡ false) → IfErr found (λ refused. (future ≡ true) ↔ (refused.why ≡ Future)) → future ≡ true → IsAhead steps consistency
-read_is_ahead steps consistency (Ok tuples) future err unmet when met = absurd (not_found future met unmet)
-read_is_ahead steps consistency (Err refused) future err unmet when met = (subst (λ (why : Refusal). ReadRefused (standing steps) consistency why refused.at) (when.0 met) err).0
 
 -- what is told stays so where more was sought
 told_when : {A B : Type 0} (steps : List Step) (consistency : Consistency) (asked : Tupleset) (told : Option (ℕ × List ℕ)) → (A → B) → TuplesTold steps A consistency asked told → TuplesTold steps B consistency asked told

@@ -1,10 +1,9 @@
 -- What a session's answers to questions for pages tell.
-use Rattle.std.proofs.Common.{◌≡◌, ℕ, Bool, true, false, List, refl, sym, subst}
-use Rattle.std.specs.Prelude.{◌↔◌, Option, Result, Ok, Err, IfOk, IfErr, ⊤}
+use Rattle.std.proofs.Common.{◌≡◌, ℕ, List, refl, sym, subst}
+use Rattle.std.specs.Prelude.{Option, Result, Ok, Err, IfOk, IfErr, ⊤}
 use Rattle.names.specs.declared.refusal.Refusal.{Refusal}
 use Rattle.names.specs.declared.refusal.Refusal.TheVariants.{Malformed, BadZookie, Future, Memory}
 use Rattle.zookie.specs.declared.Zookie.{Zookie}
-use Rattle.zookie.specs.declared.consistency.Consistency.TheVariants.{Exactly}
 use Rattle.watch.specs.declared.watched.Namespaces.{Namespaces}
 use Rattle.watch.specs.declared.watched.Page.{Page}
 use Rattle.shown.specs.declared.step.Step.{Step}
@@ -17,9 +16,7 @@ use Rattle.bodies.specs.Replies.{Says, SaysRefusal}
 use Rattle.bodies.specs.Pages.{page_data}
 use Rattle.front.specs.declared.pages.AskedPage.{AskedPage}
 use Rattle.front.specs.declared.pages.AskedPage.TheVariants.{Told, NotYet}
-use Rattle.front.specs.Questions.{IsAhead}
 use Rattle.front.specs.Pages.{PageTold, told_page, told_no_page, told_none, WatchFrom, page_malformed, page_bad_zookie, page_asked, page_unread, IsPageAsked}
-use Rattle.front.proofs.Ahead.{not_found}
 
 -- the body asks for no page
 pub page_unasked : {sought : Type 0} (old : Known) (body : List ℕ) (why : Refusal) (told : Option (ℕ × List ℕ)) → WatchBodyCause body why → SaysRefusal told why → WatchFrom sought old body told old
@@ -47,12 +44,6 @@ page_later old body told new (page_unread none same) = subst (Begins old) (sym s
 pub page_asked_later : (old : Known) (body : List ℕ) (asked : AskedPage) (new : Known) → IsPageAsked old body asked new → Begins old new
 page_asked_later old body (Told reply) new is = page_later old body _ new is
 page_asked_later old body (NotYet question) new is = is.1
-
--- the cursor is of a revision that is not known yet
-pub page_is_ahead : (steps : List Step) (cursor : Zookie) (found : Result Page Refusal) (future : Bool) → IfErr found (WatchRefused (standing steps) cursor)
-    → IfOk found (λ page. future ≡ false) → IfErr found (λ why. (future ≡ true) ↔ (why ≡ Future)) → future ≡ true → IsAhead steps (Exactly cursor)
-page_is_ahead steps cursor (Ok page) future err unmet when met = absurd (not_found future met unmet)
-page_is_ahead steps cursor (Err why) future err unmet when met = subst (λ (w : Refusal). WatchRefused (standing steps) cursor w) (when.0 met) err
 
 -- what is told stays so where more was sought
 told_when : {A B : Type 0} (steps : List Step) (cursor : Zookie) (namespaces : Namespaces) (commits : ℕ) (told : Option (ℕ × List ℕ)) → (A → B) → PageTold steps A cursor namespaces commits told → PageTold steps B cursor namespaces commits told

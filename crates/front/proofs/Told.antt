@@ -1,6 +1,6 @@
 -- What a session's answers tell.
-use Rattle.std.proofs.Common.{◌≡◌, ℕ, Bool, true, false, List, refl, sym, subst, inl, inr}
-use Rattle.std.specs.Prelude.{◌↔◌, Option, option_map, Result, Ok, Err, IfOk, IfErr, ⊤}
+use Rattle.std.proofs.Common.{◌≡◌, ℕ, Bool, List, refl, sym, subst, inl, inr}
+use Rattle.std.specs.Prelude.{Option, option_map, Result, Ok, Err, IfOk, IfErr, ⊤}
 use Rattle.names.specs.declared.node.Node.{Node}
 use Rattle.names.specs.declared.object.Object.{Object}
 use Rattle.names.specs.declared.refusal.Refusal.{Refusal}
@@ -12,15 +12,14 @@ use Rattle.shown.specs.declared.answer.Answer.{Answer}
 use Rattle.shown.specs.declared.answer.Refused.{Refused}
 use Rattle.shown.specs.declared.step.Step.{Step}
 use Rattle.shown.specs.Standing.{standing, state_of}
-use Rattle.shown.specs.Answers.{IsAnswer, IsRefusal, CheckRefused}
+use Rattle.shown.specs.Answers.{IsAnswer, IsRefusal}
 use Rattle.published.specs.Known.{Known, Begins}
 use Rattle.published.proofs.Rules.{begins_self, begins_trans}
 use Rattle.bodies.specs.Requests.{AsksCheck, CheckCause}
 use Rattle.bodies.specs.Replies.{Says, SaysRefusal, SaysRefusalAt, answer_data, state_data}
 use Rattle.front.specs.declared.questions.Asked.{Asked}
 use Rattle.front.specs.declared.questions.Asked.TheVariants.{Told, NotYet}
-use Rattle.front.specs.Questions.{IsAhead, CheckTold, told_answer, told_refusal, told_shut, CheckFrom, from_malformed, from_bad_zookie, from_asked, from_unread, IsAsked, StateFrom}
-use Rattle.front.proofs.Ahead.{not_found}
+use Rattle.front.specs.Questions.{CheckTold, told_answer, told_refusal, told_shut, CheckFrom, from_malformed, from_bad_zookie, from_asked, from_unread, IsAsked, StateFrom}
 
 -- the body asks no question
 pub unasked : {sought : Type 0} (old : Known) (body : List ℕ) (why : Refusal) (told : Option (ℕ × List ℕ)) → CheckCause body why → SaysRefusal told why → CheckFrom sought old body told old
@@ -61,12 +60,6 @@ asked_later old body (NotYet question) new is = is.1
 pub state_later : (old : Known) (told : Option (ℕ × List ℕ)) (new : Known) → StateFrom old told new → Begins old new
 state_later old told new (inl is) = is.1
 state_later old told new (inr is) = subst (Begins old) (sym is.1) (begins_self old)
-
--- the zookie is of a revision that is not known yet
-pub check_is_ahead : (steps : List Step) (consistency : Consistency) (node : Node) (checked : Result (Answer Bool) Refused) (future : Bool) → IfErr checked (IsRefusal (standing steps) consistency node)
-    → IfOk checked (λ found. future ≡ false) → IfErr checked (λ refused. (future ≡ true) ↔ (refused.why ≡ Future)) → future ≡ true → IsAhead steps consistency
-check_is_ahead steps consistency node (Ok found) future err unmet when met = absurd (not_found future met unmet)
-check_is_ahead steps consistency node (Err refused) future err unmet when met = (subst (λ (why : Refusal). CheckRefused (standing steps) consistency node why refused.at) (when.0 met) err).0
 
 -- what is told stays so where more was sought
 told_when : {A B : Type 0} (steps : List Step) (consistency : Consistency) (node : Node) (user : Object) (told : Option (ℕ × List ℕ)) → (A → B) → CheckTold steps A consistency node user told → CheckTold steps B consistency node user told

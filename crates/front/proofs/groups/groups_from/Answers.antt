@@ -1,7 +1,7 @@
 use Rattle.leopard.specs.Exprs.{query_of}
 use Rattle.front.specs.Groups.{groups_asked, told_none}
 use Rattle.front.proofs.Ahead.{never_ahead}
-use Rattle.front.proofs.Grouped.{grouped_told, groups_are_ahead}
+use Rattle.front.proofs.Grouped.{grouped_told}
 use Rattle.front.proofs.groups.groups_from.Goals as goal
 
 pub returns-in-Some : goal.returns-in-Some

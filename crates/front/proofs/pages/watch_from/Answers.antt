@@ -1,6 +1,6 @@
 use Rattle.front.specs.Pages.{page_asked, told_none}
 use Rattle.front.proofs.Ahead.{page_never_ahead}
-use Rattle.front.proofs.Paged.{watched_told, page_is_ahead}
+use Rattle.front.proofs.Paged.{watched_told}
 use Rattle.front.proofs.pages.watch_from.Goals as goal
 
 pub returns-in-Some : goal.returns-in-Some

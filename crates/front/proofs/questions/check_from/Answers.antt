@@ -1,6 +1,6 @@
 use Rattle.front.specs.Questions.{from_asked, told_shut}
 use Rattle.front.proofs.Ahead.{never_ahead}
-use Rattle.front.proofs.Told.{checked_told, check_is_ahead}
+use Rattle.front.proofs.Told.{checked_told}
 use Rattle.front.proofs.questions.check_from.Goals as goal
 
 pub returns-else-is_of_the_future : goal.returns-else-is_of_the_future

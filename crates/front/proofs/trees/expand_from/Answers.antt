@@ -1,6 +1,6 @@
 use Rattle.front.specs.Trees.{tree_asked, told_no_more}
 use Rattle.front.proofs.Ahead.{never_ahead}
-use Rattle.front.proofs.Grown.{expanded_told, tree_is_ahead}
+use Rattle.front.proofs.Grown.{expanded_told}
 use Rattle.front.proofs.trees.expand_from.Goals as goal
 
 pub returns-else-is_of_the_future : goal.returns-else-is_of_the_future

@@ -1,6 +1,6 @@
 use Rattle.front.specs.Tuples.{tuples_asked, told_nothing}
 use Rattle.front.proofs.Ahead.{never_ahead}
-use Rattle.front.proofs.Listed.{read_told, read_is_ahead}
+use Rattle.front.proofs.Listed.{read_told}
 use Rattle.front.proofs.tuples.read_from.Goals as goal
 
 pub returns-else-is_of_the_future : goal.returns-else-is_of_the_future
