@@ -11,7 +11,8 @@ use Rattle.keeper.specs.Rules.{DeskStep}
 use Rattle.lines.specs.Text.{lines_of}
 use Rattle.lines.specs.Machine.{Run}
 use Rattle.tracked_io.specs.Tracking.{TrackedReading, TrackedWriting}
-use Rattle.runs.specs.Runs.{Began, Ended, ServedBy, PausedBy, CutBy, IsAskedIn, kept_by}
+use Rattle.keeper.specs.Beginning.{Began, kept_by}
+use Rattle.runs.specs.Runs.{Ended, ServedBy, PausedBy, CutBy, IsAskedIn}
 use Rattle.runs.specs.inside.Leaving.{HasLeft, Answered}
 use Rattle.runs.proofs.Leaving.{Weaker, after_run}
 use Rattle.runs.proofs.Asked.{asked_first, asked_fed}

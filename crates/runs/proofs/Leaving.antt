@@ -39,7 +39,8 @@ use Rattle.keeper.specs.calls.Hot.{HotStep, hot_malformed, hot_accepted, hot_ref
 use Rattle.keeper.specs.calls.Rebuild.{RebuildStep, rebuild_malformed, rebuild_accepted, rebuild_refused, rebuild_unread}
 use Rattle.lines.specs.Text.{word_of, body_of}
 use Rattle.lines.specs.Machine.{IsAnswer, Run}
-use Rattle.runs.specs.Runs.{kept_by, AsksChange, IsAskedIn}
+use Rattle.keeper.specs.Beginning.{kept_by}
+use Rattle.runs.specs.Runs.{AsksChange, IsAskedIn}
 use Rattle.runs.specs.inside.Leaving.{HasLeft}
 use Rattle.tables.proofs.Lasting.{lasts_trans}
 

@@ -9,9 +9,10 @@ ghost use Rattle.zanz.specs.Listening.{Announced, BeganAnnounced, listening_line
 use answers::End;
 use command_line::Fault;
 use http_api::routes;
+use keeper::Answering;
 use matchit::Router;
 use names::{Call, Refusal};
-use runs::{Answering, talk};
+use runs::talk;
 use server::{sides_of, take_leave};
 use std::alloc::{AllocError, Global};
 use std::io::Write;

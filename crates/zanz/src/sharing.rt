@@ -5,9 +5,9 @@ ghost use Rattle.zanz.specs.Listening.{Announced, StoppedServing};
 
 use crate::listening::{announce, listen};
 use command_line::{Fault, MAX_WORKERS};
-use front::Keeper;
+use front::{Gate, Keeper};
 use published::{Naming, Opened};
-use server::{Gate, run};
+use server::run;
 use sqlite::Alter;
 use std::alloc::Global;
 use std::io::Write;

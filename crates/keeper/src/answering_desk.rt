@@ -1,16 +1,15 @@
 //! A desk that answers calls, whatever brings them.
-ghost use Rattle.std.specs.Prelude.{◌≡◌, [], IfOk, IfErr};
+ghost use Rattle.std.specs.Prelude.{◌≡◌, IfOk, IfErr};
 ghost use Rattle.published.specs.declared.publication.TheConstants.{MAX_SESSIONS};
 ghost use Rattle.names.specs.declared.refusal.Refusal.TheVariants.{StoreFault};
 ghost use Rattle.tables.specs.Device.{IsOpen};
 ghost use Rattle.tables.specs.Opening.{CannotOpen};
 ghost use Rattle.desk.specs.Posts.{Agrees, ComesBack, FailsToLoad, SameTables, ShowsMore};
-ghost use Rattle.runs.specs.Runs.{Began, kept_by};
-ghost use Rattle.runs.specs.Connections.{HasServed};
+ghost use Rattle.keeper.specs.Beginning.{Began, kept_by};
 
+use crate::answer::answer_on;
 use answers::Answers;
 use desk::Desk;
-use keeper::answer_on;
 use names::{Call, Refusal, Reply};
 use published::{Opened, Session};
 use std::alloc::Global;
@@ -46,7 +45,6 @@ impl<T: Tables + Drop, H: Wait + Drop> Answering<T, H> {
     /// tables back: for want of memory, or where they failed or hold no history.
     pub fn open(alloc: Global, rt: H, tables: T) -> Result<Answering<T, H>, (Refusal, T)>
         ensures ok { IfOk result (λ answering. Began T.Tables tables answering) }
-        ensures ready { IfOk result (λ answering. HasServed T.Tables answering [] answering) }
         ensures err { IfErr result (λ refused. CannotOpen refused.0) }
         ensures kept { IfErr result (λ refused. ComesBack T.Tables tables refused.1) }
         ensures caused { IfErr result (λ refused. refused.0 ≡ StoreFault

@@ -7,7 +7,7 @@ use Rattle.tables.specs.Device.{IsClean}
 use Rattle.tables.specs.declared.tables.Tables.{Ghosts}
 use Rattle.published.proofs.Prefixes.{prefix_whole, prefix_length}
 use Rattle.desk.specs.Posts.{Posts, OpensWith, ComesBack, ShowsMore, SameTables}
-use Rattle.runs.specs.Runs.{Began, kept_by}
+use Rattle.keeper.specs.Beginning.{Began, kept_by}
 
 pub began_on : {T : Type 0} (g : Ghosts T) (tables : T) (d e : Posts T) → OpensWith g tables d → d.shown ≡ d.posted → d.failed ≡ false → g.leaves d.tables (kept_by d ∷ []) → ComesBack g tables d.tables
     → ShowsMore d e → SameTables d e → Began g tables e

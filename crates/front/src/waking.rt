@@ -10,14 +10,15 @@ use std::sync::Wait;
 /// Answers as another machine does, and after each call that is a change sends a word. Where one is on its way already, or
 /// nobody is there any more to take it, it is dropped.
 #[derive(Drop)]
-pub(crate) struct Waking<'a, A, R> {
+pub struct Waking<'a, A, R> {
     answers: A,
     rt: &'a R,
     wakes: Sender<()>,
 }
 
 impl<'a, A, R> Waking<'a, A, R> {
-    pub(crate) fn new(answers: A, rt: &'a R, wakes: Sender<()>) -> Waking<'a, A, R>
+    /// Answers that wake through this channel.
+    pub fn new(answers: A, rt: &'a R, wakes: Sender<()>) -> Waking<'a, A, R>
         ensures { result.answers ≡ answers }
     {
         Waking { answers, rt, wakes }
