@@ -1,5 +1,6 @@
 #!/usr/bin/env python3
-"""Sees that each function, clause and definition that PROMISES.md and README's table name is there, each wrong body that WRONG.md names, and each file that a document names or links to.
+"""Sees that each function, clause and definition that PROMISES.md and README's table name is there, each wrong body that WRONG.md names, and each file that a document names or links to;
+and that TESTING.md names a test for each public call that may answer want of memory.
 
 usage: docs/promises.py
 
@@ -7,6 +8,8 @@ What carries a promise stands in the last column of a line of README's table, or
 clauses of one of them: `Desk::open`: `posted`, `kept` (`Agrees`). A function must stand in src/ of a crate of that line or heading, a clause in a contract of one of the group's
 functions, and a definition, which begins with a capital, there or in the crate's specs/. After `Wrong body` and `Test` in WRONG.md a group is crates, a colon, and wrong bodies of one
 of them: files of its wrong/ or must-fail/; of a crate of tests it is their functions.
+In TESTING.md's table of such calls a line has a crate, or that of the line above; calls; and tests: of a crate, a file with cases, or a case. A call is `Rows::commit`, a function or a
+method of the type before it. It is one that may answer so where its type says it (`ANSWERS`); a conversion, and what its crate alone can name as a type or a trait, is none.
 In every document a link leads to a file, and to a heading of it where it says so; a name in code quotes that has the form of a file of a crate (`crates/zanz/stdin`, `zanz/specs/Ran.antt`) or of
 this repository (`docs/promises.py`, `.ci/run`) is one. After a file of a crate further ones may stand with their names alone. Ends with status 1 where a name is missing.
 """
@@ -16,6 +19,8 @@ import sys
 
 ROOT = os.path.dirname(os.path.dirname(os.path.realpath(__file__)))
 NAME = re.compile(r"`([^`]+)`")
+ANSWERS = re.compile(r"\b(AllocError|InsertError|TablesError|Refusal|Refused|Reply|End|Fault|Probe|Post|Outcome|Asked\w*)\b|(?<![:\w])Error\b")
+SIGNATURE = re.compile(r"(?m)^( *)(pub )?fn (\w+)[^{;]*?\)\s*->\s*((?:.|\n)*?)(?=\s*[{;]|\s*\n\s*(?:requires|ensures|where|//))")
 
 
 def text_of(crate, part, ending):
@@ -119,6 +124,68 @@ def has_body(crate, name):
     return any(os.path.isfile(f"{ROOT}/crates/{crate}/{folder}/{name}.edit") for folder in ("wrong", "must-fail"))
 
 
+def calls_of(crate):
+    """The public calls of a crate that may answer want of memory: functions, and methods after their type or trait."""
+    text = text_of(crate, "src", ".rt")
+    inner = set(re.findall(r"(?m)^(?:pub\(crate\) )?(?:struct|enum|trait) (\w+)", text)) | {"From"}
+    blocks = r"(?ms)^((?:pub )?trait [^{]*|impl\b[^{]*)\{\n(.*?)^\}"
+    for _, public, name, answer in SIGNATURE.findall(re.sub(blocks, "", text)):
+        if public and ANSWERS.search(answer):
+            yield name
+    for head, body in re.findall(blocks, text):
+        while re.search(r"<[^<>]*>", head):
+            head = re.sub(r"<[^<>]*>", "", head)
+        named = re.findall(r"\w+", re.sub(r"\b(pub|impl|trait|for)\b", "", head))
+        owner = named[1] if " for " in head else named[0]
+        for _, public, name, answer in SIGNATURE.findall(body):
+            if (public or " for " in head or "trait " in head) and not inner & {named[0], owner} and ANSWERS.search(answer):
+                yield f"{owner}::{name}"
+
+
+def calls_listed():
+    """The lines of TESTING.md's table of calls that may answer want of memory: the crate, its calls, and the tests."""
+    with open(f"{ROOT}/docs/TESTING.md", encoding="utf-8") as it:
+        part = it.read().partition("## Each call that may answer want of memory\n")[2].partition("\n## ")[0]
+    crate = None
+    for line in re.findall(r"(?m)^\| (.*) \|$", part):
+        first, calls, tests = line.split(" | ") if line.count(" | ") == 2 else (None, *line.removeprefix("| ").split(" | "))
+        crate = NAME.findall(first)[0] if first and NAME.findall(first) else crate
+        if crate:
+            yield crate, calls, tests
+
+
+def calls_missing():
+    """The calls that may answer want of memory and have no line, and the calls and tests that lines name in vain."""
+    listed = {}
+    for crate, calls, tests in calls_listed():
+        mine = set(calls_of(crate))
+        owner = ""
+        for name in NAME.findall(calls):
+            owner = name.partition("::")[0] if "::" in name else owner
+            whole = f"{owner}::{name}" if f"{owner}::{name}" in mine else name
+            listed.setdefault(crate, set()).add(whole)
+            if whole not in mine and not contracts_of(text_of(crate, "src", ".rt"), name):
+                yield f"`{crate}` has no call `{name}`"
+        for group in tests.split("; "):
+            head, *names = NAME.findall(group) or [""]
+            for name in names:
+                if not has_case(head, name) and not has_body(head, name):
+                    yield f"`{head}` has no test `{name}`"
+    with open(f"{ROOT}/crates.txt", encoding="utf-8") as it:
+        crates = re.findall(r"(?m)^(\w+)[^:\n]*:", it.read())
+    for crate in (it for it in crates if not it.endswith("_tests")):
+        for name in sorted(set(calls_of(crate)) - listed.get(crate, set())):
+            yield f"no line has `{name}` of `{crate}`"
+
+
+def has_case(file, name):
+    """Whether a file of python has a case of that name."""
+    if not file.endswith(".py") or not os.path.isfile(f"{ROOT}/{file}"):
+        return False
+    with open(f"{ROOT}/{file}", encoding="utf-8") as it:
+        return f"\n    {name},\n" in it.read()
+
+
 def documents():
     """The documents of the repository, from its top."""
     for folder, folders, files in os.walk(ROOT):
@@ -182,6 +249,9 @@ def main():
             wrong += 1
     for why in bodies_missing():
         print(f"docs/WRONG.md: {why}")
+        wrong += 1
+    for why in calls_missing():
+        print(f"docs/TESTING.md: {why}")
         wrong += 1
     for file in ("README.md", "docs/PROMISES.md"):
         for crates, cell in rows_of(file):

@@ -477,6 +477,17 @@ def one_worker_alone_leaves_the_parts_to_its_callers(program, folder):
         same("a trim", (200, f'{{"floor":"{newest}","shown":true}}'), ask(stream, *trim))
 
 
+def one_worker_alone_keeps_a_file(program, folder):
+    first, second = "AQAAAAAAAAABAAAAAAAAAAE", "AQAAAAAAAAABAAAAAAAAAAI"
+    found = (200, f'{{"allowed":true,"zookie":"{second}"}}')
+    with Server(program, folder, "--workers", "1", "--db", "alone.db", "--store", "1") as server, server.connect() as stream:
+        same("config", (200, f'{{"shown":true,"zookie":"{first}"}}'), ask(stream, "config", CONFIG))
+        same("write", (200, f'{{"shown":true,"zookie":"{second}"}}'), ask(stream, "write", insert("ann")))
+        same("check", found, ask(stream, "check", exactly(second)))
+    with Server(program, folder, "--workers", "1", "--db", "alone.db") as server, server.connect() as stream:
+        same("check of the file that is there", found, ask(stream, "check", exactly(second)))
+
+
 def marks_of(server, number, told):
     """Marks forty nodes of its own, and between them one that is marked already, and keeps what it was told of its own."""
     with server.connect() as stream:
@@ -605,6 +616,7 @@ CASES = [
     a_port_that_is_given_is_listened_on,
     what_is_written_is_read_by_the_parts,
     one_worker_alone_leaves_the_parts_to_its_callers,
+    one_worker_alone_keeps_a_file,
     many_connections_mark_no_more_nodes_than_may_be_marked,
     what_was_accepted_is_there_after_a_kill,
     what_many_were_told_is_there_after_a_kill,

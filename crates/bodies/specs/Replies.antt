@@ -132,11 +132,6 @@ refusal_data why = error_data (refusal_members why)
 abbrev pub refusal_members_at : Refusal → List ℕ → Members
 refusal_members_at why zookie = name_members why (text_member (codes "zookie") zookie no_members)
 
--- the answer to a call that is not served
-abbrev pub no_route_data : Data
-no_route_data =
-    error_data (number_member (codes "code") 0 (text_member (codes "name") (codes "NoRoute") no_members))
-
 -- the reply has this status and this text, or there was no memory for it
 abbrev pub SaysText : Option (ℕ × List ℕ) → ℕ → List ℕ → Type 0
 SaysText told status text = MatchOption told ⊤ (λ said. (said.0 ≡ status) × (said.1 ≡ text))

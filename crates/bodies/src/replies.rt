@@ -5,7 +5,7 @@ ghost use Rattle.serde_json.specs.Data.{string};
 ghost use Rattle.serde_json.specs.View.{view};
 ghost use Rattle.serde_json.specs.Written.{has_float};
 ghost use Rattle.zookie.specs.Text.{zookie_text};
-ghost use Rattle.bodies.specs.Replies.{Says, SaysText, receipt_data, answer_data, base_data, cursor_data, floor_data, marked_data, state_data, no_route_data};
+ghost use Rattle.bodies.specs.Replies.{Says, SaysText, receipt_data, answer_data, base_data, cursor_data, floor_data, marked_data, state_data};
 
 use names::{Reply, State};
 use serde_json::{Value, json};
@@ -139,11 +139,4 @@ pub fn state(alloc: Global, store: u64, state: &State) -> Reply
     ensures { Says (told result) 200 (state_data store state.now) }
 {
     say(alloc, 200, state_value(alloc, store, state))
-}
-
-/// What a call is answered that is not served.
-pub fn no_route(alloc: Global) -> Reply
-    ensures { Says (told result) 404 no_route_data }
-{
-    say_text(alloc, 404, r#"{"error":{"code":0,"name":"NoRoute"}}"#)
 }

@@ -1,6 +1,6 @@
 -- What is counted of a search: nodes that are known to have the user, numbers on stacks, levels that are free.
 use Rattle.std.proofs.Common.{◌≡◌, ℕ, zero, suc, ◌<◌, ◌≤◌, ◌+◌, ◌-◌, List, [], ◌∷◌, ◌++◌, Bool, true, false, not, cond, length, get_or, set, refl, ap, ◌∙◌, sym, subst, inl, inr, ⊎_elim, arith, length-append, true≢false}
-use Rattle.std.specs.Prelude.{◌⊎◌, ◌&&◌, ◌||◌, Contains, Vec, nat_eq, count_by}
+use Rattle.std.specs.Prelude.{◌⊎◌, ◌&&◌, ◌||◌, Contains, Vec, nat_eq}
 use Rattle.std.specs.Global.{Global}
 use Rattle.std.specs.List.{sum_by}
 use Rattle.std.specs.Cmp.Derive.{both_true}

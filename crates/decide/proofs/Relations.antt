@@ -1,4 +1,4 @@
--- The relations and the levels of a source.
+-- The relations and the levels of a configuration.
 use Rattle.std.proofs.Common.{◌≡◌, ℕ, zero, suc, ◌<◌, List, [], ◌∷◌, length, get_or, refl, ap, ◌∙◌, sym, subst, arith}
 use Rattle.std.specs.Prelude.{◌↔◌, Contains, map}
 use Rattle.std.proofs.lemmas.List.{length-map}

@@ -1,10 +1,9 @@
 -- How far a turn brings a search, and that each brings it further.
-use Rattle.std.proofs.Common.{◌≡◌, ℕ, suc, ◌<◌, ◌≤◌, ◌+◌, ◌^◌, ◌∷◌, ◌++◌, [], List, Bool, true, false, length, refl, ap, ◌∙◌, sym, subst, inl, inr, ⊎_elim, arith, true≢false}
+use Rattle.std.proofs.Common.{◌≡◌, ℕ, ◌<◌, ◌≤◌, ◌^◌, List, Bool, true, false, length, refl, ap, ◌∙◌, sym, subst, inl, inr, ⊎_elim, arith, true≢false}
 use Rattle.std.specs.Prelude.{◌⊎◌, count_by}
 use Rattle.names.specs.declared.node.Node.{Node}
 use Rattle.decide.specs.declared.search.Search.{Search}
 use Rattle.decide.specs.declared.search.Opened.{Opened}
-use Rattle.decide.specs.declared.search.Frame.{Frame}
 use Rattle.decide.specs.inside.Searches.{Stands, IsNumberOf, Grew, IsFrame, IsLowest, sures}
 use Rattle.decide.specs.inside.Ending.{left, left_on, progress, Turned}
 use Rattle.decide.proofs.SearchLemmas.{grew_long}

@@ -71,35 +71,6 @@ module _ (S : Snap) (u : Object) where
   pub member_given : (s : Search) (number : ℕ) (n : Node) → IsRunning S u s (Some number) → ((e : Opened) → Stands s number e → e.node ≡ n) → IsMember S u n → (e : Opened) → Stands s number e → Under S u (suc e.level) e.node
   member_given s number n run node member e st = member_under e.node e.level (run.at number e st) (subst (IsMember S u) (sym (node e st)) member)
 
-  module _ (s : Search) (a : Asking) (asking : IsAsking S u s a) (plain : a.plain ≡ true) where
-    asked_high : high a ≡ suc a.level
-    asked_high = ap (λ b. cond b (suc a.level) a.level) plain
-
-    its : (e : Opened) → Stands s a.number e → (e.node ≡ a.node.now) × (e.level ≡ a.level)
-    its e st =
-        let is : e ≡ asking.number.0 = same_opened s a.number e asking.number.0 st asking.number.1 in
-        (ap (λ (x : Opened). x.node) is ∙ asking.number.2, ap (λ (x : Opened). x.level) is ∙ asking.number.3)
-
-    pub relation_given : RelationGives S u a.node.now (Counts S u a) (Under S u a.level) → (e : Opened) → Stands s a.number e → Under S u (suc e.level) e.node
-    relation_given g e st =
-        let i = its e st in
-        let at : IsAt S.config e.node e.level = asking.running.at a.number e st in
-        under_given S u e.level e.node at
-        (subst (λ x. RelationGives S u x (Under S u (suc e.level)) (Under S u e.level)) (sym i.0)
-        (subst (λ k. RelationGives S u a.node.now (Under S u (suc k)) (Under S u k)) (sym i.1)
-        (subst (λ h. RelationGives S u a.node.now (Under S u h) (Under S u a.level)) asked_high g)))
-
-    pub relation_stuck : (RelationGives S u a.node.now (IsLeft S u s a) (Under S u a.level) → ⊥) → IsRunning S u s None
-    relation_stuck none = covered_too s a.number asking.running
-        (λ e st unsure g.
-        let i = its e st in
-        none
-        (relation_grows S u a.node.now (IsHope S u s a.number a.level) (IsLeft S u s a) (Under S u a.level) (Under S u a.level)
-        (λ m x. (subst (λ h. Under S u h m) (sym asked_high) x.0, λ p w. x.1 w))
-        (same (Under S u a.level))
-        (subst (λ k. RelationGives S u a.node.now (IsHope S u s a.number k) (Under S u k)) i.1
-        (subst (λ x. RelationGives S u x (IsHope S u s a.number e.level) (Under S u e.level)) i.0 g))))
-
   pub number_here : (s : Search) (number k : ℕ) (n : Node) → number < length s.opened.items → ((e : Opened) → Stands s number e → e.node ≡ n) → ((e : Opened) → Stands s number e → e.level ≡ k) → IsNumberOf s number n k
   number_here s number k n lt node level =
       let e = element s.opened.items number lt in
@@ -141,3 +112,39 @@ module _ (S : Snap) (u : Object) where
 
   pub root_sure : (s : Search) (root k : ℕ) (n : Node) (b : Bool) → b ≡ true → IsRunning S u s None → IsNumberOf s root n k → ((e : Opened) → Stands s root e → e.sure ≡ b) → IsMember S u n
   root_sure s root k n b is run (e, st, node, level) sure = subst (IsMember S u) node (under_member e.node (suc e.level) (run.right root e st (sure e st ∙ is)))
+
+-- a node that has a number keeps it
+pub still_there : (s t : Search) (i : ℕ) → ((k : ℕ) (n : Node) → IsNumberOf s i n k → IsNumberOf t i n k) → i < length s.opened.items → i < length t.opened.items
+still_there s t i keeps lt =
+    let (e, at) = element s.opened.items i lt in
+    (keeps e.level e.node (e, (lt, at), refl, refl)).1.0
+
+-- what is found of the asker's relation
+module _ (S : Snap) (s : Search) (a : Asking) (asking : IsAsking S s a) (plain : a.plain ≡ true) where
+  asked_high : high a ≡ suc a.level
+  asked_high = ap (λ b. cond b (suc a.level) a.level) plain
+
+  its : (e : Opened) → Stands s a.number e → (e.node ≡ a.node.now) × (e.level ≡ a.level)
+  its e st =
+      let is : e ≡ asking.number.0 = same_opened s a.number e asking.number.0 st asking.number.1 in
+      (ap (λ (x : Opened). x.node) is ∙ asking.number.2, ap (λ (x : Opened). x.level) is ∙ asking.number.3)
+
+  pub relation_given : RelationGives S a.user.now a.node.now (Counts S a) (Under S a.user.now a.level) → (e : Opened) → Stands s a.number e → Under S a.user.now (suc e.level) e.node
+  relation_given g e st =
+      let i = its e st in
+      let at : IsAt S.config e.node e.level = asking.running.at a.number e st in
+      under_given S a.user.now e.level e.node at
+      (subst (λ x. RelationGives S a.user.now x (Under S a.user.now (suc e.level)) (Under S a.user.now e.level)) (sym i.0)
+      (subst (λ k. RelationGives S a.user.now a.node.now (Under S a.user.now (suc k)) (Under S a.user.now k)) (sym i.1)
+      (subst (λ h. RelationGives S a.user.now a.node.now (Under S a.user.now h) (Under S a.user.now a.level)) asked_high g)))
+
+  pub relation_stuck : (RelationGives S a.user.now a.node.now (IsLeft S s a) (Under S a.user.now a.level) → ⊥) → IsRunning S a.user.now s None
+  relation_stuck none = covered_too S a.user.now s a.number asking.running
+      (λ e st unsure g.
+      let i = its e st in
+      none
+      (relation_grows S a.user.now a.node.now (IsHope S a.user.now s a.number a.level) (IsLeft S s a) (Under S a.user.now a.level) (Under S a.user.now a.level)
+      (λ m x. (subst (λ h. Under S a.user.now h m) (sym asked_high) x.0, λ p w. x.1 w))
+      (same S a.user.now (Under S a.user.now a.level))
+      (subst (λ k. RelationGives S a.user.now a.node.now (IsHope S a.user.now s a.number k) (Under S a.user.now k)) i.1
+      (subst (λ x. RelationGives S a.user.now x (IsHope S a.user.now s a.number e.level) (Under S a.user.now e.level)) i.0 g))))

@@ -2,15 +2,16 @@
 ghost use Rattle.std.specs.Prelude.{◌≡◌, ◌+◌, ◌<◌, ◌^◌, false};
 ghost use Rattle.decide.specs.inside.Asked.{high};
 
-use names::Node;
+use names::{Node, Object};
 
-/// The node that is looked at, with its number and level, and whether the part of its rewrite is not
-/// subtracted.
+/// The node that is looked at, with its number and level, the user who is sought, and whether the part of its
+/// rewrite is not subtracted.
 #[derive(Clone, Copy)]
 pub(crate) struct Asking<'a> {
     pub(crate) number: usize,
     pub(crate) node: &'a Node,
     pub(crate) level: usize,
+    pub(crate) user: &'a Object,
     pub(crate) plain: bool,
 }
 
@@ -32,10 +33,8 @@ impl<'a> Asking<'a> {
         ensures { result ≡ record self.now { plain = false } }
     {
         Asking {
-            number: self.number,
-            node: self.node,
-            level: self.level,
             plain: false,
+            ..*self
         }
     }
 }

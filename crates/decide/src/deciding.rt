@@ -4,7 +4,6 @@ ghost use Rattle.std.proofs.Common.{suc};
 ghost use Rattle.meaning.specs.Admits.{has_relation};
 ghost use Rattle.meaning.specs.Causes.{CheckCause};
 ghost use Rattle.meaning.specs.Config.{rel_of};
-ghost use Rattle.config.specs.Places.{StandsAt};
 ghost use Rattle.names.specs.declared.node.Node.{Node as NodeValue};
 ghost use Rattle.decide.specs.Answers.{IsAnswer};
 ghost use Rattle.decide.specs.inside.Under.{Under};
@@ -12,7 +11,7 @@ ghost use Rattle.decide.specs.inside.Searches.{Stands, IsNumberOf, IsLowest};
 ghost use Rattle.decide.specs.inside.Ending.{Turned, progress};
 ghost use Rattle.decide.specs.declared.search.Opened.{Opened};
 ghost use Rattle.decide.specs.inside.Running.{IsRunning};
-ghost use Rattle.decide.specs.inside.Asked.{IsSource, IsAsking};
+ghost use Rattle.decide.specs.inside.Asked.{IsAsking};
 
 use crate::asking::{Asking, Found};
 use crate::facts::Facts;
@@ -20,7 +19,6 @@ use crate::numbers::key_of;
 use crate::oracle::Oracle;
 use crate::rewrites::relation_gives;
 use crate::search::Search;
-use crate::source::Source;
 use names::{Node, Object, Refusal};
 use rows::View;
 use std::alloc::{AllocError, Global};
@@ -39,39 +37,33 @@ pub fn check_at<O: Oracle>(
     ensures known { OnOk result (has_relation view.now.config (rel_of node.now) ≡ true) }
     ensures err { IfErr result (CheckCause view.now node.now) }
 {
-    let facts = Facts::of(alloc, view);
-    let source = Source {
-        alloc,
-        view,
-        facts: &facts,
-        user,
-        config: view.config(),
-    };
-    let Some(place) = source.place_of(node) else {
+    let mut facts = Facts::of(alloc, view);
+    let Some(place) = facts.place_of(node) else {
         return Err(Refusal::UnknownRelation);
     };
-    let answer = is_member(&source, oracle, node, place)?;
+    let level = facts.level_at(place);
+    let mut search = Search::new(alloc, level)?;
+    let root = search.open(node, level, place, key_of(node))?;
+    let answer = is_member(&mut facts, oracle, &mut search, user, root)?;
     Ok(answer)
 }
 
-/// Whether the user is a member of a node whose relation stands at the place.
+/// Whether the user is a member of the root.
 fn is_member<O: Oracle>(
-    source: &Source,
+    facts: &mut Facts,
     oracle: &mut O,
-    node: &Node,
-    place: usize,
+    search: &mut Search,
+    user: &Object,
+    root: usize,
 ) -> Result<bool, AllocError>
-    requires source { IsSource source.now }
-    requires tells { O.tells oracle.old source.now.view.now }
-    requires at { StandsAt source.now.view.now.config (rel_of node.now) place }
-    ensures { IfOk result (IsAnswer source.now.view.now source.now.user.now node.now) }
+    requires tells { O.tells oracle.old facts.old }
+    requires root { root < length search.old.opened.items }
+    requires running { IsRunning facts.old user.now search.old None }
+    ensures { IfOk result (λ b. (n : NodeValue) (k : ℕ) → IsNumberOf search.old root n k
+        → IsAnswer facts.old user.now n b) }
 {
-    let mut facts = Facts::of(source.alloc, source.view);
-    let level = source.level_at(place);
-    let mut search = Search::new(source.alloc, level)?;
-    let root = search.open(node, level, place, key_of(node))?;
     'rounds: loop {
-        match round(source, oracle, &mut facts, &mut search, root)? {
+        match round(facts, oracle, search, user, root)? {
             Some(answer) => return Ok(answer),
             None => {}
         }
@@ -81,25 +73,23 @@ fn is_member<O: Oracle>(
 /// Looks at nodes until it is known whether the root has the user, or else until a node more was opened or has the user.
 /// Each turn looks at one node.
 fn round<O: Oracle>(
-    source: &Source,
-    oracle: &mut O,
     facts: &mut Facts,
+    oracle: &mut O,
     search: &mut Search,
+    user: &Object,
     root: usize,
 ) -> Result<Option<bool>, AllocError>
-    requires source { IsSource source.now }
-    requires facts { facts.old ≡ source.now.view.now }
-    requires tells { O.tells oracle.old source.now.view.now }
+    requires tells { O.tells oracle.old facts.old }
     requires root { root < length search.old.opened.items }
-    requires running { IsRunning source.now.view.now source.now.user.now search.old None }
+    requires running { IsRunning facts.old user.now search.old None }
     ensures answer { IfOk result (λ o. IfSome o (λ b. (n : NodeValue) (k : ℕ) → IsNumberOf search.old root n k
-        → IsAnswer source.now.view.now source.now.user.now n b)) }
+        → IsAnswer facts.new user.now n b)) }
     ensures more { IfOk result (λ o. IfNone o (progress search.old < progress search.new)) }
-    ensures facts { OnOk result (facts.new ≡ facts.old) }
-    ensures running { IfOk result (λ o. IfNone o (IsRunning source.now.view.now source.now.user.now search.new None)) }
+    ensures facts { facts.new ≡ facts.old }
+    ensures running { IfOk result (λ o. IfNone o (IsRunning facts.new user.now search.new None)) }
     ensures numbers { OnOk result
         ((i k : ℕ) (n : NodeValue) → IsNumberOf search.old i n k → IsNumberOf search.new i n k) }
-    ensures tells { OnOk result (O.tells oracle.new source.now.view.now) }
+    ensures tells { OnOk result (O.tells oracle.new facts.new) }
     ensures small { OnOk result (progress search.old < 2 ^ 65) }
 {
     let opened = search.len();
@@ -110,7 +100,7 @@ fn round<O: Oracle>(
         match search.next() {
             None => return Ok(Some(search.is_sure(root))),
             Some(number) => {
-                let gave = look(source, oracle, facts, search, number)?;
+                let gave = look(facts, oracle, search, user, number)?;
                 if gave || search.len() > opened {
                     return Ok(None);
                 }
@@ -121,31 +111,29 @@ fn round<O: Oracle>(
 
 /// Looks at a node, and says whether it has the user now and had not: the oracle is asked first.
 fn look<O: Oracle>(
-    source: &Source,
-    oracle: &mut O,
     facts: &mut Facts,
+    oracle: &mut O,
     search: &mut Search,
+    user: &Object,
     number: usize,
 ) -> Result<bool, AllocError>
-    requires source { IsSource source.now }
-    requires facts { facts.old ≡ source.now.view.now }
-    requires tells { O.tells oracle.old source.now.view.now }
+    requires tells { O.tells oracle.old facts.old }
     requires number { number < length search.old.opened.items }
-    requires running { IsRunning source.now.view.now source.now.user.now search.old (Some number) }
+    requires running { IsRunning facts.old user.now search.old (Some number) }
     requires lowest { IsLowest search.old number }
     ensures turned { IfOk result (Turned search.old search.new) }
-    ensures facts { OnOk result (facts.new ≡ facts.old) }
-    ensures running { OnOk result (IsRunning source.now.view.now source.now.user.now search.new None) }
+    ensures facts { facts.new ≡ facts.old }
+    ensures running { OnOk result (IsRunning facts.new user.now search.new None) }
     ensures numbers { OnOk result
         ((i k : ℕ) (n : NodeValue) → IsNumberOf search.old i n k → IsNumberOf search.new i n k) }
-    ensures tells { O.tells oracle.new source.now.view.now }
+    ensures tells { O.tells oracle.new facts.new }
 {
     if search.is_sure(number) {
         return Ok(false);
     }
     let node = search.node_of(number)?;
     let level = search.level_of(number);
-    match oracle.knows(&node, source.user) {
+    match oracle.knows(&node, user) {
         Some(true) => {
             search.give(number)?;
             Ok(true)
@@ -156,33 +144,27 @@ fn look<O: Oracle>(
                 number,
                 node: &node,
                 level,
+                user,
                 plain: true,
             };
-            step(source, facts, search, &asking)
+            step(facts, search, &asking)
         }
     }
 }
 
 /// Looks at what the node's rewrite gives, and says whether that is the user.
-fn step(
-    source: &Source,
-    facts: &mut Facts,
-    search: &mut Search,
-    asking: &Asking,
-) -> Result<bool, AllocError>
-    requires source { IsSource source.now }
-    requires facts { facts.old ≡ source.now.view.now }
-    requires asking { IsAsking source.now.view.now source.now.user.now search.old asking.now }
+fn step(facts: &mut Facts, search: &mut Search, asking: &Asking) -> Result<bool, AllocError>
+    requires asking { IsAsking facts.old search.old asking.now }
     requires plain { asking.now.plain ≡ true }
     requires lowest { IsLowest search.old asking.now.number }
     requires unsure { (e : Opened) → Stands search.old asking.now.number e → e.sure ≡ false }
     ensures turned { IfOk result (Turned search.old search.new) }
-    ensures facts { OnOk result (facts.new ≡ facts.old) }
-    ensures running { OnOk result (IsRunning source.now.view.now source.now.user.now search.new None) }
+    ensures facts { facts.new ≡ facts.old }
+    ensures running { OnOk result (IsRunning facts.new asking.now.user.now search.new None) }
     ensures numbers { OnOk result
         ((i k : ℕ) (n : NodeValue) → IsNumberOf search.old i n k → IsNumberOf search.new i n k) }
 {
-    match relation_gives(source, facts, search, asking)? {
+    match relation_gives(facts, search, asking)? {
         Found::Yes => {
             search.give(asking.number)?;
             Ok(true)

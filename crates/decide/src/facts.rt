@@ -1,7 +1,8 @@
-//! What was read of a view. The tuples of an object stand together, and most objects have few: they are found
+//! What a question reads of a view. The tuples of an object stand together, and most objects have few: they are found
 //! once, for all of the object's relations, and borrowed; so are the objects that those of a tupleset name.
-ghost use Rattle.std.specs.Prelude.{◌≡◌, ◌↔◌, ◌++◌, ◌∷◌, [], Contains, IfOk, IfSome, IsTrue, OnOk, filter};
-ghost use Rattle.meaning.specs.Config.{Has, rel_of};
+ghost use Rattle.std.specs.Prelude.{◌≡◌, ◌<◌, ◌^◌, ◌↔◌, ◌++◌, ◌∷◌, [], Contains, IfOk, IfNone, IfSome, IsTrue, OnOk, filter, length, map};
+ghost use Rattle.config.specs.Places.{StandsAt};
+ghost use Rattle.meaning.specs.Config.{Has, IsAt, rel_of};
 ghost use Rattle.meaning.specs.Membership.{HasOne, HasSet};
 ghost use Rattle.meaning.specs.Snap.{Snap};
 ghost use Rattle.meaning.specs.TupleSet as set;
@@ -12,9 +13,10 @@ ghost use Rattle.versions.specs.Named.{objects_in, nodes_in};
 ghost use Rattle.tuple_keys.specs.Named.{user_tuple, is_at, is_of};
 ghost use Rattle.tuple_keys.specs.Spelled.{spelled_node};
 ghost use Rattle.decide.specs.inside.Reading.{AreNamed, AreRead, IsReadAt};
+ghost use Rattle.decide.specs.inside.Reads.{AreNodesOf, node_with};
 
 use crate::numbers::{Numbers, key_of_object};
-use crate::source::node_of;
+use config::Config;
 use config_text::Rewrite;
 use names::{Name, Node, Object};
 use rows::View;
@@ -108,15 +110,17 @@ impl<'a> Reads<'a> {
     }
 }
 
-/// A view, and what was read of it. Contracts see the view.
+/// A view with its configuration, and what was read of it. Contracts see the view.
 #[derive(Drop)]
 pub(crate) struct Facts<'a> {
     alloc: Global,
     view: &'a View<'a>,
+    config: &'a Config,
     reads: Reads<'a>,
 }
 
 impl<'a> Model for Facts<'a> {
+    ghost use Rattle.std.specs.Prelude.{◌≡◌};
     ghost use Rattle.meaning.specs.Snap.{Snap};
     ghost use Rattle.meaning.specs.inside.Codes.{coded_snap};
     ghost use Rattle.decide.specs.inside.Reading.{AreRead};
@@ -127,7 +131,7 @@ impl<'a> Model for Facts<'a> {
 
     ghost view = { λ f. f.view.now };
 
-    ghost invariant = { λ f. AreRead f.view.now f.reads };
+    ghost invariant = { λ f. (f.config.now ≡ f.view.now.config) × AreRead f.view.now f.reads };
 }
 
 impl<'a> Facts<'a> {
@@ -140,7 +144,35 @@ impl<'a> Facts<'a> {
             places: Numbers::new(alloc),
             last: 0,
         };
-        Facts { alloc, view, reads }
+        Facts {
+            alloc,
+            view,
+            config: view.config(),
+            reads,
+        }
+    }
+
+    pub(crate) fn config(&self) -> &'a Config
+        ensures { result.now ≡ self.now.config }
+    {
+        self.config
+    }
+
+    /// Where a node's relation stands, if it is there.
+    pub(crate) fn place_of(&self, node: &Node) -> Option<usize>
+        ensures some { IfSome result (StandsAt self.now.config (rel_of node.now)) }
+        ensures none { IfNone result (Has self.now.config (rel_of node.now) → ⊥) }
+    {
+        self.config.place_of(node)
+    }
+
+    /// The level of the relation at a place.
+    pub(crate) fn level_at(&self, place: usize) -> usize
+        requires { place < length self.now.config.relations }
+        ensures at { (n : Node) → StandsAt self.now.config (rel_of n) place → IsAt self.now.config n result }
+        ensures small { result < 2 ^ 32 }
+    {
+        self.config.levels()[place]
     }
 
     /// Finds the object's tuples, where it has few, unless that was done. A rewrite that looks up the node
@@ -176,15 +208,8 @@ impl<'a> Facts<'a> {
         }
     }
 
-    /// The objects that the object's tuples of the tupleset name, where they were read.
-    pub(crate) fn named(&self, object: &Object, tupleset: &Name) -> Option<&[Object]>
-        ensures { IfSome result (λ os. AreNamed self.now object.now tupleset.now os.now) }
-    {
-        self.reads.named(object, tupleset)
-    }
-
     /// The objects that the node's tuples name.
-    pub(crate) fn objects_of(&self, node: &Node) -> Result<Vec<Object>, AllocError>
+    fn objects_of(&self, node: &Node) -> Result<Vec<Object>, AllocError>
         ensures { IfOk result (λ v. (p : Object) → Contains v.items p ↔ HasOne self.now node.now p) }
     {
         match self.reads.few_of(&node.object) {
@@ -192,6 +217,45 @@ impl<'a> Facts<'a> {
             None => self.view.objects_of(self.alloc, node),
         }
     }
+
+    /// The nodes of the relation, of the objects that the tupleset's tuples name.
+    pub(crate) fn parents_of(
+        &self,
+        node: &Node,
+        tupleset: &Name,
+        relation: &Name,
+    ) -> Result<Vec<Node>, AllocError>
+        ensures { IfOk result (λ v. AreNodesOf self.now node.now tupleset.now relation.now v.items) }
+    {
+        if let Some(objects) = self.reads.named(&node.object, tupleset) {
+            let known = nodes_of(self.alloc, objects, relation)?;
+            return Ok(known);
+        }
+        let from = node_of(&node.object, tupleset)?;
+        let objects = self.objects_of(&from)?;
+        let nodes = nodes_of(self.alloc, &objects, relation)?;
+        Ok(nodes)
+    }
+}
+
+/// The nodes of the relation of the objects.
+fn nodes_of(alloc: Global, objects: &[Object], relation: &Name) -> Result<Vec<Node>, AllocError>
+    ensures { IfOk result (λ v. v.items ≡ map (node_with relation.now) objects.now) }
+{
+    let mut nodes = Vec::new(alloc);
+    for object in objects {
+        nodes.push(node_of(object, relation)?)?;
+    }
+    Ok(nodes)
+}
+
+pub(crate) fn node_of(object: &Object, relation: &Name) -> Result<Node, AllocError>
+    ensures { IfOk result (λ n. n ≡ node_with relation.now object.now) }
+{
+    Ok(Node {
+        object: object.clone()?,
+        relation: relation.clone()?,
+    })
 }
 
 fn read_object<'a>(

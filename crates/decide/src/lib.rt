@@ -12,7 +12,6 @@ mod numbers;
 mod oracle;
 mod rewrites;
 mod search;
-mod source;
 
 pub use deciding::check_at;
 pub use law::there_is_one_answer;

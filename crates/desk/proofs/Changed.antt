@@ -20,7 +20,7 @@ use Rattle.names.specs.declared.marking.Marking.{Marking}
 use Rattle.names.specs.declared.part.Part.{Part}
 use Rattle.shown.specs.declared.step.Step.TheVariants.{Commit, Take, Trim, Marking as MarkingStep, Rebase}
 use Rattle.shown.specs.Marks.{marking_cause}
-use Rattle.shown.specs.Standing.{Standing, standing, base_cause, cursor_of}
+use Rattle.shown.specs.Standing.{standing, base_cause, cursor_of}
 use Rattle.shown.specs.Raising.{floor_cause, RefusesFloor, RefusesMarking, RefusesBase}
 use Rattle.tables.specs.Device.{IsOpen, HasFailed, Lasts}
 use Rattle.tables.specs.Storing.{one_more}
@@ -182,6 +182,7 @@ module _ {T : Type 0} (g : Ghosts T) (old mid : Posts T) (more : ShowsMore old m
       stored_on stored =
           record {
             works = stored.works;
+            holds = stored.holds;
             settled = stored.settled;
             is_open = stored.is_open;
             lasts = subst (λ (t : T). Lasts (g.device t) (g.device new.tables)) same.0 stored.lasts;
@@ -268,7 +269,7 @@ module _ {T : Type 0} (g : Ghosts T) (old mid : Posts T) (more : ShowsMore old m
       cause_on : (judged : Refusal → Type 0) (why : Refusal) → IsUnopposed judged → Refuses g mid NoCause why new → Refuses g old judged why new
       cause_on judged Reopen memory cause = absurd (true≢false (sym cause.0 ∙ same.1 ∙ works))
       cause_on judged StoreFault memory cause =
-          (works, cause.1, cause.2 ∙ ap one_more same.2, subst (λ (t : T). IsOpen (g.device t) → HasFailed (g.device t) (g.device new.tables)) same.0 cause.3)
+          (works, cause.1, cause.2 ∙ ap one_more same.2, subst (λ (t : T). IsOpen (g.device t) → HasFailed (g.device t) (g.device new.tables)) same.0 cause.3, memory)
       cause_on judged Memory memory cause = (works, cause.1, cause.2 ∙ same.2, memory)
       cause_on judged _ memory cause = absurd cause.4
 

@@ -29,7 +29,7 @@ module _ {T : Type 0} (g : Ghosts T) where
 
   latched_cause : (was is : LatchedTables T) (p q : Publishing) (why : Refusal) → was.failed ≡ false → IsLatched g was why is → Refuses g (seen was p) NoCause why (seen is q)
   latched_cause was is p q Memory works latched = (works, latched.0, latched.1, nothing_speaks)
-  latched_cause was is p q StoreFault works latched = (works, latched.0, latched.1, latched.2)
+  latched_cause was is p q StoreFault works latched = (works, latched.0, latched.1, latched.2, nothing_speaks)
   latched_cause was is p q _ works latched = absurd latched
 
   -- room for a step changes nothing that is seen

@@ -50,10 +50,11 @@ receipt_at desk rev shown = record {
   published = shown_by desk;
 }
 
--- what is left now holds the posted steps' history and no other; the tables are open, and their device has
--- gone on
+-- the tables hold the posted steps' history, and what is left now holds it and no other; they are open, and their device
+-- has gone on
 pub record IsStored {T : Type 0} (g : Ghosts T) (old new : Posts T) : Type 0 where
   pub works : new.failed ≡ false
+  pub holds : g.holds new.tables (standing new.posted).kept
   pub settled : g.leaves new.tables ((standing new.posted).kept ∷ [])
   pub is_open : IsOpen (g.device new.tables)
   pub lasts : Lasts (g.device old.tables) (g.device new.tables)
@@ -174,8 +175,8 @@ abbrev pub IsUnopposed : (Refusal → Type 0) → Type 0
 IsUnopposed judged = (why : Refusal) → ¬ (judged why)
 
 -- Why a change was refused, where `judged` says why it would be on the posted steps. After a fault every
--- change asks to open the tables again. A fault is one only where the device failed meanwhile. Want of memory is told only
--- of a change that nothing speaks against: to judge one takes none.
+-- change asks to open the tables again. A fault is one only where the device failed meanwhile. Want of memory and a fault
+-- are told only of a change that nothing speaks against: to judge one takes no memory, and asks no tables.
 abbrev pub Refuses : {T : Type 0}
     → Ghosts T → Posts T → (Refusal → Type 0) → Refusal → Posts T → Type 0
 Refuses g old judged Reopen new =
@@ -184,6 +185,7 @@ Refuses g old judged Reopen new =
 Refuses g old judged StoreFault new =
     (old.failed ≡ false) × (new.failed ≡ true) × (new.faults ≡ one_more old.faults)
     × (IsOpen (g.device old.tables) → HasFailed (g.device old.tables) (g.device new.tables))
+    × IsUnopposed judged
 Refuses g old judged Memory new =
     (old.failed ≡ false) × (new.failed ≡ false) × (new.faults ≡ old.faults) × IsUnopposed judged
 Refuses g old judged why new =

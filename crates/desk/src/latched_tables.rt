@@ -66,6 +66,8 @@ impl<T: Tables + Drop> LatchedTables<T> {
         ensures err { IfErr result (λ why. IsLatched T.Tables self.old why self.new) }
         ensures stored { (r : Retained) → AgreeWith T.Tables self.old r → IsNextAt r rev commit.now puts
             → OnOk result (AgreeWith T.Tables self.new (with_commit r commit.now)) }
+        ensures held { (r : Retained) → AgreeWith T.Tables self.old r → IsNextAt r rev commit.now puts
+            → OnOk result (T.holds self.new.tables (with_commit r commit.now)) }
         ensures settled { (r : Retained) → AgreeWith T.Tables self.old r → IsNextAt r rev commit.now puts
             → OnOk result (T.leaves self.new.tables (with_commit r commit.now ∷ [])) }
         ensures unstored { (r : Retained) → AgreeWith T.Tables self.old r → IsNextAt r rev commit.now puts
@@ -92,6 +94,8 @@ impl<T: Tables + Drop> LatchedTables<T> {
         ensures err { IfErr result (λ why. IsLatched T.Tables self.old why self.new) }
         ensures stored { (r : Retained) → AgreeWith T.Tables self.old r → IsTrimTo r floor first
             → OnOk result (AgreeWith T.Tables self.new (after_trim r floor)) }
+        ensures held { (r : Retained) → AgreeWith T.Tables self.old r → IsTrimTo r floor first
+            → OnOk result (T.holds self.new.tables (after_trim r floor)) }
         ensures settled { (r : Retained) → AgreeWith T.Tables self.old r → IsTrimTo r floor first
             → OnOk result (T.leaves self.new.tables (after_trim r floor ∷ [])) }
         ensures unstored { (r : Retained) → AgreeWith T.Tables self.old r → IsTrimTo r floor first

@@ -22,7 +22,7 @@ pub(crate) fn publish_first<R: Wait + Drop>(
     ensures shown { IfOk result (λ begun. begun.1.shown ≡ first ∷ []) }
     ensures seats { IfOk result (λ begun. begun.1.seats ≡ MAX_SESSIONS) }
 {
-    let mut own = Shown::without_index(alloc);
+    let mut own = Shown::without_parts(alloc);
     own.apply(&first)?;
     let publication = Publication::open(alloc, rt, opened, first)?;
     Ok((own, publication))

@@ -30,6 +30,7 @@ pub(crate) fn store<T: Tables + Drop>(
     ensures done { OnOk result (own.new ≡ after_step own.old (CommitStep commit.now)) }
     ensures undone { OnErr result (own.new ≡ own.old) }
     ensures agrees { AgreeWith T.Tables tables.new own.new.kept }
+    ensures held { OnOk result (T.holds tables.new.tables own.new.kept) }
     ensures settled { OnOk result (T.leaves tables.new.tables (own.new.kept ∷ [])) }
     ensures works { OnOk result (tables.new.failed ≡ false) }
     ensures open { OnOk result (IsOpen (T.device tables.new.tables)) }
@@ -64,6 +65,7 @@ pub(crate) fn store_floor<T: Tables + Drop>(
     ensures done { OnOk result (own.new ≡ after_step own.old (Trim floor)) }
     ensures undone { OnErr result (own.new ≡ own.old) }
     ensures agrees { AgreeWith T.Tables tables.new own.new.kept }
+    ensures held { OnOk result (T.holds tables.new.tables own.new.kept) }
     ensures settled { OnOk result (T.leaves tables.new.tables (own.new.kept ∷ [])) }
     ensures works { OnOk result (tables.new.failed ≡ false) }
     ensures open { OnOk result (IsOpen (T.device tables.new.tables)) }

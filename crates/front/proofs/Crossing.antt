@@ -19,6 +19,7 @@ use Rattle.config.specs.contracts.config.Config as Config
 use Rattle.idsets.proofs.ids.Ids.TheSendSync as Ids
 use Rattle.idsets.proofs.set.IdSet.TheSendSync as IdSet
 use Rattle.names.proofs.object.Object.TheSendSync as Object
+use Rattle.hot.proofs.hot.Hot.TheSendSync as Hot
 use Rattle.leopard.specs.contracts.built.Built as Built
 use Rattle.tuple_keys.specs.contracts.kept_commit.KeptCommit as KeptCommit
 use Rattle.rows.specs.contracts.loaded.Loaded as Loaded
@@ -73,10 +74,10 @@ pub Built-sync : IsSync Built.the_row
 Built-sync = search (Config-sync, Node.the_sync, Object.the_sync, Ids.the_sync, IdSet.the_sync, crosses, sendable) depth 40
 
 pub Shown-send : IsSend Shown.the_row
-Shown-send = search (Config-send, KeptCommit-send, Built-send, VersionMap.the_send, Node.the_send, crosses, sendable) depth 40
+Shown-send = search (Config-send, KeptCommit-send, Built-send, Hot.the_send, VersionMap.the_send, Node.the_send, crosses, sendable) depth 40
 
 pub Shown-sync : IsSync Shown.the_row
-Shown-sync = search (Config-sync, KeptCommit-sync, Built-sync, VersionMap.the_sync, Node.the_sync, crosses, sendable) depth 40
+Shown-sync = search (Config-sync, KeptCommit-sync, Built-sync, Hot.the_sync, VersionMap.the_sync, Node.the_sync, crosses, sendable) depth 40
 
 pub Loaded-send : IsSend Loaded.the_row
 Loaded-send = search (Config-send, KeptCommit-send, Tuple.the_send, crosses, sendable) depth 40

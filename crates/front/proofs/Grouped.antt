@@ -1,12 +1,11 @@
 -- What a session's answers to questions about groups tell.
 use Rattle.std.proofs.Common.{◌≡◌, ℕ, List, refl, sym, subst}
-use Rattle.std.specs.Prelude.{Option, option_map, Result, Ok, Err, IfOk, IfErr}
+use Rattle.std.specs.Prelude.{Option, option_map, Result, Ok, Err, IfOk, IfErr, ⊤}
 use Rattle.names.specs.declared.refusal.Refusal.{Refusal}
-use Rattle.names.specs.declared.refusal.Refusal.TheVariants.{Malformed, BadZookie, Memory}
+use Rattle.names.specs.declared.refusal.Refusal.TheVariants.{Malformed, BadZookie, Future, Memory}
 use Rattle.names.specs.declared.node.Node.{Node}
 use Rattle.zookie.specs.Text.{zookie_text}
 use Rattle.zookie.specs.declared.consistency.Consistency.{Consistency}
-use Rattle.leopard.specs.Exprs.{query_of}
 use Rattle.leopard.specs.Query.{Query}
 use Rattle.shown.specs.declared.answer.Answer.{Answer}
 use Rattle.shown.specs.declared.answer.Refused.{Refused}
@@ -19,29 +18,30 @@ use Rattle.bodies.specs.Grouping.{AsksGroups, GroupsBodyCause, groups_data}
 use Rattle.bodies.specs.Replies.{Says, SaysRefusal, SaysRefusalAt}
 use Rattle.front.specs.declared.groups.AskedGroups.{AskedGroups}
 use Rattle.front.specs.declared.groups.AskedGroups.TheVariants.{Told, NotYet}
-use Rattle.front.specs.Groups.{GroupsTold, told_groups, told_no_groups, GroupsFrom, groups_malformed, groups_bad_zookie, groups_asked, groups_unread, AreGroupsAsked}
+use Rattle.front.specs.Groups.{GroupsTold, told_groups, told_no_groups, told_none, GroupsFrom, groups_malformed, groups_bad_zookie, groups_asked, groups_unread, AreGroupsAsked}
 
 -- the body asks for no groups
-pub groups_unasked : (old : Known) (body : List ℕ) (why : Refusal) (told : Option (ℕ × List ℕ)) → GroupsBodyCause body why → SaysRefusal told why → GroupsFrom old body told old
+pub groups_unasked : {sought : Type 0} (old : Known) (body : List ℕ) (why : Refusal) (told : Option (ℕ × List ℕ)) → GroupsBodyCause body why → SaysRefusal told why → GroupsFrom sought old body told old
 groups_unasked old body Malformed told cause says = groups_malformed cause says refl
 groups_unasked old body BadZookie told cause says = groups_bad_zookie cause says refl
 groups_unasked old body Memory told cause says = groups_unread says refl
 groups_unasked old body _ told cause says = absurd cause
 
 -- the question was asked, of a store with this number
-pub grouped_told : (steps : List Step) (consistency : Consistency) (asked : Query) (limit number : ℕ) (found : Result (Answer (List Node)) Refused) (told : Option (ℕ × List ℕ))
+pub grouped_told : {sought : Type 0} (steps : List Step) (consistency : Consistency) (asked : Query) (limit number : ℕ) (found : Result (Answer (List Node)) Refused) (told : Option (ℕ × List ℕ))
     → number ≡ (standing steps).kept.number
     → IfOk found (AreGroups (standing steps) consistency asked limit) → IfErr found (IsGroupsRefusal (standing steps) consistency asked limit)
     → IfOk found (λ groups. Says told 200 (groups_data groups.value (zookie_text number groups.rev)))
     → IfErr found (λ refused. SaysRefusalAt told refused.why (option_map (zookie_text number) refused.at))
-    → GroupsTold steps consistency asked limit told
-grouped_told steps consistency asked limit number (Ok groups) told is ok err says denies =
+    → IfErr found (λ refused. refused.why ≡ Future → sought)
+    → GroupsTold steps sought consistency asked limit told
+grouped_told steps consistency asked limit number (Ok groups) told is ok err says denies ahead =
     told_groups groups.rev groups.value ok (subst (λ (n : ℕ). Says told 200 (groups_data groups.value (zookie_text n groups.rev))) is says)
-grouped_told steps consistency asked limit number (Err refused) told is ok err says denies =
-    told_no_groups refused.why refused.at err (subst (λ (n : ℕ). SaysRefusalAt told refused.why (option_map (zookie_text n) refused.at)) is denies)
+grouped_told steps consistency asked limit number (Err refused) told is ok err says denies ahead =
+    told_no_groups refused.why refused.at err ahead (subst (λ (n : ℕ). SaysRefusalAt told refused.why (option_map (zookie_text n) refused.at)) is denies)
 
 -- the steps that are known only go on
-pub groups_later : (old : Known) (body : List ℕ) (told : Option (ℕ × List ℕ)) (new : Known) → GroupsFrom old body told new → Begins old new
+pub groups_later : {sought : Type 0} (old : Known) (body : List ℕ) (told : Option (ℕ × List ℕ)) (new : Known) → GroupsFrom sought old body told new → Begins old new
 groups_later old body told new (groups_malformed none says same) = subst (Begins old) (sym same) (begins_self old)
 groups_later old body told new (groups_bad_zookie none says same) = subst (Begins old) (sym same) (begins_self old)
 groups_later old body told new (groups_asked consistency asked limit asks is later) = later
@@ -51,8 +51,20 @@ pub groups_asked_later : (old : Known) (body : List ℕ) (asked : AskedGroups) (
 groups_asked_later old body (Told reply) new is = groups_later old body _ new is
 groups_asked_later old body (NotYet question) new is = is.1
 
+-- what is told stays so where more was sought
+told_when : {A B : Type 0} (steps : List Step) (consistency : Consistency) (asked : Query) (limit : ℕ) (told : Option (ℕ × List ℕ)) → (A → B) → GroupsTold steps A consistency asked limit told → GroupsTold steps B consistency asked limit told
+told_when steps consistency asked limit told more (told_groups rev found is says) = told_groups rev found is says
+told_when steps consistency asked limit told more (told_no_groups why at cause ahead says) = told_no_groups why at cause (λ is. more (ahead is)) says
+told_when steps consistency asked limit told more (told_none says) = told_none says
+
+pub groups_alone : {sought : Type 0} (old : Known) (body : List ℕ) (told : Option (ℕ × List ℕ)) (new : Known) → GroupsFrom ⊥ old body told new → GroupsFrom sought old body told new
+groups_alone old body told new (groups_malformed none says same) = groups_malformed none says same
+groups_alone old body told new (groups_bad_zookie none says same) = groups_bad_zookie none says same
+groups_alone old body told new (groups_asked consistency asked limit asks is later) = groups_asked consistency asked limit asks (told_when {A = ⊥} new.steps consistency asked limit told (λ none. absurd none) is) later
+groups_alone old body told new (groups_unread none same) = groups_unread none same
+
 -- the question was asked once more
-pub groups_asked_again : (old mid more : Known) (body : List ℕ) (told : Option (ℕ × List ℕ)) (new : Known) (consistency : Consistency) (asked : Query) (limit : ℕ)
-    → AsksGroups body consistency asked limit → Begins old mid → Begins mid more → Begins more new → GroupsTold new.steps consistency asked limit told → GroupsFrom old body told new
-groups_asked_again old mid more body told new consistency asked limit asks first second third is =
-    groups_asked consistency asked limit asks is (begins_trans old mid new first (begins_trans mid more new second third))
+pub groups_asked_again : {sought : Type 0} (old mid more : Known) (body : List ℕ) (told : Option (ℕ × List ℕ)) (new : Known) (consistency : Consistency) (asked : Query) (limit : ℕ)
+    → AsksGroups body consistency asked limit → Begins old mid → Begins mid more → Begins more new → GroupsTold new.steps ⊤ consistency asked limit told → sought → GroupsFrom sought old body told new
+groups_asked_again old mid more body told new consistency asked limit asks first second third is sought =
+    groups_asked consistency asked limit asks (told_when {A = ⊤} new.steps consistency asked limit told (λ _. sought) is) (begins_trans old mid new first (begins_trans mid more new second third))

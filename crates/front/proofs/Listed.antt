@@ -1,8 +1,8 @@
 -- What a session's answers to questions for tuples tell.
 use Rattle.std.proofs.Common.{◌≡◌, ℕ, List, refl, sym, subst}
-use Rattle.std.specs.Prelude.{Option, option_map, Result, Ok, Err, IfOk, IfErr}
+use Rattle.std.specs.Prelude.{Option, option_map, Result, Ok, Err, IfOk, IfErr, ⊤}
 use Rattle.names.specs.declared.refusal.Refusal.{Refusal}
-use Rattle.names.specs.declared.refusal.Refusal.TheVariants.{Malformed, BadZookie, Memory}
+use Rattle.names.specs.declared.refusal.Refusal.TheVariants.{Malformed, BadZookie, Future, Memory}
 use Rattle.names.specs.declared.tuple.Tuple.{Tuple}
 use Rattle.zookie.specs.Text.{zookie_text}
 use Rattle.zookie.specs.declared.consistency.Consistency.{Consistency}
@@ -18,29 +18,30 @@ use Rattle.bodies.specs.Paging.{AsksRead, ReadBodyCause, page_data}
 use Rattle.bodies.specs.Replies.{Says, SaysRefusal, SaysRefusalAt}
 use Rattle.front.specs.declared.tuples.AskedTuples.{AskedTuples}
 use Rattle.front.specs.declared.tuples.AskedTuples.TheVariants.{Told, NotYet}
-use Rattle.front.specs.Tuples.{TuplesTold, told_tuples, told_no_tuples, ReadFrom, tuples_malformed, tuples_bad_zookie, tuples_asked, tuples_unread, AreTuplesAsked}
+use Rattle.front.specs.Tuples.{TuplesTold, told_tuples, told_no_tuples, told_nothing, ReadFrom, tuples_malformed, tuples_bad_zookie, tuples_asked, tuples_unread, AreTuplesAsked}
 
 -- the body asks for no tupleset
-pub tuples_unasked : (old : Known) (body : List ℕ) (why : Refusal) (told : Option (ℕ × List ℕ)) → ReadBodyCause body why → SaysRefusal told why → ReadFrom old body told old
+pub tuples_unasked : {sought : Type 0} (old : Known) (body : List ℕ) (why : Refusal) (told : Option (ℕ × List ℕ)) → ReadBodyCause body why → SaysRefusal told why → ReadFrom sought old body told old
 tuples_unasked old body Malformed told cause says = tuples_malformed cause says refl
 tuples_unasked old body BadZookie told cause says = tuples_bad_zookie cause says refl
 tuples_unasked old body Memory told cause says = tuples_unread says refl
 tuples_unasked old body _ told cause says = absurd cause
 
 -- the question was asked, of a store with this number
-pub read_told : (steps : List Step) (consistency : Consistency) (asked : Tupleset) (number : ℕ) (found : Result (Answer (List Tuple)) Refused) (told : Option (ℕ × List ℕ))
+pub read_told : {sought : Type 0} (steps : List Step) (consistency : Consistency) (asked : Tupleset) (number : ℕ) (found : Result (Answer (List Tuple)) Refused) (told : Option (ℕ × List ℕ))
     → number ≡ (standing steps).kept.number
     → IfOk found (IsPage (standing steps) consistency asked) → IfErr found (IsPageRefusal (standing steps) consistency)
     → IfOk found (λ tuples. Says told 200 (page_data tuples.value (zookie_text number tuples.rev)))
     → IfErr found (λ refused. SaysRefusalAt told refused.why (option_map (zookie_text number) refused.at))
-    → TuplesTold steps consistency asked told
-read_told steps consistency asked number (Ok tuples) told is ok err says denies =
+    → IfErr found (λ refused. refused.why ≡ Future → sought)
+    → TuplesTold steps sought consistency asked told
+read_told steps consistency asked number (Ok tuples) told is ok err says denies ahead =
     told_tuples tuples.rev tuples.value ok (subst (λ (n : ℕ). Says told 200 (page_data tuples.value (zookie_text n tuples.rev))) is says)
-read_told steps consistency asked number (Err refused) told is ok err says denies =
-    told_no_tuples refused.why refused.at err (subst (λ (n : ℕ). SaysRefusalAt told refused.why (option_map (zookie_text n) refused.at)) is denies)
+read_told steps consistency asked number (Err refused) told is ok err says denies ahead =
+    told_no_tuples refused.why refused.at err ahead (subst (λ (n : ℕ). SaysRefusalAt told refused.why (option_map (zookie_text n) refused.at)) is denies)
 
 -- the steps that are known only go on
-pub tuples_later : (old : Known) (body : List ℕ) (told : Option (ℕ × List ℕ)) (new : Known) → ReadFrom old body told new → Begins old new
+pub tuples_later : {sought : Type 0} (old : Known) (body : List ℕ) (told : Option (ℕ × List ℕ)) (new : Known) → ReadFrom sought old body told new → Begins old new
 tuples_later old body told new (tuples_malformed none says same) = subst (Begins old) (sym same) (begins_self old)
 tuples_later old body told new (tuples_bad_zookie none says same) = subst (Begins old) (sym same) (begins_self old)
 tuples_later old body told new (tuples_asked consistency asked asks is later) = later
@@ -50,8 +51,20 @@ pub tuples_asked_later : (old : Known) (body : List ℕ) (asked : AskedTuples) (
 tuples_asked_later old body (Told reply) new is = tuples_later old body _ new is
 tuples_asked_later old body (NotYet question) new is = is.1
 
+-- what is told stays so where more was sought
+told_when : {A B : Type 0} (steps : List Step) (consistency : Consistency) (asked : Tupleset) (told : Option (ℕ × List ℕ)) → (A → B) → TuplesTold steps A consistency asked told → TuplesTold steps B consistency asked told
+told_when steps consistency asked told more (told_tuples rev found is says) = told_tuples rev found is says
+told_when steps consistency asked told more (told_no_tuples why at cause ahead says) = told_no_tuples why at cause (λ is. more (ahead is)) says
+told_when steps consistency asked told more (told_nothing says) = told_nothing says
+
+pub tuples_alone : {sought : Type 0} (old : Known) (body : List ℕ) (told : Option (ℕ × List ℕ)) (new : Known) → ReadFrom ⊥ old body told new → ReadFrom sought old body told new
+tuples_alone old body told new (tuples_malformed none says same) = tuples_malformed none says same
+tuples_alone old body told new (tuples_bad_zookie none says same) = tuples_bad_zookie none says same
+tuples_alone old body told new (tuples_asked consistency asked asks is later) = tuples_asked consistency asked asks (told_when {A = ⊥} new.steps consistency asked told (λ none. absurd none) is) later
+tuples_alone old body told new (tuples_unread none same) = tuples_unread none same
+
 -- the question was asked once more
-pub tuples_asked_again : (old mid more : Known) (body : List ℕ) (told : Option (ℕ × List ℕ)) (new : Known) (consistency : Consistency) (asked : Tupleset)
-    → AsksRead body consistency asked → Begins old mid → Begins mid more → Begins more new → TuplesTold new.steps consistency asked told → ReadFrom old body told new
-tuples_asked_again old mid more body told new consistency asked asks first second third is =
-    tuples_asked consistency asked asks is (begins_trans old mid new first (begins_trans mid more new second third))
+pub tuples_asked_again : {sought : Type 0} (old mid more : Known) (body : List ℕ) (told : Option (ℕ × List ℕ)) (new : Known) (consistency : Consistency) (asked : Tupleset)
+    → AsksRead body consistency asked → Begins old mid → Begins mid more → Begins more new → TuplesTold new.steps ⊤ consistency asked told → sought → ReadFrom sought old body told new
+tuples_asked_again old mid more body told new consistency asked asks first second third is sought =
+    tuples_asked consistency asked asks (told_when {A = ⊤} new.steps consistency asked told (λ _. sought) is) (begins_trans old mid new first (begins_trans mid more new second third))

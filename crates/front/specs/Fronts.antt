@@ -9,7 +9,7 @@ use Rattle.published.specs.Receipts.{ReceiptFacts}
 use Rattle.desk.specs.Posts.{Posts, shown_by}
 use Rattle.desk.specs.Changes.{TellsShown}
 use Rattle.keeper.specs.Rules.{DeskStep}
-use Rattle.front.specs.Kept.{IsKept}
+use Rattle.front.specs.Kept.{IsKept, KnowsADesk}
 use Rattle.front.specs.Questions.{CheckFrom, StateFrom}
 use Rattle.front.specs.Tuples.{ReadFrom}
 use Rattle.front.specs.Trees.{ExpandFrom}
@@ -33,13 +33,14 @@ pub record ToldByDesk (T : Type 0) (book : Book) (receipt : ReceiptFacts) (new :
   pub tells : TellsShown receipt desk
   pub known : Begins (shown_by desk) new
 
--- from what its session knows, the front may tell this to the call with this body, and then its session knows this
+-- From what its session knows, the front may tell this to the call with this body, and then its session knows this. It tells
+-- that a question is of the future only where the session then knows all that a desk shows.
 abbrev pub FrontStep : {T : Type 0}
     → Ghosts T → Known → Call → List ℕ → Option (ℕ × List ℕ) → Known → Type 0
-FrontStep g old Check body told new = CheckFrom old body told new
-FrontStep g old Read body told new = ReadFrom old body told new
-FrontStep g old Expand body told new = ExpandFrom old body told new
-FrontStep g old Leopard body told new = GroupsFrom old body told new
-FrontStep g old Watch body told new = WatchFrom old body told new
+FrontStep {T} g old Check body told new = CheckFrom (KnowsADesk T new) old body told new
+FrontStep {T} g old Read body told new = ReadFrom (KnowsADesk T new) old body told new
+FrontStep {T} g old Expand body told new = ExpandFrom (KnowsADesk T new) old body told new
+FrontStep {T} g old Leopard body told new = GroupsFrom (KnowsADesk T new) old body told new
+FrontStep {T} g old Watch body told new = WatchFrom (KnowsADesk T new) old body told new
 FrontStep g old State body told new = StateFrom old told new
 FrontStep g old call body told new = ChangeFrom g old call body told new

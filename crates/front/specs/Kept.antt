@@ -7,8 +7,8 @@ use Rattle.tables.specs.declared.tables.Tables.{Ghosts}
 use Rattle.shown.specs.declared.step.Step.{Step}
 use Rattle.shown.specs.declared.step.Step.TheVariants.{Open}
 use Rattle.shown.specs.Standing.{standing}
-use Rattle.published.specs.Known.{Known}
-use Rattle.desk.specs.Posts.{Posts, Agrees}
+use Rattle.published.specs.Known.{Known, Begins}
+use Rattle.desk.specs.Posts.{Posts, Agrees, shown_by}
 
 -- the steps begin with an opening
 pub record IsOpened (steps : List Step) : Type 0 where
@@ -24,6 +24,10 @@ pub record IsKnownIn (book : Book) (known : Known) : Type 0 where
 pub record IsKept {T : Type 0} (book : Book) (desk : Posts T) : Type 0 where
   pub of_book : desk.book ≡ book
   pub opened : IsOpened desk.shown
+
+-- a session that knows this knows all that a desk shows; nobody who has not held the lock can name one
+abbrev pub KnowsADesk : Type 0 → Known → Type 0
+KnowsADesk T known = (desk : Posts T) × Begins (shown_by desk) known
 
 -- tables that a desk of the book gave back: they agree with what it had posted
 pub record WereKept {T : Type 0} (g : Ghosts T) (book : Book) (tables : T) : Type 0 where

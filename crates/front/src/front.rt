@@ -4,7 +4,7 @@ ghost use Rattle.names.specs.Calls.{told};
 ghost use Rattle.names.specs.declared.call.Call.TheVariants.{Write, Config, Trim, CatchUp, Hot, Rebuild};
 ghost use Rattle.names.specs.declared.refusal.Refusal.TheVariants.{NoSeat};
 ghost use Rattle.published.specs.Known.{Begins};
-ghost use Rattle.front.specs.Kept.{IsKnownIn};
+ghost use Rattle.front.specs.Kept.{IsKnownIn, KnowsADesk};
 ghost use Rattle.front.specs.Questions.{IsAsked, CheckFrom, StateFrom};
 ghost use Rattle.front.specs.Trees.{IsTreeAsked, ExpandFrom};
 ghost use Rattle.front.specs.Tuples.{AreTuplesAsked, ReadFrom};
@@ -63,6 +63,7 @@ impl<'k, T: Tables + Drop, J: Naming, R: Wait + Drop> Front<'k, T, J, R> {
         keeper: &'k Keeper<T, J, R>,
     ) -> Result<Front<'k, T, J, R>, Refusal>
         ensures ok { IfOk result (λ front. IsKnownIn J.book front) }
+        ensures known { IfOk result (λ front. KnowsADesk T front) }
         ensures err { IfErr result (λ why. why ≡ NoSeat) }
     {
         let session = keeper.hold(rt).session()?;
@@ -131,7 +132,7 @@ impl<'k, T: Tables + Drop, J: Naming, R: Wait + Drop> Front<'k, T, J, R> {
 
     /// Answers `check`. A question of the future is asked once more after a refresh.
     pub fn check<W: Wait>(&mut self, rt: &W, body: &[u8]) -> Reply
-        ensures { CheckFrom self.old body.now (told result) self.new }
+        ensures { CheckFrom (KnowsADesk T self.new) self.old body.now (told result) self.new }
     {
         match self.ask(body) {
             Asked::Told(reply) => reply,
@@ -144,7 +145,7 @@ impl<'k, T: Tables + Drop, J: Naming, R: Wait + Drop> Front<'k, T, J, R> {
 
     /// Answers `expand`. A question of the future is asked once more after a refresh.
     pub fn expand<W: Wait>(&mut self, rt: &W, body: &[u8]) -> Reply
-        ensures { ExpandFrom self.old body.now (told result) self.new }
+        ensures { ExpandFrom (KnowsADesk T self.new) self.old body.now (told result) self.new }
     {
         match self.ask_for_tree(body) {
             AskedTree::Told(reply) => reply,
@@ -157,7 +158,7 @@ impl<'k, T: Tables + Drop, J: Naming, R: Wait + Drop> Front<'k, T, J, R> {
 
     /// Answers `read`. A question of the future is asked once more after a refresh.
     pub fn read<W: Wait>(&mut self, rt: &W, body: &[u8]) -> Reply
-        ensures { ReadFrom self.old body.now (told result) self.new }
+        ensures { ReadFrom (KnowsADesk T self.new) self.old body.now (told result) self.new }
     {
         match self.ask_for_tuples(body) {
             AskedTuples::Told(reply) => reply,
@@ -170,7 +171,7 @@ impl<'k, T: Tables + Drop, J: Naming, R: Wait + Drop> Front<'k, T, J, R> {
 
     /// Answers `leopard`. A question of the future is asked once more after a refresh.
     pub fn groups<W: Wait>(&mut self, rt: &W, body: &[u8]) -> Reply
-        ensures { GroupsFrom self.old body.now (told result) self.new }
+        ensures { GroupsFrom (KnowsADesk T self.new) self.old body.now (told result) self.new }
     {
         match self.ask_for_groups(body) {
             AskedGroups::Told(reply) => reply,
@@ -183,7 +184,7 @@ impl<'k, T: Tables + Drop, J: Naming, R: Wait + Drop> Front<'k, T, J, R> {
 
     /// Answers `watch`. A question of the future is asked once more after a refresh.
     pub fn watch<W: Wait>(&mut self, rt: &W, body: &[u8]) -> Reply
-        ensures { WatchFrom self.old body.now (told result) self.new }
+        ensures { WatchFrom (KnowsADesk T self.new) self.old body.now (told result) self.new }
     {
         match self.ask_for_page(body) {
             AskedPage::Told(reply) => reply,

@@ -1,5 +1,5 @@
 //! Questions about groups by bytes, of a session alone: with no lock and no wait, by their type.
-ghost use Rattle.std.specs.Prelude.{◌≡◌, IfOk, IfErr, option_map};
+ghost use Rattle.std.specs.Prelude.{◌≡◌, IfOk, IfErr, option_map, ⊤};
 ghost use Rattle.names.specs.Calls.{told};
 ghost use Rattle.bodies.specs.Replies.{Says, SaysRefusalAt};
 ghost use Rattle.bodies.specs.Grouping.{groups_data};
@@ -60,7 +60,7 @@ pub fn groups_from(alloc: Global, session: &mut Session, body: &[u8]) -> AskedGr
 
 /// Asks a question, whatever its answer is.
 pub fn groups_again(alloc: Global, session: &mut Session, question: &GroupsQuestion) -> Reply
-    ensures told { GroupsTold session.new.steps
+    ensures told { GroupsTold session.new.steps ⊤
         question.now.consistency (query_of question.now.expr) question.now.limit (told result) }
     ensures later { Begins session.old session.new }
 {

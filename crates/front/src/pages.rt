@@ -1,5 +1,5 @@
 //! Questions for pages of watched events by bytes, of a session alone: with no lock and no wait, by their type.
-ghost use Rattle.std.specs.Prelude.{◌≡◌, IfOk, IfErr};
+ghost use Rattle.std.specs.Prelude.{◌≡◌, IfOk, IfErr, ⊤};
 ghost use Rattle.names.specs.Calls.{told};
 ghost use Rattle.bodies.specs.Replies.{Says, SaysRefusal};
 ghost use Rattle.bodies.specs.Pages.{page_data};
@@ -58,7 +58,7 @@ pub fn watch_from(alloc: Global, session: &mut Session, body: &[u8]) -> AskedPag
 
 /// Asks a question, whatever its answer is.
 pub fn watch_again(alloc: Global, session: &mut Session, question: &PageQuestion) -> Reply
-    ensures told { PageTold session.new.steps
+    ensures told { PageTold session.new.steps ⊤
         question.now.cursor question.now.namespaces question.now.commits (told result) }
     ensures later { Begins session.old session.new }
 {

@@ -1,5 +1,5 @@
 //! Questions by bytes, of a session alone: with no lock and no wait, by their type.
-ghost use Rattle.std.specs.Prelude.{◌≡◌, IfOk, IfErr, IfSome, IfNone, option_map};
+ghost use Rattle.std.specs.Prelude.{◌≡◌, IfOk, IfErr, IfSome, IfNone, option_map, ⊤};
 ghost use Rattle.names.specs.Calls.{told};
 ghost use Rattle.bodies.specs.Replies.{Says, SaysRefusalAt, answer_data};
 ghost use Rattle.bodies.specs.Requests.{AsksCheck};
@@ -59,7 +59,7 @@ pub fn check_from(alloc: Global, session: &mut Session, body: &[u8]) -> Asked
 
 /// Asks a question, whatever its answer is.
 pub fn check_again(alloc: Global, session: &mut Session, question: &Question) -> Reply
-    ensures told { CheckTold session.new.steps
+    ensures told { CheckTold session.new.steps ⊤
         question.now.consistency question.now.node question.now.user (told result) }
     ensures later { Begins session.old session.new }
 {

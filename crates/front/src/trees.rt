@@ -1,5 +1,5 @@
 //! Questions for trees by bytes, of a session alone: with no lock and no wait, by their type.
-ghost use Rattle.std.specs.Prelude.{◌≡◌, ◌≤◌, IfOk, IfErr, option_map};
+ghost use Rattle.std.specs.Prelude.{◌≡◌, ◌≤◌, IfOk, IfErr, option_map, ⊤};
 ghost use Rattle.names.specs.Calls.{told};
 ghost use Rattle.bodies.specs.Replies.{Says, SaysRefusalAt};
 ghost use Rattle.bodies.specs.Trees.{expanded_data};
@@ -64,7 +64,7 @@ pub fn expand_from(alloc: Global, session: &mut Session, body: &[u8]) -> AskedTr
 pub fn expand_again(alloc: Global, session: &mut Session, question: &TreeQuestion) -> Reply
     requires opens { 1 ≤ question.now.depth }
     requires bounded { question.now.depth ≤ MAX_DEPTH }
-    ensures told { TreeTold session.new.steps
+    ensures told { TreeTold session.new.steps ⊤
         question.now.consistency question.now.node question.now.depth (told result) }
     ensures later { Begins session.old session.new }
 {

@@ -1,5 +1,5 @@
 //! Questions for tuples by bytes, of a session alone: with no lock and no wait, by their type.
-ghost use Rattle.std.specs.Prelude.{◌≡◌, IfOk, IfErr, option_map};
+ghost use Rattle.std.specs.Prelude.{◌≡◌, IfOk, IfErr, option_map, ⊤};
 ghost use Rattle.names.specs.Calls.{told};
 ghost use Rattle.bodies.specs.Replies.{Says, SaysRefusalAt};
 ghost use Rattle.bodies.specs.Paging.{page_data};
@@ -57,7 +57,7 @@ pub fn read_from(alloc: Global, session: &mut Session, body: &[u8]) -> AskedTupl
 
 /// Asks a question, whatever its answer is.
 pub fn read_again(alloc: Global, session: &mut Session, question: &TuplesQuestion) -> Reply
-    ensures told { TuplesTold session.new.steps
+    ensures told { TuplesTold session.new.steps ⊤
         question.now.consistency question.now.tupleset (told result) }
     ensures later { Begins session.old session.new }
 {

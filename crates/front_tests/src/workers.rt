@@ -2,7 +2,7 @@
 ghost use Rattle.std.specs.Prelude.{◌≡◌};
 
 use front::{Asked, Front, Keeper, check_again, check_from, state_from};
-use names::{Call, Refusal, Reply};
+use names::{Call, Marking, Node, Part, Refusal, Reply};
 use published::{Naming, Opened};
 use std::alloc::Global;
 use std::marker::Brand;
@@ -135,4 +135,37 @@ fn outlives<J: Naming, H: Wait + Drop, W: Wait>(
 fn a_session_outlives_its_keeper(rt: HostRuntime) {
     let closed = outlives::<Brand, _, _>(&rt, &rt, rt.alloc(), Opened::new());
     assert!(rt; closed.unwrap_or(false));
+}
+
+// The configuration is revision 1: a part takes it, a node of it is marked, and it is the base of the index.
+fn changes_by_hand<J: Naming, H: Wait + Drop, W: Wait>(
+    rt: &W,
+    alloc: Global,
+    keeper: &Keeper<Listed, J, H>,
+) -> Result<bool, Refusal> {
+    let node = Node::parse("group:a#member")?;
+    let mut front = Front::new(alloc, rt, keeper)?;
+    let taken = status_of(&front.configure(rt, GROUPS));
+    let moved = keeper.hold(rt).catch_up(Part::Hot, 9)?;
+    let marked = keeper.hold(rt).mark(Marking::Mark(node))?;
+    let rebuilt = keeper.hold(rt).rebuild()?;
+    Ok(taken == 200 && moved.value == 1 && marked.value == 1 && rebuilt.value == 1)
+}
+
+fn under_the_lock<J: Naming, H: Wait + Drop, W: Wait>(
+    rt: &W,
+    handle: H,
+    alloc: Global,
+    opened: Opened,
+) -> Result<bool, Refusal>
+    requires { opened.book ≡ J.book }
+{
+    let keeper = keeper_of::<J, H>(handle, alloc, opened)?;
+    changes_by_hand(rt, alloc, &keeper)
+}
+
+#[test]
+fn who_holds_the_lock_changes_what_it_guards(rt: HostRuntime) {
+    let changed = under_the_lock::<Brand, _, _>(&rt, &rt, rt.alloc(), Opened::new());
+    assert!(rt; changed.unwrap_or(false));
 }

@@ -1,5 +1,5 @@
-//! Tests of a history, `rows`, of what is read off its revisions (`watch`, `expand`, `decide` beside `plain`), and of its
-//! publication, `shown`, by their public calls: what no run of the program shows.
+//! Tests of a history, `rows`, and of what is read off its revisions (`watch`, `expand`, `decide` beside `plain`), by their
+//! public calls: what no run of the program shows.
 #![tactic(auto)]
 
 #[cfg(test)]
@@ -16,8 +16,6 @@ mod growth;
 mod histories;
 #[cfg(test)]
 mod history;
-#[cfg(test)]
-mod machine;
 #[cfg(test)]
 mod pages;
 #[cfg(test)]

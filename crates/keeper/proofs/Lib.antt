@@ -12,4 +12,5 @@ pub mod Trimming
 pub mod Marking
 pub mod Rebuilding
 pub mod Stating
-pub mod Answering
+pub mod ByCall
+pub mod Beginning

@@ -27,7 +27,7 @@ module _ {T : Type 0} (g : Ghosts T) (old mid new : Posts T) (made : TableChange
   refuses_still : (why : Refusal) → SameTables mid new → Refuses g old judged why mid → Refuses g old judged why new
   refuses_still Reopen same cause = (cause.0, same.1 ∙ cause.1, same.2 ∙ cause.2, same.0 ∙ cause.3)
   refuses_still StoreFault same cause =
-      (cause.0, same.1 ∙ cause.1, same.2 ∙ cause.2, subst (λ (t : T). IsOpen (g.device old.tables) → HasFailed (g.device old.tables) (g.device t)) (sym same.0) cause.3)
+      (cause.0, same.1 ∙ cause.1, same.2 ∙ cause.2, subst (λ (t : T). IsOpen (g.device old.tables) → HasFailed (g.device old.tables) (g.device t)) (sym same.0) cause.3, cause.4)
   refuses_still Memory same cause = (cause.0, same.1 ∙ cause.1, same.2 ∙ cause.2, cause.3)
   refuses_still _ same cause = (cause.0, same.1 ∙ cause.1, same.2 ∙ cause.2, same.0 ∙ cause.3, cause.4)
 

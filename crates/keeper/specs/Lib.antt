@@ -1,3 +1,4 @@
 pub mod Showing
+pub mod Beginning
 pub mod calls
 pub mod Rules

@@ -1,5 +1,5 @@
 -- What the desk may answer to a call, and what it holds after that.
-use Rattle.std.specs.Prelude.{ℕ, ◌≡◌, List, Option}
+use Rattle.std.specs.Prelude.{ℕ, List, Option}
 use Rattle.names.specs.declared.call.Call.{Call}
 use Rattle.names.specs.declared.call.Call.TheVariants.{Write, Config, Check, Read, Expand, Leopard, Watch, Trim, CatchUp, Hot, Rebuild, State}
 use Rattle.tables.specs.declared.tables.Tables.{Ghosts}

@@ -9,7 +9,7 @@ use crate::calls::check::answer_check;
 use crate::calls::configuring::answer_config;
 use crate::calls::expanding::answer_expand;
 use crate::calls::grouping::answer_groups;
-use crate::calls::hot::answer_hot;
+use crate::calls::marking::answer_hot;
 use crate::calls::reading::answer_read;
 use crate::calls::rebuilding::answer_rebuild;
 use crate::calls::state::answer_state;
@@ -23,8 +23,8 @@ use std::alloc::Global;
 use std::sync::Wait;
 use tables::Tables;
 
-/// Answers a call, whose body is these bytes, on a desk that the caller holds. The session then knows all that is
-/// shown. A question of the future is asked once more after what waits was shown.
+/// Answers a call, whose body is these bytes, on a desk that the caller holds. The session then knows no less than it did,
+/// and all that is shown. A question of the future is asked once more after what waits was shown.
 pub fn answer_on<T: Tables + Drop, R: Wait + Drop>(
     alloc: Global,
     desk: &mut Desk<T, R>,
@@ -34,6 +34,7 @@ pub fn answer_on<T: Tables + Drop, R: Wait + Drop>(
 ) -> Reply
     requires { Begins (shown_by desk.old) session.old }
     ensures step { DeskStep T.Tables desk.old call body.now (told result) desk.new }
+    ensures kept { Begins session.old session.new }
     ensures known { Begins (shown_by desk.new) session.new }
 {
     match call {

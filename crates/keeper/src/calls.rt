@@ -5,7 +5,7 @@ pub(crate) mod check;
 pub(crate) mod configuring;
 pub(crate) mod expanding;
 pub(crate) mod grouping;
-pub(crate) mod hot;
+pub(crate) mod marking;
 pub(crate) mod reading;
 pub(crate) mod rebuilding;
 pub(crate) mod refusing;

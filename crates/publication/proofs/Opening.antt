@@ -1,6 +1,6 @@
 -- What tables load can be opened.
 use Rattle.std.proofs.Common.{◌≡◌, ℕ, ◌≤◌, Bool, true, List, [], ◌∷◌, refl, ap, arith, nat_le}
-use Rattle.std.specs.Prelude.{Contains}
+use Rattle.std.specs.Prelude.{◌&&◌, Contains}
 use Rattle.std.specs.List.{AllByRecursion, list_all}
 use Rattle.std.specs.List.Sorted.{IsStrictlySortedBy}
 use Rattle.std.specs.Ordering.{is_lt}
@@ -16,6 +16,7 @@ use Rattle.meaning.specs.Admits.{admits}
 use Rattle.meaning.specs.History.{History, after_commit}
 use Rattle.meaning.proofs.Lists.{contains_here, contains_there}
 use Rattle.meaning.proofs.TupleSets.{contains_iff}
+use Rattle.rows.specs.Ordered.{is_ordered}
 use Rattle.rows.specs.Retained.{newest, spans_of, AreAdmitted}
 use Rattle.rows.specs.Loads.{IsWithin, retained_of}
 use Rattle.rows.specs.declared.loaded.Loaded.{Loaded}
@@ -48,7 +49,8 @@ each_admitted s (c ∷ cs) all = and_from (is_admitted s) (are_admitted (after_c
 pub within_of : (l : Loaded) → IsWithin l → is_within l ≡ true
 within_of l within =
     let r = retained_of l in
-    and_from (is_limited l) (are_admitted r.base l.commits)
+    let ordered = list_all is_ordered l.commits in
+    and_from (is_limited l) (ordered && are_admitted r.base l.commits)
     (and_from (is_rising l.tuples) _ (rising_of l.tuples within.ordered)
     (and_from (nat_le (newest r) MAX_REV) (nat_le (spans_of r) MAX_ROWS) (at_most_of (newest r) MAX_REV within.revs) (at_most_of (spans_of r) MAX_ROWS within.rows)))
-    (each_admitted r.base l.commits (to_all r within.admitted))
+    (and_from ordered (are_admitted r.base l.commits) within.each_ordered (each_admitted r.base l.commits (to_all r within.admitted)))

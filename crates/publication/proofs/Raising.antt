@@ -18,7 +18,8 @@ use Rattle.meaning.specs.TupleSet as set
 use Rattle.meaning.specs.History.{History, after_commit, after_commits, replay, puts_in}
 use Rattle.meaning.specs.Verdict.{Newest, event_of, or_else, refused_if, at_place, first_from, is_in_range, is_unknown, is_untyped, is_twice, inserts_again, deletes_nothing, is_full, write_cause}
 use Rattle.rows.specs.Retained.{Retained, newest, newest_of, spans_of, snap_at, with_commit, after_trim, commits_between}
-use Rattle.rows.specs.Follows.{commit_cause, touch_of, is_in_order, IsNext}
+use Rattle.rows.specs.Ordered.{is_in_order}
+use Rattle.rows.specs.Follows.{commit_cause, touch_of, IsNext}
 use Rattle.rows.proofs.Committing.{tuples_within}
 use Rattle.rows.proofs.Trimming.{spans_split}
 use Rattle.shown.specs.Standing.{Standing, CanRaise}

@@ -12,6 +12,7 @@ use Rattle.meaning.specs.TupleSet as set
 use Rattle.meaning.specs.Snap.{Snap}
 use Rattle.meaning.specs.Admits.{admits}
 use Rattle.meaning.specs.History.{History, after_commit}
+use Rattle.rows.specs.Ordered.{is_ordered}
 use Rattle.rows.specs.Retained.{Retained, newest, newest_of, spans_of, with_commit, after_trim}
 use Rattle.rows.specs.Loads.{retained_of}
 use Rattle.rows.specs.Follows.{commit_cause}
@@ -82,9 +83,9 @@ abbrev pub are_admitted : Snap → History → Bool
 are_admitted s [] = is_admitted s
 are_admitted s (c ∷ cs) = is_admitted s && are_admitted (after_commit s c) cs
 
--- and each retained revision's tuples are admitted
+-- and each commit's events are in order, and each retained revision's tuples are admitted
 abbrev pub is_within : Loaded → Bool
-is_within l = is_limited l && are_admitted (retained_of l).base l.commits
+is_within l = is_limited l && (list_all is_ordered l.commits && are_admitted (retained_of l).base l.commits)
 
 -- the revision is above the floor, it is there, and no cursor is below it
 abbrev pub can_raise : Standing → ℕ → Bool

@@ -21,8 +21,8 @@ pub fn posts_stored()
     ensures { (events : List Event) → PostsStored events }
 {}
 
-/// What can be opened is what tables load: the tuples of the floor in order, the limits, and that each revision's
-/// tuples are admitted.
+/// What can be opened is what tables load: the tuples of the floor in order, the limits, that each commit's events
+/// are in order, and that each revision's tuples are admitted.
 pub fn opens_what_is_within()
     ensures { (loaded : Loaded) → (is_within loaded ≡ true) ↔ IsWithin loaded }
 {}

@@ -1,6 +1,8 @@
 //! Whether what was loaded can be opened.
 ghost use Rattle.std.specs.Prelude.{◌≡◌, ◌+◌, ◌<◌, IfOk, IfSome, IfNone, length, nat_le};
+ghost use Rattle.std.specs.List.{list_all};
 ghost use Rattle.meaning.specs.History.{puts_in, commit_rows, rows_of};
+ghost use Rattle.rows.specs.Ordered.{is_in_order, is_ordered};
 ghost use Rattle.publication.specs.World.{is_below, is_rising, is_limited, is_within};
 
 use crate::admitted::are_admitted;
@@ -10,12 +12,12 @@ use rows::Loaded;
 use std::alloc::{AllocError, Global};
 use tuple_keys::{KeptCommit, KeptEvents};
 
-/// Whether the tuples are in order, each once, there are no more revisions and rows than a store may have, and
-/// each revision's tuples are admitted.
+/// Whether the tuples are in order, each once, there are no more revisions and rows than a store may have, each
+/// commit's events are in order, and each revision's tuples are admitted.
 pub(crate) fn is_within(alloc: Global, loaded: &Loaded) -> Result<bool, AllocError>
     ensures { IfOk result (λ yes. yes ≡ is_within loaded.now) }
 {
-    if !is_limited(loaded) {
+    if !is_limited(loaded) || !are_ordered(loaded.commits.as_slice()) {
         return Ok(false);
     }
     are_admitted(alloc, loaded)
@@ -101,4 +103,38 @@ fn room_after_events(events: &KeptEvents, room: u64) -> Option<u64>
         }
     }
     Some(left)
+}
+
+fn are_ordered(commits: &[KeptCommit]) -> bool
+    ensures { result ≡ list_all is_ordered commits.now }
+{
+    for commit in commits {
+        if !is_ordered(commit) {
+            return false;
+        }
+    }
+    true
+}
+
+/// Whether the commit is a configuration, or there is an event in it and all are in order.
+fn is_ordered(commit: &KeptCommit) -> bool
+    ensures { result ≡ is_ordered commit.now }
+{
+    match commit.events() {
+        Some(events) => !events.is_empty() && is_in_order(events),
+        None => true,
+    }
+}
+
+/// Whether the events are in the order of their tuples, with no tuple twice.
+fn is_in_order(events: &KeptEvents) -> bool
+    ensures { result ≡ is_in_order events.now }
+{
+    for i in 1..events.len() {
+        let last = events.event(i - 1);
+        if !events.event(i).tuple_ref().is_later(last.tuple_ref()) {
+            return false;
+        }
+    }
+    true
 }

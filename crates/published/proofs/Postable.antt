@@ -4,7 +4,7 @@ use Rattle.std.specs.Prelude.{not}
 use Rattle.std.proofs.lemmas.List.Elements.{All-push}
 use Rattle.names.specs.declared.commit.Commit.TheVariants.{Tuples, Config}
 use Rattle.names.specs.declared.refusal.Refusal.TheVariants.{Malformed}
-use Rattle.rows.specs.Follows.{is_in_order}
+use Rattle.rows.specs.Ordered.{is_in_order}
 use Rattle.rows.proofs.Admission.{first_none, not_refused}
 use Rattle.shown.specs.declared.step.Step.{Step}
 use Rattle.shown.specs.declared.step.Step.TheVariants.{Open, Commit, Take, Trim, Marking, Rebase}

@@ -2,7 +2,8 @@
 use Rattle.std.specs.Prelude.{◌≡◌, Bool, true, false, List, [], map}
 use Rattle.names.specs.declared.commit.Commit.TheVariants.{Tuples, Config}
 use Rattle.names.specs.declared.write.Op.{Op}
-use Rattle.rows.specs.Follows.{is_in_order, touch_of}
+use Rattle.rows.specs.Ordered.{is_in_order}
+use Rattle.rows.specs.Follows.{touch_of}
 use Rattle.shown.specs.declared.step.Step.{Step}
 use Rattle.shown.specs.declared.step.Step.TheVariants.{Open, Commit, Take, Trim, Marking, Rebase}
 

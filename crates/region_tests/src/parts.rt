@@ -1,6 +1,6 @@
 //! A ring that is cut off, nodes that are no roots any more, and the two halves of a refresh apart.
 use crate::table::{Table, gather_by, refresh_by};
-use crate::worked::{has, known};
+use crate::worked::{empty_table, has, known};
 use idsets::IdSet;
 use region::{Sets, fill, sweep};
 use std::alloc::{AllocError, Global};
@@ -10,10 +10,7 @@ const USER: u64 = 1_000;
 
 // A node 0 that leads to a ring of 50, of which the last holds a user, and a node 100 beside them.
 fn ring(alloc: Global) -> Result<Table, AllocError> {
-    let mut table = Table {
-        known: Vec::new(alloc),
-        asked: Vec::new(alloc),
-    };
+    let mut table = empty_table(alloc);
     table.known.push(known(alloc, 0, &[], &[1])?)?;
     for i in 1..50 {
         table.known.push(known(alloc, i, &[], &[i + 1])?)?;

@@ -13,19 +13,19 @@ use std::alloc::{AllocError, Global};
 /// What is known of a node: what it holds by itself, the nodes whose members it has, those that its rule reads, and
 /// those whose members it lacks. Nodes below 256 lack none.
 #[derive(Drop)]
-pub struct Known {
-    pub node: u64,
-    pub own: IdSet,
-    pub any: Vec<u64>,
-    pub reads: Vec<u64>,
-    pub less: Vec<u64>,
+pub(crate) struct Known {
+    pub(crate) node: u64,
+    pub(crate) own: IdSet,
+    pub(crate) any: Vec<u64>,
+    pub(crate) reads: Vec<u64>,
+    pub(crate) less: Vec<u64>,
 }
 
 /// The nodes, and who was asked for.
 #[derive(Drop)]
-pub struct Table {
-    pub known: Vec<Known>,
-    pub asked: Vec<u64>,
+pub(crate) struct Table {
+    pub(crate) known: Vec<Known>,
+    pub(crate) asked: Vec<u64>,
 }
 
 // The nodes, as those of level 0.
@@ -119,7 +119,7 @@ impl Facts for Table {
 }
 
 /// Refreshes by what the table knows.
-pub fn refresh_by(
+pub(crate) fn refresh_by(
     alloc: Global,
     sets: &mut Sets,
     roots: &IdSet,
@@ -134,7 +134,7 @@ pub fn refresh_by(
 }
 
 /// Gathers what the table knows.
-pub fn gather_by(
+pub(crate) fn gather_by(
     alloc: Global,
     sets: &Sets,
     roots: &IdSet,

@@ -23,7 +23,7 @@ const TUPLES: &str = "doc:1#parent@folder:f folder:f#viewer@group:v#member group
     group:v#member@user:zoe doc:1#owner@user:bob doc:1#banned@group:b#member group:b#member@user:zoe \
     group:c#member@user:ann";
 
-fn is_committed(rows: &mut Rows, commit: &Commit<Config>) -> Result<bool, AllocError> {
+pub(crate) fn is_committed(rows: &mut Rows, commit: &Commit<Config>) -> Result<bool, AllocError> {
     if rows.refuses(commit)? {
         return Ok(false);
     }
@@ -33,7 +33,7 @@ fn is_committed(rows: &mut Rows, commit: &Commit<Config>) -> Result<bool, AllocE
 }
 
 // A history with the configuration and then the tuples.
-fn history(alloc: Global) -> Result<Rows, Refusal> {
+pub(crate) fn history(alloc: Global) -> Result<Rows, Refusal> {
     let mut rows = Rows::empty(alloc);
     let config = Commit::Config(Config::from_json(alloc, CONFIG.as_bytes())?);
     let mut ops = Vec::new(alloc);

@@ -30,6 +30,14 @@ const ANN: u64 = 100;
 
 const ZOE: u64 = 101;
 
+// Nothing is known, and nobody was asked.
+pub(crate) fn empty_table(alloc: Global) -> Table {
+    Table {
+        known: Vec::new(alloc),
+        asked: Vec::new(alloc),
+    }
+}
+
 // A node that holds some users, and the members of some nodes.
 pub(crate) fn known(
     alloc: Global,
@@ -57,6 +65,20 @@ fn viewers(alloc: Global, any: &[u64]) -> Result<Known, AllocError> {
     })
 }
 
+// The document is in a folder, whose viewers are those of V. Of three groups two hold each other, and one of them holds
+// the third, which holds Ann.
+fn with_a_folder(alloc: Global) -> Result<Table, AllocError> {
+    let mut table = empty_table(alloc);
+    table.known.push(viewers(alloc, &[OWNER, FOLDER])?)?;
+    table.known.push(known(alloc, PARENT, &[], &[])?)?;
+    table.known.push(known(alloc, FOLDER, &[], &[V])?)?;
+    table.known.push(known(alloc, V, &[ANN], &[])?)?;
+    table.known.push(known(alloc, A, &[], &[B])?)?;
+    table.known.push(known(alloc, B, &[], &[A, C])?)?;
+    table.known.push(known(alloc, C, &[ANN], &[])?)?;
+    Ok(table)
+}
+
 // Whether a kept node has a user.
 pub(crate) fn has(sets: &Sets, node: u64, user: u64) -> bool {
     match sets.members(node) {
@@ -70,10 +92,7 @@ fn a_break_of_a_cycle_gives_back_whom_it_banned(rt: HostRuntime) -> Result<(), F
     let alloc = rt.alloc();
     let roots = IdSet::of(vec![in alloc; VIEWER]?);
     let mut sets = Sets::new(alloc);
-    let mut table = Table {
-        known: Vec::new(alloc),
-        asked: Vec::new(alloc),
-    };
+    let mut table = empty_table(alloc);
     table.known.push(viewers(alloc, &[OWNER])?)?;
     refresh_by(alloc, &mut sets, &roots, &[VIEWER], &[], &mut table)?;
     assert_eq!(rt;
@@ -81,23 +100,9 @@ fn a_break_of_a_cycle_gives_back_whom_it_banned(rt: HostRuntime) -> Result<(), F
         [VIEWER, BANNED, OWNER, PARENT].as_slice()
     );
 
-    table.known.clear();
-    table.asked.clear();
-    table.known.push(viewers(alloc, &[OWNER, FOLDER])?)?;
-    table.known.push(known(alloc, PARENT, &[], &[])?)?;
-    table.known.push(known(alloc, FOLDER, &[], &[V])?)?;
-    table.known.push(known(alloc, V, &[ANN], &[])?)?;
-    table.known.push(known(alloc, A, &[], &[B])?)?;
-    table.known.push(known(alloc, B, &[], &[A, C])?)?;
-    table.known.push(known(alloc, C, &[ANN], &[])?)?;
-    refresh_by(
-        alloc,
-        &mut sets,
-        &roots,
-        &[],
-        &[PARENT, FOLDER, V, A, B, C],
-        &mut table,
-    )?;
+    table = with_a_folder(alloc)?;
+    let changed = [PARENT, FOLDER, V, A, B, C];
+    refresh_by(alloc, &mut sets, &roots, &[], &changed, &mut table)?;
     assert_eq!(rt;
         table.asked.as_slice(),
         [VIEWER, PARENT, FOLDER, V].as_slice()
@@ -127,10 +132,7 @@ fn groups_that_hold_each_other_are_emptied(rt: HostRuntime) -> Result<(), Fail> 
     let alloc = rt.alloc();
     let roots = IdSet::of(vec![in alloc; A, Z]?);
     let mut sets = Sets::new(alloc);
-    let mut table = Table {
-        known: Vec::new(alloc),
-        asked: Vec::new(alloc),
-    };
+    let mut table = empty_table(alloc);
     table.known.push(known(alloc, A, &[], &[B])?)?;
     table.known.push(known(alloc, B, &[ANN], &[A])?)?;
     table.known.push(known(alloc, Z, &[ZOE], &[])?)?;

@@ -19,8 +19,10 @@ use Rattle.meaning.specs.Verdict.{Newest, or_else, refused_if, event_of, is_full
 use Rattle.rows.specs.Retained.{Retained, newest, newest_of, spans_of, AreAdmitted, HasRoom}
 use Rattle.std.specs.Prelude.{is_some}
 use Rattle.names.specs.declared.limits.TheConstants.{MAX_REV, MAX_ROWS, MAX_TUPLES}
-use Rattle.rows.specs.Follows.{commit_cause, touch_of, touch_kind, is_in_order, IsNext}
+use Rattle.rows.specs.Ordered.{is_in_order}
+use Rattle.rows.specs.Follows.{commit_cause, touch_of, touch_kind, IsNext}
 use Rattle.rows.proofs.Admitting.{within_events, within_config}
+use Rattle.rows.proofs.Ordering.{ordered_write}
 
 pub later_none : {A : Type 0} (a b : Option A) → or_else a b ≡ None → b ≡ None
 later_none (Some x) b h = absurd cc
@@ -82,6 +84,18 @@ room spans puts fits = omega (arith, fits)
 room_for_none : (spans : ℕ) → 0 ≤ MAX_ROWS - spans
 room_for_none spans = omega arith
 
+holds : (b : Bool) → not b ≡ false → b ≡ true
+holds true h = refl
+holds false h = absurd cc
+
+-- the events of a commit that is not refused are in order
+in_order : (o : Option Refusal) (events : List Event) → or_else (refused_if Malformed (not (is_in_order events))) o ≡ None → is_in_order events ≡ true
+in_order o events h = holds (is_in_order events) (not_refused Malformed (not (is_in_order events)) (first_none (refused_if Malformed (not (is_in_order events))) o h))
+
+-- and there are some
+in_range : (n : Newest) (ops : List Op) → write_cause n ops ≡ None → is_in_range ops ≡ true
+in_range n ops h = holds (is_in_range ops) (not_refused Malformed (not (is_in_range ops)) (first_none (refused_if Malformed (not (is_in_range ops))) _ h))
+
 pub has_room : (r : Retained) (c : Commit Configured) → AreAdmitted (newest_of r).held → IsNext r c → HasRoom r c
 has_room r (Tuples events) old h =
     let n = newest_of r in
@@ -96,6 +110,7 @@ has_room r (Tuples events) old h =
       revs = at_most MAX_REV (newest r + 1) (right_false (many || long) late short);
       rows = room (spans_of r) (puts_in events) fits;
       admitted = within_events n.held.config n.held.tuples events old (never_untyped n (map touch_of events) written);
+      ordered = ordered_write events (in_order _ events h) (in_range n (map touch_of events) written);
     }
 has_room r (Config config) old h =
     let n = newest_of r in
@@ -104,6 +119,7 @@ has_room r (Config config) old h =
       revs = at_most MAX_REV (newest r + 1) full;
       rows = room_for_none (spans_of r);
       admitted = within_config config n.held.tuples (no_way _ (first_none _ _ h));
+      ordered = refl;
     }
 
 -- the same of what the code tells

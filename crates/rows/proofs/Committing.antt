@@ -24,6 +24,7 @@ use Rattle.versions.specs.Versions.{Entries, commit_versions, versions_at, versi
 use Rattle.rows.specs.Representation.{configs_after, as_retained, IsConsistent}
 use Rattle.versions.proofs.VersionRuns.{versions_push, based_last, last_of}
 use Rattle.rows.proofs.Admitting.{admitted_with, admitted_without}
+use Rattle.rows.proofs.Ordering.{ordered_push, ordered_before}
 use Rattle.rows.proofs.ConfigsAt.{configs_push, configs_same}
 use Rattle.versions.proofs.Bases.{base_is}
 use Rattle.versions.proofs.Settling.{after_push}
@@ -89,6 +90,7 @@ consistent_same r m n ds counts same consistent = record {
   revs = consistent.revs;
   few = consistent.few;
   admitted = consistent.admitted;
+  each_ordered = consistent.each_ordered;
 }
 
 -- a fact that holds anyway
@@ -129,6 +131,7 @@ consistent_events r m n ds old new es change consistent room goes changes rows t
       revs = omega (arith, room_revs, longer);
       few = omega (arith, room_rows, more);
       admitted = admitted_with r (kinds.Tuples es) consistent.admitted room.admitted;
+      each_ordered = ordered_push r.commits (kinds.Tuples es) consistent.each_ordered room.ordered;
     }
 
 pub consistent_config : (r : Retained) (m : Entries) (ds : List ConfigAt) (counts : Counts) (config : Configured)
@@ -148,6 +151,7 @@ consistent_config r m ds counts config consistent room =
       revs = omega (arith, room_revs, longer);
       few = omega (arith, room_rows, more);
       admitted = admitted_with r (kinds.Config config) consistent.admitted room.admitted;
+      each_ordered = ordered_push r.commits (kinds.Config config) consistent.each_ordered room.ordered;
     }
 
 -- and off again
@@ -186,6 +190,7 @@ consistent_back r m n ds old new es change consistent versions changes rows tupl
       revs = omega (arith, old_revs, longer);
       few = omega (arith, old_few, more);
       admitted = admitted_without r (kinds.Tuples es) consistent.admitted;
+      each_ordered = ordered_before r.commits (kinds.Tuples es) consistent.each_ordered;
     }
 
 pub consistent_back_config : (r : Retained) (m : Entries) (ds : List ConfigAt) (counts : Counts) (config : Configured)
@@ -206,4 +211,5 @@ consistent_back_config r m ds counts config consistent =
       revs = omega (arith, old_revs, longer);
       few = omega (arith, old_few, more);
       admitted = admitted_without r (kinds.Config config) consistent.admitted;
+      each_ordered = ordered_before r.commits (kinds.Config config) consistent.each_ordered;
     }

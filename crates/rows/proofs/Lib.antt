@@ -5,6 +5,7 @@ pub mod Committing
 pub mod Loading
 pub mod Admitted
 pub mod Admitting
+pub mod Ordering
 pub mod Fullness
 pub mod Admission
 pub mod Written

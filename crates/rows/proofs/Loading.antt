@@ -19,6 +19,7 @@ use Rattle.rows.specs.Representation.{IsConsistent}
 use Rattle.versions.proofs.VersionRuns.{take_none}
 use Rattle.versions.proofs.Settling.{after_push, take_more}
 use Rattle.rows.proofs.Admitting.{all_first, all_at, to_all, of_all}
+use Rattle.rows.proofs.Ordering.{ordered_at}
 use Rattle.rows.proofs.Committing.{rows_push, length_push}
 
 -- the tuples in order are as many as the set has
@@ -61,6 +62,7 @@ consistent_none l m counts within versions rows tuples =
       revs = omega (arith, revs);
       few = omega (arith, few);
       admitted = first_admitted l within.admitted;
+      each_ordered = refl;
     }
 
 -- there is room for each commit
@@ -77,6 +79,7 @@ has_room l k c within small is =
       revs = omega (arith, longer, fits, revs);
       rows = omega (arith, rows, all, few);
       admitted = next_admitted l k c within.admitted more;
+      ordered = ordered_at l.commits k c small is within.each_ordered;
     }
 
 pub next_loaded : (l : Loaded) (k : ℕ) (c : Commit Configured) → k < length l.commits → c ≡ get_or l.commits k c → with_commit (loaded_to l k) c ≡ loaded_to l (k + 1)

@@ -13,6 +13,7 @@ use Rattle.versions.proofs.VersionRuns.{take_none}
 use Rattle.versions.proofs.Settling.{drop_none}
 use Rattle.versions.proofs.Bases.{based_after}
 use Rattle.rows.proofs.Admitting.{admitted_after_trim}
+use Rattle.rows.proofs.Ordering.{ordered_drop}
 use Rattle.rows.proofs.Committing.{tuples_within}
 use Rattle.rows.proofs.Retaining.{whole}
 use Rattle.rows.proofs.ConfigsAt.{config_settles, configs_settle}
@@ -73,6 +74,7 @@ consistent_after_trim r m n ds es old new floor above below consistent versions 
       revs = omega (arith, long, revs, above, below);
       few = omega (arith, within, split, few);
       admitted = admitted_after_trim r floor consistent.admitted;
+      each_ordered = ordered_drop k r.commits consistent.each_ordered;
     }
 
 pub config_after_trim : (r : Retained) (ds : List ConfigAt) (floor : ℕ) → r.floor ≤ floor → ds ≡ configs_after r.floor r.commits → config_after_settle r.base.config ds floor ≡ (snap_at r floor).config

@@ -31,7 +31,8 @@ use Rattle.meaning.specs.History.{replay, puts_in}
 use Rattle.meaning.specs.Verdict.{Newest, or_else, refused_if, event_of, kind_of, is_delete, is_insert, is_full, is_in_range, is_unknown, is_untyped, is_twice, at_place, first_from, inserts_again, deletes_nothing, write_cause}
 use Rattle.meaning.proofs.TupleSets.{tuples_total}
 use Rattle.rows.specs.Judging.{puts_tuple, adds_tuple, takes_tuple}
-use Rattle.rows.specs.Follows.{AreEventsOf, by_tuple, commit_cause, touch_of, touch_kind, is_in_order, IsWritten}
+use Rattle.rows.specs.Ordered.{is_in_order}
+use Rattle.rows.specs.Follows.{AreEventsOf, by_tuple, commit_cause, touch_of, touch_kind, IsWritten}
 use Rattle.rows.proofs.Admission.{later_none, first_none, not_refused, left_false, right_false, touches_give}
 use Rattle.rows.proofs.Fullness.{tuples_left, rows_made}
 

@@ -1,6 +1,5 @@
 -- Which commits can follow: those that some accepted write gives, and configurations that are accepted.
-use Rattle.std.specs.Prelude.{◌≡◌, ◌↔◌, List, [], ◌∷◌, map, Bool, true, not, ◌&&◌, Option, None, IsPermutation, IsSorted}
-use Rattle.std.specs.Ordering.{is_lt}
+use Rattle.std.specs.Prelude.{◌≡◌, ◌↔◌, List, map, not, Option, None, IsPermutation, IsSorted}
 use Rattle.std.specs.declared.cmp.Ordering.{Ordering}
 use Rattle.names.specs.Order.{tuple_cmp}
 use Rattle.names.specs.declared.write.Op.{Op}
@@ -15,6 +14,7 @@ use Rattle.names.specs.declared.refusal.Refusal.{Refusal}
 use Rattle.names.specs.declared.refusal.Refusal.TheVariants.{Malformed}
 use Rattle.meaning.specs.Config.{Configured}
 use Rattle.meaning.specs.Verdict.{Newest, event_of, or_else, refused_if, write_cause, config_cause}
+use Rattle.rows.specs.Ordered.{is_in_order}
 use Rattle.rows.specs.Retained.{Retained, newest_of}
 
 -- by tuple
@@ -33,16 +33,6 @@ IsAccepted newest ops = write_cause newest ops ≡ None
 -- some accepted write gives the events
 abbrev pub IsWritten : Newest → List Event → Type 0
 IsWritten n events = (ops : List Op) × AreEventsOf ops events × IsAccepted n ops
-
--- the event's tuple is below that of the next
-abbrev pub is_below : Event → List Event → Bool
-is_below e [] = true
-is_below e (f ∷ fs) = is_lt (tuple_cmp e.tuple f.tuple)
-
--- the events are in the order of their tuples, and no tuple comes twice
-abbrev pub is_in_order : List Event → Bool
-is_in_order [] = true
-is_in_order (e ∷ es) = is_below e es && is_in_order es
 
 abbrev pub touch_kind : EventKind → OpKind
 touch_kind Put = Touch

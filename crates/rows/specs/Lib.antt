@@ -1,3 +1,4 @@
+pub mod Ordered
 pub mod Retained
 pub mod Follows
 pub mod Loads

@@ -8,6 +8,7 @@ use Rattle.meaning.specs.History.{History, after_commits}
 use Rattle.versions.specs.Versions.{Entries, AreVersions, base_tuples}
 use Rattle.rows.specs.declared.config_at.ConfigAt.{ConfigAt}
 use Rattle.rows.specs.declared.loaded.Counts.{Counts}
+use Rattle.rows.specs.Ordered.{AreOrdered}
 use Rattle.rows.specs.Retained.{Retained, newest, spans_of, IsAdmitted}
 
 -- the configurations of the commits above a revision
@@ -44,7 +45,8 @@ configs_above rev (d ∷ ds) = cond (nat_le d.rev rev) (configs_above rev ds) (d
 abbrev pub as_retained : ℕ → ℕ → Configured → Entries → History → Retained
 as_retained number floor config m commits = record { number = number; floor = floor; base = record { config = config; tuples = base_tuples m }; commits = commits }
 
--- the versions, the configurations and the counts are right, and each revision's tuples are admitted
+-- the versions, the configurations and the counts are right, each revision's tuples are admitted, and each commit's
+-- events are in order
 pub record IsConsistent (r : Retained) (m : Entries) (configs : List ConfigAt) (counts : Counts) : Type 0 where
   pub versions : AreVersions m r.base.tuples r.floor r.commits
   pub configs_right : configs ≡ configs_after r.floor r.commits
@@ -53,3 +55,4 @@ pub record IsConsistent (r : Retained) (m : Entries) (configs : List ConfigAt) (
   pub revs : newest r ≤ MAX_REV
   pub few : spans_of r ≤ MAX_ROWS
   pub admitted : IsAdmitted r
+  pub each_ordered : AreOrdered r.commits

@@ -12,6 +12,7 @@ use Rattle.meaning.specs.Admits.{admits}
 use Rattle.meaning.specs.Snap.{Snap, empty_snap}
 use Rattle.meaning.specs.History.{History, after_commit, after_commits, rows_of, commit_rows}
 use Rattle.meaning.specs.Verdict.{Newest}
+use Rattle.rows.specs.Ordered.{is_ordered}
 
 -- the store's number, the floor, what the floor holds, and the commits above it
 pub record Retained : Type 0 where
@@ -69,11 +70,12 @@ without_newest r = record { number = r.number; floor = r.floor; base = r.base; c
 abbrev pub after_trim : Retained → ℕ → Retained
 after_trim r floor = record { number = r.number; floor = floor; base = snap_at r floor; commits = drop (floor - r.floor) r.commits }
 
--- with the commit, the limits of revisions and rows still hold, and each tuple is admitted
+-- with the commit, the limits of revisions and rows still hold, and each tuple is admitted; its events are in order
 pub record HasRoom (r : Retained) (c : Commit Configured) : Type 0 where
   pub revs : newest r + 1 ≤ MAX_REV
   pub rows : commit_rows c ≤ MAX_ROWS - spans_of r
   pub admitted : AreAdmitted (after_commit (newest_of r).held c)
+  pub ordered : is_ordered c ≡ true
 
 -- the commit has an event on the tuple
 abbrev pub touches : Tuple → Commit Configured → Bool

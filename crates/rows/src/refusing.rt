@@ -3,7 +3,8 @@ ghost use Rattle.std.specs.Prelude.{◌≡◌, map, is_some, IfOk};
 ghost use Rattle.names.specs.declared.commit.Commit.TheVariants.{Tuples};
 ghost use Rattle.meaning.specs.Verdict.{config_cause};
 ghost use Rattle.rows.specs.Retained.{newest_of};
-ghost use Rattle.rows.specs.Follows.{is_in_order, is_below, touch_of, touch_kind, commit_cause};
+ghost use Rattle.rows.specs.Ordered.{is_in_order, is_below};
+ghost use Rattle.rows.specs.Follows.{touch_of, touch_kind, commit_cause};
 
 use crate::rows::Rows;
 use config::Config;

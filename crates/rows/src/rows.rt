@@ -9,6 +9,7 @@ ghost use Rattle.versions.specs.Named.{objects_in, nodes_in};
 ghost use Rattle.tuple_keys.specs.Named.{user_tuple, is_within};
 ghost use Rattle.versions.specs.Versions.{refuses};
 ghost use Rattle.tuple_keys.specs.Named.{is_at, is_of};
+ghost use Rattle.rows.specs.Ordered.{AreOrdered};
 ghost use Rattle.rows.specs.Tuplesets.{page};
 ghost use Rattle.rows.specs.Loads.{retained_of, loaded_to, IsWithin};
 
@@ -302,12 +303,14 @@ impl Rows {
         copies(alloc, &self.commits[start..end])
     }
 
-    /// The commits of the revisions above one, up to another, lent.
+    /// The commits of the revisions above one, up to another, lent. The events of each are in the order of their
+    /// tuples, no tuple twice; a commit without events is a configuration.
     pub fn commits(&self, from: u64, to: u64) -> &[KeptCommit]
         requires from { self.now.floor ≤ from }
         requires order { from ≤ to }
         requires to { to ≤ newest self.now }
-        ensures { result.now ≡ commits_between self.now from to }
+        ensures commits { result.now ≡ commits_between self.now from to }
+        ensures ordered { AreOrdered result.now }
     {
         let start = (from - self.floor) as usize;
         let end = (to - self.floor) as usize;

@@ -1,5 +1,5 @@
 -- The lines that were answered are lines of the input.
-use Rattle.std.proofs.Common.{◌≡◌, ℕ, List, [], ◌∷◌, ◌++◌, take, zero, suc, refl, sym, ap, subst, ◌∙◌, inl, inr}
+use Rattle.std.proofs.Common.{ℕ, List, [], ◌∷◌, ◌++◌, take, zero, suc, sym, ap, subst, ◌∙◌, inl, inr}
 use Rattle.desk.specs.TableChanges.{TableChange}
 use Rattle.lines.specs.Text.{lines_of}
 use Rattle.answers.specs.Machine.{Step}

@@ -1,6 +1,6 @@
 -- What was done over tables was done over their connection.
-use Rattle.std.proofs.Common.{◌≡◌, ℕ, List, [], ◌∷◌, map, refl, sym, ap, subst, ◌∙◌, inl, inr}
-use Rattle.std.specs.Prelude.{Option, Some, None}
+use Rattle.std.proofs.Common.{◌≡◌, ℕ, List, [], ◌∷◌, map, sym, ap, subst, ◌∙◌}
+use Rattle.std.specs.Prelude.{None}
 use Rattle.std.proofs.Math.Logic.{∥∥₁_map}
 use Rattle.sqlite_wal.specs.Recovery.{Image}
 use Rattle.sqlite.specs.Store.{Ghosts}
@@ -12,16 +12,16 @@ use Rattle.rows.specs.declared.loaded.Loaded.{Loaded}
 use Rattle.shown.specs.declared.step.Step.{Step}
 use Rattle.shown.specs.declared.step.Step.TheVariants.{Open}
 use Rattle.shown.specs.Standing.{standing, after_opening}
-use Rattle.tables.specs.Leaving.{IsOneOf}
 use Rattle.desk.specs.TableChanges.{changed}
 use Rattle.desk.specs.Posts.{Posts}
 use Rattle.store.specs.History.{KeepsHistory, LeavesHistory}
 use Rattle.store.specs.StoreParts.{connection}
 use Rattle.store.specs.declared.store.Store.{Store}
-use Rattle.runs.specs.Files.{ImageHolds, HoldsOneOf}
-use Rattle.runs.specs.Runs.{Began, Ended, kept_by}
-use Rattle.runs.specs.Connections.{HasServed}
-use Rattle.runs.specs.Over.{over, Begins, BeginsIn, EndedOver, OpenedOver, GoesOn}
+use Rattle.runs.specs.Files.{HoldsOneOf}
+use Rattle.keeper.specs.Beginning.{Began, kept_by}
+use Rattle.runs.specs.Runs.{Ended}
+use Rattle.runs.specs.Over.{over, BeginsIn, EndedOver, OpenedOver, GoesOn}
+use Rattle.runs.proofs.Requests.{ready}
 
 pub ended_over : {S : Type 0} (g : Ghosts S) (tables back : Store S g) (From : Retained → Type 0) (left : Held S) (input : List ℕ) (Did : Posts (Store S g) → Posts (Store S g) → Type 0)
     → left ≡ connection back → ((loaded : Loaded) → KeepsHistory g (connection tables) (retained_of loaded) → ((r : Retained) → KeepsHistory g (connection tables) r → retained_of loaded ≡ r) → From (retained_of loaded))
@@ -43,12 +43,12 @@ ended_over {S} g tables back From left input Did same begins e = record {
 -- a desk over tables was opened over their connection
 pub opened_over : {S : Type 0} (g : Ghosts S) (tables : Store S g) (desk : Posts (Store S g)) (From : Retained → Type 0)
     → ((loaded : Loaded) → KeepsHistory g (connection tables) (retained_of loaded) → ((r : Retained) → KeepsHistory g (connection tables) r → retained_of loaded ≡ r) → From (retained_of loaded))
-    → Began (over g) tables desk → HasServed (over g) desk [] desk → OpenedOver g From desk
-opened_over g tables desk From begins began ready = record {
+    → Began (over g) tables desk → OpenedOver g From desk
+opened_over g tables desk From begins began = record {
   loaded = began.posted.0;
   opened = record { posted = began.posted.1; shown = began.shown; works = began.works };
   begins = λ clean. begins began.posted.0 (began.posted.3 clean) (λ r held. began.posted.4 r held clean);
-  ready = ready;
+  ready = ready (over g) tables desk began;
 }
 
 pub goes_on : (image : Image) (rs : List Retained) (loaded : Loaded) (posted : List Step) → HoldsOneOf image rs → BeginsIn image None (retained_of loaded) → posted ≡ Open loaded ∷ [] → GoesOn rs posted

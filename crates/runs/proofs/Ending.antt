@@ -1,10 +1,8 @@
 -- A desk was opened, answered lines, and was closed.
-use Rattle.std.proofs.Common.{◌≡◌, ℕ, Bool, false, List, [], ◌∷◌, map, take, refl, sym, ap, subst, ◌∙◌}
+use Rattle.std.proofs.Common.{◌≡◌, ℕ, List, [], ◌∷◌, map, take, sym, ap, subst, ◌∙◌}
 use Rattle.std.specs.Prelude.{Option}
 use Rattle.std.proofs.lemmas.List.Elements.{All-nil}
-use Rattle.rows.specs.Retained.{Retained}
-use Rattle.rows.specs.Loads.{retained_of}
-use Rattle.tables.specs.Device.{IsClean, Lasts}
+use Rattle.tables.specs.Device.{Lasts}
 use Rattle.tables.specs.declared.tables.Tables.{Ghosts}
 use Rattle.tables.proofs.Lasting.{lasts_self, lasts_trans, clean_before}
 use Rattle.desk.specs.TableChanges.{TableChange, changed, CanChange}
@@ -13,7 +11,8 @@ use Rattle.keeper.specs.Rules.{DeskStep}
 use Rattle.lines.specs.Text.{lines_of}
 use Rattle.lines.specs.Machine.{Run}
 use Rattle.tracked_io.specs.Tracking.{TrackedReading, TrackedWriting}
-use Rattle.runs.specs.Runs.{Began, Ended, ServedBy, PausedBy, CutBy, IsAskedIn, kept_by}
+use Rattle.keeper.specs.Beginning.{Began, kept_by}
+use Rattle.runs.specs.Runs.{Ended, ServedBy, PausedBy, CutBy, IsAskedIn}
 use Rattle.runs.specs.inside.Leaving.{HasLeft, Answered}
 use Rattle.runs.proofs.Leaving.{Weaker, after_run}
 use Rattle.runs.proofs.Asked.{asked_first, asked_fed}

@@ -1,5 +1,5 @@
 -- What is found is what the files held.
-use Rattle.std.proofs.Common.{◌≡◌, ◌<◌, ℕ, IsTrue, length, refl, sym, ap, ap₂, subst, ◌∙◌, inl, inr, arith}
+use Rattle.std.proofs.Common.{◌≡◌, ◌<◌, IsTrue, length, refl, sym, ap, ap₂, subst, ◌∙◌, inl, inr, arith}
 use Rattle.sqlite_wal.specs.Recovery.{Image}
 use Rattle.sqlite_trees.specs.Tree.{Trees}
 use Rattle.sqlite_trees.specs.Objects.{catalog_tree}
@@ -9,13 +9,13 @@ use Rattle.sqlite_catalog.proofs.ReadLemmas.{lists_once}
 use Rattle.sqlite.specs.Effect.{Database, IsDatabase}
 use Rattle.sqlite.specs.State.{State, IsLive, Opens}
 use Rattle.sqlite.specs.Start.{FindsIn}
-use Rattle.sqlite.specs.Files.{HoldsDatabase, AreFoundIn}
+use Rattle.sqlite.specs.Files.{AreFoundIn}
 use Rattle.sqlite.proofs.ListingLemmas.{empty_is_sound}
 use Rattle.rows.specs.Retained.{Retained}
 use Rattle.sqlite_tables.specs.Format.{schema, no_schema}
 use Rattle.sqlite_tables.specs.Steps.{HasNone}
 use Rattle.store.specs.History.{TreesHold, HasCommitted}
-use Rattle.runs.specs.Files.{ImageHolds, HoldsBase, IsFoundIn}
+use Rattle.runs.specs.Files.{ImageHolds, IsFoundIn}
 
 schemas_are_one : (trees held : Trees) (s t : Schema) → trees ≡ held → IsSound s trees → IsSound t held → s ≡ t
 schemas_are_one trees held s t same a b = lists_once (held catalog_tree) s t (subst (λ (x : Trees). Lists (x catalog_tree) s) same a.lists) b.lists

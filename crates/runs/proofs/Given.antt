@@ -1,5 +1,5 @@
 -- Files that no call was made on.
-use Rattle.std.proofs.Common.{◌≡◌, ◌⊎◌, ◌+◌, ℕ, Bool, true, false, cond, List, [], ◌∷◌, refl, sym, ap, ap₂, subst, ◌∙◌, inl, inr}
+use Rattle.std.proofs.Common.{◌≡◌, ℕ, Bool, cond, List, [], ◌∷◌, ap, ap₂, subst, ◌∙◌, inl, inr}
 use Rattle.std.specs.Prelude.{if◌then◌else◌}
 use Rattle.sqlite_disk.specs.History.{MayLeave}
 use Rattle.sqlite_disk.specs.Events.{Event, replay, settled}

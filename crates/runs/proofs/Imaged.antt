@@ -1,6 +1,6 @@
 -- What was asked of a connection was asked of the files that it was opened over.
-use Rattle.std.proofs.Common.{◌≡◌, ◌≢◌, ◌⊎◌, ◌≤◌, ℕ, List, [], ◌∷◌, IsTrue, length, refl, sym, ap, subst, ◌∙◌, inl, inr, arith}
-use Rattle.std.specs.Prelude.{Option, Some, None, Result, Ok, Err, IfSome, IsErrAnd}
+use Rattle.std.proofs.Common.{◌≡◌, ◌≢◌, ◌⊎◌, ℕ, [], ◌∷◌, refl, sym, ap, subst, ◌∙◌, inl, inr, arith}
+use Rattle.std.specs.Prelude.{Option, Some, None, Err, IfSome}
 use Rattle.sqlite_disk.specs.declared.Disk as disk
 use Rattle.sqlite_wal.specs.Recovery.{Image}
 use Rattle.sqlite_store.specs.declared.store.FileStore.{FileStore}
@@ -16,19 +16,17 @@ use Rattle.sqlite.specs.declared.error.Error.{Error}
 use Rattle.sqlite.specs.declared.error.Error.TheVariants.{SqliteFailure}
 use Rattle.sqlite.specs.declared.error.ErrorCode.TheVariants.{OutOfMemory}
 use Rattle.sqlite.specs.declared.file.Leftover.{Leftover}
-use Rattle.sqlite.specs.Files.{HoldsDatabase, IsNothing, IsFullLeft, IsCleanLeft, file_state, faults_left, over_files}
-use Rattle.names.specs.declared.refusal.Refusal.{Refusal}
+use Rattle.sqlite.specs.Files.{HoldsDatabase, IsNothing, IsFullLeft, file_state, faults_left, over_files}
 use Rattle.names.specs.declared.refusal.Refusal.TheVariants.{Memory, StoreFault}
 use Rattle.rows.specs.Retained.{Retained, empty_store}
-use Rattle.tables.specs.Device.{Device, HasFailed, IsClean, IsOpen, Lasts, sound_device}
-use Rattle.tables.specs.Leaving.{IsOneOf}
+use Rattle.tables.specs.Device.{HasFailed, IsClean, IsOpen, Lasts, sound_device}
 use Rattle.tables.proofs.Lasting.{clean_before, failed_after, lasts_trans}
 use Rattle.command_line.specs.declared.fault.Fault.{Fault}
 use Rattle.command_line.specs.declared.fault.Fault.TheVariants.{Refused}
 use Rattle.sqlite_tables.specs.Format.{schema, no_schema}
 use Rattle.sqlite_tables.specs.Steps.{HasNone}
 use Rattle.store.specs.History.{TreesHold, KeepsHistory, LeavesHistory, device_below}
-use Rattle.runs.specs.Files.{FindsHistories, ImageHolds, HoldsBase, AreTheirs, IsFoundIn, IsUnopened, IsRefusedFor}
+use Rattle.runs.specs.Files.{FindsHistories, ImageHolds, AreTheirs, IsFoundIn, IsUnopened, IsRefusedFor}
 use Rattle.runs.proofs.Carried.{shows_it}
 use Rattle.runs.specs.Over.{LeavesRefused, CannotBegin, IsDeserved, AreBlank, CannotBeginIn, LeavesConnection, LeavesRefusedIn, HasFailedOver, IsDeservedIn}
 

@@ -15,7 +15,7 @@ use Rattle.names.specs.declared.part.Part.{Part}
 use Rattle.names.specs.declared.part.Part.TheVariants.{Index, Hot}
 use Rattle.rows.specs.Retained.{Retained, newest}
 use Rattle.tables.specs.Device.{Device, Lasts}
-use Rattle.tables.specs.Leaving.{IsOneOf, AreAmong}
+use Rattle.tables.specs.Leaving.{AreAmong}
 use Rattle.tables.specs.declared.tables.Tables.{Ghosts}
 use Rattle.shown.specs.declared.step.Step.{Step}
 use Rattle.shown.specs.declared.step.Step.TheVariants.{Take, Marking, Rebase}
@@ -39,7 +39,8 @@ use Rattle.keeper.specs.calls.Hot.{HotStep, hot_malformed, hot_accepted, hot_ref
 use Rattle.keeper.specs.calls.Rebuild.{RebuildStep, rebuild_malformed, rebuild_accepted, rebuild_refused, rebuild_unread}
 use Rattle.lines.specs.Text.{word_of, body_of}
 use Rattle.lines.specs.Machine.{IsAnswer, Run}
-use Rattle.runs.specs.Runs.{kept_by, AsksChange, LineAsks, IsAskedIn}
+use Rattle.keeper.specs.Beginning.{kept_by}
+use Rattle.runs.specs.Runs.{AsksChange, IsAskedIn}
 use Rattle.runs.specs.inside.Leaving.{HasLeft}
 use Rattle.tables.proofs.Lasting.{lasts_trans}
 

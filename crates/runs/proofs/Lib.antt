@@ -9,5 +9,4 @@ pub mod Ending
 pub mod Starting
 pub mod Connected
 pub mod Carried
-pub mod Beginning
 pub mod Requests

@@ -3,7 +3,7 @@ use Rattle.std.proofs.Common.{◌≡◌, ℕ, Bool, true, false, List, [], ◌�
 use Rattle.std.specs.Prelude.{Option, Some, None}
 use Rattle.std.proofs.lemmas.List.Elements.{All-nil, All-weaker}
 use Rattle.httparse.specs.Grammar.{RequestHead}
-use Rattle.tables.specs.Device.{Device, Lasts}
+use Rattle.tables.specs.Device.{Device}
 use Rattle.tables.specs.declared.tables.Tables.{Ghosts}
 use Rattle.tables.proofs.Lasting.{lasts_self}
 use Rattle.desk.specs.TableChanges.{TableChange, CanChange}
@@ -14,7 +14,7 @@ use Rattle.answers.specs.declared.end.End.TheVariants.{Closed, Asked, Broken, Re
 use Rattle.answers.specs.Machine.{Step}
 use Rattle.http_api.specs.Connection.{Next, stop, go_on, after, HasRequest, Turn, no_request, unknown, answered, no_memory, Goes, Text}
 use Rattle.http_api.specs.Talks.{Talked, TalkedSoFar, TalkCut}
-use Rattle.runs.specs.Runs.{Began, kept_by}
+use Rattle.keeper.specs.Beginning.{Began, kept_by}
 use Rattle.runs.specs.Connections.{IsRequestedIn, IsRequestedInOne, HasServed, Serves, IsServing, StaysServing}
 use Rattle.runs.specs.inside.Leaving.{HasLeft}
 use Rattle.runs.proofs.Leaving.{Weaker, same_desk, after_step_of}

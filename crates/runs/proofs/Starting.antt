@@ -1,17 +1,17 @@
 -- A run that starts from tables which were made, or opened.
-use Rattle.std.proofs.Common.{◌≡◌, ◌≢◌, ◌⊎◌, ℕ, List, [], ◌∷◌, IsTrue, refl, sym, ap, subst, ◌∙◌, inl, inr}
+use Rattle.std.proofs.Common.{◌≡◌, ◌≢◌, ◌⊎◌, ℕ, [], ◌∷◌, IsTrue, refl, sym, subst, ◌∙◌, inl, inr}
 use Rattle.std.specs.Prelude.{Option, Some, None, Ok, Err, Result, IfOk, IfErr, IfSome, IsErrAnd}
 use Rattle.sqlite.specs.Store.{Ghosts}
 use Rattle.sqlite.specs.Tree.{Trees}
-use Rattle.sqlite.specs.State.{State, HasCleanDisk, Survives}
+use Rattle.sqlite.specs.State.{State, Survives}
 use Rattle.sqlite.specs.Held.{Held, state}
 use Rattle.sqlite_disk.specs.Disk.{MoreFaults}
 use Rattle.rows.specs.Retained.{Retained, empty_store}
-use Rattle.tables.specs.Device.{Device, HasFailed, IsClean, IsOpen, Lasts}
+use Rattle.tables.specs.Device.{HasFailed, IsClean, IsOpen, Lasts}
 use Rattle.tables.specs.Leaving.{IsOneOf}
 use Rattle.tables.specs.declared.tables.TablesError.{TablesError}
 use Rattle.tables.specs.declared.tables.TablesError.TheVariants as causes
-use Rattle.tables.proofs.Lasting.{lasts_self, lasts_trans, clean_before, failed_after}
+use Rattle.tables.proofs.Lasting.{lasts_self, clean_before, failed_after}
 use Rattle.names.specs.declared.refusal.Refusal.{Refusal}
 use Rattle.names.specs.declared.refusal.Refusal.TheVariants.{Memory, StoreFault}
 use Rattle.command_line.specs.declared.fault.Fault.{Fault}

@@ -14,7 +14,8 @@ use Rattle.http_api.specs.Routes.{route_of}
 use Rattle.http_api.specs.Connection.{HasRequest, Next, Text}
 use Rattle.http_api.specs.Talks.{Talked, TalkedSoFar, TalkCut}
 use Rattle.tracked_io.specs.Tracking.{TrackedWriting}
-use Rattle.runs.specs.Runs.{AsksChange, kept_by}
+use Rattle.keeper.specs.Beginning.{kept_by}
+use Rattle.runs.specs.Runs.{AsksChange}
 
 -- ---- what was asked for
 

@@ -28,8 +28,9 @@ use Rattle.sqlite_tables.specs.Steps.{HasNone}
 use Rattle.store.specs.History.{TreesHold, KeepsHistory, LeavesHistory, KeptBefore, device_below}
 use Rattle.store.specs.StoreParts.{connection, faults}
 use Rattle.store.specs.declared.store.Store.{Store}
-use Rattle.runs.specs.Files.{ImageHolds, ImageShows, HoldsOneOf, HoldsBase, AreTheirs, Remains, IsUnopened, IsRefusedFor}
-use Rattle.runs.specs.Runs.{IsOpened, IsAskedIn, kept_by}
+use Rattle.runs.specs.Files.{ImageHolds, ImageShows, HoldsBase, AreTheirs, Remains, IsUnopened, IsRefusedFor}
+use Rattle.keeper.specs.Beginning.{kept_by}
+use Rattle.runs.specs.Runs.{IsOpened, IsAskedIn}
 use Rattle.runs.specs.Connections.{HasServed}
 
 -- a store over a connection, as tables

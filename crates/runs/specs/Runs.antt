@@ -17,10 +17,10 @@ use Rattle.rows.specs.declared.loaded.Loaded.{Loaded}
 use Rattle.tables.specs.Device.{IsClean}
 use Rattle.tables.specs.declared.tables.Tables.{Ghosts}
 use Rattle.shown.specs.declared.step.Step.TheVariants.{Open}
-use Rattle.shown.specs.Standing.{standing}
 use Rattle.desk.specs.TableChanges.{TableChange, Adds, Raises}
-use Rattle.desk.specs.Posts.{Posts, Agrees, OpensWith, ComesBack}
+use Rattle.desk.specs.Posts.{Posts, Agrees}
 use Rattle.desk.specs.Changes.{IsCommitOf}
+use Rattle.keeper.specs.Beginning.{kept_by}
 use Rattle.keeper.specs.Rules.{DeskStep}
 use Rattle.lines.specs.Text.{lines_of, word_of, body_of}
 use Rattle.lines.specs.Served.{Served, Paused, Cut, PausedAtEachRead}
@@ -33,18 +33,6 @@ pub record IsOpened {T : Type 0} (loaded : Loaded) (desk : Posts T) : Type 0 whe
   pub posted : desk.posted ≡ Open loaded ∷ []
   pub shown : desk.shown ≡ desk.posted
   pub works : desk.failed ≡ false
-
--- the history of the posted steps
-abbrev pub kept_by : {T : Type 0} → Posts T → Retained
-kept_by desk = (standing desk.posted).kept
-
--- what is known of a desk that was opened on tables
-pub record Began {T : Type 0} (g : Ghosts T) (tables : T) (first : Posts T) : Type 0 where
-  pub posted : OpensWith g tables first
-  pub shown : first.shown ≡ first.posted
-  pub works : first.failed ≡ false
-  pub settled : g.leaves first.tables (kept_by first ∷ [])
-  pub back : ComesBack g tables first.tables
 
 -- ---- what was asked for
 

@@ -14,10 +14,10 @@ ghost use Rattle.runs.specs.Files.{FindsHistories, IsFoundIn, IsUnopened, IsRefu
 ghost use Rattle.runs.specs.Runs.{ServedBy, PausedBy, CutBy, is_read_fault, is_write_fault};
 ghost use Rattle.runs.specs.Over.{over, BeginsIn, EndedOver, OpenedOver, TablesOver, CannotBeginIn, LeavesRefusedIn, IsDeservedIn};
 
-use crate::answering::Answering;
 use crate::files::{Left, find};
 use crate::over::{fault_of, open_over, run_over, start as tables_over};
 use command_line::Fault;
+use keeper::Answering;
 use names::Refusal;
 use sqlite::{Connection, Error, ErrorCode, FileFrom, FileStore, Leftover, Start};
 use std::io::{Read, Write};

@@ -2,7 +2,6 @@
 //! database connection and so over a file; and what one run leaves to the next.
 #![tactic(auto)]
 
-mod answering;
 mod files;
 mod in_files;
 mod law;
@@ -10,7 +9,6 @@ mod over;
 mod running;
 mod talking;
 
-pub use answering::Answering;
 pub use files::{Left, close, find, leave};
 pub use in_files::{open_in, run_in, tables_in};
 pub use law::next_run_goes_on;

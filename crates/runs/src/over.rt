@@ -11,9 +11,9 @@ ghost use Rattle.runs.specs.Runs.{ServedBy, PausedBy, CutBy, is_read_fault, is_w
 ghost use Rattle.runs.specs.inside.Starting.{StartsFrom, FailsToStart};
 ghost use Rattle.runs.specs.Over.{over, Begins, EndedOver, OpenedOver, LeavesRefused, CannotBegin, IsDeserved};
 
-use crate::answering::Answering;
 use crate::running::run;
 use command_line::Fault;
+use keeper::Answering;
 use names::Refusal;
 use sqlite::{Alter, Connection};
 use std::alloc::Global;

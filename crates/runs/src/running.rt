@@ -9,9 +9,9 @@ ghost use Rattle.tracked_io.specs.Tracking.{Reads, ReadsAll};
 ghost use Rattle.runs.specs.inside.Leaving.{Answered};
 ghost use Rattle.runs.specs.Runs.{ServedBy, PausedBy, CutBy, Ended, is_read_fault, is_write_fault};
 
-use crate::answering::Answering;
 use answers::End;
 use command_line::Fault;
+use keeper::Answering;
 use lines::lines;
 use names::Refusal;
 use std::alloc::Global;

@@ -7,9 +7,9 @@ ghost use Rattle.http_api.specs.Routes.{table};
 ghost use Rattle.http_api.specs.Talks.{TalkedAtEachRead};
 ghost use Rattle.runs.specs.Connections.{Serves, TalkedBy, TalkedSoFarBy, TalkCutBy, StaysServing};
 
-use crate::answering::Answering;
 use answers::End;
 use http_api::serve_by;
+use keeper::Answering;
 use matchit::Router;
 use names::Call;
 use std::alloc::Global;

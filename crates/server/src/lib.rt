@@ -4,18 +4,13 @@
 //! What a connection says is `http_api`'s, what a call is answered is `front`'s. No proof says of threads that they get on.
 #![tactic(auto)]
 
-mod counted;
-mod gate;
 mod indexer;
 mod pool;
 mod serving;
 mod stream;
 mod turn;
-mod waking;
 mod worker;
 
-pub use counted::Counted;
-pub use gate::Gate;
 pub use serving::run;
 pub use stream::{serve_stream, sides_of, take_leave};
 pub use turn::{TURN_COMMITS, Turn, take_turn};

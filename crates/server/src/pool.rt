@@ -3,10 +3,10 @@ ghost use Rattle.std.specs.Iterator.{IsFinite};
 ghost use Rattle.answers.specs.declared.end.End.{End};
 ghost use Rattle.server.specs.Attending.{ServesEach};
 
-use crate::gate::Gate;
 use crate::stream::take_leave;
 use answers::End;
 use crossbeam_channel::{Receiver, Sender};
+use front::Gate;
 use std::alloc::Global;
 use std::net::{TcpListener, TcpStream};
 use std::sync::Wait;

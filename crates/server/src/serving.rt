@@ -2,13 +2,10 @@
 ghost use Rattle.std.specs.Prelude.{◌≡◌, ◌⊎◌, IfErr};
 ghost use Rattle.names.specs.declared.refusal.Refusal.TheVariants.{Memory, NoSeat};
 
-use crate::counted::Counted;
-use crate::gate::Gate;
 use crate::indexer::Indexer;
 use crate::pool::serve_and_follow;
-use crate::waking::Waking;
 use crate::worker::Worker;
-use front::{Front, Keeper, Locked};
+use front::{Counted, Front, Gate, Keeper, Locked, Waking};
 use http_api::routes;
 use names::Refusal;
 use published::Naming;

@@ -1,9 +1,9 @@
 //! Two connections, of which the call of one waits in the gate for the call of the other.
 ghost use Rattle.std.specs.Prelude.{◌≡◌};
 
-use front::Keeper;
+use front::{Gate, Keeper};
 use published::{Naming, Opened};
-use server::{Gate, run};
+use server::run;
 use std::alloc::Global;
 use std::io::{Read, Write};
 use std::marker::Brand;

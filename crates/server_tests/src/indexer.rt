@@ -2,9 +2,9 @@
 ghost use Rattle.std.specs.Prelude.{◌≡◌};
 
 use crate::gate::listen;
-use front::Keeper;
+use front::{Gate, Keeper};
 use published::{Naming, Opened};
-use server::{Gate, run};
+use server::run;
 use std::alloc::Global;
 use std::io::{Read, Write};
 use std::marker::Brand;

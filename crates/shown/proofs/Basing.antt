@@ -2,7 +2,7 @@
 use Rattle.std.proofs.Common.{◌≡◌, ℕ, ◌+◌, ◌-◌, ◌<◌, ◌≤◌, List, [], ◌∷◌, ◌++◌, length, take, drop, refl, ap, sym, subst, ◌∙◌, arith}
 use Rattle.std.specs.Prelude.{Option, Some, None, Result, Ok, Err, IfOk}
 use Rattle.std.proofs.Math.Seq.{take-add}
-use Rattle.std.proofs.lemmas.List.{take-append-le, take-take, length-drop}
+use Rattle.std.proofs.lemmas.List.{take-append-le, take-take}
 use Rattle.names.specs.declared.commit.Commit.{Commit}
 use Rattle.names.specs.declared.node.Node.{Node}
 use Rattle.names.specs.declared.refusal.Refusal.{Refusal}
@@ -15,7 +15,7 @@ use Rattle.leopard.specs.Index.{Index, IsIndexOf}
 use Rattle.leopard.specs.Query.{Query}
 use Rattle.rows.specs.Retained.{Retained, newest, snap_at, with_commit, without_newest, after_trim}
 use Rattle.shown.specs.Standing.{Standing, IsSteady, CanGoBack, CanRaise, before_commit}
-use Rattle.shown.specs.inside.Basing.{IsKeptIndex, IsSound}
+use Rattle.shown.specs.inside.Basing.{IsKeptIndex}
 
 -- ---- snapshots
 
@@ -25,11 +25,11 @@ snap_with r c rev there = ap (after_commits r.base) (take-append-le (rev - r.flo
 pub snap_without : (r : Retained) (rev : ℕ) → rev < newest r → r.floor < newest r → snap_at (without_newest r) rev ≡ snap_at r rev
 snap_without r rev there above = ap (after_commits r.base) (take-take (rev - r.floor) (length r.commits - 1) r.commits (omega (arith, there, above)))
 
-after_append : (s : Snap) (g h : History) → after_commits s (g ++ h) ≡ after_commits (after_commits s g) h
+pub after_append : (s : Snap) (g h : History) → after_commits s (g ++ h) ≡ after_commits (after_commits s g) h
 after_append s [] h = refl
 after_append s (c ∷ g) h = after_append (after_commit s c) g h
 
-after_parts : (s : Snap) (k m : ℕ) (h : History) → after_commits (after_commits s (take k h)) (take m (drop k h)) ≡ after_commits s (take (k + m) h)
+pub after_parts : (s : Snap) (k m : ℕ) (h : History) → after_commits (after_commits s (take k h)) (take m (drop k h)) ≡ after_commits s (take (k + m) h)
 after_parts s k m h = sym (ap (after_commits s) (take-add k m h) ∙ after_append s (take k h) (take m (drop k h)))
 
 pub snap_above : (r : Retained) (floor : ℕ) → r.floor ≤ floor → (rev : ℕ) → floor ≤ rev → snap_at (after_trim r floor) rev ≡ snap_at r rev
@@ -60,23 +60,6 @@ module _ (s : Standing) (index : Option Index) (steady : IsSteady s) where
       → IsKeptIndex (record { kept = after_trim s.kept floor; base = s.base; index = s.index; hot = s.hot; marks = s.marks }) index
   kept_above floor can = moved s (record { kept = after_trim s.kept floor; base = s.base; index = s.index; hot = s.hot; marks = s.marks }) index (omega arith)
       (λ rev come retained. let above = can.above in (omega (arith, retained, above), snap_above s.kept floor (omega (arith, above)) rev retained))
-
-pub sound_above : (s now : Standing) (index : Option Index) (floor : ℕ) (new : Retained) → s ≡ now → CanRaise now floor → IsSound s index
-    → (s.kept.floor ≤ floor → new ≡ after_trim s.kept floor) → IsSound (record { kept = new; base = s.base; index = s.index; hot = s.hot; marks = s.marks }) index
-sound_above s now index floor new same room sound raised =
-    let can = subst (λ (t : Standing). CanRaise t floor) (sym same) room in
-    let above = can.above in
-    let is = raised (omega (arith, above)) in
-    let left = length-drop (floor - s.kept.floor) s.kept.commits in
-    subst (λ (r : Retained). IsSound (record { kept = r; base = s.base; index = s.index; hot = s.hot; marks = s.marks }) index) (sym is) (record {
-      steady = record {
-        index_retained = can.index;
-        index_there = omega (arith, left, above, can.there, sound.steady.index_there);
-        hot_retained = can.hot;
-        hot_there = omega (arith, left, above, can.there, sound.steady.hot_there);
-      };
-      index_right = kept_above s index sound.steady floor can sound.index_right;
-    })
 
 -- ---- what it answers
 

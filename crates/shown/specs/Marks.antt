@@ -1,5 +1,5 @@
 -- The marked nodes, whose members are to be kept, and why a node is not marked.
-use Rattle.std.specs.Prelude.{ℕ, Bool, not, List, [], ◌∷◌, ◌++◌, length, if◌then◌else◌, Option, None, nat_lt}
+use Rattle.std.specs.Prelude.{Bool, not, List, [], ◌∷◌, ◌++◌, length, if◌then◌else◌, Option, None, nat_lt}
 use Rattle.std.specs.List.{list_any}
 use Rattle.names.specs.declared.limits.TheConstants.{MAX_MARKS}
 use Rattle.names.specs.declared.node.Node.{Node}

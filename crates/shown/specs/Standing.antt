@@ -1,5 +1,5 @@
 -- What a list of steps leaves.
-use Rattle.std.specs.Prelude.{◌≤◌, ◌<◌, ◌+◌, ℕ, List, [], fold, length, min, max, nat_lt, ◌||◌, ◌≡◌, Bool, Option, None}
+use Rattle.std.specs.Prelude.{◌≤◌, ◌<◌, ◌+◌, ℕ, List, [], fold, length, min, max, nat_lt, ◌||◌, ◌≡◌, Option, None}
 use Rattle.meaning.specs.Snap.{empty_snap}
 use Rattle.meaning.specs.TupleSet as set
 use Rattle.rows.specs.Retained.{Retained, newest, newest_of, spans_of, with_commit, without_newest, after_trim, commits_between, last_config}

@@ -4,6 +4,7 @@
 
 mod answer;
 mod marks;
+mod members;
 mod shown;
 mod step;
 

@@ -1,7 +1,6 @@
 //! The published state.
-ghost use Rattle.std.specs.Prelude.{◌≡◌, ◌<◌, ◌≤◌, ◌↔◌, min, None, Some, true, false, IsTrue, IfOk, IfErr, OnOk, OnErr};
+ghost use Rattle.std.specs.Prelude.{◌≡◌, ◌<◌, ◌≤◌, ◌↔◌, min, None, Some, true, false, IsTrue, IfOk, IfErr, IfSome, OnOk, OnErr};
 ghost use Rattle.names.specs.declared.limits.TheConstants.{MAX_REV};
-ghost use Rattle.names.specs.declared.part.Part.TheVariants.{Index, Hot};
 ghost use Rattle.names.specs.declared.marking.Marking.TheVariants.{Mark};
 ghost use Rattle.meaning.specs.Admits.{has_relation};
 ghost use Rattle.meaning.specs.Causes.{CheckCause};
@@ -15,6 +14,7 @@ ghost use Rattle.rows.specs.Retained.{IsRetained, newest, newest_of, snap_at, co
 ghost use Rattle.shown.specs.Standing.{nothing, after_step, after_take, base_cause, before_commit, cursor_after, state_of, CanGoBack, CanRaise, HasRoom, IsSteady};
 ghost use Rattle.shown.specs.Marks.{marking_cause};
 ghost use Rattle.shown.specs.Raising.{is_in_use, floor_cause, RefusesMarking, RefusesBase};
+ghost use Rattle.hot.specs.Kept.{IsHot};
 ghost use Rattle.expand.specs.declared.limits.TheConstants.{MAX_DEPTH};
 ghost use Rattle.expand.specs.Causes.{ExpandCause};
 ghost use Rattle.expand.specs.Viewed.{tree_of};
@@ -32,10 +32,12 @@ ghost use Rattle.shown.specs.Grouping.{AreGroups, IsGroupsRefusal};
 
 use crate::answer::{Answer, Refused};
 use crate::marks::{count_with, remark};
+use crate::members::{Known, members_later, members_of, remarked};
 use crate::step::Step;
 use config::Config;
 use decide::Nothing;
 use expand::Tree;
+use hot::Hot;
 use leopard::{Built, Expr};
 use names::limits::MAX_MARKS;
 use names::{Items, Marking, Node, Object, Op, Part, Refusal, State, Tuple, Write};
@@ -55,8 +57,9 @@ pub struct Shown {
     index: u64,
     hot: u64,
     marks: Vec<Node>,
-    keeps_index: bool,
+    keeps_parts: bool,
     built: Option<Built>,
+    members: Option<Hot>,
 }
 
 impl Model for Shown {
@@ -71,25 +74,27 @@ impl Model for Shown {
     ghost view = { λ s. record { kept = s.rows; base = s.base; index = s.index; hot = s.hot; marks = s.marks.items } };
 
     ghost invariant = { λ s.
-        IsSound (record { kept = s.rows; base = s.base; index = s.index; hot = s.hot; marks = s.marks.items }) s.built };
+        IsSound (record { kept = s.rows; base = s.base; index = s.index; hot = s.hot; marks = s.marks.items })
+        s.built s.members };
 }
 
 impl Shown {
-    /// The state before the first step. Once a base is asked for, its index is kept.
+    /// The state before the first step. Once a base is asked for, its index is kept, and once a node is marked, who is a
+    /// member of it at the revision of the hot table.
     pub fn new(alloc: Global) -> Shown
         ensures { result ≡ nothing }
     {
         Shown::before_all(alloc, true)
     }
 
-    /// The state before the first step, for one who judges changes alone: no index is kept.
-    pub fn without_index(alloc: Global) -> Shown
+    /// The state before the first step, for one who judges changes alone: no index and no members are kept.
+    pub fn without_parts(alloc: Global) -> Shown
         ensures { result ≡ nothing }
     {
         Shown::before_all(alloc, false)
     }
 
-    fn before_all(alloc: Global, keeps_index: bool) -> Shown
+    fn before_all(alloc: Global, keeps_parts: bool) -> Shown
         ensures { result ≡ nothing }
     {
         Shown {
@@ -99,8 +104,9 @@ impl Shown {
             index: 0,
             hot: 0,
             marks: Vec::new(alloc),
-            keeps_index,
+            keeps_parts,
             built: None,
+            members: None,
         }
     }
 
@@ -121,7 +127,7 @@ impl Shown {
                 self.raise(*floor);
                 Ok(())
             }
-            Step::Marking(marking) => remark(&mut self.marks, marking),
+            Step::Marking(marking) => self.mark(marking),
             Step::Rebase(rev) => self.build(*rev),
         }
     }
@@ -209,13 +215,36 @@ impl Shown {
         Ok(())
     }
 
+    /// Marks a node, or takes its mark away. What there is no memory to keep of its members is solved anew at the next
+    /// marking or taking.
+    fn mark(&mut self, marking: &Marking) -> Result<(), AllocError>
+        ensures ok { OnOk result (self.new ≡ after_step self.old (Step.Marking marking.now)) }
+        ensures err { OnErr result (self.new ≡ self.old) }
+    {
+        remark(&mut self.marks, marking)?;
+        if self.keeps_parts {
+            self.keep_members(marking);
+        }
+        Ok(())
+    }
+
+    fn keep_members(&mut self, marking: &Marking)
+        ensures { self.new ≡ self.old }
+    {
+        let view = self.rows.at(self.hot);
+        self.members = match self.members.take() {
+            Some(hot) => remarked(self.alloc, hot, &view, marking),
+            None => members_of(self.alloc, &view, &self.marks),
+        };
+    }
+
     /// Makes the index anew, of a revision.
     fn build(&mut self, rev: u64) -> Result<(), AllocError>
         requires { base_cause self.old rev ≡ None }
         ensures ok { OnOk result (self.new ≡ after_step self.old (Step.Rebase rev)) }
         ensures err { OnErr result (self.new ≡ self.old) }
     {
-        if !self.keeps_index {
+        if !self.keeps_parts {
             self.rebase(rev);
             return Ok(());
         }
@@ -331,6 +360,11 @@ impl Shown {
         ensures err { IfErr result (CheckCause (snap_at self.now.kept rev) node.now) }
     {
         let view = self.rows.at(rev);
+        if rev == self.hot {
+            if let Some(hot) = &self.members {
+                return decide::check_at(self.alloc, &view, &mut Known { hot }, node, user);
+            }
+        }
         decide::check_at(self.alloc, &view, &mut Nothing, node, user)
     }
 
@@ -513,6 +547,7 @@ impl Shown {
         let rows = Rows::new(self.alloc, loaded)?;
         let newest = rows.newest();
         self.built = None;
+        self.members = None;
         self.rows = rows;
         self.base = newest;
         self.index = newest;
@@ -536,16 +571,41 @@ impl Shown {
     {
         match part {
             Part::Index => self.take_index(commits),
-            Part::Hot => self.hot = self.cursor_after(self.hot, commits),
+            Part::Hot => self.take_hot(commits),
         }
     }
 
     fn take_index(&mut self, commits: u32)
-        ensures { self.new ≡ after_take self.old Index commits }
+        ensures { self.new ≡ after_take self.old Part.Index commits }
     {
         let to = self.cursor_after(self.index, commits);
         self.base = self.rows.last_config(self.base, self.index, to);
         self.index = to;
+    }
+
+    fn take_hot(&mut self, commits: u32)
+        ensures { self.new ≡ after_take self.old Part.Hot commits }
+    {
+        let to = self.cursor_after(self.hot, commits);
+        self.members = if self.keeps_parts {
+            self.members_up_to(to)
+        } else {
+            None
+        };
+        self.hot = to;
+    }
+
+    /// The members of the marked nodes at a revision, which is not below that of the hot table.
+    fn members_up_to(&mut self, to: u64) -> Option<Hot>
+        requires later { self.old.hot ≤ to }
+        requires there { to ≤ newest self.old.kept }
+        ensures members { IfSome result (λ hot. IsHot hot (snap_at self.old.kept to)) }
+        ensures same { self.new ≡ self.old }
+    {
+        match self.members.take() {
+            Some(hot) => members_later(self.alloc, hot, &self.rows, self.hot, to),
+            None => members_of(self.alloc, &self.rows.at(to), &self.marks),
+        }
     }
 
     /// So many commits further, and no further than the newest.

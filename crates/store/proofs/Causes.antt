@@ -22,7 +22,8 @@ use Rattle.meaning.specs.Admits.{admits}
 use Rattle.meaning.specs.History.{replay, puts_in}
 use Rattle.meaning.specs.Verdict.{Newest, or_else, refused_if, at_place, first_from, in_the_way, event_of, is_in_range, is_unknown, is_untyped, is_twice, inserts_again, deletes_nothing, is_full, write_cause}
 use Rattle.meaning.proofs.TupleSets.{tuples_total}
-use Rattle.rows.specs.Follows.{is_in_order, touch_of, touch_kind, commit_cause}
+use Rattle.rows.specs.Ordered.{is_in_order}
+use Rattle.rows.specs.Follows.{touch_of, touch_kind, commit_cause}
 use Rattle.names.specs.declared.commit.Commit.TheVariants as kinds
 use Rattle.store.specs.Written.{Pairwise}
 use Rattle.store.proofs.Picking.{In, all_from, any_no}

@@ -34,4 +34,5 @@ pub mod Transfer
 pub mod Moving
 pub mod RowSteps
 pub mod Slots
+pub mod Ordered
 pub mod Sound

@@ -13,6 +13,7 @@ use Rattle.meaning.specs.Config.{Configured}
 use Rattle.meaning.specs.TupleSet as set
 use Rattle.meaning.specs.History.{rows_of}
 use Rattle.meaning.proofs.TupleSets.{len_items, items_from_list}
+use Rattle.rows.specs.Ordered.{AreOrdered}
 use Rattle.rows.specs.Retained.{Retained, spans_of, IsAdmitted}
 use Rattle.rows.specs.Loads.{retained_of, IsWithin}
 use Rattle.rows.specs.declared.loaded.Loaded.{Loaded}
@@ -30,6 +31,7 @@ use Rattle.store.specs.declared.parts.Head.{Head}
 use Rattle.store.proofs.Apart.{apart, distinct}
 use Rattle.store.proofs.CommitRuns.{length_above}
 use Rattle.store.proofs.Held.{IsWhole, whole_of}
+use Rattle.store.proofs.Ordered.{history_ordered}
 use Rattle.store.proofs.Retaining.{AdmitsSpan, history_admitted}
 use Rattle.store.proofs.Current.{len_alive, len_current}
 use Rattle.store.proofs.Once.{rows_in, history_once}
@@ -45,12 +47,13 @@ built number floor config g tuples ts commits cs p q r =
 len_sorted : (ts : List Tuple) → IsStrictlySortedBy tuple_cmp ts → set.len (set.from_list ts) ≡ length ts
 len_sorted ts sorted = len_items (set.from_list ts) ∙ ap length (items_from_list ts sorted)
 
-pub within : (l : Loaded) (w : Written) (n : ℕ) → IsStrictlySortedBy tuple_cmp l.tuples → l.commits ≡ commits_above w l.floor n → l.floor + n ≤ MAX_REV → length l.tuples + rows_of l.commits ≤ MAX_ROWS → IsAdmitted (retained_of l) → IsWithin l
-within l w n sorted commits revs rows admitted = record {
+pub within : (l : Loaded) (w : Written) (n : ℕ) → IsStrictlySortedBy tuple_cmp l.tuples → l.commits ≡ commits_above w l.floor n → l.floor + n ≤ MAX_REV → length l.tuples + rows_of l.commits ≤ MAX_ROWS → IsAdmitted (retained_of l) → AreOrdered l.commits → IsWithin l
+within l w n sorted commits revs rows admitted ordered = record {
   ordered = sorted;
   revs = let len = ap length commits ∙ length_above w l.floor n in omega (arith, len, revs);
   rows = let len = len_sorted l.tuples sorted in omega (arith, len, rows);
   admitted = admitted;
+  each_ordered = ordered;
 }
 
 -- a history has no more spans than it may
@@ -88,6 +91,10 @@ module _ (head : Head) (spans : List ReadSpan) (configs : List ReadConfig) (is :
   -- each retained revision's tuples are admitted
   pub read_admitted : (r : Retained) → r ≡ history_of (as_written head spans configs) → IsAdmitted r
   read_admitted r same = subst IsAdmitted (sym same) (history_admitted (as_written head spans configs) rows_are admitted)
+
+  -- and each commit's events are in order
+  pub read_ordered : (r : Retained) → r ≡ history_of (as_written head spans configs) → AreOrdered r.commits
+  read_ordered r same = subst (λ (x : Retained). AreOrdered x.commits) (sym same) (history_ordered (as_written head spans configs) rows_are)
 
   -- what was read
   pub sound : All (λ c. IsConfigAt head.newest (as_config c)) configs → (r : Retained) → r ≡ history_of (as_written head spans configs) → spans_of r ≤ MAX_ROWS → current spans ≤ MAX_TUPLES

@@ -6,6 +6,7 @@ use Rattle.meaning.specs.Config.{Configured}
 use Rattle.rows.specs.Retained.{Retained, newest, with_commit, after_trim, HasRoom}
 use Rattle.rows.proofs.Admitting.{admitted_with, admitted_after_trim}
 use Rattle.rows.proofs.Committing.{rows_push, length_push, tuples_within}
+use Rattle.rows.proofs.Ordering.{ordered_push, ordered_drop}
 use Rattle.rows.proofs.Trimming.{spans_split}
 use Rattle.tables.specs.Limits.{IsLoadable}
 
@@ -15,19 +16,34 @@ stays_within r c within room =
     let rows = rows_push r.commits c in
     let revs = room.revs in
     let more = room.rows in
-    let few = within.1 in
-    (omega (arith, one, revs), omega (arith, rows, more, few), admitted_with r c within.2 room.admitted)
+    let few = within.rows in
+    record {
+      revs = omega (arith, one, revs);
+      rows = omega (arith, rows, more, few);
+      admitted = admitted_with r c within.admitted room.admitted;
+      each_ordered = ordered_push r.commits c within.each_ordered room.ordered;
+    }
 
 -- so does a higher floor
 pub trims_within : (r : Retained) (floor : ℕ) → r.floor ≤ floor → floor ≤ newest r → IsLoadable r → IsLoadable (after_trim r floor)
 trims_within r floor low high within =
-    let revs = within.0 in
-    let few = within.1 in
+    let revs = within.revs in
+    let few = within.rows in
     let left = length-drop (floor - r.floor) r.commits in
     let split = spans_split r floor in
     let fewer = tuples_within r.base (take (floor - r.floor) r.commits) in
-    (omega (arith, left, low, high, revs), omega (arith, split, fewer, few), admitted_after_trim r floor within.2)
+    record {
+      revs = omega (arith, left, low, high, revs);
+      rows = omega (arith, split, fewer, few);
+      admitted = admitted_after_trim r floor within.admitted;
+      each_ordered = ordered_drop (floor - r.floor) r.commits within.each_ordered;
+    }
 
 -- and another number
 pub renumbered : (r : Retained) (number : ℕ) → IsLoadable r → IsLoadable (record { number = number; floor = r.floor; base = r.base; commits = r.commits })
-renumbered r number within = (within.0, within.1, λ rev is. within.2 rev (record { not_below = is.not_below; not_above = is.not_above }))
+renumbered r number within = record {
+  revs = within.revs;
+  rows = within.rows;
+  admitted = λ rev is. within.admitted rev (record { not_below = is.not_below; not_above = is.not_above });
+  each_ordered = within.each_ordered;
+}

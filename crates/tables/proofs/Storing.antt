@@ -93,7 +93,12 @@ sorted_items s = sorted_keys (finite.entries s) (finite.entries_sorted s)
 none_within : (number : ℕ) (h : History) → h ≡ [] → IsLoadable (store_from number h)
 none_within number h none =
     let few = finite.len-empty tuple_cmp (Unit {0}) in
-    subst (λ (xs : History). IsLoadable (store_from number xs)) (sym none) (omega arith, omega (arith, few), of_all (store_from number []) (none_admitted empty_config))
+    subst (λ (xs : History). IsLoadable (store_from number xs)) (sym none) (record {
+      revs = omega arith;
+      rows = omega (arith, few);
+      admitted = of_all (store_from number []) (none_admitted empty_config);
+      each_ordered = refl;
+    })
 
 pub none_is : (number : ℕ) (rows : Retained) (h : History) → rows ≡ empty_store 0 → h ≡ [] → listed number rows h ≡ empty_store number
 none_is number rows h empty none = ap (λ (r : Retained). listed number r h) empty ∙ ap (listed number (empty_store 0)) none
@@ -111,7 +116,7 @@ pushed_listed number rows t xs ys zs c d rev puts is held can room same copy pus
     let all : xs ++ d ∷ [] ≡ zs = cc in
     subst (IsListed number rows) all (record {
       first = held.first ∙ sym (take-append-le (length rows.commits) xs (d ∷ []) (first_fits rows.commits xs held.first));
-      loadable = stays_within (listed number rows xs) d held.loadable (room (listed number rows xs) d (newest_admitted (listed number rows xs) held.loadable.2) next);
+      loadable = stays_within (listed number rows xs) d held.loadable (room (listed number rows xs) d (newest_admitted (listed number rows xs) held.loadable.admitted) next);
     })
 
 -- ---- as it is loaded
@@ -125,7 +130,7 @@ retained_loaded number rows h = ap (λ (s : Tuples). record { number = number; f
 pub within_loaded : (number : ℕ) (rows : Retained) (h : History) → IsLoadable (listed number rows h) → IsWithin (loaded_of number rows h)
 within_loaded number rows h loadable =
     let all : IsLoadable (retained_of (loaded_of number rows h)) = subst IsLoadable (sym (retained_loaded number rows h)) loadable in
-    record { ordered = sorted_items rows.base.tuples; revs = all.0; rows = all.1; admitted = all.2 }
+    record { ordered = sorted_items rows.base.tuples; revs = all.revs; rows = all.rows; admitted = all.admitted; each_ordered = all.each_ordered }
 
 same_loaded : (number f g : ℕ) (c d : Configured) (ts us : List Tuple) (h k : History) → f ≡ g → c ≡ d → ts ≡ us → h ≡ k
     → ◌≡◌ {A = Loaded} (record { number = number; floor = f; config = c; tuples = ts; commits = h }) (record { number = number; floor = g; config = d; tuples = us; commits = k })

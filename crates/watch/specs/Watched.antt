@@ -2,7 +2,11 @@
 use Rattle.std.specs.Prelude.{◌≡◌, ◌<◌, ◌+◌, ℕ, Bool, true, List, [], ◌∷◌, ◌++◌, map, filter, min}
 use Rattle.std.specs.Prelude.{nat_eq}
 use Rattle.std.specs.List.{list_any}
+use Rattle.std.specs.List.Sorted.{IsStrictlySortedBy}
+use Rattle.std.specs.Ordering.{nat_cmp, ordering_then}
+use Rattle.std.specs.declared.cmp.Ordering.{Ordering}
 use Rattle.std.specs.Cmp.Lexicographic.{pointwise}
+use Rattle.names.specs.Order.{tuple_cmp}
 use Rattle.names.specs.declared.tuple.Tuple.{Tuple}
 use Rattle.names.specs.declared.commit.Event.{Event}
 use Rattle.names.specs.declared.commit.Commit.{Commit}
@@ -40,11 +44,16 @@ abbrev pub watched : Namespaces → ℕ → History → List WatchedEvent
 watched n above [] = []
 watched n above (c ∷ cs) = watched_in n (above + 1) c ++ watched n (above + 1) cs
 
+-- by revision, and those of one revision by tuple
+abbrev pub watched_cmp : WatchedEvent → WatchedEvent → Ordering
+watched_cmp v w = ordering_then (nat_cmp v.rev w.rev) (tuple_cmp v.event.tuple w.event.tuple)
+
 -- The heartbeat is so many commits above the cursor, or the newest revision, and the events are all that are watched
--- between the two.
+-- between the two: in order, and none twice.
 pub record IsPage (r : Retained) (cursor : ℕ) (n : Namespaces) (commits : ℕ) (page : Page) : Type 0 where
   pub heartbeat : page.heartbeat ≡ min (cursor + commits) (newest r)
   pub events : page.events ≡ watched n cursor (commits_between r cursor page.heartbeat)
+  pub ordered : IsStrictlySortedBy watched_cmp page.events
 
 -- the cursor is above the newest revision, or below the floor; or there was no memory
 abbrev pub PageRefused : Retained → ℕ → Refusal → Type 0

@@ -19,8 +19,7 @@ pub struct WatchedEvent {
     pub event: Event,
 }
 
-/// The events of some whole commits: by revision, and those of one revision in the order of its commit, which is
-/// that of tuples.
+/// The events of some whole commits: by revision, and those of one revision by tuple.
 #[derive(Debug, Drop)]
 pub struct Page {
     pub events: Items<WatchedEvent>,

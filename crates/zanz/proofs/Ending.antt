@@ -19,7 +19,7 @@ use Rattle.command_line.specs.declared.fault.Fault.{Fault}
 use Rattle.command_line.specs.declared.fault.Fault.TheVariants.{CommandLine, Refused, CannotRead, CannotWrite, CannotListen}
 use Rattle.runs.specs.Files.{Remains, HoldsOneOf, HoldsAmong}
 use Rattle.zanz.specs.Telling.{Tells}
-use Rattle.zanz.specs.Ends.{unbroken, untouched, Remnant, HoldWhatWasKept, IsClosed, EndsWith, IsUnbegun}
+use Rattle.zanz.specs.Ends.{unbroken, untouched, Remnant, IsClosed, EndsWith, IsUnbegun}
 use Rattle.zanz.specs.Ran.{Obeyed, Stopped}
 
 -- ---- the files

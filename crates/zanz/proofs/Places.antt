@@ -1,5 +1,5 @@
 -- What ended, or was refused, at a place.
-use Rattle.std.proofs.Common.{◌≡◌, ◌⊎◌, ℕ, List, Global, String, refl, sym, subst, ◌∙◌, inl, inr, arith}
+use Rattle.std.proofs.Common.{◌≡◌, ℕ, List, Global, String, refl, sym, subst, inl, inr, arith}
 use Rattle.std.specs.Prelude.{Option, Some, None, Result, Ok, Err, IfOk, IsOkAnd}
 use Rattle.sqlite_disk.specs.declared.Disk as disk
 use Rattle.sqlite_wal.specs.Recovery.{Image}

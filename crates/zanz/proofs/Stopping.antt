@@ -1,5 +1,5 @@
 -- Why a task was not done, or that it was.
-use Rattle.std.proofs.Common.{◌≡◌, ◌≢◌, ◌⊎◌, ℕ, List, Global, String, Option, true, refl, sym, ap, subst, ◌∙◌, arith}
+use Rattle.std.proofs.Common.{◌≡◌, ℕ, List, Option, refl, sym, ap, subst, ◌∙◌, arith}
 use Rattle.std.specs.Prelude.{None, Result, Err, IfErr}
 use Rattle.sqlite_disk.specs.declared.Disk as disk
 use Rattle.sqlite_wal.specs.Recovery.{Image}
@@ -10,11 +10,11 @@ use Rattle.command_line.specs.declared.fault.Fault.{Fault}
 use Rattle.command_line.specs.declared.fault.Fault.TheVariants.{CommandLine, Refused, CannotRead, CannotWrite, CannotListen}
 use Rattle.command_line.specs.declared.words.Place.{Place}
 use Rattle.command_line.specs.declared.words.Task.{Task}
-use Rattle.command_line.specs.declared.words.Task.TheVariants.{Run, Serve, Config}
+use Rattle.command_line.specs.declared.words.Task.TheVariants.{Run, Serve}
 use Rattle.runs.specs.Files.{Remains}
 use Rattle.runs.specs.Runs.{is_read_fault, is_write_fault}
-use Rattle.zanz.specs.Listening.{Announced, StoppedServing}
-use Rattle.zanz.specs.Ran.{all_lines, whole_lines, first_lines, RanAt, RefusedAt, RunStopped, input_failed, output_failed, run_refused, Reported, BeganReport, IsReport, DoneOf, StoppedOf}
+use Rattle.zanz.specs.Listening.{Announced, IsStartFault, StoppedServing}
+use Rattle.zanz.specs.Ran.{all_lines, whole_lines, first_lines, RanAt, RefusedAt, RunStopped, input_failed, output_failed, run_refused, DoneOf, StoppedOf}
 use Rattle.zanz.proofs.Results.{err_at}
 
 module _ {R W D : Type 0} {g : disk.Ghosts D} (image : Image) (remaining : R → Option (List ℕ)) (contents : W → Option (List ℕ)) (reader reader_after : TrackedReading R) (writer writer_after : TrackedWriting W) (left : Remains g) where
@@ -28,7 +28,7 @@ module _ {R W D : Type 0} {g : disk.Ghosts D} (image : Image) (remaining : R →
     pub done_service : (task : Task) (port : ℕ) (workers : Option ℕ) → task ≡ Serve place port workers → reader_after ≡ reader → Announced contents writer writer_after → left ≡ Err None → Done task
     done_service task port workers is same announced none = subst Done (sym is) (same, announced, none)
 
-    pub service_stops : (task : Task) (port : ℕ) (workers : Option ℕ) (fault : Fault) → task ≡ Serve place port workers → reader_after ≡ reader → StoppedServing contents writer writer_after → left ≡ Err None → StoppedBy fault task
+    pub service_stops : (task : Task) (port : ℕ) (workers : Option ℕ) (fault : Fault) → task ≡ Serve place port workers → reader_after ≡ reader → StoppedServing contents fault writer writer_after → left ≡ Err None → StoppedBy fault task
     service_stops task port workers fault is same stopped none = subst (StoppedBy fault) (sym is) (same, stopped, none)
 
     pub done_run : (task : Task) → task ≡ Run place → RanAt image all_lines place remaining contents (reader, writer) (reader_after, writer_after) left → Done task
@@ -46,7 +46,7 @@ module _ {R W D : Type 0} {g : disk.Ghosts D} (image : Image) (remaining : R →
     stopped_run : (A : Type 0) (fault : Fault) → IsRunFault fault → reader_after.failed ≡ is_read_fault {A = A} (Err fault) → writer_after.failed ≡ is_write_fault {A = A} (Err fault)
         → CannotReadOn fault → CannotWriteOn fault → IsRefused fault → RunStopped image place fault remaining contents (reader, writer) (reader_after, writer_after) left
     stopped_run A CommandLine run unread unwritten paused cut refused = absurd run
-    stopped_run A (Refused why) run unread unwritten paused cut refused = let k = refused why refl in run_refused k.0 k.1 k.2
+    stopped_run A (Refused why) run unread unwritten paused cut refused = let k = refused why refl in run_refused why refl run k.0 k.1 k.2
     stopped_run A CannotRead run unread unwritten paused cut refused = input_failed refl unread unwritten (paused refl)
     stopped_run A CannotWrite run unread unwritten paused cut refused = output_failed refl unread unwritten (cut refl)
     stopped_run A CannotListen run unread unwritten paused cut refused = absurd run
@@ -56,6 +56,10 @@ module _ {R W D : Type 0} {g : disk.Ghosts D} (image : Image) (remaining : R →
     run_stops {A} task r fault is told run unread unwritten paused cut refused = subst (StoppedBy fault) (sym is)
         (stopped_run A fault (err_at IsRunFault r fault told run) (unread ∙ ap (λ (s : Result A Fault). is_read_fault s) told) (unwritten ∙ ap (λ (s : Result A Fault). is_write_fault s) told)
         (err_at CannotReadOn r fault told paused) (err_at CannotWriteOn r fault told cut) (err_at IsRefused r fault told refused))
+
+-- a store that cannot be opened keeps a service from being begun
+pub start_fault : (fault : Fault) → (why : Refusal) × (fault ≡ Refused why) → IsRunFault fault → IsStartFault fault
+start_fault fault refused run = subst IsStartFault (sym refused.1) (subst IsRunFault refused.1 run)
 
 -- a fault ends with another status than 0
 pub never_0 : (fault : Fault) → ¬ (fault_status fault ≡ 0)

@@ -1,5 +1,5 @@
 -- What standard error is told.
-use Rattle.std.proofs.Common.{◌≡◌, List, ℕ, [], Bool, true, false, inl, inr, sym, subst, ap, append_assoc, ◌++◌, ◌∙◌}
+use Rattle.std.proofs.Common.{◌≡◌, List, ℕ, [], true, false, inl, inr, sym, subst, ap, append_assoc, ◌++◌, ◌∙◌}
 use Rattle.std.specs.Prelude.{Result, Ok, Err, Option, Some, None, OnOk}
 use Rattle.std.specs.Io.KnownBytes.{Appends, Keeps}
 use Rattle.std.proofs.lemmas.List.{append-nil}

@@ -3,6 +3,10 @@ use Rattle.std.specs.Prelude.{ℕ, ◌≡◌, ◌⊎◌, true, false, ◌++◌, 
 use Rattle.std.specs.Io.KnownBytes.{Appends}
 use Rattle.tracked_io.specs.Tracking.{TrackedWriting}
 use Rattle.tracked_io.specs.Wrote.{WroteSome}
+use Rattle.names.specs.declared.refusal.Refusal.TheVariants.{Memory, NoSeat}
+use Rattle.tables.specs.Opening.{CannotOpen}
+use Rattle.command_line.specs.declared.fault.Fault.{Fault}
+use Rattle.command_line.specs.declared.fault.Fault.TheVariants.{Refused, CannotWrite, CannotListen}
 
 -- the line that says on which port it listens
 abbrev pub listening_line : ℕ → List ℕ
@@ -16,6 +20,22 @@ Announced contents old new = (port : ℕ) × Appends (contents old.inner) (conte
 abbrev pub BeganAnnounced : {W : Type 0} → (W → Option (List ℕ)) → TrackedWriting W → TrackedWriting W → Type 0
 BeganAnnounced contents old new = (port : ℕ) × WroteSome (contents old.inner) (contents new.inner) (listening_line port)
 
--- It was said and handed on, and no worker could be made; or a beginning of it was said, where the writer failed; or nothing was.
-abbrev pub StoppedServing : {W : Type 0} → (W → Option (List ℕ)) → TrackedWriting W → TrackedWriting W → Type 0
-StoppedServing contents old new = ((new.failed ≡ false) × (new.flushed ≡ true) × Announced contents old new) ⊎ (((new.failed ≡ true) × BeganAnnounced contents old new) ⊎ (new ≡ old))
+-- the store cannot be opened, or memory is refused, or the port cannot be had
+abbrev pub IsStartFault : Fault → Type 0
+IsStartFault (Refused why) = CannotOpen why
+IsStartFault CannotListen = Unit {0}
+IsStartFault _ = ⊥
+
+-- all sessions were given out, or memory is refused
+abbrev pub IsWorkerFault : Fault → Type 0
+IsWorkerFault (Refused NoSeat) = Unit {0}
+IsWorkerFault (Refused Memory) = Unit {0}
+IsWorkerFault _ = ⊥
+
+-- For this fault it was not said: a beginning of it was, where the writer failed; or nothing was, for want of a store or a port.
+abbrev pub NotAnnounced : {W : Type 0} → (W → Option (List ℕ)) → Fault → TrackedWriting W → TrackedWriting W → Type 0
+NotAnnounced contents fault old new = ((fault ≡ CannotWrite) × (new.failed ≡ true) × BeganAnnounced contents old new) ⊎ (IsStartFault fault × (new ≡ old))
+
+-- It was said and handed on, and no worker could be made; or it was not said.
+abbrev pub StoppedServing : {W : Type 0} → (W → Option (List ℕ)) → Fault → TrackedWriting W → TrackedWriting W → Type 0
+StoppedServing contents fault old new = (IsWorkerFault fault × (new.failed ≡ false) × (new.flushed ≡ true) × Announced contents old new) ⊎ NotAnnounced contents fault old new

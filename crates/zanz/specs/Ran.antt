@@ -5,15 +5,17 @@ use Rattle.sqlite_disk.specs.declared.Disk as disk
 use Rattle.sqlite_wal.specs.Recovery.{Image}
 use Rattle.sqlite.specs.State.{HasCleanDisk}
 use Rattle.sqlite.specs.Files.{file_state, over_files}
+use Rattle.names.specs.declared.refusal.Refusal.{Refusal}
 use Rattle.names.specs.declared.refusal.Refusal.TheVariants.{StoreFault}
 use Rattle.rows.specs.Retained.{Retained, empty_store}
 use Rattle.tables.specs.Device.{Lasts, sound_device}
+use Rattle.tables.specs.Opening.{CannotOpen}
 use Rattle.tables.specs.declared.tables.Tables as tables
 use Rattle.desk.specs.Posts.{Posts}
 use Rattle.store.specs.History.{device_below}
 use Rattle.tracked_io.specs.Tracking.{TrackedReading, TrackedWriting, Reads, ReadsAll}
 use Rattle.tracked_io.specs.Wrote.{WroteSome}
-use Rattle.command_line.specs.Faults.{fault_status, IsLineFault}
+use Rattle.command_line.specs.Faults.{fault_status, IsLineFault, IsFileFault}
 use Rattle.command_line.specs.Report.{Reports}
 use Rattle.command_line.specs.Words.{OnServe}
 use Rattle.command_line.specs.declared.fault.Fault.{Fault}
@@ -96,12 +98,12 @@ pub record RefusedAt {D : Type 0} {g : disk.Ghosts D} (image : Image) (place : P
   pub lasts : IfOk left (λ conn. Lasts sound_device (device_below over_files conn))
 
 -- Why a run ended early: the input could not be read on, and no write had failed; the output could not be written on, and no read
--- had failed; or nothing was read or written, since it was refused.
+-- had failed; or nothing was read or written, since it was refused, for want of memory or for a fault of the store.
 pub data RunStopped {R W D : Type 0} {g : disk.Ghosts D} (image : Image) (place : Place) (fault : Fault) (remaining : R → Option (List ℕ)) (contents : W → Option (List ℕ))
     (old new : TrackedReading R × TrackedWriting W) (left : Remains g) : Type 0 where
   input_failed : fault ≡ CannotRead → new.0.failed ≡ true → new.1.failed ≡ false → RanAt image whole_lines place remaining contents old new left → RunStopped image place fault remaining contents old new left
   output_failed : fault ≡ CannotWrite → new.0.failed ≡ false → new.1.failed ≡ true → RanAt image first_lines place remaining contents old new left → RunStopped image place fault remaining contents old new left
-  run_refused : new.0 ≡ old.0 → new.1 ≡ old.1 → RefusedAt image place fault left → RunStopped image place fault remaining contents old new left
+  run_refused : (why : Refusal) → fault ≡ Refused why → CannotOpen why → new.0 ≡ old.0 → new.1 ≡ old.1 → RefusedAt image place fault left → RunStopped image place fault remaining contents old new left
 
 -- ---- a report
 
@@ -112,6 +114,11 @@ Reported contents accepted old new = (bytes : List ℕ) × (text : List ℕ) × 
 -- a beginning of one was
 abbrev pub BeganReport : {W : Type 0} → (W → Option (List ℕ)) → TrackedWriting W → TrackedWriting W → Type 0
 BeganReport contents old new = (bytes : List ℕ) × (accepted : Bool) × (text : List ℕ) × Reports bytes accepted text × WroteSome (contents old.inner) (contents new.inner) text
+
+-- For this fault it was not written: a beginning of it was, where the writer failed; or nothing was, since the file could not be
+-- read, or for want of memory.
+abbrev pub StoppedReport : {W : Type 0} → (W → Option (List ℕ)) → Fault → TrackedWriting W → TrackedWriting W → Type 0
+StoppedReport contents fault old new = ((fault ≡ CannotWrite) × (new.failed ≡ true) × BeganReport contents old new) ⊎ (IsFileFault fault × (new ≡ old))
 
 -- ---- any task
 
@@ -132,11 +139,11 @@ DoneOf image (Config file) remaining contents (reader, writer) (reader_after, wr
 DoneOf image _ remaining contents (reader, writer) (reader_after, writer_after) left = (reader_after ≡ reader) × Announced contents writer writer_after × (left ≡ Err None)
 
 -- For this fault it was not done, or not to its end. Of a report, or of the line that says where the program listens, a beginning
--- was written where the writer failed, and else nothing; or it listened, and could make no worker.
+-- was written where the writer failed, and else nothing; or it listened, and could make no worker. The fault is one that was met.
 abbrev pub StoppedOf : {R W D : Type 0} {g : disk.Ghosts D} → Image → Task → Fault → (R → Option (List ℕ)) → (W → Option (List ℕ)) → TrackedReading R × TrackedWriting W → TrackedReading R × TrackedWriting W → Remains g → Type 0
 StoppedOf image (Run place) fault remaining contents old new left = RunStopped image place fault remaining contents old new left
-StoppedOf image (Config file) fault remaining contents (reader, writer) (reader_after, writer_after) left = (reader_after ≡ reader) × (((writer_after.failed ≡ true) × BeganReport contents writer writer_after) ⊎ (writer_after ≡ writer)) × (left ≡ Err None)
-StoppedOf image _ fault remaining contents (reader, writer) (reader_after, writer_after) left = (reader_after ≡ reader) × StoppedServing contents writer writer_after × (left ≡ Err None)
+StoppedOf image (Config file) fault remaining contents (reader, writer) (reader_after, writer_after) left = (reader_after ≡ reader) × StoppedReport contents fault writer writer_after × (left ≡ Err None)
+StoppedOf image _ fault remaining contents (reader, writer) (reader_after, writer_after) left = (reader_after ≡ reader) × StoppedServing contents fault writer writer_after × (left ≡ Err None)
 
 -- ---- any words
 

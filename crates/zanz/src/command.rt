@@ -6,8 +6,8 @@ ghost use Rattle.command_line.specs.declared.fault.Fault.TheVariants.{Refused};
 ghost use Rattle.command_line.specs.Faults.{IsRunFault, IsLineFault};
 ghost use Rattle.command_line.specs.Words.{asks_to_serve, OnServe};
 ghost use Rattle.runs.specs.Runs.{is_read_fault, is_write_fault};
-ghost use Rattle.zanz.specs.Listening.{Announced, BeganAnnounced, StoppedServing};
-ghost use Rattle.zanz.specs.Ran.{AreWhole, RanAt, RefusedAt, Reported, BeganReport, IsReport, DoneOf, StoppedOf, Obeyed, Stopped, all_lines, whole_lines, first_lines};
+ghost use Rattle.zanz.specs.Listening.{Announced, NotAnnounced, StoppedServing};
+ghost use Rattle.zanz.specs.Ran.{AreWhole, RanAt, RefusedAt, Reported, StoppedReport, IsReport, DoneOf, StoppedOf, Obeyed, Stopped, all_lines, whole_lines, first_lines};
 ghost use Rattle.zanz.specs.Telling.{Tells};
 
 use crate::listening::serve;
@@ -15,8 +15,9 @@ use crate::place::{is_number, is_there};
 use crate::sharing::{share, share_over, workers_of_machine};
 use crate::telling::tell;
 use command_line::{Fault, Place, Task, read_file, report_of, task_of};
+use keeper::Answering;
 use names::Refusal;
-use runs::{Answering, Left, open_in, run, run_in, tables_in};
+use runs::{Left, open_in, run, run_in, tables_in};
 use sqlite::Start;
 use std::alloc::Global;
 use std::env::Args;
@@ -45,8 +46,7 @@ fn report<F: Files, W: Write>(
     ensures line { IfErr result (λ fault. fault ≢ Fault.CommandLine) }
 
     // A beginning of it was written where the writer failed, and else nothing.
-    ensures failed { IfErr result (λ _. (writer.new.failed ≡ true) × BeganReport W.contents writer.old writer.new
-        ⊎ (writer.new ≡ writer.old)) }
+    ensures failed { IfErr result (λ fault. StoppedReport W.contents fault writer.old writer.new) }
 {
     let bytes = read_file(alloc, files, path)?;
     let report = report_of(alloc, &bytes)?;
@@ -121,8 +121,7 @@ fn serve_alone_at<
     ensures ok { OnOk result (Announced W.contents writer.old writer.new) }
     ensures whole { OnOk result ((writer.new.failed ≡ false) × (writer.new.flushed ≡ true)) }
     ensures line { IfErr result (λ fault. fault ≢ Fault.CommandLine) }
-    ensures failed { IfErr result (λ _. (writer.new.failed ≡ true) × BeganAnnounced W.contents writer.old writer.new
-        ⊎ (writer.new ≡ writer.old)) }
+    ensures failed { IfErr result (λ fault. NotAnnounced W.contents fault writer.old writer.new) }
 {
     match place {
         Place::Memory { store } => {
@@ -175,7 +174,7 @@ fn share_in<
     ensures ok { OnOk result (Announced W.contents writer.old writer.new) }
     ensures whole { OnOk result ((writer.new.failed ≡ false) × (writer.new.flushed ≡ true)) }
     ensures line { IfErr result (λ fault. fault ≢ Fault.CommandLine) }
-    ensures failed { IfErr result (λ _. StoppedServing W.contents writer.old writer.new) }
+    ensures failed { IfErr result (λ fault. StoppedServing W.contents fault writer.old writer.new) }
 {
     match tables_in(rt, file, store, start) {
         Ok(tables) => share_over(rt.alloc(), net, wait, tables, port, workers, writer),
@@ -203,7 +202,7 @@ fn serve_shared_at<
     ensures ok { OnOk result (Announced W.contents writer.old writer.new) }
     ensures whole { OnOk result ((writer.new.failed ≡ false) × (writer.new.flushed ≡ true)) }
     ensures line { IfErr result (λ fault. fault ≢ Fault.CommandLine) }
-    ensures failed { IfErr result (λ _. StoppedServing W.contents writer.old writer.new) }
+    ensures failed { IfErr result (λ fault. StoppedServing W.contents fault writer.old writer.new) }
 {
     match place {
         Place::Memory { store } => {
@@ -264,7 +263,7 @@ fn serve_at<
     ensures ok { OnOk result (Announced W.contents writer.old writer.new) }
     ensures whole { OnOk result ((writer.new.failed ≡ false) × (writer.new.flushed ≡ true)) }
     ensures line { IfErr result (λ fault. fault ≢ Fault.CommandLine) }
-    ensures failed { IfErr result (λ _. StoppedServing W.contents writer.old writer.new) }
+    ensures failed { IfErr result (λ fault. StoppedServing W.contents fault writer.old writer.new) }
 {
     let workers = match workers {
         Some(workers) => workers,

@@ -4,14 +4,15 @@ ghost use Rattle.std.specs.Io.KnownBytes.{Appends};
 ghost use Rattle.http_api.specs.Routes.{table};
 ghost use Rattle.tracked_io.specs.Wrote.{WroteSome};
 ghost use Rattle.runs.specs.Connections.{StaysServing};
-ghost use Rattle.zanz.specs.Listening.{Announced, BeganAnnounced, listening_line};
+ghost use Rattle.zanz.specs.Listening.{Announced, IsStartFault, NotAnnounced, listening_line};
 
 use answers::End;
 use command_line::Fault;
 use http_api::routes;
+use keeper::Answering;
 use matchit::Router;
 use names::{Call, Refusal};
-use runs::{Answering, talk};
+use runs::talk;
 use server::{sides_of, take_leave};
 use std::alloc::{AllocError, Global};
 use std::io::Write;
@@ -43,8 +44,7 @@ pub(crate) fn announce<W: Write>(
     ensures line { IfErr result (λ fault. fault ≢ Fault.CommandLine) }
 
     // A beginning of it was written where the writer failed, and else nothing.
-    ensures failed { IfErr result (λ _. (writer.new.failed ≡ true) × BeganAnnounced W.contents writer.old writer.new
-        ⊎ (writer.new ≡ writer.old)) }
+    ensures failed { IfErr result (λ fault. NotAnnounced W.contents fault writer.old writer.new) }
 {
     let line = line_of(alloc, port)?;
     let Ok(()) = say(writer, line.as_bytes()) else {
@@ -58,7 +58,8 @@ pub(crate) fn listen<N: Net<Listener = TcpListener, Stream = TcpStream>>(
     net: &N,
     port: u16,
 ) -> Result<(TcpListener, u16), Fault>
-    ensures { IfErr result (λ fault. fault ≡ Fault.CannotListen) }
+    ensures cause { IfErr result (λ fault. fault ≡ Fault.CannotListen) }
+    ensures start { IfErr result IsStartFault }
 {
     let Ok(listener) = TcpListener::bind(net, (Ipv4Addr::LOCALHOST, port)) else {
         return Err(Fault::CannotListen);
@@ -125,8 +126,7 @@ pub fn serve<
     ensures ok { OnOk result (Announced W.contents writer.old writer.new) }
     ensures whole { OnOk result ((writer.new.failed ≡ false) × (writer.new.flushed ≡ true)) }
     ensures line { IfErr result (λ fault. fault ≢ Fault.CommandLine) }
-    ensures failed { IfErr result (λ _. (writer.new.failed ≡ true) × BeganAnnounced W.contents writer.old writer.new
-        ⊎ (writer.new ≡ writer.old)) }
+    ensures failed { IfErr result (λ fault. NotAnnounced W.contents fault writer.old writer.new) }
     ensures goes_on { StaysServing T.Tables answering.old answering.new }
 {
     let Ok(routes) = routes(rt.alloc()) else {

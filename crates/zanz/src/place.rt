@@ -4,6 +4,7 @@ ghost use Rattle.std.specs.IoError.{error_kind};
 ghost use Rattle.names.specs.declared.refusal.Refusal.{Refusal};
 ghost use Rattle.command_line.specs.declared.fault.Fault.TheVariants.{Refused};
 ghost use Rattle.command_line.specs.Faults.{IsRunFault};
+ghost use Rattle.zanz.specs.Listening.{IsStartFault};
 
 use command_line::Fault;
 use names::Refusal;
@@ -24,6 +25,7 @@ pub fn is_there<F: Drop>(opened: io::Result<F>) -> Result<(), Fault>
     ensures missing { IfErr opened (λ e. error_kind e ≢ ErrorKind.OutOfMemory → result ≡ Err (Refused Refusal.StoreFault)) }
     ensures cause { IfErr result IsRunFault }
     ensures refused { IfErr result (λ fault. (why : Refusal) × (fault ≡ Refused why)) }
+    ensures start { IfErr result IsStartFault }
 {
     match opened {
         Ok(_) => Ok(()),

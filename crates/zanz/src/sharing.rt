@@ -5,9 +5,9 @@ ghost use Rattle.zanz.specs.Listening.{Announced, StoppedServing};
 
 use crate::listening::{announce, listen};
 use command_line::{Fault, MAX_WORKERS};
-use front::Keeper;
+use front::{Gate, Keeper};
 use published::{Naming, Opened};
-use server::{Gate, run};
+use server::run;
 use sqlite::Alter;
 use std::alloc::Global;
 use std::io::Write;
@@ -72,7 +72,7 @@ fn serve_by_many<
     ensures whole { OnOk result ((writer.new.failed ≡ false) × (writer.new.flushed ≡ true)) }
     ensures line { IfErr result (λ fault. fault ≢ Fault.CommandLine) }
 
-    ensures failed { IfErr result (λ _. StoppedServing W.contents writer.old writer.new) }
+    ensures failed { IfErr result (λ fault. StoppedServing W.contents fault writer.old writer.new) }
 {
     let keeper = match Keeper::<T, J, H>::open(alloc, wait, opened, tables) {
         Ok(keeper) => keeper,
@@ -106,7 +106,7 @@ pub fn share<
     ensures ok { OnOk result (Announced W.contents writer.old writer.new) }
     ensures whole { OnOk result ((writer.new.failed ≡ false) × (writer.new.flushed ≡ true)) }
     ensures line { IfErr result (λ fault. fault ≢ Fault.CommandLine) }
-    ensures failed { IfErr result (λ _. StoppedServing W.contents writer.old writer.new) }
+    ensures failed { IfErr result (λ fault. StoppedServing W.contents fault writer.old writer.new) }
 {
     let opened = Opened::new();
     let workers = workers as usize;
@@ -132,7 +132,7 @@ pub fn share_over<
     ensures ok { OnOk result (Announced W.contents writer.old writer.new) }
     ensures whole { OnOk result ((writer.new.failed ≡ false) × (writer.new.flushed ≡ true)) }
     ensures line { IfErr result (λ fault. fault ≢ Fault.CommandLine) }
-    ensures failed { IfErr result (λ _. StoppedServing W.contents writer.old writer.new) }
+    ensures failed { IfErr result (λ fault. StoppedServing W.contents fault writer.old writer.new) }
 {
     share(alloc, net, wait, tables, port, workers, writer)
 }

@@ -56,6 +56,7 @@ pub(crate) fn answer_catch_up<T: Tables + Drop, R: Wait + Drop>(
 ) -> Reply
     requires { Begins (shown_by desk.old) session.old }
     ensures step { CatchUpStep T.Tables desk.old body.now (told result) desk.new }
+    ensures kept { Begins session.old session.new }
     ensures known { Begins (shown_by desk.new) session.new }
 {
     match catch_up_body(alloc, body) {

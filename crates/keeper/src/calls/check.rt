@@ -36,6 +36,7 @@ fn ask<T: Tables + Drop, R: Wait + Drop>(
         (IsAnswer (standing desk.new.shown) consistency.now node.now user.now) }
     ensures err { IfErr result (IsRefusal (standing desk.new.shown) consistency.now node.now) }
     ensures shows { OnlyShows desk.old desk.new }
+    ensures kept { Begins session.old session.new }
     ensures known { Begins (shown_by desk.new) session.new }
 {
     let asked = desk.check(consistency, node, user);
@@ -55,6 +56,7 @@ pub(crate) fn answer_check<T: Tables + Drop, R: Wait + Drop>(
 ) -> Reply
     requires { Begins (shown_by desk.old) session.old }
     ensures step { CheckStep desk.old body.now (told result) desk.new }
+    ensures kept { Begins session.old session.new }
     ensures known { Begins (shown_by desk.new) session.new }
 {
     let (consistency, node, user) = match check_body(alloc, body) {

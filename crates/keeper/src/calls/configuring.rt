@@ -52,6 +52,7 @@ pub(crate) fn answer_config<T: Tables + Drop, R: Wait + Drop>(
 ) -> Reply
     requires { Begins (shown_by desk.old) session.old }
     ensures step { ConfigStep T.Tables desk.old body.now (told result) desk.new }
+    ensures kept { Begins session.old session.new }
     ensures known { Begins (shown_by desk.new) session.new }
 {
     match Config::from_json(alloc, body) {

@@ -40,6 +40,7 @@ fn ask_for_tree<T: Tables + Drop, R: Wait + Drop>(
     ensures err { IfErr result
         (IsTreeRefusal (standing desk.new.shown) consistency.now node.now depth) }
     ensures shows { OnlyShows desk.old desk.new }
+    ensures kept { Begins session.old session.new }
     ensures known { Begins (shown_by desk.new) session.new }
 {
     let asked = desk.expand(consistency, node, depth);
@@ -59,6 +60,7 @@ pub(crate) fn answer_expand<T: Tables + Drop, R: Wait + Drop>(
 ) -> Reply
     requires { Begins (shown_by desk.old) session.old }
     ensures step { ExpandStep desk.old body.now (told result) desk.new }
+    ensures kept { Begins session.old session.new }
     ensures known { Begins (shown_by desk.new) session.new }
 {
     let (consistency, node, depth) = match expand_body(alloc, body) {

@@ -38,6 +38,7 @@ fn ask_for_groups<T: Tables + Drop, R: Wait + Drop>(
     ensures err { IfErr result
         (IsGroupsRefusal (standing desk.new.shown) consistency.now (query_of expr.now) limit) }
     ensures shows { OnlyShows desk.old desk.new }
+    ensures kept { Begins session.old session.new }
     ensures known { Begins (shown_by desk.new) session.new }
 {
     let found = desk.groups(consistency, expr, limit);
@@ -57,6 +58,7 @@ pub(crate) fn answer_groups<T: Tables + Drop, R: Wait + Drop>(
 ) -> Reply
     requires { Begins (shown_by desk.old) session.old }
     ensures step { GroupsStep desk.old body.now (told result) desk.new }
+    ensures kept { Begins session.old session.new }
     ensures known { Begins (shown_by desk.new) session.new }
 {
     let (consistency, expr, limit) = match groups_body(alloc, body) {

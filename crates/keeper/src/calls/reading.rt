@@ -34,6 +34,7 @@ fn ask_for_tuples<T: Tables + Drop, R: Wait + Drop>(
     ensures ok { IfOk result (IsPage (standing desk.new.shown) consistency.now asked.now) }
     ensures err { IfErr result (IsPageRefusal (standing desk.new.shown) consistency.now) }
     ensures shows { OnlyShows desk.old desk.new }
+    ensures kept { Begins session.old session.new }
     ensures known { Begins (shown_by desk.new) session.new }
 {
     let found = desk.read(consistency, asked);
@@ -53,6 +54,7 @@ pub(crate) fn answer_read<T: Tables + Drop, R: Wait + Drop>(
 ) -> Reply
     requires { Begins (shown_by desk.old) session.old }
     ensures step { ReadStep desk.old body.now (told result) desk.new }
+    ensures kept { Begins session.old session.new }
     ensures known { Begins (shown_by desk.new) session.new }
 {
     let (consistency, tupleset) = match read_body(alloc, body) {

@@ -54,6 +54,7 @@ pub(crate) fn answer_rebuild<T: Tables + Drop, R: Wait + Drop>(
 ) -> Reply
     requires { Begins (shown_by desk.old) session.old }
     ensures step { RebuildStep T.Tables desk.old body.now (told result) desk.new }
+    ensures kept { Begins session.old session.new }
     ensures known { Begins (shown_by desk.new) session.new }
 {
     match rebuild_body(alloc, body) {

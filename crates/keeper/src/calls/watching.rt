@@ -35,6 +35,7 @@ fn ask_for_page<T: Tables + Drop, R: Wait + Drop>(
         (IsWatched (standing desk.new.shown) cursor.now namespaces.now commits) }
     ensures err { IfErr result (WatchRefused (standing desk.new.shown) cursor.now) }
     ensures shows { OnlyShows desk.old desk.new }
+    ensures kept { Begins session.old session.new }
     ensures known { Begins (shown_by desk.new) session.new }
 {
     let asked = desk.watch(cursor, namespaces, commits);
@@ -54,6 +55,7 @@ pub(crate) fn answer_watch<T: Tables + Drop, R: Wait + Drop>(
 ) -> Reply
     requires { Begins (shown_by desk.old) session.old }
     ensures step { WatchStep desk.old body.now (told result) desk.new }
+    ensures kept { Begins session.old session.new }
     ensures known { Begins (shown_by desk.new) session.new }
 {
     let (cursor, namespaces, commits) = match watch_body(alloc, body) {

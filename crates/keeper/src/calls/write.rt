@@ -53,6 +53,7 @@ pub(crate) fn answer_write<T: Tables + Drop, R: Wait + Drop>(
 ) -> Reply
     requires { Begins (shown_by desk.old) session.old }
     ensures step { WriteStep T.Tables desk.old body.now (told result) desk.new }
+    ensures kept { Begins session.old session.new }
     ensures known { Begins (shown_by desk.new) session.new }
 {
     match write_body(alloc, body) {

@@ -7,7 +7,7 @@ use Rattle.desk.specs.TableChanges.{TableChange, changed, CanChange}
 use Rattle.desk.specs.Posts.{Posts}
 use Rattle.keeper.specs.Rules.{DeskStep}
 use Rattle.lines.specs.Machine.{Run}
-use Rattle.runs.specs.Runs.{kept_by}
+use Rattle.keeper.specs.Beginning.{kept_by}
 
 -- what is left holds the history of the posted steps, perhaps with one change more of which P is true; and the device has gone on
 pub record HasLeft {T : Type 0} (g : Ghosts T) (P : TableChange → Type 0) (start : Device) (desk : Posts T) : Type 0 where

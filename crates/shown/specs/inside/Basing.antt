@@ -1,6 +1,8 @@
--- The group index that is kept.
+-- The group index and the members of marked nodes that are kept.
 use Rattle.std.specs.Prelude.{◌≤◌, Option, Some, None}
 use Rattle.leopard.specs.Index.{Index, IsIndexOf}
+use Rattle.hot.specs.Kept.{IsHot}
+use Rattle.hot.specs.declared.hot.Hot.{Hot}
 use Rattle.rows.specs.Retained.{snap_at}
 use Rattle.shown.specs.Standing.{Standing, IsSteady}
 
@@ -9,6 +11,12 @@ abbrev pub IsKeptIndex : Standing → Option Index → Type 0
 IsKeptIndex s None = Unit {0}
 IsKeptIndex s (Some x) = (x.rev ≤ s.index) × (s.kept.floor ≤ x.rev → IsIndexOf (snap_at s.kept x.rev) x)
 
-pub record IsSound (s : Standing) (index : Option Index) : Type 0 where
+-- if there are members, they are those of the hot table's revision
+abbrev pub AreKeptMembers : Standing → Option Hot → Type 0
+AreKeptMembers s None = Unit {0}
+AreKeptMembers s (Some hot) = IsHot hot (snap_at s.kept s.hot)
+
+pub record IsSound (s : Standing) (index : Option Index) (members : Option Hot) : Type 0 where
   pub steady : IsSteady s
   pub index_right : IsKeptIndex s index
+  pub members_right : AreKeptMembers s members

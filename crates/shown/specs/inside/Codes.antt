@@ -2,7 +2,6 @@
 use Rattle.std.specs.Prelude.{ℕ, List, refl}
 use Rattle.std.specs.Coded.{Coded, code_by, coded×, coded_ℕ, coded_list}
 use Rattle.names.specs.declared.node.Node.{Node}
-use Rattle.names.specs.declared.object.Object.{Object}
 use Rattle.rows.specs.Retained.{Retained}
 use Rattle.rows.specs.inside.Codes.{coded_retained}
 use Rattle.shown.specs.Standing.{Standing}

@@ -1,4 +1,5 @@
-use Rattle.std.proofs.Common.{◌≡◌, ◌^◌, ◌-◌, None}
+use Rattle.std.proofs.Common.{◌≡◌, ◌<◌, ◌^◌, ◌-◌, ℕ, length, None}
+use Rattle.names.specs.declared.node.Node.{Node}
 use Rattle.decide.specs.inside.Searches.{IsNumberOf}
 use Rattle.decide.specs.inside.Running.{IsRunning}
 use Rattle.decide.specs.inside.Ending.{progress}
@@ -6,10 +7,11 @@ use Rattle.decide.proofs.deciding.is_member.Given as goal
 
 abbrev pub invariant-rounds : goal.invariant-rounds
 invariant-rounds g l =
-    IsRunning l.source.view.now l.source.user.now l.search None
-    × IsNumberOf l.search l.root l.node l.level
-    × g.O.Oracle.tells l.oracle l.source.view.now
-    × (l.facts ≡ l.source.view.now)
+    IsRunning l.facts l.user l.search None
+    × (l.root < length l.search.opened.items)
+    × ((k : ℕ) (n : Node) → IsNumberOf l.fn.search l.root n k → IsNumberOf l.search l.root n k)
+    × g.O.Oracle.tells l.oracle l.facts
+    × (l.facts ≡ l.fn.facts)
 
 -- how many nodes can still be opened, or be given the user
 abbrev pub decreases-rounds : goal.decreases-rounds

@@ -1,4 +1,4 @@
-use Rattle.std.proofs.Common.{◌≡◌, ◌+◌, ℕ, length, None}
+use Rattle.std.proofs.Common.{◌≡◌, ℕ, length, None}
 use Rattle.names.specs.declared.node.Node.{Node}
 use Rattle.decide.specs.inside.Searches.{IsNumberOf, sures}
 use Rattle.decide.specs.inside.Running.{IsRunning}
@@ -8,9 +8,9 @@ use Rattle.decide.proofs.deciding.round.Given as goal
 -- as many nodes are opened, and as many have the user
 abbrev pub invariant-turns : goal.invariant-turns
 invariant-turns g l = record {
-  running : IsRunning l.source.view.now l.source.user.now l.search None;
+  running : IsRunning l.facts l.user l.search None;
   numbers : (i k : ℕ) (n : Node) → IsNumberOf l.fn.search i n k → IsNumberOf l.search i n k;
-  tells : g.O.Oracle.tells l.oracle l.source.view.now;
+  tells : g.O.Oracle.tells l.oracle l.facts;
   facts : l.facts ≡ l.fn.facts;
   long : length l.search.opened.items ≡ length l.fn.search.opened.items;
   known : sures l.search ≡ sures l.fn.search;

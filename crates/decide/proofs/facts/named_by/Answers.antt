@@ -1,13 +1,10 @@
-use Rattle.std.proofs.Common.{◌≡◌, ◌∙◌, List, ap, subst, sym}
+use Rattle.std.proofs.Common.{◌≡◌, ◌∙◌, subst, sym}
 use Rattle.std.specs.Prelude.{◌↔◌, Contains, IfSome, filter}
 use Rattle.names.specs.declared.node.Node.{Node}
-use Rattle.names.specs.declared.tuple.Tuple.{Tuple}
 use Rattle.names.specs.declared.object.Object.{Object}
 use Rattle.meaning.specs.Membership.{HasOne}
 use Rattle.meaning.specs.TupleSet as set
-use Rattle.tuple_keys.specs.Named.{is_at, is_of}
-use Rattle.versions.specs.Named.{objects_in}
-use Rattle.decide.specs.inside.Reads.{node_with}
+use Rattle.tuple_keys.specs.Named.{is_at}
 use Rattle.decide.specs.inside.Reading.{AreNamed}
 use Rattle.decide.proofs.Few.{few_objects}
 use Rattle.decide.proofs.facts.named_by.Goals as goal

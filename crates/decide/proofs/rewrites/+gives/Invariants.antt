@@ -11,16 +11,16 @@ use Rattle.decide.proofs.rewrites.+gives.Given as goal
 -- what is left of the parts decides
 abbrev pub invariant-each_gives-loop-part : goal.invariant-each_gives-loop-part
 invariant-each_gives-loop-part l =
-    IsAsking l.source.view.now l.source.user.now l.search l.asking
+    IsAsking l.facts l.search l.asking
     × Grew l.fn.search l.search
-    × (EachGives l.source.view.now l.source.user.now l.asking.node.now (rewrite_forms (drop l.part-index l.parts)) (Counts l.source.view.now l.source.user.now l.asking) (Under l.source.view.now l.source.user.now l.asking.level)
-    → EachGives l.source.view.now l.source.user.now l.asking.node.now (rewrite_forms l.parts) (Counts l.source.view.now l.source.user.now l.asking) (Under l.source.view.now l.source.user.now l.asking.level))
+    × (EachGives l.facts l.asking.user.now l.asking.node.now (rewrite_forms (drop l.part-index l.parts)) (Counts l.facts l.asking) (Under l.facts l.asking.user.now l.asking.level)
+    → EachGives l.facts l.asking.user.now l.asking.node.now (rewrite_forms l.parts) (Counts l.facts l.asking) (Under l.facts l.asking.user.now l.asking.level))
 
 abbrev pub invariant-some_gives-loop-part : goal.invariant-some_gives-loop-part
 invariant-some_gives-loop-part l =
-    IsAsking l.source.view.now l.source.user.now l.search l.asking
+    IsAsking l.facts l.search l.asking
     × Grew l.fn.search l.search
     × (l.later ≡ false → (w : Search) → Grew l.search w
-    → SomeGives l.source.view.now l.source.user.now l.asking.node.now (rewrite_forms l.parts) (IsLeft l.source.view.now l.source.user.now w l.asking) (Under l.source.view.now l.source.user.now l.asking.level)
-    → SomeGives l.source.view.now l.source.user.now l.asking.node.now (rewrite_forms (drop l.part-index l.parts)) (IsLeft l.source.view.now l.source.user.now w l.asking) (Under l.source.view.now l.source.user.now l.asking.level))
+    → SomeGives l.facts l.asking.user.now l.asking.node.now (rewrite_forms l.parts) (IsLeft l.facts w l.asking) (Under l.facts l.asking.user.now l.asking.level)
+    → SomeGives l.facts l.asking.user.now l.asking.node.now (rewrite_forms (drop l.part-index l.parts)) (IsLeft l.facts w l.asking) (Under l.facts l.asking.user.now l.asking.level))
     × (l.later ≡ true → IsUnfinished l.search l.asking.level)

@@ -6,40 +6,38 @@ use Rattle.decide.proofs.rewrites.number_of.Goals as goal
 
 pub returns-then-level_of-high-clause-none : goal.returns-then-level_of-high-clause-none
 returns-then-level_of-high-clause-none c =
-    let view = c.args.source.now.view.now in
-    let user = c.args.source.now.user.now in
+    let view = c.args.facts.now in
     let a = c.args.asking.now in
     let level = c.level_of.result in
-    too_high view user a c.args.search.now c.args.node.now level
-    (opened_at view user a c.args.search.now c.args.node.now c.in-Ok.number (Some a.number) level c.requires.asking.running c.in-Ok.ensures c.level_of.ensures)
+    too_high view a c.args.search.now c.args.node.now level
+    (opened_at view a c.args.search.now c.args.node.now c.in-Ok.number (Some a.number) level c.requires.asking.running c.in-Ok.ensures c.level_of.ensures)
     (subst (λ h. h ≤ level) c.high.ensures c.if-level_of-high.true)
 
 pub returns-in-Ok-clause-some : goal.returns-in-Ok-clause-some
 returns-in-Ok-clause-some c =
-    let view = c.args.source.now.view.now in
-    let user = c.args.source.now.user.now in
+    let view = c.args.facts.now in
     let a = c.args.asking.now in
     let level = c.level_of.result in
-    opened_counts view user a c.args.search.now c.args.node.now c.in-Ok.number (Some a.number) level c.requires.asking.running c.in-Ok.ensures c.level_of.ensures
+    opened_counts view a c.args.search.now c.args.node.now c.in-Ok.number (Some a.number) level c.requires.asking.running c.in-Ok.ensures c.level_of.ensures
     (subst (λ h. level < h) c.high.ensures c.if-level_of-high.false)
 
 pub returns-in_default-clause-none : goal.returns-in_default-clause-none
-returns-in_default-clause-none c = no_relation c.args.source.now.view.now c.args.source.now.user.now c.args.asking.now c.args.search.now c.args.node.now c.in_default.ensures.none
+returns-in_default-clause-none c = no_relation c.args.facts.now c.args.asking.now c.args.search.now c.args.node.now c.in_default.ensures.none
 
 pub returns-then-level-high-clause-none : goal.returns-then-level-high-clause-none
 returns-then-level-high-clause-none c =
-    let view = c.args.source.now.view.now in
-    let user = c.args.source.now.user.now in
+    let view = c.args.facts.now in
+    let user = c.args.asking.now.user.now in
     let a = c.args.asking.now in
     let level = c.level_at-level.result in
     let stands = c.in-Some.ensures.some user (Some a.number) c.requires.asking.running in
-    too_high view user a c.args.search.now c.args.node.now level (c.level_at-level.ensures.at c.args.node.now stands)
+    too_high view a c.args.search.now c.args.node.now level (c.level_at-level.ensures.at c.args.node.now stands)
     (subst (λ h. h ≤ level) c.high-2.ensures c.if-level-high.true)
 
 pub returns-clause-goes_on : goal.returns-clause-goes_on
 returns-clause-goes_on c =
-    let view = c.args.source.now.view.now in
-    let user = c.args.source.now.user.now in
+    let view = c.args.facts.now in
+    let user = c.args.asking.now.user.now in
     let a = c.args.asking.now in
     let s = c.args.search.now in
     let t = c.open.new.self in
@@ -50,9 +48,9 @@ returns-clause-goes_on c =
     let opens = c.in_ok-number.ensures in
     let stands = c.in-Some.ensures.some user (Some a.number) c.requires.asking.running in
     let low : level < c.high-2.result = c.if-level-high.false in
-    let there = (asker_there view user a s c.requires.asking).0 in
+    let there = (asker_there view a s c.requires.asking).0 in
     let up = high_low a in
-    goes_on view user a s t c.requires.asking (opens_grew s t m level place number opens)
+    goes_on view a s t c.requires.asking (opens_grew s t m level place number opens)
     (opens_running s t m level place number opens view user (Some a.number) (omega (arith, low, there, up, c.high-2.ensures)) (c.level_at-level.ensures.at m stands) stands c.requires.asking.running)
 
 pub returns-clause-some : goal.returns-clause-some
@@ -60,7 +58,7 @@ returns-clause-some c =
     let a = c.args.asking.now in
     let m = c.args.node.now in
     let level = c.level_at-level.result in
-    let stands = c.in-Some.ensures.some c.args.source.now.user.now (Some a.number) c.requires.asking.running in (
+    let stands = c.in-Some.ensures.some c.args.asking.now.user.now (Some a.number) c.requires.asking.running in (
       level,
       opens_number c.args.search.now c.open.new.self m level c.in-Some.place c.in_ok-number.number c.in_ok-number.ensures,
       c.level_at-level.ensures.at m stands,
@@ -68,16 +66,16 @@ returns-clause-some c =
     )
 
 pub returns-then-level_of-high-clause-goes_on : goal.returns-then-level_of-high-clause-goes_on
-returns-then-level_of-high-clause-goes_on c = goes_refl c.args.source.now.view.now c.args.source.now.user.now c.args.asking.now c.args.search.now c.requires.asking
+returns-then-level_of-high-clause-goes_on c = goes_refl c.args.facts.now c.args.asking.now c.args.search.now c.requires.asking
 
 pub returns-in-Ok-clause-goes_on : goal.returns-in-Ok-clause-goes_on
-returns-in-Ok-clause-goes_on c = goes_refl c.args.source.now.view.now c.args.source.now.user.now c.args.asking.now c.args.search.now c.requires.asking
+returns-in-Ok-clause-goes_on c = goes_refl c.args.facts.now c.args.asking.now c.args.search.now c.requires.asking
 
 pub returns-in_default-clause-goes_on : goal.returns-in_default-clause-goes_on
-returns-in_default-clause-goes_on c = goes_refl c.args.source.now.view.now c.args.source.now.user.now c.args.asking.now c.args.search.now c.requires.asking
+returns-in_default-clause-goes_on c = goes_refl c.args.facts.now c.args.asking.now c.args.search.now c.requires.asking
 
 pub returns-then-level-high-clause-goes_on : goal.returns-then-level-high-clause-goes_on
-returns-then-level-high-clause-goes_on c = goes_refl c.args.source.now.view.now c.args.source.now.user.now c.args.asking.now c.args.search.now c.requires.asking
+returns-then-level-high-clause-goes_on c = goes_refl c.args.facts.now c.args.asking.now c.args.search.now c.requires.asking
 
-pub level_at-level-requires-clause-place : goal.level_at-level-requires-clause-place
-level_at-level-requires-clause-place c = (c.in-Some.ensures.some c.args.source.now.user.now (Some c.args.asking.now.number) c.requires.asking.running).within
+pub level_at-level-requires : goal.level_at-level-requires
+level_at-level-requires c = (c.in-Some.ensures.some c.args.asking.now.user.now (Some c.args.asking.now.number) c.requires.asking.running).within

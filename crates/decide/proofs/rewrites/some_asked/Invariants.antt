@@ -8,7 +8,7 @@ use Rattle.decide.proofs.rewrites.some_asked.Given as goal
 -- none before
 abbrev pub invariant-loop-node : goal.invariant-loop-node
 invariant-loop-node l =
-    IsAsking l.source.view.now l.source.user.now l.search l.asking
+    IsAsking l.facts l.search l.asking
     × Grew l.fn.search l.search
-    × (l.later ≡ false → IsNoneBefore l.source.view.now l.source.user.now l.asking l.search l.nodes l.node-index)
+    × (l.later ≡ false → IsNoneBefore l.facts l.asking l.search l.nodes l.node-index)
     × (l.later ≡ true → IsUnfinished l.search l.asking.level)

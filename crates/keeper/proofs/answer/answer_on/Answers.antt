@@ -1,5 +1,6 @@
 use Rattle.names.specs.declared.call.Call.TheVariants.{Write, Config, Check, Read, Expand, Leopard, Watch, Trim, CatchUp, Hot, Rebuild, State}
-use Rattle.keeper.proofs.Answering.{step_of}
+use Rattle.published.proofs.Rules.{begins_self}
+use Rattle.keeper.proofs.ByCall.{step_of}
 use Rattle.keeper.proofs.answer.answer_on.Goals as goal
 
 pub returns-in-Write-clause-step : goal.returns-in-Write-clause-step
@@ -37,3 +38,6 @@ returns-in-Rebuild-clause-step g c = step_of g.T.Tables c.args.desk.now _ Rebuil
 
 pub returns-in-State-clause-step : goal.returns-in-State-clause-step
 returns-in-State-clause-step g c = step_of g.T.Tables c.args.desk.now _ State _ _ _ c.in-State.is c.answer_state.ensures
+
+pub returns-in-State-clause-kept : goal.returns-in-State-clause-kept
+returns-in-State-clause-kept g c = begins_self c.args.session.now

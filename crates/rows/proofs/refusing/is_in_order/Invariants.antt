@@ -1,5 +1,5 @@
 use Rattle.std.proofs.Common.{◌≡◌, drop}
-use Rattle.rows.specs.Follows.{is_in_order}
+use Rattle.rows.specs.Ordered.{is_in_order}
 use Rattle.rows.proofs.refusing.is_in_order.Given as goal
 
 -- what is left decides

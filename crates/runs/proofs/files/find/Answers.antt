@@ -1,5 +1,4 @@
 use Rattle.std.proofs.Common.{true, false, refl, inl, arith}
-use Rattle.sqlite_wal.specs.Recovery.{Image}
 use Rattle.sqlite_wal.specs.Files.{image_at}
 use Rattle.sqlite_store.specs.Laws.{settled_at}
 use Rattle.sqlite.specs.Files.{file_state}

@@ -12,7 +12,7 @@ use Rattle.runs.proofs.over.open_over.Goals as goal
 pub returns-in-Ok-open-clause-ok : goal.returns-in-Ok-open-clause-ok
 returns-in-Ok-open-clause-ok g c = opened_over g.S.Store c.in-Ok.tables c.in-Ok-open.answering (Begins g.S.Store c.args.conn c.args.store)
     (λ loaded kept same. begins g.S.Store c.args.conn c.args.store (connection c.in-Ok.tables) c.in-Ok.ensures.ok (retained_of loaded) kept same)
-    c.in-Ok-open.ensures.ok c.in-Ok-open.ensures.ready
+    c.in-Ok-open.ensures.ok
 
 pub returns-in-Err-open-clause-left : goal.returns-in-Err-open-clause-left
 returns-in-Err-open-clause-left g c = subst (λ d. LeavesRefused g.S.Store c.args.conn c.args.store d) (sym c.into_connection.ensures.same)

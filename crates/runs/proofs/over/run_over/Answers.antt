@@ -1,4 +1,4 @@
-use Rattle.std.proofs.Common.{◌≡◌, Err, refl, sym, ap, subst, ◌∙◌}
+use Rattle.std.proofs.Common.{Err, refl, sym, ap, subst, ◌∙◌}
 use Rattle.rows.specs.Loads.{retained_of}
 use Rattle.tables.specs.Device.{Lasts}
 use Rattle.tables.proofs.Lasting.{lasts_trans}

@@ -1,4 +1,4 @@
-use Rattle.std.proofs.Common.{◌⊎◌, inl, inr}
+use Rattle.std.proofs.Common.{inl, inr}
 use Rattle.runs.proofs.Requests.{serves_talked, serves_so_far, serves_cut, talked_on, so_far_on, cut_on, kept_alone, kept_to_each_end}
 use Rattle.runs.proofs.talking.talk.Goals as goal
 

@@ -6,7 +6,7 @@ use Rattle.meaning.specs.History.{rows_of}
 use Rattle.std.proofs.lemmas.Bool.{leb-true, leb-false}
 use Rattle.names.specs.declared.limits.TheConstants.{MAX_REV, MAX_ROWS}
 use Rattle.store.specs.inside.Reading.{as_span, as_written}
-use Rattle.store.proofs.Sound.{built, within, read_admitted, room_refused}
+use Rattle.store.proofs.Sound.{built, within, read_admitted, read_ordered, room_refused}
 use Rattle.store.proofs.Apart.{in_turn}
 use Rattle.store.proofs.Sequence.{alive_sorted}
 use Rattle.store.proofs.reading.build.Goals as goal
@@ -25,6 +25,7 @@ returns-clause-within c =
     (subst P (sym (c.of.ensures ∙ c.in_ok-parts.ensures.tuples)) (alive_sorted c.args.head.floor (map as_span c.args.spans.items) (in_turn as_span c.args.head.floor c.args.head.newest c.args.spans.items c.requires.placed.apart c.requires.spans)))
     (c.of-2.ensures ∙ c.in_ok-parts.ensures.commits) revs rows
     (read_admitted c.args.head c.args.spans.items c.args.configs.now c.requires.head c.requires.spans c.requires.placed c.in_ok-parts.ensures.whole _ same)
+    (read_ordered c.args.head c.args.spans.items c.args.configs.now c.requires.head c.requires.spans c.requires.placed c.in_ok-parts.ensures.whole _ same)
 
 pub returns-then-not-has_room-clause-fault : goal.returns-then-not-has_room-clause-fault
 returns-then-not-has_room-clause-fault c = λ sound.

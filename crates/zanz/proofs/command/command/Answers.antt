@@ -1,4 +1,4 @@
-use Rattle.std.proofs.Common.{refl, sym, subst, ◌∙◌, arith}
+use Rattle.std.proofs.Common.{refl, sym, subst, ◌∙◌}
 use Rattle.zanz.specs.Ran.{task_stopped, is_no_configuration, words_unread}
 use Rattle.zanz.proofs.Results.{ok_value, err_at}
 use Rattle.command_line.specs.declared.fault.Fault.{Fault}

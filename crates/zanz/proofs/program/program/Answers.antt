@@ -1,4 +1,3 @@
-use Rattle.std.proofs.Common.{refl}
 use Rattle.names.specs.declared.refusal.Refusal.TheVariants.{Memory}
 use Rattle.sqlite_wal.specs.Files.{image_at}
 use Rattle.command_line.specs.declared.fault.Fault.TheVariants.{CommandLine, Refused}

@@ -11,5 +11,5 @@ returns-in-Some c =
     let n = c.args.node.now in
     let u = c.args.user.now in
     let view = c.self.inside.view.now in
-    let all = held view n.object c.in-Some.few.now (c.in-Some.ensures view c.self.invariant) (user_tuple n u) refl in
+    let all = held view n.object c.in-Some.few.now (c.in-Some.ensures view c.self.invariant.1) (user_tuple n u) refl in
     subst (λ (S : Snap). IsTrue c.names_user.result ↔ HasOne S n u) c.self.view_is (both_ways c.names_user.ensures all)

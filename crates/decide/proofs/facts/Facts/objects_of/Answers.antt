@@ -11,7 +11,7 @@ returns-in-Some c =
     let n = c.args.node.now in
     let view = c.self.inside.view.now in
     subst (λ (S : Snap). IfOk c.named_objects.result (λ v. (p : Object) → Contains v.items p ↔ HasOne S n p)) c.self.view_is
-    (ok_mapped c.named_objects.result _ _ (λ v named p. few_objects view n c.in-Some.few.now (c.in-Some.ensures view c.self.invariant) v.items named p) c.named_objects.ensures)
+    (ok_mapped c.named_objects.result _ _ (λ v named p. few_objects view n c.in-Some.few.now (c.in-Some.ensures view c.self.invariant.1) v.items named p) c.named_objects.ensures)
 
 pub returns-in-None : goal.returns-in-None
 returns-in-None c =

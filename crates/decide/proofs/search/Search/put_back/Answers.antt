@@ -1,4 +1,4 @@
-use Rattle.std.proofs.Common.{◌≡◌, ◌<◌, ◌∷◌, ◌++◌, [], ℕ, length, ap, ◌∙◌, sym, subst, arith}
+use Rattle.std.proofs.Common.{◌≡◌, ◌<◌, ◌∷◌, ◌++◌, [], ℕ, ap, ◌∙◌, sym, subst, arith}
 use Rattle.decide.specs.declared.search.Frame.{Frame}
 use Rattle.decide.specs.inside.Searches.{Pushes, AreFalling, IsFrame}
 use Rattle.decide.proofs.Elements.{Holds, holds_some}

@@ -4,13 +4,16 @@ use Rattle.desk.specs.TableChanges.{Raises}
 use Rattle.desk.proofs.Agreeing.{agrees_anew, agrees_on}
 use Rattle.desk.proofs.latched_tables.LatchedTables.trim.Goals as goal
 
+pub returns-in-Ok-clause-held : goal.returns-in-Ok-clause-held
+returns-in-Ok-clause-held g c = λ r agrees to. c.in-Ok.ensures.done r (agrees.holds c.requires.works) to
+
 pub returns-in-Ok-clause-settled : goal.returns-in-Ok-clause-settled
 returns-in-Ok-clause-settled g c =
-    λ r agrees to. g.met.T.Tables.settled c.trim.new.self (after_trim r c.args.floor) (c.in-Ok.ensures.done r (agrees.holds c.requires.works) to) c.in-Ok.ensures.open
+    λ r agrees to. g.met.T.Tables.settled c.trim.new.self (after_trim r c.args.floor) (returns-in-Ok-clause-held g c r agrees to) c.in-Ok.ensures.open
 
 pub returns-in-Ok-clause-stored : goal.returns-in-Ok-clause-stored
 returns-in-Ok-clause-stored g c =
-    λ r agrees to. agrees_anew g.T.Tables c.args.self.now.failed c.trim.new.self (after_trim r c.args.floor) (c.in-Ok.ensures.done r (agrees.holds c.requires.works) to) (returns-in-Ok-clause-settled g c r agrees to)
+    λ r agrees to. agrees_anew g.T.Tables c.args.self.now.failed c.trim.new.self (after_trim r c.args.floor) (returns-in-Ok-clause-held g c r agrees to) (returns-in-Ok-clause-settled g c r agrees to)
 
 pub returns-in-Err-Memory-clause-unstored : goal.returns-in-Err-Memory-clause-unstored
 returns-in-Err-Memory-clause-unstored g c =

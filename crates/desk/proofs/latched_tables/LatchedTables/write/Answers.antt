@@ -4,13 +4,16 @@ use Rattle.desk.specs.TableChanges.{Adds}
 use Rattle.desk.proofs.Agreeing.{agrees_anew, agrees_on}
 use Rattle.desk.proofs.latched_tables.LatchedTables.write.Goals as goal
 
+pub returns-in-Ok-clause-held : goal.returns-in-Ok-clause-held
+returns-in-Ok-clause-held g c = λ r agrees next. c.in-Ok.ensures.done r (agrees.holds c.requires.works) next
+
 pub returns-in-Ok-clause-settled : goal.returns-in-Ok-clause-settled
 returns-in-Ok-clause-settled g c =
-    λ r agrees next. g.met.T.Tables.settled c.write.new.self (with_commit r c.args.commit.now) (c.in-Ok.ensures.done r (agrees.holds c.requires.works) next) c.in-Ok.ensures.open
+    λ r agrees next. g.met.T.Tables.settled c.write.new.self (with_commit r c.args.commit.now) (returns-in-Ok-clause-held g c r agrees next) c.in-Ok.ensures.open
 
 pub returns-in-Ok-clause-stored : goal.returns-in-Ok-clause-stored
 returns-in-Ok-clause-stored g c =
-    λ r agrees next. agrees_anew g.T.Tables c.args.self.now.failed c.write.new.self (with_commit r c.args.commit.now) (c.in-Ok.ensures.done r (agrees.holds c.requires.works) next) (returns-in-Ok-clause-settled g c r agrees next)
+    λ r agrees next. agrees_anew g.T.Tables c.args.self.now.failed c.write.new.self (with_commit r c.args.commit.now) (returns-in-Ok-clause-held g c r agrees next) (returns-in-Ok-clause-settled g c r agrees next)
 
 pub returns-in-Err-Memory-clause-unstored : goal.returns-in-Err-Memory-clause-unstored
 returns-in-Err-Memory-clause-unstored g c =

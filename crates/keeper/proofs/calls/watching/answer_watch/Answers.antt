@@ -1,3 +1,4 @@
+use Rattle.published.proofs.Rules.{begins_self}
 use Rattle.keeper.specs.calls.Watch.{watch_refused}
 use Rattle.keeper.proofs.Watching.{watch_unasked, watch_done}
 use Rattle.keeper.proofs.calls.watching.answer_watch.Goals as goal
@@ -13,3 +14,6 @@ returns-in-Ok-asked-clause-step g c =
 pub returns-clause-step : goal.returns-clause-step
 returns-clause-step g c =
     watch_refused c.in-Ok.asked.0 c.in-Ok.asked.1 c.in-Ok.asked.2 c.in-Err-asked.why c.in-Ok.ensures.ok c.in-Err-asked.ensures.err c.refusal-in-Err-asked.ensures c.ask_for_page-asked.ensures.shows
+
+pub returns-in-Err-clause-kept : goal.returns-in-Err-clause-kept
+returns-in-Err-clause-kept g c = begins_self c.args.session.now

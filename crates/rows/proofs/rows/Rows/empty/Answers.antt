@@ -25,7 +25,7 @@ none_within : IsWithin none_loaded
 unfolding IsStrictlySortedBy
 none_within =
     let none = len_is [] tt in
-    record { ordered = tt; revs = omega arith; rows = omega (arith, none); admitted = of_all (retained_of none_loaded) (none_admitted empty_config) }
+    record { ordered = tt; revs = omega arith; rows = omega (arith, none); admitted = of_all (retained_of none_loaded) (none_admitted empty_config); each_ordered = refl }
 
 consistent_nothing : (m : Entries) → ((q : Tuple) → versions_at m q ≡ []) → IsConsistent (record { number = 0; floor = 0; base = empty_snap; commits = [] }) m [] (record { rows = 0; tuples = 0 })
 consistent_nothing m versions = consistent_none none_loaded m (record { rows = 0; tuples = 0 }) none_within (λ q. versions q ∙ sym (ap base_versions (contains_empty q))) refl refl

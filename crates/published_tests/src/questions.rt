@@ -1,0 +1,123 @@
+//! Trees, pages and groups that a session answers: the program asks for the same beside the number of the store.
+
+use crate::desk::{Desk, configure, insert, open};
+use expand::Tree;
+use leopard::Expr;
+use names::{EventKind, Name, Node, Object, Refusal, Tuple};
+use published::Session;
+use rows::Tupleset;
+use std::alloc::Global;
+use std::sync::Wait;
+use std::test::*;
+use watch::{Namespaces, WatchedEvent};
+use zookie::{Consistency, Zookie};
+
+const INDEXED: &str =
+    r#"{"namespaces":{"group":{"member":{"types":["user"],"indexed":true}},"user":{}}}"#;
+
+const ANN: &str = "group:a#member@user:ann";
+
+// A desk where Ann is a member of the group at revision 2, which is shown, and a session of it.
+fn filled<R: Wait + Drop>(handle: R, alloc: Global) -> Result<(Desk<R>, Session), Refusal> {
+    let desk = configure(alloc, open(handle, alloc)?, INDEXED)?;
+    let mut desk = insert(alloc, desk, ANN)?;
+    desk.publication.publish();
+    let session = desk.publication.session()?;
+    Ok((desk, session))
+}
+
+fn has_only(tree: &Tree, user: &Object) -> bool {
+    match tree {
+        Tree::Union(parts) => match parts.as_slice() {
+            [Tree::One(only)] => *only == *user,
+            _ => false,
+        },
+        _ => false,
+    }
+}
+
+fn opens_to(tree: &Tree, node: &Node, user: &Object) -> bool {
+    match tree {
+        Tree::Opened(opened, below) => *opened == *node && has_only(below, user),
+        _ => false,
+    }
+}
+
+fn has_tree(session: &mut Session) -> Result<bool, Refusal> {
+    let node = Node::parse("group:a#member")?;
+    let user = Object::parse("user:ann")?;
+    match session.expand(&Consistency::Latest, &node, 1) {
+        Ok(found) => Ok(found.rev == 2 && opens_to(&found.value, &node, &user)),
+        Err(refused) => Err(refused.why),
+    }
+}
+
+fn is_tuple(found: &[Tuple], wanted: &Tuple) -> bool {
+    match found {
+        [only] => *only == *wanted,
+        _ => false,
+    }
+}
+
+fn has_page(session: &mut Session) -> Result<bool, Refusal> {
+    let tuple = Tuple::parse(ANN)?;
+    let asked = Tupleset {
+        namespace: Name::parse("group")?,
+        object: None,
+        relation: None,
+        subject: None,
+        after: None,
+        limit: 9,
+    };
+    match session.read(&Consistency::Latest, &asked) {
+        Ok(page) => Ok(page.rev == 2 && is_tuple(page.value.as_slice(), &tuple)),
+        Err(refused) => Err(refused.why),
+    }
+}
+
+fn is_group(found: &[Node], wanted: &Node) -> bool {
+    match found {
+        [only] => *only == *wanted,
+        _ => false,
+    }
+}
+
+fn has_groups(session: &mut Session) -> Result<bool, Refusal> {
+    let node = Node::parse("group:a#member")?;
+    let asked = Expr::Member2Group(Object::parse("user:ann")?);
+    match session.groups(&Consistency::Latest, &asked, 9) {
+        Ok(groups) => Ok(groups.rev == 2 && is_group(groups.value.as_slice(), &node)),
+        Err(refused) => Err(refused.why),
+    }
+}
+
+fn is_put(events: &[WatchedEvent], tuple: &Tuple) -> bool {
+    match events {
+        [one] => one.rev == 2 && one.event.kind == EventKind::Put && one.event.tuple == *tuple,
+        _ => false,
+    }
+}
+
+fn has_events(session: &mut Session) -> Result<bool, Refusal> {
+    let tuple = Tuple::parse(ANN)?;
+    let cursor = Zookie { store: 7, rev: 1 };
+    let page = session.watch(&cursor, &Namespaces::All, 9)?;
+    Ok(page.heartbeat == 2 && is_put(page.events.as_slice(), &tuple))
+}
+
+fn has_all(session: &mut Session) -> Result<bool, Refusal> {
+    let read = has_tree(session)? && has_page(session)?;
+    Ok(read && has_groups(session)? && has_events(session)?)
+}
+
+fn answers<R: Wait + Drop>(handle: R, alloc: Global) -> bool {
+    let Ok((_desk, mut session)) = filled(handle, alloc) else {
+        return false;
+    };
+    has_all(&mut session).unwrap_or(false)
+}
+
+#[test]
+fn a_session_answers_each_question(rt: HostRuntime) {
+    assert!(rt; answers(&rt, rt.alloc()));
+}

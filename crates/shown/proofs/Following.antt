@@ -1,0 +1,106 @@
+-- Members of marked nodes while the history grows, loses its newest commit, or is trimmed, and while its commits are taken.
+use Rattle.std.proofs.Common.{◌≡◌, ℕ, ◌+◌, ◌-◌, ◌<◌, ◌≤◌, ◌++◌, ◌∷◌, [], length, take, drop, ap, sym, subst, ◌∙◌, arith, get_or}
+use Rattle.std.specs.Prelude.{Bool, Option, Some, None, Result, Ok, Err, OnOk, IfSome}
+use Rattle.std.specs.Result.{result_ok}
+use Rattle.std.proofs.lemmas.List.{take-take, take_more, length-drop, length-take-le}
+use Rattle.names.specs.declared.commit.Commit.{Commit}
+use Rattle.meaning.specs.Config.{Configured}
+use Rattle.meaning.specs.Snap.{Snap}
+use Rattle.meaning.specs.History.{after_commit, after_commits}
+use Rattle.leopard.specs.Index.{Index}
+use Rattle.hot.specs.Kept.{IsHot}
+use Rattle.hot.specs.declared.hot.Hot.{Hot}
+use Rattle.rows.specs.Retained.{Retained, newest, snap_at, with_commit, after_trim, commits_between}
+use Rattle.shown.specs.Standing.{Standing, IsSteady, CanGoBack, CanRaise, before_commit}
+use Rattle.shown.specs.inside.Basing.{AreKeptMembers, IsSound}
+use Rattle.shown.proofs.Basing.{snap_with, snap_without, snap_above, after_append, after_parts, kept_above}
+
+-- ---- the members that are kept
+
+-- they stay right where the revision holds what it held
+moved : (s t : Standing) (members : Option Hot) → snap_at t.kept t.hot ≡ snap_at s.kept s.hot → AreKeptMembers s members → AreKeptMembers t members
+moved s t None same right = tt
+moved s t (Some hot) same right = subst (λ (S : Snap). IsHot hot S) (sym same) right
+
+module _ (s : Standing) (members : Option Hot) (steady : IsSteady s) where
+  pub members_with : (c : Commit Configured) → AreKeptMembers s members
+      → AreKeptMembers (record { kept = with_commit s.kept c; base = s.base; index = s.index; hot = s.hot; marks = s.marks }) members
+  members_with c = moved s (record { kept = with_commit s.kept c; base = s.base; index = s.index; hot = s.hot; marks = s.marks }) members (snap_with s.kept c s.hot steady.hot_there)
+
+  pub members_without : CanGoBack s → AreKeptMembers s members → AreKeptMembers (before_commit s) members
+  members_without can = moved s (before_commit s) members (snap_without s.kept s.hot can.hot_before can.above)
+
+  pub members_above : (floor : ℕ) → CanRaise s floor → AreKeptMembers s members
+      → AreKeptMembers (record { kept = after_trim s.kept floor; base = s.base; index = s.index; hot = s.hot; marks = s.marks }) members
+  members_above floor can =
+      let above = can.above in
+      moved s (record { kept = after_trim s.kept floor; base = s.base; index = s.index; hot = s.hot; marks = s.marks }) members (snap_above s.kept floor (omega (arith, above)) s.hot can.hot)
+
+-- ---- the commits between two revisions
+
+-- what the first of them leave
+abbrev pub snap_in : Retained → ℕ → ℕ → ℕ → Snap
+snap_in r from to i = after_commits (snap_at r from) (take i (commits_between r from to))
+
+pub snap_between : (r : Retained) (from to i rev : ℕ) → r.floor ≤ from → i ≤ to - from → rev ≡ from + i → snap_in r from to i ≡ snap_at r rev
+snap_between r from to i rev retained few is =
+    let above = drop (from - r.floor) r.commits in
+    let sum : (from - r.floor) + i ≡ rev - r.floor = omega (arith, retained, is) in
+    ap (after_commits (snap_at r from)) (take-take i (to - from) above few)
+    ∙ after_parts r.base (from - r.floor) i r.commits
+    ∙ ap (λ (n : ℕ). after_commits r.base (take n r.commits)) sum
+
+pub snap_next : (r : Retained) (from to i : ℕ) (c : Commit Configured) → i < length (commits_between r from to) → c ≡ get_or (commits_between r from to) i c
+    → snap_in r from to (i + 1) ≡ after_commit (snap_in r from to i) c
+snap_next r from to i c small is =
+    let commits = commits_between r from to in
+    ap (after_commits (snap_at r from)) (take_more commits i c small ∙ ap (λ (d : Commit Configured). take i commits ++ d ∷ []) (sym is))
+    ∙ after_append (snap_at r from) (take i commits) (c ∷ [])
+
+pub length_between : (r : Retained) (from to : ℕ) → r.floor ≤ from → from ≤ to → to ≤ newest r → length (commits_between r from to) ≡ to - from
+length_between r from to retained order there =
+    let left = length-drop (from - r.floor) r.commits in
+    length-take-le (to - from) (drop (from - r.floor) r.commits) (omega (arith, left, retained, order, there))
+
+-- the snapshot of the next revision
+pub view_next : (r : Retained) (from to i : ℕ) (c : Commit Configured) (view : Snap) → r.floor ≤ from → from ≤ to → to ≤ newest r → i < length (commits_between r from to) → c ≡ get_or (commits_between r from to) i c
+    → view ≡ snap_at r (from + i + 1) → (view ≡ snap_in r from to (i + 1)) × (view ≡ after_commit (snap_in r from to i) c)
+view_next r from to i c view retained order there small is seen =
+    let long = length_between r from to retained order there in
+    let at = seen ∙ sym (snap_between r from to (i + 1) (from + i + 1) retained (omega (arith, small, long)) (omega arith)) in
+    (at, at ∙ snap_next r from to i c small is)
+
+pub all_taken : (r : Retained) (from to i : ℕ) → r.floor ≤ from → from ≤ to → to ≤ newest r → length (commits_between r from to) ≤ i → i ≤ length (commits_between r from to) → snap_in r from to i ≡ snap_at r to
+all_taken r from to i retained order there more few =
+    let long = length_between r from to retained order there in
+    snap_between r from to i to retained (omega (arith, few, long)) (omega (arith, order, more, few, long))
+
+-- ---- what is done, and what is known
+
+pub done : {E P : Type 0} (r : Result (Unit {0}) E) (u : Unit {0}) → Some u ≡ result_ok r → OnOk r P → P
+done (Ok x) u is p = p
+done (Err e) u is p = absurd cc
+
+pub known : (o : Option Bool) (Is : Snap → Type 0) (T : Snap → Bool → Type 0) → IfSome o (λ b. (S : Snap) → Is S → T S b) → (S : Snap) → Is S → IfSome o (T S)
+known None Is T h S is = tt
+known (Some b) Is T h S is = h S is
+
+-- ---- a higher floor
+
+pub sound_above : (s now : Standing) (index : Option Index) (members : Option Hot) (floor : ℕ) (new : Retained) → s ≡ now → CanRaise now floor → IsSound s index members
+    → (s.kept.floor ≤ floor → new ≡ after_trim s.kept floor) → IsSound (record { kept = new; base = s.base; index = s.index; hot = s.hot; marks = s.marks }) index members
+sound_above s now index members floor new same room sound raised =
+    let can = subst (λ (t : Standing). CanRaise t floor) (sym same) room in
+    let above = can.above in
+    let is = raised (omega (arith, above)) in
+    let left = length-drop (floor - s.kept.floor) s.kept.commits in
+    subst (λ (r : Retained). IsSound (record { kept = r; base = s.base; index = s.index; hot = s.hot; marks = s.marks }) index members) (sym is) (record {
+      steady = record {
+        index_retained = can.index;
+        index_there = omega (arith, left, above, can.there, sound.steady.index_there);
+        hot_retained = can.hot;
+        hot_there = omega (arith, left, above, can.there, sound.steady.hot_there);
+      };
+      index_right = kept_above s index sound.steady floor can sound.index_right;
+      members_right = members_above s members sound.steady floor can sound.members_right;
+    })

@@ -1,0 +1,7 @@
+use Rattle.hot.specs.Kept.{IsHot}
+use Rattle.shown.proofs.Following.{snap_in}
+use Rattle.shown.proofs.members.members_later.Given as goal
+
+-- it has taken the commits so far
+abbrev pub invariant-loop-i : goal.invariant-loop-i
+invariant-loop-i l = IsHot l.hot (snap_in l.rows l.from l.to l.i)
