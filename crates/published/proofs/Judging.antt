@@ -1,8 +1,9 @@
 -- Lists of steps that were judged.
-use Rattle.std.proofs.Common.{◌≡◌, List, [], ◌∷◌, ◌++◌, append_assoc, fold, sym, subst}
+use Rattle.std.proofs.Common.{◌≡◌, List, [], ◌∷◌, ◌++◌, append_assoc, fold, sym, subst, ◌⊎◌, inl, inr}
 use mathlib.Core.List.{IsPrefix}
 use Rattle.shown.specs.declared.step.Step.{Step}
 use Rattle.shown.specs.Standing.{Standing, nothing, after_step, standing, HasRoom}
+use Rattle.published.specs.Known.{Known}
 use Rattle.published.specs.Posts.{IsLater}
 use Rattle.published.specs.Judged.{AreLater, AreJudged}
 
@@ -32,3 +33,8 @@ judged_between (x ∷ xs) [] zs are p q all = absurd (cc (p.1))
 judged_between (x ∷ xs) (y ∷ ys) zs are p q all =
     let whole : AreJudged ((y ∷ ys) ++ q.0) = subst AreJudged (sym q.1) all in
     (whole.0, later_part (after_step nothing y) ys q.0 whole.1)
+
+-- one of two
+pub either_judged : (k l m : Known) → AreJudged k.steps → AreJudged l.steps → (m ≡ k) ⊎ (m ≡ l) → AreJudged m.steps
+either_judged k l m one other is =
+    elim is [ inl same ↦ subst (λ (n : Known). AreJudged n.steps) (sym same) one | inr same ↦ subst (λ (n : Known). AreJudged n.steps) (sym same) other ]

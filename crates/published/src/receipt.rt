@@ -37,7 +37,7 @@ impl ShownSteps {
     /// The list of them.
     pub(crate) fn prefix(&self) -> &StepPrefix
         ensures same { result.now ≡ self.now }
-        ensures judged { AreJudged self.now.steps }
+        ensures judged { AreJudged result.now.steps }
     {
         &self.prefix
     }
@@ -102,7 +102,7 @@ impl Receipt {
     /// The shown steps.
     pub fn published_steps(&self) -> &StepPrefix
         ensures same { result.now ≡ self.now.published }
-        ensures judged { AreJudged self.now.published.steps }
+        ensures judged { AreJudged result.now.steps }
     {
         self.published.prefix()
     }

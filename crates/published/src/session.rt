@@ -51,7 +51,7 @@ impl Model for Session {
     ghost view = { λ s. s.known };
 
     ghost invariant = { λ s.
-        (k : Known) × (seen_by s.reader.place ≡ Some k) × (k.book ≡ s.known.book)
+        ((k : Known) × (seen_by s.reader.place ≡ Some k) × (k.book ≡ s.known.book))
         × AreJudged s.known.steps };
 }
 
