@@ -8,3 +8,4 @@ pub mod Rules
 pub mod Chains
 pub mod Leading
 pub mod Postable
+pub mod Opening
