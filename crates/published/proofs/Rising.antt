@@ -1,5 +1,5 @@
 -- No later step takes back what was retained, but below a higher floor.
-use Rattle.std.proofs.Common.{◌≡◌, ℕ, ◌+◌, ◌-◌, ◌<◌, ◌≤◌, List, [], ◌∷◌, ◌++◌, length, length-append, take, drop, fold, refl, ap, sym, subst, ◌∙◌, arith}
+use Rattle.std.proofs.Common.{◌≡◌, ℕ, ◌+◌, ◌-◌, ◌<◌, ◌≤◌, List, [], ◌∷◌, ◌++◌, length-append, take, drop, fold, refl, ap, sym, subst, ◌∙◌, arith}
 use Rattle.std.proofs.Math.Seq.{take-add}
 use Rattle.std.proofs.lemmas.List.{take-append-le, length-drop}
 use Rattle.std.proofs.lemmas.List.Sums.{fold-append}
@@ -9,7 +9,7 @@ use Rattle.names.specs.declared.part.Part.TheVariants.{Index, Hot}
 use Rattle.meaning.specs.Config.{Configured}
 use Rattle.meaning.specs.Snap.{Snap}
 use Rattle.meaning.specs.History.{History, after_commit, after_commits}
-use Rattle.rows.specs.Retained.{Retained, IsRetained, newest, snap_at, with_commit, after_trim}
+use Rattle.rows.specs.Retained.{Retained, IsRetained, newest, with_commit, after_trim}
 use Rattle.shown.specs.declared.step.Step.{Step}
 use Rattle.shown.specs.declared.step.Step.TheVariants.{Open, Commit, Take, Trim, Marking, Rebase}
 use Rattle.shown.specs.Standing.{Standing, nothing, after_step, standing, HasRoom}
