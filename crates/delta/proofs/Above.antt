@@ -1,6 +1,7 @@
 -- Which groups lead to a node by computed usersets alone.
-use Rattle.std.proofs.Common.{◌≡◌, ℕ, List, [], ◌∷◌, ◌++◌, map, true, false, refl, sym, ap, subst, ◌∙◌, inl, inr, ⊎_elim}
+use Rattle.std.proofs.Common.{◌≡◌, ℕ, Bool, not, nat_eq, List, [], ◌∷◌, ◌++◌, map, true, false, refl, sym, ap, subst, ◌∙◌, inl, inr, ⊎_elim}
 use Rattle.std.specs.Prelude.{◌↔◌, ◌⊎◌, Option, Some, None, Any, Contains, is_some}
+use Rattle.std.specs.Cmp.Lexicographic.{same_text, pointwise}
 use Rattle.std.proofs.lemmas.Bool.{false≢true}
 use Rattle.std.proofs.lemmas.Option.{none-some}
 use Rattle.std.proofs.lemmas.List.Elements.{Contains-append_left, Contains-push, Contains-push_cases}
@@ -37,11 +38,22 @@ same_object c g n here = refl
 same_object c g n (on {g = m} w (inl t)) = absurd (no_set c m n t)
 same_object c g n (on {g = m} w (inr (d, r, defines, computes, is))) = same_object c g m w ∙ sym (ap (λ (x : Node). x.object) is)
 
+-- what the test of a namespace says
+pub same_namespace : (a b : List ℕ) (r : Bool) → r ≡ not (pointwise nat_eq a b) → r ≡ false → a ≡ b
+same_namespace a b r is off = same_text a b (sym (not_false (pointwise nat_eq a b) (sym is ∙ off)))
+  where
+    not_false : (x : Bool) → not x ≡ false → x ≡ true
+    not_false true e = refl
+    not_false false e = absurd (false≢true (sym e))
+
+pub same_relation : (r : RelationName) (g : Node) → r.namespace ≡ g.object.namespace → r.relation ≡ g.relation → r ≡ rel_of g
+same_relation r g namespace relation = ap (λ n. record { namespace = n; relation = r.relation }) namespace ∙ ap (λ x. record { namespace = g.object.namespace; relation = x }) relation
+
 module _ (config : Configured) (to : Node) where
   pub one_leads : (rs : List Relation) → map defined_of rs ≡ config.relations → (g : Node) → Any (λ r. IsOneOf config (defined_of r) to g) rs ↔ LeadsTo config to g
   one_leads rs is g = (
     λ (k, r, lt, e, (indexed, rel, object, along)).
-        let d : Contains config.relations (defined_of r) = subst (λ ds. Contains ds (defined_of r)) is (contains_map defined_of rs r (k, lt, sym e)) in
+        let d : Contains config.relations (defined_of r) = subst (λ ds. Contains ds (defined_of r)) is (contains_map defined_of rs r (k, lt, e)) in
         (has_indexed config (rel_of g) (defined_of r) (d, rel) indexed, along),
     λ (group, along).
         let (d, defines, indexed) = indexed_has config (rel_of g) group in

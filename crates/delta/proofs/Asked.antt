@@ -109,7 +109,7 @@ module _ (S T : Snap) (events : List Event) (next : T ≡ after_commit S (Tuples
           let (x, (group, (t, c, of, along)), named) = above.sound s turn in
           let back = contains_map_back (λ (e : Event). e.tuple) events t c in
           let same : x ≡ g = same_Some x g (sym (grew_get nodes1 nodes' s x then.grew named) ∙ there) in
-          subst (λ y. layers.IsTouched S T events y) same (back.0, back.1, inl (subst (λ (q : Tuple). GroupWalk S x q.node) back.2 (bare_walk S x t.node along)))
+          subst (λ y. layers.IsTouched S T events y) same (back.0, back.1, inl (subst (λ (q : Tuple). GroupWalk S x q.node) (sym back.2) (bare_walk S x t.node along)))
 
       unnamed : (g : Node) → IsGroup S.config g → HasSet S g n → ⊥
       unnamed g group names =

@@ -33,6 +33,9 @@ find_node (o ∷ os) n = ⊎_elim
     other e f zero h = absurd (true≢false (sym (subst (λ x. eq_by_cmp node_cmp o x ≡ true) (same_Some o n h) ((eq_by_cmp_equiv nodes_total).refl o)) ∙ e))
     other e f (suc j) h = f j h
 
+pub distinct_none : AreDistinct {N = Node} []
+distinct_none = λ i j n a b. absurd (none-some n a)
+
 -- a number that was there has the node that it had
 pub got_before : (a b : List Node) (i : ℕ) (n : Node) → Grew a b → i < length a → slice_get b i ≡ Some n → slice_get a i ≡ Some n
 got_before a b i n grew lt at =

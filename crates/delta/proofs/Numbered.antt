@@ -45,7 +45,7 @@ module _ (config : Configured) where
         h,
     λ (group, (x, c, set, along)). ⊎_elim
         (λ d. inl (group, (x, d, set, along)))
-        (λ d. inr ((are g).1 (group, subst (λ (y : Tuple). GroupWalk (bare config) g y.node) d along)))
+        (λ d. inr ((are g).1 (group, subst (λ (y : Tuple). GroupWalk (bare config) g y.node) (sym d) along)))
         (Contains-push_cases ts t x c),
   )
 

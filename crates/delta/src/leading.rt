@@ -109,13 +109,12 @@ fn push_above(
     ensures numbers { OnOk result ((ts : List TupleValue) → AreNumbersOf nodes.old ids.old.items (IsAbove config.now (Contains ts))
         → AreNumbersOf nodes.new ids.new.items (IsAbove config.now (Contains (ts ++ tuple.now ∷ [])))) }
 {
-    let _ = nodes.len();
     match &tuple.subject.relation {
         None => Ok(()),
         Some(_) => {
             let groups = leading_to(alloc, config, &tuple.node)?;
-            let more = numbers_of(alloc, nodes, &groups)?;
-            ids.extend_from_slice(&more)?;
+            let mut more = numbers_of(alloc, nodes, &groups)?;
+            ids.append(&mut more)?;
             Ok(())
         }
     }
