@@ -109,6 +109,7 @@ fn push_above(
     ensures numbers { OnOk result ((ts : List TupleValue) → AreNumbersOf nodes.old ids.old.items (IsAbove config.now (Contains ts))
         → AreNumbersOf nodes.new ids.new.items (IsAbove config.now (Contains (ts ++ tuple.now ∷ [])))) }
 {
+    let _ = nodes.len();
     match &tuple.subject.relation {
         None => Ok(()),
         Some(_) => {

@@ -1,4 +1,5 @@
-use Rattle.std.proofs.Common.{◌≡◌, ◌||◌, List, ℕ, ◌∙◌, ap, subst, rules}
+use Rattle.std.proofs.Common.{◌≡◌, ◌||◌, List, ℕ, ◌∙◌, subst}
+use Rattle.std.proofs.lemmas.List.Elements.{same_from_all_zip}
 use Rattle.least_sets.specs.World.{has}
 use Rattle.region.specs.Gathered.{IsAskedOnce}
 use Rattle.delta.specs.Noted.{led_in}
@@ -18,7 +19,7 @@ returns-in-Ok-clause-refreshed c =
     let now = c.gather.new.facts in
     let region = c.in_ok-region.region in
     let got = c.in_ok-region.ensures in
-    let same : c.in_ok-asked.asked.items ≡ now.asked.items = search rules in
+    let same : c.in_ok-asked.asked.items ≡ now.asked.items = same_from_all_zip _ _ _ c.in_ok-asked.ensures.cases.0 (λ x y e. e) in
     let once = subst (λ (xs : List ℕ). IsAskedOnce region.told.items xs now.asked.items) c.requires.none got.asked in
     refreshed (MayTell now.arcs.now now.nodes) c.args.sets.now.rows c.fill.new.sets.rows c.args.roots.now c.args.turned.now c.args.changed.now
     _ now.asked.items c.in_ok-asked.asked.items region.told.items region.dropped.items
@@ -28,7 +29,7 @@ pub returns-in-Ok-clause-noted : goal.returns-in-Ok-clause-noted
 returns-in-Ok-clause-noted c =
     let now = c.gather.new.facts in
     let region = c.in_ok-region.region in
-    let same : c.in_ok-asked.asked.items ≡ now.asked.items = search rules in
+    let same : c.in_ok-asked.asked.items ≡ now.asked.items = same_from_all_zip _ _ _ c.in_ok-asked.ensures.cases.0 (λ x y e. e) in
     let once = subst (λ (xs : List ℕ). IsAskedOnce region.told.items xs now.asked.items) c.requires.none c.in_ok-region.ensures.asked in
     let both = subst (λ (ds : List ℕ). (i : ℕ) → has c.in_ok-touched.touched i ≡ (has c.in_ok-asked.asked.items i || has ds i)) c.deref.ensures.value c.in_ok-touched.ensures in
     let are = subst (λ (xs : List ℕ). AreNotedOf c.args.rev (led_in c.args.sets.now.rows) xs c.in_ok-before.before.items) c.as_slice.ensures.ids c.in_ok-before.ensures in
