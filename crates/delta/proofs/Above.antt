@@ -59,7 +59,7 @@ module _ (config : Configured) (to : Node) where
         let (d, defines, indexed) = indexed_has config (rel_of g) group in
         let back = contains_map_back defined_of rs d (subst (λ ds. Contains ds d) (sym is) defines.0) in
         any_contains (λ r. IsOneOf config (defined_of r) to g) rs back.0 back.1
-            (subst (λ x. IsOneOf config x to g) (sym back.2) (indexed, defines.1, same_object config g to along, along)),
+        (subst (λ x. IsOneOf config x to g) (sym back.2) (indexed, defines.1, same_object config g to along, along)),
   )
 
   -- there is one such group for a relation

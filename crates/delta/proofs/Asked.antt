@@ -77,8 +77,8 @@ module _ (S T : Snap) (events : List Event) (next : T ≡ after_commit S (Tuples
   untouched_kept i j h off (on {b = b} w arc) =
       let before = untouched_kept i b h off w in
       let same = arcs_stay S T nodes1 nodes' old new roots roots' turned changed [] asked k
-          (stays S T events next nodes nodes1 nodes' roots turned roots' changed asked old new first then above are all was had r)
-          (turns S T events next nodes nodes1 nodes' roots turned roots' changed asked old new first then above are all was had r) r b before.0 before.1 in
+      (stays S T events next nodes nodes1 nodes' roots turned roots' changed asked old new first then above are all was had r)
+      (turns S T events next nodes nodes1 nodes' roots turned roots' changed asked old new first then above are all was had r) r b before.0 before.1 in
       let step : has (k.arcs b) j ≡ true = subst (λ xs. has xs j ≡ true) same arc in
       let there : arc_in old b j ≡ true = k.held.arcs b j before.0 ∙ step in
       (arc_kept S nodes1 roots old k b j before.0 step, λ t. before.1 (record { end = t.end; among = t.among; walk = walk_from there t.walk }))
@@ -87,8 +87,8 @@ module _ (S T : Snap) (events : List Event) (next : T ≡ after_commit S (Tuples
   newly : (i : ℕ) (n : Node) → is_told r.told i ≡ true → slice_get nodes' i ≡ Some n → (kept old i ≡ true → ⊥) → layers.IsNewlyLedTo S T events n
   newly i n t at off =
       let reach = told_reached S T nodes1 nodes' old new roots roots' turned changed [] asked k
-          (stays S T events next nodes nodes1 nodes' roots turned roots' changed asked old new first then above are all was had r)
-          (turns S T events next nodes nodes1 nodes' roots turned roots' changed asked old new first then above are all was had r) r i t in
+      (stays S T events next nodes nodes1 nodes' roots turned roots' changed asked old new first then above are all was had r)
+      (turns S T events next nodes nodes1 nodes' roots turned roots' changed asked old new first then above are all was had r) r i t in
       let s = reach.start in
       let start_kept = now.held.from_roots s reach.among in
       let start = kept_named T nodes' roots' new now s start_kept in
@@ -102,9 +102,9 @@ module _ (S T : Snap) (events : List Event) (next : T ≡ after_commit S (Tuples
           let had = kept_named S nodes1 roots old k s h in
           let same : had.0 ≡ g = same_Some had.0 g (sym (grew_get nodes1 nodes' s had.0 then.grew had.1) ∙ there) in
           subst (λ x. layers.IsTouched S T events x) same (⊎_elim
-              (λ q. touched_by s had.0 h had.1 ((r.few s q).1 h))
-              (λ q. absurd (off (untouched_kept s i h q.1 w).0))
-              (r.nodes s (now.held.from_roots s ((all s) ∙ or_left (has roots s) (has turned s) root))))
+          (λ q. touched_by s had.0 h had.1 ((r.few s q).1 h))
+          (λ q. absurd (off (untouched_kept s i h q.1 w).0))
+          (r.nodes s (now.held.from_roots s ((all s) ∙ or_left (has roots s) (has turned s) root))))
       touched_start s g there (inr turn) w =
           let (x, (group, (t, c, of, along)), named) = above.sound s turn in
           let back = contains_map_back (λ (e : Event). e.tuple) events t c in
@@ -125,12 +125,15 @@ module _ (S T : Snap) (events : List Event) (next : T ≡ after_commit S (Tuples
   asked_few i h =
       let t = told i h in
       let may = may_tell S T nodes1 nodes' old new roots roots' turned changed [] asked k
-          (stays S T events next nodes nodes1 nodes' roots turned roots' changed asked old new first then above are all was had r)
-          (turns S T events next nodes nodes1 nodes' roots turned roots' changed asked old new first then above are all was had r) r i t in
-      (may.group, may.named, ⊎_elim
-          (λ q. (
-              let was = kept_named S nodes1 roots old k i q in
-              let same : was.0 ≡ may.group = same_Some was.0 may.group (sym (grew_get nodes1 nodes' i was.0 then.grew was.1) ∙ may.named) in
-              inl (subst (λ x. layers.IsTouched S T events x) same (touched_by i was.0 q was.1 ((r.few i t).1 q)))))
-          (λ q. inr (newly i may.group t may.named (λ e. false≢true (sym q ∙ e))))
-          (cases_Bool (kept old i)))
+      (stays S T events next nodes nodes1 nodes' roots turned roots' changed asked old new first then above are all was had r)
+      (turns S T events next nodes nodes1 nodes' roots turned roots' changed asked old new first then above are all was had r) r i t in (
+        may.group,
+        may.named,
+        ⊎_elim
+            (λ q. (
+            let was = kept_named S nodes1 roots old k i q in
+            let same : was.0 ≡ may.group = same_Some was.0 may.group (sym (grew_get nodes1 nodes' i was.0 then.grew was.1) ∙ may.named) in
+            inl (subst (λ x. layers.IsTouched S T events x) same (touched_by i was.0 q was.1 ((r.few i t).1 q)))))
+            (λ q. inr (newly i may.group t may.named (λ e. false≢true (sym q ∙ e))))
+            (cases_Bool (kept old i)),
+      )

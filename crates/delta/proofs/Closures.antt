@@ -65,16 +65,16 @@ module _ (S : Snap) (nodes : List Node) (roots : List ℕ) (rows : Rows) (k : Ar
   closure law i g ids at led n =
       let row = row_there (row_of rows i) ids led in (
         λ s. (
-          let j = s.0 in
-          let held : holds rows j i ≡ true = ap (λ xs. has xs j) row.1 ∙ s.1 in
-          let w = (law k.arcs (kept rows) j (holds rows j) arc_kept (k.held.least j) i row.0).0 held in
-          let end = walked i j g row.0 at w in
-          subst (GroupWalk S g) (same_Some end.1.0 n (sym end.1.1 ∙ s.2)) end.1.2),
+            let j = s.0 in
+            let held : holds rows j i ≡ true = ap (λ xs. has xs j) row.1 ∙ s.1 in
+            let w = (law k.arcs (kept rows) j (holds rows j) arc_kept (k.held.least j) i row.0).0 held in
+            let end = walked i j g row.0 at w in
+            subst (GroupWalk S g) (same_Some end.1.0 n (sym end.1.1 ∙ s.2)) end.1.2),
         λ w. (
-          let found = walked_by i g n row.0 at w in
-          let j = found.0 in
-          let held : holds rows j i ≡ true = (law k.arcs (kept rows) j (holds rows j) arc_kept (k.held.least j) i row.0).1 found.3 in
-          (j, ap (λ xs. has xs j) (sym row.1) ∙ held, found.2)),
+            let found = walked_by i g n row.0 at w in
+            let j = found.0 in
+            let held : holds rows j i ≡ true = (law k.arcs (kept rows) j (holds rows j) arc_kept (k.held.least j) i row.0).1 found.3 in
+            (j, ap (λ xs. has xs j) (sym row.1) ∙ held, found.2)),
       )
 
   -- the numbers of what is kept, and of what it leads to, are those of nodes

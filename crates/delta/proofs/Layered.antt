@@ -64,8 +64,8 @@ rebased before layer snaps rev is up low config base cursor nodes roots rows not
       (subst (λ xs. AreRoots (snaps before.cursor) before.nodes xs) (sym roots) is.roots));
   tells = λ at from to. tells_still before layer at (snaps at) config (subst (λ (ns : List Node). IsMore before.nodes ns) (sym nodes) (more_none before.nodes))
       (λ i. ap (λ xs. led_at xs layer.sets.rows i at) noted
-          ∙ ap (λ (rs : Rows). led_at (filter (λ (e : Earlier). nat_lt rev e.rev) before.earlier.items) rs i at) rows
-          ∙ led_filtered rev before.earlier.items before.sets.rows i at (omega (arith, from, base)))
+      ∙ ap (λ (rs : Rows). led_at (filter (λ (e : Earlier). nat_lt rev e.rev) before.earlier.items) rs i at) rows
+      ∙ led_filtered rev before.earlier.items before.sets.rows i at (omega (arith, from, base)))
       (is.tells at (omega (arith, from, base, up)) (omega (arith, to, cursor)));
 }
 
@@ -111,8 +111,8 @@ module _ (layer : Layer) (snaps : ℕ → Snap) (g : Node) (rev : ℕ) (is : IsL
     λ c. (t.closures g n group).0 (inl (ids, keeps, (named n).0 c)),
     λ w. ⊎_elim
         (λ (others, (i, at, led'), found).
-            let same : others ≡ ids = same_Some others ids (sym led' ∙ ap (λ j. led_at layer.earlier.items layer.sets.rows j rev) (is.distinct i id g at there) ∙ sym led) in
-            (named n).1 (subst (λ (xs : List ℕ). (j : ℕ) × (has xs j ≡ true) × (slice_get layer.nodes j ≡ Some n)) same found))
+        let same : others ≡ ids = same_Some others ids (sym led' ∙ ap (λ j. led_at layer.earlier.items layer.sets.rows j rev) (is.distinct i id g at there) ∙ sym led) in
+        (named n).1 (subst (λ (xs : List ℕ). (j : ℕ) × (has xs j ≡ true) × (slice_get layer.nodes j ≡ Some n)) same found))
         (λ (off, along). absurd (off ids keeps))
         ((t.closures g n group).1 w),
   )

@@ -28,9 +28,9 @@ module _ (q : Tuple) where
   event_or_same (e ∷ es) s = ⊎_elim
       (λ t. inl (e, contains_here e es, sym (tells_apart exact_tuples q e.tuple t)))
       (λ f. ⊎_elim
-          (λ (x, c, is). inl (x, contains_there e x es c, is))
-          (λ same. inr (same ∙ apart e.kind e.tuple s f))
-          (event_or_same es (after_event s e)))
+      (λ (x, c, is). inl (x, contains_there e x es c, is))
+      (λ same. inr (same ∙ apart e.kind e.tuple s f))
+      (event_or_same es (after_event s e)))
       (cases_Bool (eq_by_cmp tuple_cmp q e.tuple))
 
   pub tuple_or_same : (S T : Snap) (events : List Event) → T ≡ after_commit S (Tuples events)

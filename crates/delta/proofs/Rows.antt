@@ -59,15 +59,15 @@ module _ (rev : ℕ) (old new : Rows) (i at : ℕ) (before : at < rev) where
       let later : nat_lt at x.rev ≡ true = lt-ltb at x.rev (subst (λ q. at < q) (sym here.0) before) in
       ap (λ b. cond (b && nat_eq i x.group) x.led (led_at xs new i at)) later
       ∙ ⊎_elim
-          (λ t. ap (λ b. cond b x.led (led_at xs new i at)) t ∙ here.1 ∙ ap (led_in old) (sym (eqb-true i x.group t)))
-          (λ f. ap (λ b. cond b x.led (led_at xs new i at)) f ∙ more_tells xs (λ e c. each e (contains_there x e xs c)) (⊎_elim
-              (λ (e, c, is). ⊎_elim
-                  (λ same. absurd (false≢true (sym f ∙ eq-eqb i x.group (sym is ∙ ap (λ (y : Earlier). y.group) (sym same)))))
-                  (λ d. inl (e, d, is))
-                  (contains_cases x e xs c))
-              (λ same. inr same)
-              which))
-          (cases_Bool (nat_eq i x.group))
+      (λ t. ap (λ b. cond b x.led (led_at xs new i at)) t ∙ here.1 ∙ ap (led_in old) (sym (eqb-true i x.group t)))
+      (λ f. ap (λ b. cond b x.led (led_at xs new i at)) f ∙ more_tells xs (λ e c. each e (contains_there x e xs c)) (⊎_elim
+      (λ (e, c, is). ⊎_elim
+      (λ same. absurd (false≢true (sym f ∙ eq-eqb i x.group (sym is ∙ ap (λ (y : Earlier). y.group) (sym same)))))
+      (λ d. inl (e, d, is))
+      (contains_cases x e xs c))
+      (λ same. inr same)
+      which))
+      (cases_Bool (nat_eq i x.group))
 
   pub led_before : (es more : List Earlier) → ((e : Earlier) → Contains more e → (e.rev ≡ rev) × (e.led ≡ led_in old e.group))
       → ((e : Earlier) × Contains more e × (e.group ≡ i)) ⊎ (led_in new i ≡ led_in old i) → led_at (es ++ more) new i at ≡ led_at es old i at
@@ -93,13 +93,13 @@ in_order rev (x ∷ xs) es order low each =
     subst (λ ys. IsNonDecreasingBy rev_of ys) (append_assoc es (x ∷ []) xs)
     (in_order rev xs (es ++ x ∷ [])
     (IsNonDecreasingBy-push rev_of es x order (λ d lt.
-        let last : length es - 1 < length es = omega (arith, lt) in
-        let l = low (get_or es (length es - 1) d) (Contains-get_or es (length es - 1) d last) in
-        omega (arith, l, here)))
+    let last : length es - 1 < length es = omega (arith, lt) in
+    let l = low (get_or es (length es - 1) d) (Contains-get_or es (length es - 1) d last) in
+    omega (arith, l, here)))
     (λ e c. ⊎_elim
-        (λ d. low e d)
-        (λ d. let is : x.rev ≡ e.rev = ap rev_of d in omega (arith, here, is))
-        (Contains-push_cases es x e c))
+    (λ d. low e d)
+    (λ d. let is : x.rev ≡ e.rev = ap rev_of d in omega (arith, here, is))
+    (Contains-push_cases es x e c))
     (λ e c. each e (contains_there x e xs c)))
   where
     here : x.rev ≡ rev
@@ -123,10 +123,10 @@ pub led_filtered : (base : ℕ) (es : List Earlier) (rows : Rows) (i rev : ℕ) 
 led_filtered base [] rows i rev le = refl
 led_filtered base (e ∷ es) rows i rev le = ⊎_elim
     (λ t. ap (λ b. led_at (cond b (e ∷ filter (λ (x : Earlier). nat_lt base x.rev) es) (filter (λ (x : Earlier). nat_lt base x.rev) es)) rows i rev) t
-        ∙ ap (λ l. cond (nat_lt rev e.rev && nat_eq i e.group) e.led l) (led_filtered base es rows i rev le))
+    ∙ ap (λ l. cond (nat_lt rev e.rev && nat_eq i e.group) e.led l) (led_filtered base es rows i rev le))
     (λ f. ap (λ b. led_at (cond b (e ∷ filter (λ (x : Earlier). nat_lt base x.rev) es) (filter (λ (x : Earlier). nat_lt base x.rev) es)) rows i rev) f
-        ∙ led_filtered base es rows i rev le
-        ∙ sym (ap (λ b. cond (b && nat_eq i e.group) e.led (led_at es rows i rev)) (over f)))
+    ∙ led_filtered base es rows i rev le
+    ∙ sym (ap (λ b. cond (b && nat_eq i e.group) e.led (led_at es rows i rev)) (over f)))
     (cases_Bool (nat_lt base e.rev))
   where
     over : nat_lt base e.rev ≡ false → nat_lt rev e.rev ≡ false
@@ -136,9 +136,9 @@ pub filtered_there : (base : ℕ) (es : List Earlier) (e : Earlier) → Contains
 filtered_there base [] e c = c
 filtered_there base (x ∷ es) e c = ⊎_elim
     (λ t. ⊎_elim
-        (λ is. subst (λ y. Contains (x ∷ es) y) is (contains_here x es))
-        (λ d. contains_there x e es (filtered_there base es e d))
-        (contains_cases x e (filter (λ (y : Earlier). nat_lt base y.rev) es) (subst (λ b. Contains (cond b (x ∷ filter (λ (y : Earlier). nat_lt base y.rev) es) (filter (λ (y : Earlier). nat_lt base y.rev) es)) e) t c)))
+    (λ is. subst (λ y. Contains (x ∷ es) y) is (contains_here x es))
+    (λ d. contains_there x e es (filtered_there base es e d))
+    (contains_cases x e (filter (λ (y : Earlier). nat_lt base y.rev) es) (subst (λ b. Contains (cond b (x ∷ filter (λ (y : Earlier). nat_lt base y.rev) es) (filter (λ (y : Earlier). nat_lt base y.rev) es)) e) t c)))
     (λ f. contains_there x e es (filtered_there base es e (subst (λ b. Contains (cond b (x ∷ filter (λ (y : Earlier). nat_lt base y.rev) es) (filter (λ (y : Earlier). nat_lt base y.rev) es)) e) f c)))
     (cases_Bool (nat_lt base x.rev))
 

@@ -86,7 +86,7 @@ module _ (S T : Snap) (events : List Event) (next : T ≡ after_commit S (Tuples
       let may = may_more S nodes1 nodes' i (groups was1.arcs i) then (was1.told i h) in
       let same : (was1.told i h).group ≡ may.group = same_Some (was1.told i h).group may.group (sym (grew_get nodes1 nodes' i (was1.told i h).group then.grew (was1.told i h).named) ∙ may.named) in
       let quiet : (e : Event) → Contains events e → IsOfSet e.tuple → e.tuple.node ≡ may.group → ⊥ = λ e c of is.
-          off (record { end = i; among = are.complete e i c of ((was1.told i h).named ∙ ap (λ x. Some x) (same ∙ sym is)); walk = here }) in
+      off (record { end = i; among = are.complete e i c of ((was1.told i h).named ∙ ap (λ x. Some x) (same ∙ sym is)); walk = here }) in
       record {
         group = may.group;
         named = may.named;
@@ -101,11 +101,11 @@ module _ (S T : Snap) (events : List Event) (next : T ≡ after_commit S (Tuples
   pub now_roots : AreRoots T nodes' roots'
   now_roots g (group, (t, there, of, along)) = ⊎_elim
       (λ (e, c, is). (
-          let found = above.complete g (before group, (t, subst (λ (x : Tuple). Contains (tuples_of events) x) is (mapped events e c), of, before_walk along)) in
-          (found.0, all found.0 ∙ or_right (has roots found.0) (has turned found.0) found.1, grew_get nodes1 nodes' found.0 g then.grew found.2)))
+      let found = above.complete g (before group, (t, subst (λ (x : Tuple). Contains (tuples_of events) x) is (mapped events e c), of, before_walk along)) in
+      (found.0, all found.0 ∙ or_right (has roots found.0) (has turned found.0) found.1, grew_get nodes1 nodes' found.0 g then.grew found.2)))
       (λ same. (
-          let found = had g (before group, (t, same.1 there, of, before_walk along)) in
-          (found.0, all found.0 ∙ or_left (has roots found.0) (has turned found.0) found.1, grew_get nodes1 nodes' found.0 g then.grew (grew_get nodes nodes1 found.0 g first.grew found.2))))
+      let found = had g (before group, (t, same.1 there, of, before_walk along)) in
+      (found.0, all found.0 ∙ or_left (has roots found.0) (has turned found.0) found.1, grew_get nodes1 nodes' found.0 g then.grew (grew_get nodes nodes1 found.0 g first.grew found.2))))
       (tuple_or_same t S T events next)
     where
       config : T.config ≡ S.config
@@ -133,10 +133,10 @@ taken law before layer snaps events T is next config base cursor more kept roots
   roots = subst (λ (S : Snap). AreRoots S layer.nodes layer.roots) (sym there) roots;
   tells = λ rev from to. ⊎_elim
       (λ lt. tells_still before layer rev (snaps rev) config more
-          (λ i. noted_before layer.cursor before.sets.rows layer.sets.rows i rev (omega (arith, lt, cursor)) before.earlier.items layer.earlier.items noted)
-          (is.tells rev (subst (λ b. b ≤ rev) base from) (omega (arith, lt))))
+      (λ i. noted_before layer.cursor before.sets.rows layer.sets.rows i rev (omega (arith, lt, cursor)) before.earlier.items layer.earlier.items noted)
+      (is.tells rev (subst (λ b. b ≤ rev) base from) (omega (arith, lt))))
       (λ le. subst (λ q. Tells layer q (snaps q)) (let e : layer.cursor ≡ rev = omega (arith, le, to, cursor) in e)
-          (subst (λ (S : Snap). Tells layer layer.cursor S) (sym there) (tells_now law layer layer.cursor T same_config (more.distinct is.distinct) kept roots layer.noted.up_to)))
+      (subst (λ (S : Snap). Tells layer layer.cursor S) (sym there) (tells_now law layer layer.cursor T same_config (more.distinct is.distinct) kept roots layer.noted.up_to)))
       (cases_lt rev (before.cursor + 1));
 }
   where

@@ -44,12 +44,12 @@ module _ (law : GroupsAreWalks) (layer : Layer) (rev : ℕ) (S : Snap) (config :
   either : (g : Node) → ((ids : List ℕ) × KeepsAt layer rev g ids) ⊎ ((ids : List ℕ) → KeepsAt layer rev g ids → ⊥)
   either g = ⊎_elim
       (λ (i, at). ⊎_elim
-          (λ h. inl (is_kept g i at h))
-          (λ h. inr (λ ids (j, there, led).
-              let same : j ≡ i = distinct j i g there at in
-              let row = row_there (row_of layer.sets.rows j) ids (sym (now j) ∙ led) in
-              absurd (false≢true (sym h ∙ subst (λ q. kept layer.sets.rows q ≡ true) same row.0))))
-          (cases_Bool (kept layer.sets.rows i)))
+      (λ h. inl (is_kept g i at h))
+      (λ h. inr (λ ids (j, there, led).
+      let same : j ≡ i = distinct j i g there at in
+      let row = row_there (row_of layer.sets.rows j) ids (sym (now j) ∙ led) in
+      absurd (false≢true (sym h ∙ subst (λ q. kept layer.sets.rows q ≡ true) same row.0))))
+      (cases_Bool (kept layer.sets.rows i)))
       (λ none. inr (λ ids (j, there, led). none j there))
       (find_node layer.nodes g)
 

@@ -15,11 +15,7 @@ use region::{Sets, refresh};
 use std::alloc::{AllocError, Global};
 
 /// The nodes to which walks of arcs lead from the node, itself among them. Each is asked for once.
-pub(crate) fn led_to<A: Arcs>(
-    alloc: Global,
-    arcs: &A,
-    from: &Node,
-) -> Result<Vec<Node>, AllocError>
+pub(crate) fn led_to<A: Arcs>(alloc: Global, arcs: &A, from: &Node) -> Result<Vec<Node>, AllocError>
     ensures { IfOk result (λ v. AreAll (GroupWalk (A.snap arcs.now) from.now) v.items) }
 {
     groups_are_walks();
@@ -55,11 +51,7 @@ pub(crate) fn computes(
 }
 
 /// The nodes with some numbers.
-pub(crate) fn named(
-    alloc: Global,
-    nodes: &Ids<Node>,
-    ids: &[u64],
-) -> Result<Vec<Node>, AllocError>
+pub(crate) fn named(alloc: Global, nodes: &Ids<Node>, ids: &[u64]) -> Result<Vec<Node>, AllocError>
     ensures { IfOk result (λ v. AreNamed nodes.now ids.now v.items) }
 {
     let mut found = Vec::new(alloc);

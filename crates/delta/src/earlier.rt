@@ -66,12 +66,7 @@ pub(crate) fn noted(
     Ok(list)
 }
 
-fn push_noted(
-    rev: u64,
-    sets: &Sets,
-    group: u64,
-    list: &mut Vec<Earlier>,
-) -> Result<(), AllocError>
+fn push_noted(rev: u64, sets: &Sets, group: u64, list: &mut Vec<Earlier>) -> Result<(), AllocError>
     ensures { OnOk result ((before : List ℕ) → AreNotedOf rev (led_in sets.now.rows) before list.old.items
         → AreNotedOf rev (led_in sets.now.rows) (before ++ group ∷ []) list.new.items) }
 {

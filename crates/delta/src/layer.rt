@@ -122,12 +122,7 @@ impl Layer {
 
     /// The groups to which the group leads at a revision from the base to the cursor, itself among them. No order is
     /// promised.
-    pub fn closure_at(
-        &self,
-        alloc: Global,
-        group: &Node,
-        rev: u64,
-    ) -> Result<Vec<Node>, AllocError>
+    pub fn closure_at(&self, alloc: Global, group: &Node, rev: u64) -> Result<Vec<Node>, AllocError>
         ensures { IfOk result (λ v. (snaps : ℕ → Snap) → IsLayerOf self.now snaps → self.now.base ≤ rev → rev ≤ self.now.cursor
             → IsGroup (snaps rev).config group.now → (n : NodeValue) → Contains v.items n ↔ GroupToGroup (snaps rev) group.now n) }
     {

@@ -45,7 +45,9 @@ pub(crate) fn renew(
         asked: Vec::new(alloc),
     };
     swap(&mut facts.nodes, nodes);
-    let done = renew_by(alloc, &mut facts, rev, sets, earlier, roots, turned, changed);
+    let done = renew_by(
+        alloc, &mut facts, rev, sets, earlier, roots, turned, changed,
+    );
     swap(&mut facts.nodes, nodes);
     done
 }

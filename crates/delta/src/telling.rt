@@ -93,11 +93,7 @@ pub(crate) fn numbers_of(
 }
 
 /// Adds the number of a node.
-fn push_number(
-    nodes: &mut Ids<Node>,
-    ids: &mut Vec<u64>,
-    name: &Node,
-) -> Result<(), AllocError>
+fn push_number(nodes: &mut Ids<Node>, ids: &mut Vec<u64>, name: &Node) -> Result<(), AllocError>
     ensures more { IsMore nodes.old nodes.new }
     ensures number { OnOk result ((id : ℕ) × (ids.new.items ≡ ids.old.items ++ id ∷ []) × (slice_get nodes.new id ≡ Some name.now)) }
 {
