@@ -1,6 +1,6 @@
 -- Which groups lead to a node by computed usersets alone.
 use Rattle.std.proofs.Common.{◌≡◌, ℕ, Bool, not, nat_eq, List, [], ◌∷◌, ◌++◌, map, true, false, refl, sym, ap, subst, ◌∙◌, inl, inr, ⊎_elim}
-use Rattle.std.specs.Prelude.{◌↔◌, ◌⊎◌, Option, Some, None, Any, Contains, is_some}
+use Rattle.std.specs.Prelude.{◌↔◌, Some, None, Any, Contains}
 use Rattle.std.specs.Cmp.Lexicographic.{same_text, pointwise}
 use Rattle.std.proofs.lemmas.Bool.{false≢true}
 use Rattle.std.proofs.lemmas.Option.{none-some}
@@ -11,14 +11,12 @@ use Rattle.names.specs.declared.subject.Subject.{Subject}
 use Rattle.names.specs.declared.tuple.Tuple.{Tuple}
 use Rattle.names.specs.declared.relation.RelationName.{RelationName}
 use Rattle.meaning.specs.Config.{Configured, Defined, rel_of}
-use Rattle.meaning.specs.Snap.{set_of}
 use Rattle.meaning.proofs.Lists.{contains_map, contains_map_back}
 use Rattle.config_text.specs.Forms.{defined_of}
 use Rattle.config_text.specs.declared.relation.Relation.{Relation}
 use Rattle.graphs.specs.Groups.{GroupWalk, here, on}
-use Rattle.leopard.specs.Groups.{IsGroup}
 use Rattle.leopard.specs.Index.{bare}
-use Rattle.leopard.specs.inside.Asking.{AreAll, Gains}
+use Rattle.leopard.specs.inside.Asking.{Gains}
 use Rattle.leopard.proofs.Bare.{no_set}
 use Rattle.leopard.proofs.Gather.{any_contains}
 use Rattle.leopard.proofs.Indexed.{indexed_has, has_indexed}

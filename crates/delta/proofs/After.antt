@@ -1,5 +1,5 @@
 -- What is kept after a refresh.
-use Rattle.std.proofs.Common.{ℕ, ◌≡◌, true, false, cond, nat_eq, List, [], ◌∷◌, refl, sym, ◌∙◌, ap, subst, ⊎_elim, ◌⊎◌, inl, inr}
+use Rattle.std.proofs.Common.{ℕ, ◌≡◌, true, false, cond, nat_eq, List, [], ◌∷◌, refl, sym, ◌∙◌, ap, subst, ⊎_elim}
 use Rattle.std.specs.Prelude.{Bool, Option, None, is_some}
 use Rattle.std.proofs.lemmas.Bool.{or_cases, or_left, or_right, cases_Bool, false≢true, eqb-true, eq-eqb}
 use Rattle.std.proofs.Math.Path.{fun_ext}
@@ -14,7 +14,6 @@ use Rattle.region.specs.declared.sets.Row.{Row}
 use Rattle.region.specs.Steps.{is_told, Tells, AreTold}
 use Rattle.region.specs.Tables.{Rows, row_of, kept, arc_in, holds, arcs_or_none, members_or_none}
 use Rattle.region.specs.Gathered.{IsTurned, IsSameElsewhere}
-use Rattle.region.specs.Sets.{IsHeld}
 use Rattle.region.specs.Refreshed.{IsRefreshed}
 use Rattle.delta.specs.Telling.{MayTell, IsMore}
 use Rattle.delta.specs.inside.Growing.{may_more}

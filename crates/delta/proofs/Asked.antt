@@ -1,6 +1,6 @@
 -- Who was asked.
-use Rattle.std.proofs.Common.{ℕ, ◌≡◌, true, false, ◌||◌, List, [], sym, ◌∙◌, ap, subst, refl, ⊎_elim, ◌⊎◌, inl, inr}
-use Rattle.std.specs.Prelude.{Bool, Some, nat_eq, Contains}
+use Rattle.std.proofs.Common.{ℕ, ◌≡◌, true, ◌||◌, List, [], sym, ◌∙◌, ap, subst, refl, ⊎_elim, ◌⊎◌, inl, inr}
+use Rattle.std.specs.Prelude.{Some, nat_eq, Contains}
 use Rattle.std.specs.List.{slice_get, IsDistinct}
 use Rattle.std.proofs.lemmas.Bool.{or_cases, or_left, cases_Bool, false≢true}
 use Rattle.std.proofs.lemmas.Option.{same_Some}

@@ -1,7 +1,6 @@
 -- Walks by computed usersets alone.
-use Rattle.std.proofs.Common.{◌≡◌, inl, inr, ⊎_elim}
+use Rattle.std.proofs.Common.{inl, inr, ⊎_elim}
 use Rattle.names.specs.declared.node.Node.{Node}
-use Rattle.meaning.specs.Config.{Configured}
 use Rattle.meaning.specs.Snap.{Snap}
 use Rattle.meaning.specs.Membership.{HasSet}
 use Rattle.graphs.specs.Groups.{IsGroupArc, GroupWalk, here, on}

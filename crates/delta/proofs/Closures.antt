@@ -7,14 +7,13 @@ use Rattle.std.proofs.lemmas.Option.{none-some, same_Some}
 use Rattle.names.specs.declared.node.Node.{Node}
 use Rattle.meaning.specs.Snap.{Snap}
 use Rattle.least_sets.specs.World.{Fact, has, arcs_of}
-use Rattle.least_sets.specs.Groups.{groups, GroupsAreWalks}
+use Rattle.least_sets.specs.Groups.{GroupsAreWalks}
 use Rattle.least_sets.specs.Walks.{Walk}
 use Rattle.least_sets.specs.Walks as walks
 use Rattle.region.specs.declared.sets.Row.{Row}
-use Rattle.region.specs.Tables.{Rows, kept, row_of, holds, arc_in, members_or_none}
+use Rattle.region.specs.Tables.{Rows, kept, row_of, holds, members_or_none}
 use Rattle.graphs.specs.Groups.{IsGroupArc, GroupWalk, here, on}
 use Rattle.facts.specs.Numbers.{AreNumbersOf}
-use Rattle.delta.specs.Telling.{MayTell}
 use Rattle.delta.specs.Noted.{led_in}
 use Rattle.delta.specs.Layers.{AreKept}
 use Rattle.delta.specs.inside.Named.{IsNamedBy}

@@ -1,5 +1,5 @@
 -- A layer that begins, that is asked, and whose base moves up.
-use Rattle.std.proofs.Common.{ℕ, ◌≡◌, ◌≤◌, ◌<◌, true, false, nat_lt, List, [], refl, sym, ◌∙◌, ap, subst, arith, ⊎_elim, ◌⊎◌, inl, inr}
+use Rattle.std.proofs.Common.{ℕ, ◌≡◌, ◌≤◌, true, nat_lt, List, sym, ◌∙◌, ap, subst, arith, ⊎_elim, inl, inr}
 use Rattle.std.specs.Prelude.{◌↔◌, Some, None, Contains, filter}
 use Rattle.std.specs.List.{slice_get}
 use Rattle.std.proofs.lemmas.Option.{none-some, same_Some}
@@ -11,7 +11,7 @@ use Rattle.meaning.specs.Snap.{Snap}
 use Rattle.idsets.specs.Naming.{AreDistinct}
 use Rattle.least_sets.specs.World.{has}
 use Rattle.least_sets.specs.Groups.{GroupsAreWalks}
-use Rattle.region.specs.Tables.{Rows, row_of}
+use Rattle.region.specs.Tables.{Rows}
 use Rattle.graphs.specs.Groups.{GroupWalk}
 use Rattle.facts.specs.Numbers.{AreNumbersOf}
 use Rattle.facts.specs.inside.Tables.{grew_get}

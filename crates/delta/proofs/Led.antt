@@ -1,6 +1,6 @@
 -- Where walks lead, after all was asked.
-use Rattle.std.proofs.Common.{ℕ, ◌≡◌, List, [], sym, ap, ◌∙◌}
-use Rattle.std.specs.Prelude.{◌↔◌, Some, None, Contains}
+use Rattle.std.proofs.Common.{ℕ, ◌≡◌, List, [], sym, ap}
+use Rattle.std.specs.Prelude.{Some, None}
 use Rattle.std.specs.List.{slice_get}
 use Rattle.names.specs.declared.node.Node.{Node}
 use Rattle.meaning.specs.Snap.{Snap}

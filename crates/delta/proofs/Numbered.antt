@@ -1,9 +1,9 @@
 -- Numbers of groups above tuples.
-use Rattle.std.proofs.Common.{ℕ, ◌≡◌, true, List, [], ◌∷◌, ◌++◌, refl, sym, ◌∙◌, ap, subst, ⊎_elim, ◌⊎◌, inl, inr}
+use Rattle.std.proofs.Common.{ℕ, ◌≡◌, List, [], ◌∷◌, ◌++◌, sym, ◌∙◌, ap, subst, ⊎_elim, ◌⊎◌, inl, inr}
 use Rattle.std.specs.Prelude.{◌↔◌, Contains, Some}
 use Rattle.std.specs.List.{slice_get}
 use Rattle.std.proofs.lemmas.Bool.{or_cases, or_left, or_right}
-use Rattle.std.proofs.lemmas.List.Elements.{Contains-append_left, Contains-append_right, Contains-append_cases, Contains-push, Contains-push_cases}
+use Rattle.std.proofs.lemmas.List.Elements.{Contains-append_left, Contains-push, Contains-push_cases}
 use Rattle.names.specs.declared.node.Node.{Node}
 use Rattle.names.specs.declared.tuple.Tuple.{Tuple}
 use Rattle.meaning.specs.Config.{Configured}
@@ -14,7 +14,6 @@ use Rattle.graphs.specs.Groups.{IsGroupArc, GroupWalk}
 use Rattle.least_sets.proofs.Gives.{has-append}
 use Rattle.facts.specs.Numbers.{Grew, AreNumbersOf}
 use Rattle.facts.specs.inside.Tables.{grew_none, grew_get, numbers_none, numbers_keep, numbers_push}
-use Rattle.leopard.specs.Groups.{IsGroup}
 use Rattle.leopard.specs.Index.{bare}
 use Rattle.leopard.specs.inside.Asking.{AreAll}
 use Rattle.delta.specs.Layers.{IsAbove, IsOfSet}

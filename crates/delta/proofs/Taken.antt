@@ -1,20 +1,17 @@
 -- A layer after a commit.
-use Rattle.std.proofs.Common.{ℕ, ◌+◌, ◌≡◌, ◌≤◌, ◌<◌, true, false, ◌||◌, List, map, refl, sym, ◌∙◌, ap, subst, arith, ⊎_elim, ◌⊎◌, inl, inr}
+use Rattle.std.proofs.Common.{ℕ, ◌+◌, ◌≡◌, ◌≤◌, true, false, ◌||◌, List, map, refl, sym, ◌∙◌, ap, subst, arith, ⊎_elim, inl, inr}
 use Rattle.std.specs.Prelude.{◌↔◌, Bool, [], Some, Contains}
-use Rattle.std.specs.List.{slice_get}
 use Rattle.std.proofs.lemmas.Bool.{cases_lt, or_left, or_right}
 use Rattle.std.proofs.lemmas.Option.{same_Some}
 use Rattle.names.specs.declared.node.Node.{Node}
 use Rattle.names.specs.declared.tuple.Tuple.{Tuple}
 use Rattle.names.specs.declared.commit.Event.{Event}
 use Rattle.names.specs.declared.commit.Commit.TheVariants.{Tuples}
-use Rattle.meaning.specs.TupleSet as set
 use Rattle.meaning.specs.Config.{Configured, Defines, rel_of}
 use Rattle.meaning.specs.Snap.{Snap, set_of}
 use Rattle.meaning.specs.Membership.{HasSet}
 use Rattle.meaning.specs.History.{after_commit}
 use Rattle.meaning.proofs.Lists.{contains_map}
-use Rattle.idsets.specs.Naming.{AreDistinct}
 use Rattle.least_sets.specs.World.{has}
 use Rattle.least_sets.specs.Groups.{groups, GroupsAreWalks}
 use Rattle.least_sets.specs.Walks.{IsTouched, here}
@@ -31,7 +28,7 @@ use Rattle.delta.specs.Telling.{IsMore, MayTell}
 use Rattle.delta.specs.Noted.{IsNoted, led_at}
 use Rattle.delta.specs.Layers.{AreKept, AreRoots, IsAbove, IsIn, IsLayerOf, IsNext, IsOfSet, Tells}
 use Rattle.delta.specs.inside.Changing.{AreOfEvents}
-use Rattle.delta.specs.inside.Growing.{may_more, more_both}
+use Rattle.delta.specs.inside.Growing.{may_more}
 use Rattle.delta.proofs.After.{after, kept_same}
 use Rattle.delta.proofs.Replayed.{tuple_or_same}
 use Rattle.delta.proofs.Rows.{noted_before, led_same}

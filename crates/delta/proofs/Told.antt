@@ -1,5 +1,5 @@
 -- What a layer tells of a revision.
-use Rattle.std.proofs.Common.{ℕ, ◌≡◌, ◌≤◌, ◌<◌, true, false, List, length, refl, sym, ◌∙◌, ap, subst, arith, ⊎_elim, ◌⊎◌, inl, inr}
+use Rattle.std.proofs.Common.{ℕ, ◌≡◌, ◌≤◌, true, List, refl, sym, ◌∙◌, subst, arith, ⊎_elim, ◌⊎◌, inl, inr}
 use Rattle.std.specs.Prelude.{◌↔◌, Some, Contains}
 use Rattle.std.specs.List.{slice_get}
 use Rattle.std.proofs.lemmas.Bool.{cases_Bool, false≢true}
@@ -8,20 +8,19 @@ use Rattle.names.specs.declared.node.Node.{Node}
 use Rattle.names.specs.declared.tuple.Tuple.{Tuple}
 use Rattle.meaning.specs.Config.{Configured}
 use Rattle.meaning.specs.Snap.{Snap, set_of}
-use Rattle.meaning.specs.Membership.{HasSet}
 use Rattle.idsets.specs.Naming.{AreDistinct}
 use Rattle.least_sets.specs.World.{has}
 use Rattle.least_sets.specs.Groups.{GroupsAreWalks}
 use Rattle.region.specs.Tables.{kept, row_of}
 use Rattle.graphs.specs.Groups.{GroupWalk}
 use Rattle.facts.specs.inside.Tables.{grew_get, grew_longer}
-use Rattle.leopard.specs.Groups.{IsGroup, GroupToGroup}
+use Rattle.leopard.specs.Groups.{IsGroup}
 use Rattle.leopard.specs.Index.{bare}
 use Rattle.delta.specs.declared.earlier.Earlier.{Earlier}
 use Rattle.delta.specs.declared.layer.Layer.{Layer}
 use Rattle.delta.specs.Telling.{IsMore}
 use Rattle.delta.specs.Noted.{led_in, led_at}
-use Rattle.delta.specs.Layers.{AreKept, AreRoots, IsOfSet, KeepsAt, LeadsAt, Tells}
+use Rattle.delta.specs.Layers.{AreKept, AreRoots, KeepsAt, Tells}
 use Rattle.delta.proofs.Bare.{bare_walk, walk_bare}
 use Rattle.delta.proofs.Closures.{row_there, there_row, closure, kept_named, led_named}
 use Rattle.delta.proofs.Lists.{find_node, got_before}

@@ -1,5 +1,5 @@
 -- What a layer keeps and tells of the revisions from its base to its cursor (Zanzibar, section 3.2.4).
-use Rattle.std.specs.Prelude.{ℕ, ◌+◌, ◌≡◌, ◌≤◌, ◌<◌, ◌⊎◌, ◌↔◌, true, List, Some, None, Contains, length, nat_eq}
+use Rattle.std.specs.Prelude.{ℕ, ◌+◌, ◌≡◌, ◌≤◌, ◌<◌, ◌⊎◌, ◌↔◌, true, List, Some, Contains, length, nat_eq}
 use Rattle.std.specs.List.{slice_get, IsDistinct}
 use Rattle.names.specs.declared.node.Node.{Node}
 use Rattle.names.specs.declared.tuple.Tuple.{Tuple}

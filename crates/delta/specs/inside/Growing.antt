@@ -1,5 +1,5 @@
 -- What may be told of a group may be told of it when more nodes have numbers.
-use Rattle.std.specs.Prelude.{ℕ, ◌≡◌, List}
+use Rattle.std.specs.Prelude.{ℕ, List}
 use Rattle.names.specs.declared.node.Node.{Node}
 use Rattle.meaning.specs.Snap.{Snap}
 use Rattle.least_sets.specs.World.{Fact}

@@ -1,4 +1,4 @@
-use Rattle.std.proofs.Common.{ℕ, List, [], ◌∷◌, sym, ◌∙◌, ap, subst}
+use Rattle.std.proofs.Common.{[], ◌∷◌, sym, ◌∙◌, ap, subst}
 use Rattle.std.specs.Prelude.{Some}
 use Rattle.region.specs.Refreshed.{IsRefreshed}
 use Rattle.leopard.proofs.Nodes.{same_node}

@@ -1,4 +1,4 @@
-use Rattle.std.proofs.Common.{take, [], subst, arith}
+use Rattle.std.proofs.Common.{take, subst, arith}
 use Rattle.std.specs.Prelude.{Contains}
 use Rattle.facts.specs.Numbers.{AreNumbersOf}
 use Rattle.facts.proofs.Naming.{one_more, all_of}

@@ -1,8 +1,7 @@
-use Rattle.std.proofs.Common.{Any, Contains, ◌+◌, drop, sym, ◌∙◌, arith, subst, inl, inr, refl}
-use Rattle.std.specs.Prelude.{◌↔◌, ◌⊎◌}
+use Rattle.std.proofs.Common.{Any, Contains, ◌+◌, drop, arith}
 use Rattle.config_text.specs.Forms.{defined_of}
 use Rattle.config_text.specs.declared.relation.Relation.{Relation}
-use Rattle.leopard.proofs.Gather.{gather_more, gather_all, gather_start, left_at, left_none}
+use Rattle.leopard.proofs.Gather.{gather_more, gather_all, left_at, left_none}
 use Rattle.delta.specs.inside.Leading.{IsOneOf}
 use Rattle.delta.proofs.Above.{one_leads}
 use Rattle.delta.proofs.leading.leading_to.Goals as goal

@@ -1,4 +1,4 @@
-use Rattle.std.proofs.Common.{◌≡◌, List, refl, rules, nat_lt}
+use Rattle.std.proofs.Common.{◌≡◌, refl, rules, nat_lt}
 use Rattle.std.specs.Prelude.{filter}
 use Rattle.std.proofs.lemmas.Fn.{filter_same}
 use Rattle.delta.specs.declared.earlier.Earlier.{Earlier}
