@@ -31,11 +31,13 @@ ghost use Rattle.leopard.specs.Query.{is_allowed};
 ghost use Rattle.shown.specs.Grouping.{AreGroups, IsGroupsRefusal};
 
 use crate::answer::{Answer, Refused};
+use crate::groups::{based, first_led_to, layer_later, rebased, tells_of};
 use crate::marks::{count_with, remark};
 use crate::members::{Known, members_later, members_of, remarked};
 use crate::step::Step;
 use config::Config;
 use decide::Nothing;
+use delta::Layer;
 use expand::Tree;
 use hot::Hot;
 use leopard::{Built, Expr};
@@ -59,6 +61,7 @@ pub struct Shown {
     marks: Vec<Node>,
     keeps_parts: bool,
     built: Option<Built>,
+    layer: Option<Layer>,
     members: Option<Hot>,
 }
 
@@ -75,19 +78,19 @@ impl Model for Shown {
 
     ghost invariant = { λ s.
         IsSound (record { kept = s.rows; base = s.base; index = s.index; hot = s.hot; marks = s.marks.items })
-        s.built s.members };
+        s.built s.layer s.members };
 }
 
 impl Shown {
-    /// The state before the first step. Once a base is asked for, its index is kept, and once a node is marked, who is a
-    /// member of it at the revision of the hot table.
+    /// The state before the first step. Once a base is asked for, its index is kept, and a layer up to the index cursor;
+    /// once a node is marked, who is a member of it at the revision of the hot table.
     pub fn new(alloc: Global) -> Shown
         ensures { result ≡ nothing }
     {
         Shown::before_all(alloc, true)
     }
 
-    /// The state before the first step, for one who judges changes alone: no index and no members are kept.
+    /// The state before the first step, for one who judges changes alone: no index, no layer and no members are kept.
     pub fn without_parts(alloc: Global) -> Shown
         ensures { result ≡ nothing }
     {
@@ -106,6 +109,7 @@ impl Shown {
             marks: Vec::new(alloc),
             keeps_parts,
             built: None,
+            layer: None,
             members: None,
         }
     }
@@ -137,6 +141,10 @@ impl Shown {
         requires { CanRaise self.old floor }
         ensures { self.new ≡ after_step self.old (Step.Trim floor) }
     {
+        self.layer = match self.layer.take() {
+            Some(layer) => rebased(self.alloc, layer, &self.rows, floor),
+            None => None,
+        };
         self.rows.trim(floor);
     }
 
@@ -251,6 +259,7 @@ impl Shown {
         let Ok(built) = self.index_of(rev) else {
             return Err(AllocError);
         };
+        self.layer = based(self.alloc, self.layer.take(), &self.rows, rev, self.index);
         self.rebase(rev);
         self.built = Some(built);
         Ok(())
@@ -511,6 +520,11 @@ impl Shown {
             }
         }
         let view = self.rows.at(rev);
+        if let (Expr::Group2Group(group), Some(layer)) = (expr, &self.layer) {
+            if tells_of(layer, rev) {
+                return first_led_to(self.alloc, layer, &view, rev, group, limit);
+            }
+        }
         leopard::groups_at(self.alloc, &view, expr, limit)
     }
 
@@ -547,6 +561,7 @@ impl Shown {
         let rows = Rows::new(self.alloc, loaded)?;
         let newest = rows.newest();
         self.built = None;
+        self.layer = None;
         self.members = None;
         self.rows = rows;
         self.base = newest;
@@ -579,6 +594,10 @@ impl Shown {
         ensures { self.new ≡ after_take self.old Part.Index commits }
     {
         let to = self.cursor_after(self.index, commits);
+        self.layer = match self.layer.take() {
+            Some(layer) => layer_later(self.alloc, layer, &self.rows, self.index, to),
+            None => None,
+        };
         self.base = self.rows.last_config(self.base, self.index, to);
         self.index = to;
     }
