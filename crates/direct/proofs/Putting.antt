@@ -122,3 +122,7 @@ nowhere left user none = ap (λ es. lookup (λ k. is_eq (nat_cmp user k)) es) no
 -- where none is left to be put, the sets are what they were to be
 pub put_all : (left : BTreeMap ℕ (List ℕ)) (sets : List (List ℕ)) (user : ℕ) → left.entries ≡ [] → set_or left sets user ≡ set_in sets user
 put_all left sets user none = ap (λ o. ids_or o (set_in sets user)) (nowhere left user none)
+
+pub nothing_left : {A : Type 0} (xs : List A) → (0 < length xs → ⊥) → xs ≡ []
+nothing_left [] none = refl
+nothing_left (x ∷ xs) none = absurd (none (omega arith))

@@ -1,8 +1,8 @@
 -- Users and groups that have numbers, where more of them get one.
 use Rattle.std.proofs.Common.{ℕ, zero, suc, ◌≡◌, ◌<◌, ◌≤◌, ◌+◌, ◌&&◌, ◌||◌, Bool, true, false, cond, nat_eq, List, [], ◌∷◌, ◌++◌, length, get_or, refl, sym, ◌∙◌, ap, subst, arith, length-append, ⊎_elim, ◌⊎◌, inl, inr}
-use Rattle.std.specs.Prelude.{◌↔◌, Contains, Result, Ok, Err, IfOk, OnErr, Option, Some, None, is_some, not, nat_lt, slice_set, slice_index_or, if◌then◌else◌}
+use Rattle.std.specs.Prelude.{◌↔◌, Contains, Result, Ok, Err, IfOk, OnErr, Option, Some, None, is_some, nat_lt, slice_set, slice_index_or, if◌then◌else◌}
 use Rattle.std.specs.List.{slice_get}
-use Rattle.std.proofs.lemmas.Bool.{cases_Bool, and_parts, or_cases, or_left, or_right, false≢true, eqb-true, eq-eqb}
+use Rattle.std.proofs.lemmas.Bool.{cases_Bool, or_cases, or_left, or_right, false≢true, eqb-true, eq-eqb}
 use Rattle.std.proofs.lemmas.List.{get_or-set_same, get_or-set_other}
 use Rattle.std.proofs.lemmas.Option.{none-some, same_Some, slice_get_within, slice_get-get_or}
 use Rattle.std.proofs.lemmas.List.Elements.{Contains-append_left, Contains-push, Contains-push_cases}
@@ -231,16 +231,9 @@ single_is t none = ap (λ (r : Option (List ℕ)). record { object = t.subject.o
 pub is_single : (t : Tuple) → t.subject ≡ one t.subject.object → is_some t.subject.relation ≡ false
 is_single t is = ap (λ (s : Subject). is_some s.relation) is
 
--- what two tests say of a tuple
-pub direct_test : (config : Configured) (t : Tuple) (none indexed : Bool) → is_some t.subject.relation ≡ not none → indexed ≡ is_indexed config (rel_of t.node) → ((none && indexed) ≡ true) ↔ IsDirect config t
-direct_test config t none indexed single group = (
-  λ h. let p = and_parts none indexed h in (sym group ∙ p.1, single_is t (single ∙ ap not p.0)),
-  λ d. both none indexed (not_false none (sym single ∙ is_single t d.1)) (group ∙ d.0),
-)
-  where
-    not_false : (b : Bool) → not b ≡ false → b ≡ true
-    not_false true e = refl
-    not_false false e = absurd (false≢true (sym e))
+module _ (config : Configured) (t : Tuple) where
+  pub direct_where : (indexed : Bool) → is_some t.subject.relation ≡ false → indexed ≡ is_indexed config (rel_of t.node) → (indexed ≡ true) ↔ IsDirect config t
+  direct_where indexed single group = (λ h. (sym group ∙ h, single_is t single), λ d. group ∙ d.0)
 
-    both : (a b : Bool) → a ≡ true → b ≡ true → (a && b) ≡ true
-    both a b e f = ap (λ x. x && b) e ∙ f
+  pub direct_nowhere : is_some t.subject.relation ≡ true → (false ≡ true) ↔ IsDirect config t
+  direct_nowhere some = (λ h. absurd (false≢true h), λ d. sym (is_single t d.1) ∙ some)

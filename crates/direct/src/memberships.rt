@@ -3,6 +3,7 @@ ghost use Rattle.std.specs.Prelude.{◌≤◌, length};
 ghost use Rattle.idsets.specs.Naming.{AreDistinct};
 
 use crate::indexed::is_direct;
+use crate::naming::see;
 use config::Config;
 use idsets::{IdSet, Ids};
 use names::{Node, Object, Tuple};
@@ -113,9 +114,7 @@ impl Memberships {
     {
         let user = user.clone()?;
         self.make_room(alloc)?;
-        let number = self.users.see(user);
-        let _ = self.users.len();
-        number
+        see(&mut self.users, user)
     }
 
     /// Makes a set for one user more, where there is none yet.
@@ -136,9 +135,7 @@ impl Memberships {
         ensures more { IsMore self.old self.new }
         ensures number { IfOk result (λ number. slice_get self.new.groups number ≡ Some group.now) }
     {
-        let number = self.groups.see(group.clone()?);
-        let _ = self.groups.len();
-        number
+        see(&mut self.groups, group.clone()?)
     }
 
     /// The numbers of the tuple's user and group, where a group names a user by it and both were seen.

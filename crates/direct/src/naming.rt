@@ -1,10 +1,25 @@
-//! Groups by their numbers.
-ghost use Rattle.std.specs.Prelude.{◌++◌, ◌∷◌, [], ℕ, List, IfOk, OnOk};
+//! Names by their numbers.
+ghost use Rattle.std.specs.Prelude.{◌≡◌, ◌≤◌, ◌+◌, ◌++◌, ◌∷◌, [], ℕ, List, Some, length, IfOk, OnOk};
+ghost use Rattle.std.specs.List.{slice_get};
+ghost use Rattle.facts.specs.Numbers.{Grew};
+ghost use Rattle.idsets.specs.Naming.{AreDistinct};
 ghost use Rattle.direct.specs.inside.Listing.{AreNamed};
 
-use idsets::Ids;
+use idsets::{Ids, Named};
 use names::Node;
 use std::alloc::{AllocError, Global};
+
+/// The number of a name, the next one if it was not seen before.
+pub(crate) fn see<N: Named>(table: &mut Ids<N>, name: N) -> Result<u64, AllocError>
+    ensures number { IfOk result (λ number. slice_get table.new number ≡ Some name) }
+    ensures grew { Grew table.old table.new }
+    ensures longer { length table.new ≤ length table.old + 1 }
+    ensures apart { AreDistinct table.new }
+{
+    let number = table.see(name);
+    let _ = table.len();
+    number
+}
 
 /// The nodes with some numbers.
 pub(crate) fn named(alloc: Global, nodes: &Ids<Node>, ids: &[u64]) -> Result<Vec<Node>, AllocError>

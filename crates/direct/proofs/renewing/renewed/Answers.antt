@@ -14,8 +14,8 @@ use Rattle.direct.proofs.renewing.renewed.Goals as goal
 
 pub loop-event-init : goal.loop-event-init
 loop-event-init c = record {
-  users = users_begin c.args.config.now c.args.kept.now c.new-renewed.result c.new-renewed.ensures.entries;
-  sets = right_begins c.args.config.now c.args.kept.now c.new-renewed.result c.new-renewed.ensures.entries;
+  users = users_begin c.args.config.now c.args.kept.now c.new-renewed.result c.new-renewed.ensures.empty;
+  sets = right_begins c.args.config.now c.args.kept.now c.new-renewed.result c.new-renewed.ensures.empty;
 }
 
 pub loop-event-preserved : goal.loop-event-preserved
