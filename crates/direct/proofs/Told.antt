@@ -1,6 +1,6 @@
 -- What is told of revisions after each change.
 use Rattle.std.proofs.Common.{ℕ, ◌≡◌, ◌<◌, ◌≤◌, ◌+◌, ◌&&◌, Bool, true, false, List, [], ◌++◌, length, refl, sym, ◌∙◌, ap, subst, arith, ⊎_elim, ◌⊎◌, inl, inr}
-use Rattle.std.specs.Prelude.{◌↔◌, Contains, Some, None, is_some}
+use Rattle.std.specs.Prelude.{◌↔◌, Contains, Some, None, is_some, Result, Ok, Err, IfOk, OnErr}
 use Rattle.std.specs.List.{slice_get}
 use Rattle.std.specs.Ordering.{nat_cmp}
 use Rattle.std.specs.BTreeMap.{BTreeMap, get}
@@ -234,3 +234,13 @@ direct_rebased a b rev config base cursor kept within same snaps is above = reco
       (λ user. same b.kept.sets.items user r (omega (arith, base, from)) ∙ ap (λ (k : Memberships). set_at a.earlier.items k.sets.items user r) kept)
       (is.tells r (omega (arith, base, above, from)) (omega (arith, cursor, to)));
 }
+
+-- ---- outcomes
+
+pub err_any : {T E P : Type 0} (r : Result T E) → P → OnErr r P
+err_any (Ok x) p = tt
+err_any (Err e) p = p
+
+pub if_ok : {T E : Type 0} (P Q : T → Type 0) (r : Result T E) → ((x : T) → P x → Q x) → IfOk r P → IfOk r Q
+if_ok P Q (Ok x) f p = f x p
+if_ok P Q (Err e) f p = tt

@@ -30,10 +30,10 @@ returns-in-Some-clause-sets c =
     let found : AreFound c.args.config.now c.args.kept.now c.args.event.now.tuple (Some c.in-Some.found) = c.in-Some.ensures in
     on_ok_weaker c.renew_set.result
     (λ puts tuples are. right_put c.args.config.now c.args.kept.now (set_or c.args.renewed.now c.args.kept.now.sets.items) (set_or c.renew_set.new.renewed c.args.kept.now.sets.items) tuples c.args.event.now
-        c.in-Some.found found.0 found.1
-        (subst (λ ss. (other id : ℕ) → has (set_or c.renew_set.new.renewed ss other) id
-            ≡ cond (nat_eq other c.in-Some.found.user && nat_eq id c.in-Some.found.group) (is_put c.args.event.now.kind) (has (set_or c.args.renewed.now ss other) id)) c.deref.ensures.value puts)
-        are)
+    c.in-Some.found found.0 found.1
+    (subst (λ ss. (other id : ℕ) → has (set_or c.renew_set.new.renewed ss other) id
+    ≡ cond (nat_eq other c.in-Some.found.user && nat_eq id c.in-Some.found.group) (is_put c.args.event.now.kind) (has (set_or c.args.renewed.now ss other) id)) c.deref.ensures.value puts)
+    are)
     c.renew_set.ensures.sets
 
 pub returns-in-None-clause-users : goal.returns-in-None-clause-users

@@ -1,5 +1,6 @@
 use Rattle.std.proofs.Common.{ℕ, ◌≡◌, ◌≤◌, ◌<◌, ◌+◌, cond, nat_eq, List, [], ◌∷◌, ◌++◌, length, refl, sym, ap, subst, ◌∙◌, arith, length-set}
 use Rattle.std.specs.Prelude.{slice_set, vec_len, vec_capacity, Some}
+use Rattle.std.proofs.lemmas.Bool.{false≢true}
 use Rattle.std.specs.Ordering.{nat_cmp}
 use Rattle.std.specs.BTreeMap.{get, btree_map_len}
 use Rattle.direct.specs.declared.noted.EarlierGroups.{EarlierGroups}
@@ -75,7 +76,7 @@ replace_one-requires c =
 pub returns : goal.returns
 returns c = record {
   length = c.loop-user.invariant.length;
-  sets = λ user. sym (put_all c.loop-user.renewed c.loop-user.sets.items user (nothing_left c.loop-user.renewed.entries (λ lt. c.in_default.ensures.variant.1 lt))) ∙ c.loop-user.invariant.sets user;
+  sets = λ user. sym (put_all c.loop-user.renewed c.loop-user.sets.items user (nothing_left c.loop-user.renewed.entries (λ lt. false≢true (c.in_default.ensures.variant.1 lt)))) ∙ c.loop-user.invariant.sets user;
   up_to = c.loop-user.invariant.up_to;
   noted = noted_ends c.args.rev c.args.renewed c.loop-user.renewed c.args.earlier.now.items c.loop-user.earlier.items c.loop-user.invariant.noted;
   before = c.loop-user.invariant.before;
