@@ -198,8 +198,8 @@ noted_few a b mid events renewed config users noted of = record {
   once = noted.once;
   named = λ e c.
       let one = noted.each e c in
-      let (event, among, direct, at) = of e.user one.1 in
-      (one.0, (event, among, subst (λ (k : Configured). IsDirect k event.tuple) (sym config) direct, subst (λ (xs : List Object). slice_get xs e.user ≡ Some event.tuple.subject.object) (sym users) at));
+      let (event, among, is) = of e.user one.1 in
+      (one.0, (event, among, subst (λ (k : Configured). IsDirect k event.tuple) (sym config) is.0, subst (λ (xs : List Object). slice_get xs e.user ≡ Some event.tuple.subject.object) (sym users) is.1));
 }
 
 -- ---- what is answered
