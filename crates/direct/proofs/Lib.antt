@@ -1,8 +1,8 @@
-mod Found
+mod Listed
 mod Past
 mod Tables
 mod Replaying
 mod Putting
-mod Renewed
+mod Stepwise
 mod Seen
-mod Told
+mod Revised

@@ -1,8 +1,7 @@
 -- What was noted of users, at a revision.
-use Rattle.std.proofs.Common.{ℕ, zero, suc, ◌≡◌, ◌≤◌, ◌<◌, ◌+◌, ◌-◌, true, false, cond, ◌&&◌, nat_eq, nat_lt, List, [], ◌∷◌, ◌++◌, length, take, drop, get_or, length-drop, refl, sym, ◌∙◌, ap, subst, arith, ⊎_elim}
+use Rattle.std.proofs.Common.{ℕ, zero, suc, ◌≡◌, ◌≤◌, ◌<◌, ◌+◌, ◌-◌, false, cond, ◌&&◌, nat_eq, nat_lt, List, [], ◌∷◌, ◌++◌, length, take, drop, get_or, length-drop, refl, sym, ◌∙◌, ap, subst, arith, ⊎_elim}
 use Rattle.std.specs.Prelude.{Contains, filter}
 use Rattle.std.specs.List.{AllWithin}
-use Rattle.std.specs.List.Sorted.{IsNonDecreasingBy}
 use Rattle.std.proofs.lemmas.Bool.{cases_Bool, false≢true, eqb-true, ltb-true, lt-ltb}
 use Rattle.std.proofs.lemmas.List.{get_or-drop, take_all}
 use Rattle.std.proofs.lemmas.List.Elements.{Contains-get_or, Contains-push_cases}
@@ -10,7 +9,7 @@ use Rattle.std.proofs.lemmas.List.Kept.{IsNonDecreasingBy-filter}
 use Rattle.std.proofs.lemmas.List.Sorted.{IsNonDecreasingBy-push, IsNonDecreasingBy-short}
 use Rattle.meaning.proofs.Lists.{contains_here, contains_there, contains_cases, contains_none}
 use Rattle.direct.specs.declared.noted.EarlierGroups.{EarlierGroups}
-use Rattle.direct.specs.Noted.{set_in, set_at, AreUpTo}
+use Rattle.direct.specs.Before.{set_in, set_at, AreUpTo}
 
 not_later : (a b : ℕ) → b ≤ a → nat_lt a b ≡ false
 not_later a b le = ⊎_elim (λ t. absurd (omega (arith, ltb-true a b t, le))) (λ f. f) (cases_Bool (nat_lt a b))

@@ -1,5 +1,5 @@
 -- Sets that are put in the place of others, one by one, and what is noted of them.
-use Rattle.std.proofs.Common.{ℕ, ◌≡◌, ◌<◌, ◌≤◌, ◌+◌, Bool, true, false, cond, nat_eq, List, [], ◌∷◌, ◌++◌, length, map, refl, sym, ◌∙◌, ap, subst, arith, ⊎_elim, inl, inr, append-nil, append_assoc}
+use Rattle.std.proofs.Common.{ℕ, ◌≡◌, ◌<◌, true, false, cond, nat_eq, List, [], ◌∷◌, ◌++◌, length, map, refl, sym, ◌∙◌, ap, subst, arith, ⊎_elim, append-nil, append_assoc}
 use Rattle.std.specs.Prelude.{Option, Some, None, Contains, is_some, slice_set}
 use Rattle.std.specs.List.{IsDistinct, list_any}
 use Rattle.std.specs.Map.{lookup}
@@ -15,7 +15,7 @@ use Rattle.meaning.proofs.Lists.{contains_none, contains_map_back}
 use Rattle.region.specs.Tables.{ids_or}
 use Rattle.region.proofs.Listing.{eq_is, turn_eq}
 use Rattle.direct.specs.declared.noted.EarlierGroups.{EarlierGroups}
-use Rattle.direct.specs.Noted.{set_in}
+use Rattle.direct.specs.Before.{set_in}
 use Rattle.direct.specs.inside.Renewing.{set_or, IsNoted}
 use Rattle.direct.proofs.Tables.{set_put}
 

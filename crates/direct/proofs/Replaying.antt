@@ -1,10 +1,10 @@
 -- What events make of the groups that name a user.
 use Rattle.std.proofs.Common.{ℕ, ◌≡◌, ◌<◌, Bool, true, false, not, cond, ◌&&◌, ◌||◌, nat_eq, List, [], ◌∷◌, ◌++◌, length, refl, sym, ◌∙◌, ap, subst, ⊎_elim, ◌⊎◌, inl, inr}
-use Rattle.std.specs.Prelude.{◌↔◌, Contains, Some, None}
+use Rattle.std.specs.Prelude.{Contains, Some}
 use Rattle.std.specs.List.{slice_get}
 use Rattle.std.specs.Cmp.{eq_by_cmp_equiv}
 use Rattle.std.specs.Ordering.{eq_by_cmp}
-use Rattle.std.proofs.lemmas.Bool.{cases_Bool, and_parts, false≢true, true≢false, eqb-true, eq-eqb}
+use Rattle.std.proofs.lemmas.Bool.{cases_Bool, and_parts, true≢false, eqb-true, eq-eqb}
 use Rattle.std.proofs.lemmas.Map.Views.{tells_apart}
 use Rattle.std.proofs.lemmas.Option.{slice_get_within}
 use Rattle.names.specs.Order.{tuple_cmp}
@@ -23,7 +23,7 @@ use Rattle.meaning.proofs.TupleSets.{tuples_total, exact_tuples, contains_insert
 use Rattle.config.specs.Valid.{is_indexed}
 use Rattle.idsets.specs.Sets.{has}
 use Rattle.leopard.specs.Groups.{IsGroup}
-use Rattle.direct.specs.Named.{IsDirect, AreWithin}
+use Rattle.direct.specs.Named.{IsDirect}
 use Rattle.direct.specs.inside.Keeping.{HasNumbers, AreRight, names_by, tuple_of}
 use Rattle.direct.specs.inside.Renewing.{is_put}
 use Rattle.direct.specs.declared.memberships.Memberships.{Memberships}

@@ -1,10 +1,10 @@
 -- Users and groups that have numbers, where more of them get one.
-use Rattle.std.proofs.Common.{ℕ, zero, suc, ◌≡◌, ◌<◌, ◌≤◌, ◌+◌, ◌&&◌, ◌||◌, Bool, true, false, cond, nat_eq, List, [], ◌∷◌, ◌++◌, length, get_or, refl, sym, ◌∙◌, ap, subst, arith, length-append, ⊎_elim, ◌⊎◌, inl, inr}
-use Rattle.std.specs.Prelude.{◌↔◌, Contains, Result, Ok, Err, IfOk, OnErr, Option, Some, None, is_some, nat_lt, slice_set, slice_index_or, if◌then◌else◌}
+use Rattle.std.proofs.Common.{ℕ, zero, suc, ◌≡◌, ◌<◌, ◌≤◌, ◌+◌, ◌||◌, Bool, true, false, cond, nat_eq, List, [], ◌∷◌, ◌++◌, length, get_or, refl, sym, ◌∙◌, ap, subst, arith, length-append, ⊎_elim, ◌⊎◌, inl, inr}
+use Rattle.std.specs.Prelude.{◌↔◌, Contains, Result, Ok, Err, IfOk, OnErr, Option, Some, None, is_some, nat_lt, slice_set, if◌then◌else◌}
 use Rattle.std.specs.List.{slice_get}
 use Rattle.std.proofs.lemmas.Bool.{cases_Bool, or_cases, or_left, or_right, false≢true, eqb-true, eq-eqb}
 use Rattle.std.proofs.lemmas.List.{get_or-set_same, get_or-set_other}
-use Rattle.std.proofs.lemmas.Option.{none-some, same_Some, slice_get_within, slice_get-get_or}
+use Rattle.std.proofs.lemmas.Option.{same_Some, slice_get_within, slice_get-get_or}
 use Rattle.std.proofs.lemmas.List.Elements.{Contains-append_left, Contains-push, Contains-push_cases}
 use Rattle.names.specs.declared.object.Object.{Object}
 use Rattle.names.specs.declared.node.Node.{Node}
@@ -19,8 +19,8 @@ use Rattle.facts.specs.Numbers.{Grew}
 use Rattle.facts.specs.inside.Tables.{grew_none, grew_both, grew_get, grew_longer}
 use Rattle.leopard.specs.Groups.{IsGroup}
 use Rattle.direct.specs.Named.{IsDirect, Names, AreWithin}
-use Rattle.direct.specs.Noted.{set_in}
-use Rattle.direct.specs.inside.Keeping.{IsMore, HasNumbers, AreNumbers, AreKept, tuple_of}
+use Rattle.direct.specs.Before.{set_in}
+use Rattle.direct.specs.inside.Keeping.{IsMore, HasNumbers, AreKept, tuple_of}
 use Rattle.direct.specs.declared.memberships.Memberships.{Memberships}
 use Rattle.direct.specs.declared.memberships.Membership.{Membership}
 

@@ -1,4 +1,4 @@
 pub mod Named
-pub mod Noted
+pub mod Before
 pub mod Revisions
 pub mod inside

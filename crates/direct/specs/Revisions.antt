@@ -9,7 +9,7 @@ use Rattle.meaning.specs.Snap.{Snap}
 use Rattle.meaning.specs.History.{after_commit}
 use Rattle.leopard.specs.Groups.{MemberToGroup}
 use Rattle.direct.specs.Named.{IsDirect, Names, AreWithin}
-use Rattle.direct.specs.Noted.{set_at}
+use Rattle.direct.specs.Before.{set_at}
 use Rattle.direct.specs.declared.direct.Direct.{Direct}
 use Rattle.direct.specs.declared.noted.EarlierGroups.{EarlierGroups}
 

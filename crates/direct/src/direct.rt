@@ -1,10 +1,10 @@
 //! The direct groups of users, at revisions.
-ghost use Rattle.direct.specs.Noted.{AreUpTo};
+ghost use Rattle.direct.specs.Before.{AreUpTo};
 
 use crate::memberships::Memberships;
 use crate::naming::named;
 use crate::noted::{EarlierGroups, set_at};
-use crate::renewing::{number_all, renewed, replace_all};
+use crate::replacing::{number_all, renewed, replace_all};
 use config::Config;
 use names::{Event, Node, Object};
 use rows::View;

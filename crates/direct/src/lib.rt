@@ -8,7 +8,7 @@ mod indexed;
 mod memberships;
 mod naming;
 mod noted;
-mod renewing;
+mod replacing;
 
 pub use direct::Direct;
 pub use noted::EarlierGroups;

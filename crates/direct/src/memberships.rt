@@ -34,7 +34,7 @@ impl Memberships {
     ghost use Rattle.names.specs.declared.tuple.Tuple.{Tuple as TupleValue};
     ghost use Rattle.meaning.specs.Config.{Configured};
     ghost use Rattle.idsets.specs.Sets.{has};
-    ghost use Rattle.direct.specs.Noted.{set_in};
+    ghost use Rattle.direct.specs.Before.{set_in};
     ghost use Rattle.direct.specs.inside.Keeping.{IsMore, AreNumbers, AreFound, AreKept};
 
     /// The memberships that some tuples tell.

@@ -2,7 +2,7 @@
 ghost use Rattle.std.specs.Prelude.{◌≡◌, ◌<◌, ℕ, List, length};
 ghost use Rattle.std.specs.List.{AllWithin};
 ghost use Rattle.std.specs.List.Sorted.{IsNonDecreasingBy};
-ghost use Rattle.direct.specs.Noted.{set_at};
+ghost use Rattle.direct.specs.Before.{set_at};
 
 use idsets::IdSet;
 

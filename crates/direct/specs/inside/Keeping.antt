@@ -13,7 +13,7 @@ use Rattle.idsets.specs.Sets.{has}
 use Rattle.facts.specs.Numbers.{Grew}
 use Rattle.leopard.specs.Groups.{IsGroup}
 use Rattle.direct.specs.Named.{IsDirect, Names, AreWithin}
-use Rattle.direct.specs.Noted.{set_in}
+use Rattle.direct.specs.Before.{set_in}
 use Rattle.direct.specs.declared.memberships.Memberships.{Memberships}
 use Rattle.direct.specs.declared.memberships.Membership.{Membership}
 

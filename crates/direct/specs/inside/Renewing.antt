@@ -9,7 +9,7 @@ use Rattle.names.specs.declared.commit.EventKind.TheVariants.{Put, Del}
 use Rattle.meaning.specs.Config.{Configured}
 use Rattle.region.specs.Tables.{ids_or}
 use Rattle.direct.specs.Named.{IsDirect}
-use Rattle.direct.specs.Noted.{set_in}
+use Rattle.direct.specs.Before.{set_in}
 use Rattle.direct.specs.declared.memberships.Memberships.{Memberships}
 use Rattle.direct.specs.declared.noted.EarlierGroups.{EarlierGroups}
 

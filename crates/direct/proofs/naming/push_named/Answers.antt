@@ -1,6 +1,6 @@
 use Rattle.std.proofs.Common.{◌≡◌, sym, ◌∙◌, ap, rules}
 use Rattle.std.specs.Prelude.{Some}
-use Rattle.direct.proofs.Found.{named_more, named_passed}
+use Rattle.direct.proofs.Listed.{named_more, named_passed}
 use Rattle.direct.proofs.naming.push_named.Goals as goal
 
 pub returns-in_ok-push-in-Some : goal.returns-in_ok-push-in-Some

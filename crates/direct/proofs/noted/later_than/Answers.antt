@@ -1,7 +1,7 @@
 use Rattle.std.proofs.Common.{◌-◌, List, length, ap, ◌∙◌, rules, leb, leb-true, leb-false, arith}
 use Rattle.std.proofs.lemmas.List.Sorted.{IsPartitionPoint-from_clause, IsPartitionedBy-leb}
 use Rattle.direct.specs.declared.noted.EarlierGroups.{EarlierGroups}
-use Rattle.direct.specs.Noted.{set_at}
+use Rattle.direct.specs.Before.{set_at}
 use Rattle.direct.proofs.Past.{later_from, set_past, rest_of}
 use Rattle.direct.proofs.noted.later_than.Goals as goal
 

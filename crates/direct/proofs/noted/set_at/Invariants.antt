@@ -1,5 +1,5 @@
 use Rattle.std.proofs.Common.{◌≡◌, drop}
-use Rattle.direct.specs.Noted.{set_at}
+use Rattle.direct.specs.Before.{set_at}
 use Rattle.direct.proofs.noted.set_at.Given as goal
 
 -- what is left tells what all of it tells

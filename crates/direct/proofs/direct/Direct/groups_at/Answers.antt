@@ -1,9 +1,9 @@
 use Rattle.std.proofs.Common.{ap, subst, ◌∙◌}
 use Rattle.std.specs.Prelude.{Contains}
 use Rattle.meaning.proofs.Lists.{contains_none}
-use Rattle.direct.specs.Noted.{set_at}
+use Rattle.direct.specs.Before.{set_at}
 use Rattle.direct.specs.inside.Listing.{AreNamed}
-use Rattle.direct.proofs.Told.{answers_found, answers_none, if_ok}
+use Rattle.direct.proofs.Revised.{answers_found, answers_none, if_ok}
 use Rattle.direct.proofs.direct.Direct.groups_at.Goals as goal
 
 pub returns-in-Some : goal.returns-in-Some

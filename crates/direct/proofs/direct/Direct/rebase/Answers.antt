@@ -2,9 +2,9 @@ use Rattle.std.proofs.Common.{◌≡◌, nat_lt, refl, ap, ◌∙◌, rules}
 use Rattle.std.specs.Prelude.{filter}
 use Rattle.std.proofs.lemmas.Fn.{filter_same}
 use Rattle.direct.specs.declared.noted.EarlierGroups.{EarlierGroups}
-use Rattle.direct.specs.Noted.{set_at}
+use Rattle.direct.specs.Before.{set_at}
 use Rattle.direct.proofs.Past.{set_filtered, up_to_filtered}
-use Rattle.direct.proofs.Told.{direct_rebased}
+use Rattle.direct.proofs.Revised.{direct_rebased}
 use Rattle.direct.proofs.direct.Direct.rebase.Goals as goal
 
 pub invariant_of-self : goal.invariant_of-self

@@ -1,5 +1,5 @@
 use Rattle.std.proofs.Common.{refl, ◌∙◌}
-use Rattle.direct.proofs.Told.{direct_begins}
+use Rattle.direct.proofs.Revised.{direct_begins}
 use Rattle.direct.proofs.direct.Direct.restart.Goals as goal
 
 pub returns-clause-direct : goal.returns-clause-direct

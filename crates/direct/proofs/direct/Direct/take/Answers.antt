@@ -1,9 +1,9 @@
-use Rattle.std.proofs.Common.{◌≡◌, ◌≤◌, ◌<◌, ◌+◌, length, refl, sym, ap, subst, ◌∙◌, arith}
+use Rattle.std.proofs.Common.{◌≤◌, ◌<◌, ◌+◌, length, refl, sym, ap, subst, ◌∙◌, arith}
 use Rattle.std.proofs.lemmas.Option.{slice_get_within}
-use Rattle.direct.specs.Noted.{set_at, AreUpTo}
+use Rattle.direct.specs.Before.{set_at, AreUpTo}
 use Rattle.direct.specs.inside.Renewing.{IsNoted}
 use Rattle.direct.proofs.Past.{up_to_later}
-use Rattle.direct.proofs.Told.{direct_more, direct_next, noted_few, err_any}
+use Rattle.direct.proofs.Revised.{direct_more, direct_next, noted_few, err_any}
 use Rattle.direct.proofs.direct.Direct.take.Goals as goal
 
 pub replace_all-requires : goal.replace_all-requires

@@ -1,5 +1,5 @@
 use Rattle.std.proofs.Common.{ℕ, ◌≡◌, ◌≤◌, List, [], ◌∷◌, ◌++◌, length, refl, ap, ◌∙◌, arith, length-append}
-use Rattle.direct.specs.Noted.{set_in}
+use Rattle.direct.specs.Before.{set_in}
 use Rattle.direct.proofs.Tables.{set_push}
 use Rattle.direct.proofs.memberships.Memberships.make_room.Goals as goal
 

@@ -1,4 +1,4 @@
-use Rattle.std.proofs.Common.{◌≡◌, ◌≤◌, ◌<◌, ◌+◌, List, [], length, sym, ap, subst, ◌∙◌, arith, append-nil}
+use Rattle.std.proofs.Common.{◌≤◌, ◌<◌, ◌+◌, List, [], length, sym, subst, ◌∙◌, arith, append-nil}
 use Rattle.names.specs.declared.object.Object.{Object}
 use Rattle.facts.specs.Numbers.{Grew}
 use Rattle.direct.proofs.memberships.Memberships.see_user.Goals as goal

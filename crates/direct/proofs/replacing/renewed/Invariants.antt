@@ -5,10 +5,10 @@ use Rattle.std.specs.BTreeMap.{get}
 use Rattle.names.specs.declared.commit.Event.{Event}
 use Rattle.meaning.specs.TupleSet.{Tuples}
 use Rattle.meaning.specs.History.{replay}
-use Rattle.direct.specs.Noted.{set_in}
+use Rattle.direct.specs.Before.{set_in}
 use Rattle.direct.specs.inside.Keeping.{AreRight}
 use Rattle.direct.specs.inside.Renewing.{set_or, IsNumberOf}
-use Rattle.direct.proofs.renewing.renewed.Given as goal
+use Rattle.direct.proofs.replacing.renewed.Given as goal
 
 abbrev pub invariant-loop-event : goal.invariant-loop-event
 invariant-loop-event l = record {

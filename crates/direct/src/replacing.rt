@@ -7,7 +7,7 @@ ghost use Rattle.meaning.specs.Snap.{Tuples};
 ghost use Rattle.meaning.specs.History.{after_event, replay};
 ghost use Rattle.idsets.specs.Sets.{has};
 ghost use Rattle.direct.specs.Named.{IsDirect};
-ghost use Rattle.direct.specs.Noted.{set_in, set_at, AreUpTo};
+ghost use Rattle.direct.specs.Before.{set_in, set_at, AreUpTo};
 ghost use Rattle.direct.specs.inside.Keeping.{IsMore, HasNumbers, AreRight};
 ghost use Rattle.direct.specs.inside.Renewing.{is_put, set_or, IsNumberOf, IsNoted};
 ghost use Rattle.direct.specs.declared.memberships.Membership.{Membership as MembershipValue};

@@ -1,6 +1,5 @@
-use Rattle.std.proofs.Common.{take, subst, ⊎_elim, arith}
+use Rattle.std.proofs.Common.{take, subst, arith}
 use Rattle.std.specs.Prelude.{Contains}
-use Rattle.std.proofs.lemmas.List.Elements.{Contains-push_cases}
 use Rattle.names.specs.declared.commit.Event.{Event}
 use Rattle.facts.proofs.Naming.{one_more, all_of}
 use Rattle.direct.specs.Named.{IsDirect}
@@ -8,7 +7,7 @@ use Rattle.direct.specs.inside.Keeping.{HasNumbers}
 use Rattle.direct.specs.declared.memberships.Membership.{Membership}
 use Rattle.direct.proofs.Tables.{more_none, more_both}
 use Rattle.direct.proofs.Seen.{numbers_begin, numbers_push}
-use Rattle.direct.proofs.renewing.number_all.Goals as goal
+use Rattle.direct.proofs.replacing.number_all.Goals as goal
 
 pub loop-event-init : goal.loop-event-init
 loop-event-init c = record {

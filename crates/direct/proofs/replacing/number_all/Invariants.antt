@@ -4,7 +4,7 @@ use Rattle.names.specs.declared.commit.Event.{Event}
 use Rattle.direct.specs.Named.{IsDirect}
 use Rattle.direct.specs.inside.Keeping.{IsMore, HasNumbers}
 use Rattle.direct.specs.declared.memberships.Membership.{Membership}
-use Rattle.direct.proofs.renewing.number_all.Given as goal
+use Rattle.direct.proofs.replacing.number_all.Given as goal
 
 abbrev pub invariant-loop-event : goal.invariant-loop-event
 invariant-loop-event l = record {

@@ -1,10 +1,10 @@
 -- What is told of revisions after each change.
-use Rattle.std.proofs.Common.{ℕ, ◌≡◌, ◌<◌, ◌≤◌, ◌+◌, ◌&&◌, Bool, true, false, List, [], ◌++◌, length, refl, sym, ◌∙◌, ap, subst, arith, ⊎_elim, ◌⊎◌, inl, inr}
-use Rattle.std.specs.Prelude.{◌↔◌, Contains, Some, None, is_some, Result, Ok, Err, IfOk, OnErr}
+use Rattle.std.proofs.Common.{ℕ, ◌≡◌, ◌<◌, ◌≤◌, ◌+◌, ◌&&◌, true, List, [], length, sym, ◌∙◌, ap, subst, arith, ⊎_elim}
+use Rattle.std.specs.Prelude.{◌↔◌, Contains, Some, is_some, Result, Ok, Err, IfOk, OnErr}
 use Rattle.std.specs.List.{slice_get}
 use Rattle.std.specs.Ordering.{nat_cmp}
 use Rattle.std.specs.BTreeMap.{BTreeMap, get}
-use Rattle.std.proofs.lemmas.Bool.{cases_Bool, and_parts, false≢true, cases_lt}
+use Rattle.std.proofs.lemmas.Bool.{and_parts, cases_lt}
 use Rattle.names.specs.declared.object.Object.{Object}
 use Rattle.names.specs.declared.node.Node.{Node}
 use Rattle.names.specs.declared.tuple.Tuple.{Tuple}
@@ -21,8 +21,8 @@ use Rattle.idsets.proofs.Having.{same_tests}
 use Rattle.facts.specs.Numbers.{Grew}
 use Rattle.facts.specs.inside.Tables.{grew_none, grew_get}
 use Rattle.leopard.specs.Groups.{IsGroup, MemberToGroup}
-use Rattle.direct.specs.Named.{IsDirect, Names, AreWithin}
-use Rattle.direct.specs.Noted.{set_in, set_at, AreUpTo}
+use Rattle.direct.specs.Named.{IsDirect}
+use Rattle.direct.specs.Before.{set_in, set_at, AreUpTo}
 use Rattle.direct.specs.Revisions.{sets_at, NamesAt, Tells, IsDirectOf, IsNext, NotesFew}
 use Rattle.direct.specs.inside.Keeping.{IsMore, HasNumbers, AreKept, AreRight, names_by, tuple_of}
 use Rattle.direct.specs.inside.Listing.{AreNamed}
@@ -30,7 +30,6 @@ use Rattle.direct.specs.inside.Renewing.{set_or, IsNumberOf, IsNoted}
 use Rattle.direct.specs.declared.direct.Direct.{Direct}
 use Rattle.direct.specs.declared.memberships.Memberships.{Memberships}
 use Rattle.direct.specs.declared.memberships.Membership.{Membership}
-use Rattle.direct.specs.declared.noted.EarlierGroups.{EarlierGroups}
 use Rattle.direct.proofs.Past.{set_now, set_same}
 use Rattle.direct.proofs.Tables.{names_before, names_after, within_after, direct_is}
 use Rattle.direct.proofs.Replaying.{event_or_same}

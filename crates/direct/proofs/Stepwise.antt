@@ -1,6 +1,6 @@
 -- Sets that are renewed by one event after another.
-use Rattle.std.proofs.Common.{ℕ, ◌≡◌, true, List, [], ◌∷◌, ◌++◌, refl, sym, ◌∙◌, ap, subst, ⊎_elim, ◌⊎◌}
-use Rattle.std.specs.Prelude.{None, Contains, is_some}
+use Rattle.std.proofs.Common.{ℕ, ◌≡◌, true, List, [], ◌∷◌, ◌++◌, sym, ◌∙◌, ap, subst, ⊎_elim, ◌⊎◌}
+use Rattle.std.specs.Prelude.{Contains, is_some}
 use Rattle.std.specs.Ordering.{nat_cmp}
 use Rattle.std.specs.BTreeMap.{BTreeMap, get}
 use Rattle.std.proofs.lemmas.Bool.{false≢true}
@@ -10,8 +10,7 @@ use Rattle.meaning.specs.TupleSet.{Tuples}
 use Rattle.meaning.specs.Config.{Configured}
 use Rattle.meaning.specs.History.{replay, after_event}
 use Rattle.idsets.specs.Sets.{has}
-use Rattle.region.specs.Tables.{ids_or}
-use Rattle.direct.specs.Noted.{set_in}
+use Rattle.direct.specs.Before.{set_in}
 use Rattle.direct.specs.inside.Keeping.{AreRight}
 use Rattle.direct.specs.inside.Renewing.{set_or, IsNumberOf}
 use Rattle.direct.specs.declared.memberships.Memberships.{Memberships}

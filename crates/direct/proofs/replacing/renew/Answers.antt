@@ -1,5 +1,5 @@
 use Rattle.std.proofs.Common.{ℕ, ◌≡◌, ◌≤◌, ◌<◌, ◌&&◌, cond, nat_eq, length, sym, ap, subst, ⊎_elim, inl, inr, arith}
-use Rattle.std.specs.Prelude.{Some, None}
+use Rattle.std.specs.Prelude.{Some}
 use Rattle.std.specs.List.{slice_get}
 use Rattle.std.proofs.lemmas.Option.{slice_get_within}
 use Rattle.std.proofs.lemmas.Result.{on_ok_weaker}
@@ -7,7 +7,7 @@ use Rattle.idsets.specs.Sets.{has}
 use Rattle.direct.specs.inside.Keeping.{AreFound}
 use Rattle.direct.specs.inside.Renewing.{is_put, set_or}
 use Rattle.direct.proofs.Replaying.{right_put, right_passed}
-use Rattle.direct.proofs.renewing.renew.Goals as goal
+use Rattle.direct.proofs.replacing.renew.Goals as goal
 
 pub renew_set-requires : goal.renew_set-requires
 renew_set-requires c =

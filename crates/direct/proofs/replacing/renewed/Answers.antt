@@ -1,16 +1,14 @@
-use Rattle.std.proofs.Common.{◌≡◌, true, ℕ, take, sym, ap, ◌∙◌, subst, ⊎_elim, arith}
+use Rattle.std.proofs.Common.{◌≡◌, true, ℕ, take, subst, arith}
 use Rattle.std.specs.Prelude.{Contains, is_some}
 use Rattle.std.specs.Ordering.{nat_cmp}
 use Rattle.std.specs.BTreeMap.{get}
 use Rattle.names.specs.declared.commit.Event.{Event}
 use Rattle.facts.proofs.Naming.{one_more, all_of}
-use Rattle.meaning.specs.TupleSet.{Tuples}
 use Rattle.meaning.specs.History.{replay}
-use Rattle.direct.specs.Noted.{set_in}
 use Rattle.direct.specs.inside.Keeping.{AreRight}
 use Rattle.direct.specs.inside.Renewing.{set_or, IsNumberOf}
-use Rattle.direct.proofs.Renewed.{users_begin, right_begins, users_push, right_push}
-use Rattle.direct.proofs.renewing.renewed.Goals as goal
+use Rattle.direct.proofs.Stepwise.{users_begin, right_begins, users_push, right_push}
+use Rattle.direct.proofs.replacing.renewed.Goals as goal
 
 pub loop-event-init : goal.loop-event-init
 loop-event-init c = record {

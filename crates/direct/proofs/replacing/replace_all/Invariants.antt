@@ -2,10 +2,10 @@ use Rattle.std.proofs.Common.{ℕ, ◌≡◌, ◌<◌, ◌≤◌, ◌+◌, true,
 use Rattle.std.specs.Prelude.{is_some, vec_len, vec_capacity}
 use Rattle.std.specs.Ordering.{nat_cmp}
 use Rattle.std.specs.BTreeMap.{get, btree_map_len}
-use Rattle.direct.specs.Noted.{set_at, AreUpTo}
+use Rattle.direct.specs.Before.{set_at, AreUpTo}
 use Rattle.direct.specs.inside.Renewing.{set_or}
 use Rattle.direct.proofs.Putting.{IsNotedYet}
-use Rattle.direct.proofs.renewing.replace_all.Given as goal
+use Rattle.direct.proofs.replacing.replace_all.Given as goal
 
 abbrev pub invariant-loop-user : goal.invariant-loop-user
 invariant-loop-user l = record {

@@ -1,15 +1,15 @@
-use Rattle.std.proofs.Common.{ℕ, ◌≡◌, ◌≤◌, ◌<◌, ◌+◌, cond, nat_eq, List, [], ◌∷◌, ◌++◌, length, refl, sym, ap, subst, ◌∙◌, arith, length-set}
+use Rattle.std.proofs.Common.{ℕ, ◌≡◌, ◌≤◌, ◌<◌, ◌+◌, cond, List, [], ◌∷◌, ◌++◌, length, refl, sym, ap, subst, ◌∙◌, arith, length-set}
 use Rattle.std.specs.Prelude.{slice_set, vec_len, vec_capacity, Some}
 use Rattle.std.proofs.lemmas.Bool.{false≢true}
 use Rattle.std.specs.Ordering.{nat_cmp}
 use Rattle.std.specs.BTreeMap.{get, btree_map_len}
 use Rattle.direct.specs.declared.noted.EarlierGroups.{EarlierGroups}
-use Rattle.direct.specs.Noted.{set_in, set_at, AreUpTo}
+use Rattle.direct.specs.Before.{set_in, set_at, AreUpTo}
 use Rattle.direct.specs.inside.Renewing.{set_or}
 use Rattle.direct.proofs.Past.{set_noted, up_to_push}
 use Rattle.direct.proofs.Putting.{noted_begins, noted_ends, was_left, is_left, put_next, noted_next, put_all, nothing_left}
 use Rattle.direct.proofs.Tables.{set_put}
-use Rattle.direct.proofs.renewing.replace_all.Goals as goal
+use Rattle.direct.proofs.replacing.replace_all.Goals as goal
 
 pub loop-user-init : goal.loop-user-init
 loop-user-init c = record {
