@@ -1,52 +1,14 @@
 //! Which groups name a user, before commits and after them, and from a new base on.
 
-use config::Config;
+use crate::history::{event, history};
 use direct::Direct;
-use names::{Commit, Event, EventKind, Items, Node, Object, Op, OpKind, Refusal, Tuple};
-use rows::{Rows, events_of};
+use names::{Event, EventKind, Node, Object, Refusal};
+use rows::Rows;
 use std::alloc::{AllocError, Global};
 use std::test::Fail;
 
-// Groups, and a relation that is not indexed.
-const CONFIG: &str = r#"{"namespaces":{"user":{},"doc":{"owner":{"types":["user"]}},
-"group":{"member":{"types":["user","group#member"],"indexed":true}}}}"#;
-
 // A userset is no user, and an owner is in no group.
 const TUPLES: &str = "group:a#member@user:ann group:b#member@group:a#member doc:d#owner@user:ann";
-
-fn is_committed(rows: &mut Rows, commit: &Commit<Config>) -> Result<bool, AllocError> {
-    if rows.refuses(commit)? {
-        return Ok(false);
-    }
-    rows.admits_its_tuples();
-    rows.commit(commit)?;
-    Ok(true)
-}
-
-// A history with the configuration and then the tuples.
-fn history(alloc: Global) -> Result<Rows, Refusal> {
-    let mut rows = Rows::empty(alloc);
-    let config = Commit::Config(Config::from_json(alloc, CONFIG.as_bytes())?);
-    let mut ops = Vec::new(alloc);
-    for word in TUPLES.split_ascii_whitespace() {
-        ops.push(Op {
-            kind: OpKind::Touch,
-            tuple: Tuple::parse(word)?,
-        })?;
-    }
-    let tuples = Commit::Tuples(events_of(Items::of(ops))?);
-    if is_committed(&mut rows, &config)? && is_committed(&mut rows, &tuples)? {
-        return Ok(rows);
-    }
-    Err(Refusal::Malformed)
-}
-
-fn event(kind: EventKind, tuple: &str) -> Result<Event, Refusal> {
-    Ok(Event {
-        tuple: Tuple::parse(tuple)?,
-        kind,
-    })
-}
 
 // Whether these are the groups that name the user, in any order.
 fn are_groups(
@@ -108,7 +70,7 @@ fn begins_anew(alloc: Global, direct: &mut Direct, rows: &Rows) -> Result<bool, 
 }
 
 fn direct_groups_are_kept(alloc: Global) -> Result<bool, Refusal> {
-    let rows = history(alloc)?;
+    let rows = history(alloc, TUPLES)?;
     let view = rows.at(rows.newest());
     let mut direct = Direct::restart(alloc, &view, 2)?;
     let followed = follows(alloc, &mut direct)?;
