@@ -140,7 +140,7 @@ def scripts():
 
 
 def calls_are_answered_as_on_lines(program, folder):
-    for (script, lines), workers in itertools.product(scripts(), ("1", "2", "5")):
+    for (script, lines), workers in itertools.product(scripts(), ("1", "2", "30")):
         wanted = answered(program, folder, lines)
         with Server(program, folder, "--workers", workers) as server, server.connect() as stream:
             same(script, wanted, [ask(stream, call, body) for call, body in lines])
