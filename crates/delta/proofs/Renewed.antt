@@ -1,0 +1,38 @@
+-- A gathering and a filling are a refresh.
+use Rattle.std.proofs.Common.{ℕ, ◌≡◌, List, sym, ◌∙◌, ⊎_elim, inl, inr}
+use Rattle.std.proofs.lemmas.Bool.{or_right, or_cases}
+use Rattle.least_sets.specs.World.{Fact}
+use Rattle.least_sets.specs.Least.{IsLevelled}
+use Rattle.region.specs.declared.rule.Told.{Told}
+use Rattle.region.specs.Steps.{is_told, Tells, AreTold}
+use Rattle.region.specs.Tables.{Rows, kept}
+use Rattle.region.specs.Sets.{IsHeld}
+use Rattle.region.specs.Gathered.{stays, in_region, IsGathered, IsAskedOnce, IsTurned, IsSameElsewhere}
+use Rattle.region.specs.Refreshed.{IsRefreshed}
+use Rattle.region.proofs.Walked.{untouched}
+
+module _ (tells : ℕ → Fact → Type 0) (old new : Rows) (roots turned changed before after asked : List ℕ) (told : List Told) (dropped : List ℕ)
+    (are_told : AreTold tells told) (agree : (world : ℕ → Fact) × Tells world told)
+    (gathered : (world : ℕ → Fact) → Tells world told → IsGathered world old roots turned changed told dropped)
+    (once : IsAskedOnce told before after) (same : asked ≡ after)
+    (nodes : (n : ℕ) → kept new n ≡ in_region old dropped told n)
+    (held : (was world : ℕ → Fact) (first roots turned changed : List ℕ) → IsLevelled world → IsHeld was first old → IsTurned first roots turned
+    → IsGathered world old roots turned changed told dropped → IsSameElsewhere was world old changed → IsHeld world roots new) where
+  pub refreshed : IsRefreshed tells old new roots turned changed before asked
+  refreshed =
+      let got = gathered agree.0 agree.1 in
+      record {
+        told = told;
+        are_told = are_told;
+        some = agree;
+        asked_is = same ∙ once.asked;
+        once = once.once;
+        few = λ n h. (nodes n ∙ or_right (stays old dropped n) (is_told told n) h, got.new_or_touched n h);
+        nodes = λ n h. ⊎_elim
+            (λ s. inr ((got.untouched n s).0, untouched agree.0 old roots turned changed told dropped got n s))
+            (λ t. inl t)
+            (or_cases (stays old dropped n) (is_told told n) (sym (nodes n) ∙ h));
+        arcs = λ world t n m h arc. nodes m ∙ (gathered world t).told_arcs n m h arc;
+        reached = λ world t. (gathered world t).reached;
+        held = λ was world first levels t is turns elsewhere. held was world first roots turned changed levels is turns (gathered world t) elsewhere;
+      }

@@ -1,0 +1,4 @@
+pub mod Telling
+pub mod Noted
+pub mod Layers
+pub mod inside

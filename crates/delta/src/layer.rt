@@ -1,0 +1,155 @@
+//! The layer.
+ghost use Rattle.region.specs.Sets.{IsWhole};
+ghost use Rattle.delta.specs.Noted.{AreUpTo};
+
+use crate::closing::{led_to, named};
+use crate::earlier::{Earlier, led_at};
+use crate::leading::{above_events, above_tuples, changed_by};
+use crate::renewing::renew;
+use crate::telling::GroupFacts;
+use config::Config;
+use idsets::{IdSet, Ids, union};
+use least_sets::groups_are_walks;
+use names::{Event, Node};
+use region::{Sets, refresh};
+use rows::View;
+use std::alloc::{AllocError, Global};
+
+/// Which groups each group leads to (GROUP2GROUP of Zanzibar, section 3.2.4), at each revision from a base to a cursor,
+/// under one configuration. Kept are that configuration and, for the cursor, the groups from which a tuple leads to
+/// another and those to which these lead, with their closures; from the others computed usersets alone lead on. For
+/// earlier revisions is kept what a commit replaced: of each group that it touched what it led to before. No tuple is kept.
+#[derive(Drop)]
+pub struct Layer {
+    pub(crate) config: Config,
+    pub(crate) base: u64,
+    pub(crate) cursor: u64,
+    pub(crate) nodes: Ids<Node>,
+    pub(crate) roots: IdSet,
+    pub(crate) sets: Sets,
+    pub(crate) earlier: Vec<Earlier>,
+    ghost whole: { IsWhole sets },
+    ghost noted: { AreUpTo cursor earlier.items },
+}
+
+impl Layer {
+    ghost use Rattle.std.specs.Prelude.{◌≡◌, ◌<◌, ◌≤◌, ◌+◌, ◌-◌, ◌^◌, ◌↔◌, ℕ, [], Contains, max, OnOk, OnErr, IfOk};
+    ghost use Rattle.names.specs.declared.node.Node.{Node as NodeValue};
+    ghost use Rattle.meaning.specs.Snap.{Snap};
+    ghost use Rattle.leopard.specs.Groups.{IsGroup, GroupToGroup};
+    ghost use Rattle.delta.specs.Layers.{IsLayerOf, IsNext, WasAskedFew};
+
+    /// The layer of one revision, whose view this is: base and cursor are that revision, and nothing is noted. All
+    /// tuples are gone over, and each group from which a tuple leads on, or to which one leads, is asked for once.
+    pub fn restart(alloc: Global, view: &View, rev: u64) -> Result<Layer, AllocError>
+        ensures layer { IfOk result (λ layer. (snaps : ℕ → Snap) → snaps rev ≡ view.now → IsLayerOf layer snaps) }
+        ensures base { IfOk result (λ layer. layer.base ≡ rev) }
+        ensures cursor { IfOk result (λ layer. layer.cursor ≡ rev) }
+    {
+        groups_are_walks();
+        let config = view.config().again(alloc)?;
+        let tuples = view.tuples(alloc)?;
+        let mut nodes = Ids::new(alloc);
+        let turned = above_tuples(alloc, &config, &mut nodes, &tuples)?;
+        let roots = IdSet::of(turned);
+        let mut facts = GroupFacts {
+            arcs: view,
+            nodes,
+            asked: Vec::new(alloc),
+        };
+        let mut sets = Sets::new(alloc);
+        refresh(alloc, &mut sets, &roots, roots.as_slice(), &[], &mut facts)?;
+        let GroupFacts { nodes, .. } = facts;
+        Ok(Layer {
+            config,
+            base: rev,
+            cursor: rev,
+            nodes,
+            roots,
+            sets,
+            earlier: Vec::new(alloc),
+        })
+    }
+
+    /// The first revision that is told of.
+    pub fn base(&self) -> u64
+        ensures { result ≡ self.now.base }
+    {
+        self.base
+    }
+
+    /// The last revision that is told of.
+    pub fn cursor(&self) -> u64
+        ensures { result ≡ self.now.cursor }
+    {
+        self.cursor
+    }
+
+    /// Takes the next commit, one of events, of which the view has the snapshot after it, and gives the numbers of the
+    /// groups that the view was asked for, in order. For want of memory what is told is what it was.
+    pub fn take(
+        &mut self,
+        alloc: Global,
+        events: &[Event],
+        view: &View,
+    ) -> Result<Vec<u64>, AllocError>
+        requires { self.old.cursor < 2 ^ 64 - 1 }
+        ensures layer { OnOk result ((snaps : ℕ → Snap) → IsLayerOf self.old snaps
+            → IsNext snaps self.old.cursor events.now view.now → IsLayerOf self.new snaps) }
+        ensures asked { IfOk result (λ asked. (snaps : ℕ → Snap) → IsLayerOf self.old snaps
+            → IsNext snaps self.old.cursor events.now view.now
+            → WasAskedFew self.new (snaps self.old.cursor) view.now events.now asked.items) }
+        ensures base { self.new.base ≡ self.old.base }
+        ensures cursor { OnOk result (self.new.cursor ≡ self.old.cursor + 1) }
+        ensures err { OnErr result ((snaps : ℕ → Snap) → IsLayerOf self.old snaps → IsLayerOf self.new snaps) }
+        ensures err_cursor { OnErr result (self.new.cursor ≡ self.old.cursor) }
+    {
+        groups_are_walks();
+        let turned = above_events(alloc, &self.config, &mut self.nodes, events)?;
+        let changed = changed_by(alloc, &self.nodes, events)?;
+        let turned = IdSet::of(turned);
+        let roots = union(alloc, &self.roots, &turned)?;
+        let rev = self.cursor + 1;
+        let (nodes, sets, earlier) = (&mut self.nodes, &mut self.sets, &mut self.earlier);
+        let turned = turned.as_slice();
+        let asked = renew(
+            alloc, view, rev, nodes, sets, earlier, &roots, turned, &changed,
+        )?;
+        self.roots = roots;
+        self.cursor = rev;
+        Ok(asked)
+    }
+
+    /// The groups to which the group leads at a revision from the base to the cursor, itself among them. No order is
+    /// promised.
+    pub fn closure_at(&self, alloc: Global, group: &Node, rev: u64) -> Result<Vec<Node>, AllocError>
+        ensures { IfOk result (λ v. (snaps : ℕ → Snap) → IsLayerOf self.now snaps → self.now.base ≤ rev → rev ≤ self.now.cursor
+            → IsGroup (snaps rev).config group.now → (n : NodeValue) → Contains v.items n ↔ GroupToGroup (snaps rev) group.now n) }
+    {
+        let Some(id) = self.nodes.id_of(group) else {
+            return led_to(alloc, &self.config, group);
+        };
+        match led_at(&self.earlier, &self.sets, id, rev) {
+            Some(ids) => named(alloc, &self.nodes, ids.as_slice()),
+            None => led_to(alloc, &self.config, group),
+        }
+    }
+
+    /// Moves the base up to a revision, whose view this is. What was noted up to it is dropped, and the later rest is
+    /// kept. Where it is above the cursor, the layer is begun anew there; for want of memory nothing changes.
+    pub fn rebase(&mut self, alloc: Global, view: &View, rev: u64) -> Result<(), AllocError>
+        ensures layer { OnOk result ((snaps : ℕ → Snap) → IsLayerOf self.old snaps → self.old.base ≤ rev
+            → snaps rev ≡ view.now → IsLayerOf self.new snaps) }
+        ensures base { OnOk result (self.new.base ≡ rev) }
+        ensures cursor { OnOk result (self.new.cursor ≡ max self.old.cursor rev) }
+        ensures err { OnErr result (self.new ≡ self.old) }
+    {
+        if self.cursor < rev {
+            *self = Layer::restart(alloc, view, rev)?;
+            return Ok(());
+        }
+        self.earlier.retain(|e| rev < e.rev);
+        self.base = rev;
+        Ok(())
+    }
+}

@@ -1,0 +1,8 @@
+mod Listed
+mod Past
+mod Tables
+mod Replaying
+mod Putting
+mod Stepwise
+mod Seen
+mod Revised

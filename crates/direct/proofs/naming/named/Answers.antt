@@ -1,0 +1,14 @@
+use Rattle.std.proofs.Common.{take, refl, subst, arith}
+use Rattle.region.proofs.Listing.{place_same}
+use Rattle.facts.proofs.Naming.{one_more, all_of}
+use Rattle.direct.specs.inside.Listing.{AreNamed}
+use Rattle.direct.proofs.naming.named.Goals as goal
+
+pub loop-id-preserved : goal.loop-id-preserved
+loop-id-preserved c = subst (λ xs. AreNamed c.args.nodes.now xs c.push_named.new.found.items)
+    (one_more c.args.ids.now c.loop-id.id-index _ c.loop-id-test.true (place_same c.args.ids.now c.args.ids.now c.loop-id.id-index _ refl c.loop-id-test.true))
+    (c.in_ok-push_named.ensures (take c.loop-id.id-index c.args.ids.now) c.loop-id.invariant)
+
+pub returns : goal.returns
+returns c = subst (λ xs. AreNamed c.args.nodes.now xs c.loop-id.found.items)
+    (all_of c.args.ids.now c.loop-id.id-index (omega (arith, c.loop-id-test.false))) c.loop-id.invariant

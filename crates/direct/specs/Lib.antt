@@ -1,0 +1,4 @@
+pub mod Named
+pub mod Before
+pub mod Revisions
+pub mod inside

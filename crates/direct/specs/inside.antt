@@ -1,0 +1,4 @@
+-- What no promise rests on, which a reader of the promises can pass over.
+pub mod Keeping
+pub mod Listing
+pub mod Renewing

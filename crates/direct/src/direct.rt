@@ -1,0 +1,119 @@
+//! The direct groups of users, at revisions.
+ghost use Rattle.direct.specs.Before.{AreUpTo};
+
+use crate::memberships::Memberships;
+use crate::naming::named;
+use crate::noted::{EarlierGroups, set_at};
+use crate::replacing::{number_all, renewed, replace_all};
+use config::Config;
+use names::{Event, Node, Object};
+use rows::View;
+use std::alloc::{AllocError, Global};
+
+/// Which groups name each user by a tuple of their own (MEMBER2GROUP of Zanzibar, section 3.2.4), at each revision from a
+/// base to a cursor, under one configuration. Kept is what they are at the cursor, and for earlier revisions what a
+/// commit replaced: of each user that it named the groups before. No tuple is kept.
+#[derive(Drop)]
+pub struct Direct {
+    pub(crate) config: Config,
+    pub(crate) base: u64,
+    pub(crate) cursor: u64,
+    pub(crate) kept: Memberships,
+    pub(crate) earlier: Vec<EarlierGroups>,
+    ghost noted: { AreUpTo cursor earlier.items },
+}
+
+impl Direct {
+    ghost use Rattle.std.specs.Prelude.{◌≡◌, ◌<◌, ◌≤◌, ◌+◌, ◌-◌, ◌^◌, ◌↔◌, ℕ, Contains, max, OnOk, OnErr, IfOk};
+    ghost use Rattle.names.specs.declared.node.Node.{Node as NodeValue};
+    ghost use Rattle.meaning.specs.Snap.{Snap};
+    ghost use Rattle.leopard.specs.Groups.{MemberToGroup};
+    ghost use Rattle.direct.specs.Revisions.{IsDirectOf, IsNext, NotesFew};
+
+    /// The direct groups of one revision, whose view this is: base and cursor are that revision, and nothing is noted. All
+    /// tuples are gone over once.
+    pub fn restart(alloc: Global, view: &View, rev: u64) -> Result<Direct, AllocError>
+        ensures direct { IfOk result (λ direct. (snaps : ℕ → Snap) → snaps rev ≡ view.now → IsDirectOf direct snaps) }
+        ensures base { IfOk result (λ direct. direct.base ≡ rev) }
+        ensures cursor { IfOk result (λ direct. direct.cursor ≡ rev) }
+    {
+        let config = view.config().again(alloc)?;
+        let tuples = view.tuples(alloc)?;
+        let kept = Memberships::of(alloc, &config, &tuples)?;
+        Ok(Direct {
+            config,
+            base: rev,
+            cursor: rev,
+            kept,
+            earlier: Vec::new(alloc),
+        })
+    }
+
+    /// The first revision that is told of.
+    pub fn base(&self) -> u64
+        ensures { result ≡ self.now.base }
+    {
+        self.base
+    }
+
+    /// The last revision that is told of.
+    pub fn cursor(&self) -> u64
+        ensures { result ≡ self.now.cursor }
+    {
+        self.cursor
+    }
+
+    /// Takes the next commit, one of events. It costs the sets of the users that these name, and reads no tuple. For want
+    /// of memory what is told is what it was.
+    pub fn take(&mut self, alloc: Global, events: &[Event]) -> Result<(), AllocError>
+        requires { self.old.cursor < 2 ^ 64 - 1 }
+        ensures direct { OnOk result ((snaps : ℕ → Snap) → IsDirectOf self.old snaps
+            → IsNext snaps self.old.cursor events.now → IsDirectOf self.new snaps) }
+        ensures noted { OnOk result (NotesFew self.old self.new events.now) }
+        ensures base { self.new.base ≡ self.old.base }
+        ensures cursor { OnOk result (self.new.cursor ≡ self.old.cursor + 1) }
+        ensures err { OnErr result ((snaps : ℕ → Snap) → IsDirectOf self.old snaps → IsDirectOf self.new snaps) }
+        ensures err_cursor { OnErr result (self.new.cursor ≡ self.old.cursor) }
+    {
+        let rev = self.cursor + 1;
+        number_all(alloc, &self.config, &mut self.kept, events)?;
+        let renewed = renewed(alloc, &self.config, &self.kept, events)?;
+        self.earlier.reserve(renewed.len())?;
+        replace_all(rev, renewed, &mut self.kept.sets, &mut self.earlier);
+        self.cursor = rev;
+        Ok(())
+    }
+
+    /// The groups that name the user by a tuple of their own, at a revision from the base to the cursor. No order is
+    /// promised.
+    pub fn groups_at(&self, alloc: Global, user: &Object, rev: u64) -> Result<Vec<Node>, AllocError>
+        ensures { IfOk result (λ v. (snaps : ℕ → Snap) → IsDirectOf self.now snaps → self.now.base ≤ rev → rev ≤ self.now.cursor
+            → (n : NodeValue) → Contains v.items n ↔ MemberToGroup (snaps rev) user.now n) }
+    {
+        match self.kept.users.id_of(user) {
+            Some(id) => {
+                let ids = set_at(&self.earlier, &self.kept.sets, id, rev);
+                named(alloc, &self.kept.groups, ids.as_slice())
+            }
+            None => Ok(Vec::new(alloc)),
+        }
+    }
+
+    /// Moves the base up to a revision, whose view this is. What was noted up to it is dropped, and the later rest is
+    /// kept. Where it is above the cursor, it is begun anew there; for want of memory nothing changes.
+    pub fn rebase(&mut self, alloc: Global, view: &View, rev: u64) -> Result<(), AllocError>
+        ensures direct { OnOk result ((snaps : ℕ → Snap) → IsDirectOf self.old snaps → self.old.base ≤ rev
+            → snaps rev ≡ view.now → IsDirectOf self.new snaps) }
+        ensures base { OnOk result (self.new.base ≡ rev) }
+        ensures cursor { OnOk result (self.new.cursor ≡ max self.old.cursor rev) }
+        ensures err { OnErr result (self.new ≡ self.old) }
+    {
+        if self.cursor < rev {
+            *self = Direct::restart(alloc, view, rev)?;
+            return Ok(());
+        }
+        self.earlier.retain(|e| rev < e.rev);
+        self.base = rev;
+        Ok(())
+    }
+}
