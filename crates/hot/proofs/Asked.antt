@@ -1,5 +1,5 @@
 -- Who was asked.
-use Rattle.std.proofs.Common.{ℕ, ◌≡◌, true, List, [], sym, ◌∙◌, ap, subst}
+use Rattle.std.proofs.Common.{ℕ, ◌≡◌, ◌⊎◌, true, List, [], sym, ◌∙◌, ap, subst, ⊎_elim, inl, inr}
 use Rattle.std.specs.Prelude.{Some, nat_eq}
 use Rattle.std.specs.List.{slice_get, IsDistinct}
 use Rattle.names.specs.declared.object.Object.{Object}
@@ -18,7 +18,7 @@ use Rattle.facts.specs.inside.Tables.{grew_get, node_is}
 use Rattle.hot.specs.Depending.{IsTouchedBy}
 use Rattle.hot.specs.Kept.{AreKept}
 use Rattle.hot.specs.inside.Events.{AreOfEvents}
-use Rattle.hot.proofs.Walks.{touched_by}
+use Rattle.hot.proofs.Walks.{touched_by, touched_in}
 
 -- the node with the number is kept
 abbrev Keeps : List Node → Rows → Node → Type 0
@@ -46,3 +46,23 @@ module _ (S T : Snap) (events : List Event) (nodes nodes' : List Node) (users us
       let there = (r.few i (told i h)).0 in
       let named = (now.told i there).named in
       (named.0, named.1, (i, there, named.1), λ q. touched i named.0 h named.1 q)
+
+  was_asked : (i : ℕ) → is_told r.told i ≡ true → has asked i ≡ true
+  was_asked i h = ap (λ xs. has xs i) r.asked_is ∙ told_nodes r.told i ∙ h
+
+  -- a number that had a row stands for the node for which it stood
+  stood : (i : ℕ) (n : Node) → slice_get nodes' i ≡ Some n → kept old i ≡ true → slice_get nodes i ≡ Some n
+  stood i n at h =
+      let named = (was.told i h).named in
+      let same = sym (node_is nodes' i named.0 (grew_get nodes nodes' i named.0 later.nodes_grew named.1)) ∙ node_is nodes' i n at in
+      named.1 ∙ ap (λ x. Some x) same
+
+  pub asked_all : (n : Node) (i : ℕ) → Keeps nodes' new n → slice_get nodes' i ≡ Some n → (has asked i ≡ true) ⊎ (Keeps nodes old n × (IsTouchedBy S events n → ⊥))
+  asked_all n i q at =
+      let there : kept new i ≡ true = subst (λ j. kept new j ≡ true) (distinct q.0 i n q.2 at) q.1 in
+      ⊎_elim
+        (λ t. inl (was_asked i t))
+        (λ s.
+        let stands = stood i n at s.0 in
+        inr ((i, s.0, stands), λ t. s.1 (touched_in S nodes users marks old valid was events changed n i are stands s.0 t)))
+        (r.nodes i there)

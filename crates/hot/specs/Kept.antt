@@ -69,10 +69,12 @@ abbrev pub IsUnderMark : Hot → Snap → Node → Type 0
 IsUnderMark hot S n = (m : Node) × IsMarked hot m × Leads S m n
 
 -- The nodes that were asked, by their numbers: each once, and each is kept after the commit; where it was kept before, a walk
--- of dependence led from it, before the commit, to the node of an event.
+-- of dependence led from it, before the commit, to the node of an event. All that are kept were asked, but those that were kept
+-- before and from which no such walk led.
 pub record WasAskedFew (old new : Hot) (S : Snap) (events : List Event) (asked : List ℕ) : Type 0 where
   pub once : IsDistinct nat_eq asked
   pub few : (i : ℕ) → has asked i ≡ true → (n : Node) × HasNumber new n i × IsKept new n × (IsKept old n → IsTouchedBy S events n)
+  pub all : (n : Node) (i : ℕ) → IsKept new n → HasNumber new n i → (has asked i ≡ true) ⊎ (IsKept old n × (IsTouchedBy S events n → ⊥))
 
 -- why a node is not marked: there is no room for one more mark, or no memory
 abbrev pub MarkCause : Hot → Node → Refusal → Type 0

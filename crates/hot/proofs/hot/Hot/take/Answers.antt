@@ -3,7 +3,7 @@ use Rattle.hot.specs.inside.Events.{AreOfEvents}
 use Rattle.hot.specs.Kept.{AreKept}
 use Rattle.hot.proofs.Outcomes.{ok_then, if_ok, err_then}
 use Rattle.hot.proofs.Marks.{kept_after, kept_same, marked_same, marks_there}
-use Rattle.hot.proofs.Asked.{asked_once, asked_few}
+use Rattle.hot.proofs.Asked.{asked_once, asked_few, asked_all}
 use Rattle.hot.proofs.hot.Hot.take.Goals as goal
 
 pub returns-clause-hot : goal.returns-clause-hot
@@ -36,6 +36,8 @@ returns-clause-asked c = if_ok _ _ c.renew.result
       once = asked_once S c.args.view.now c.args.events.now hot.numbers.nodes now.nodes hot.numbers.users now.users hot.marks _ hot.sets.rows c.renew.new.sets.rows asked.items
           is.valid is.kept distinct are later kept r;
       few = asked_few S c.args.view.now c.args.events.now hot.numbers.nodes now.nodes hot.numbers.users now.users hot.marks _ hot.sets.rows c.renew.new.sets.rows asked.items
+          is.valid is.kept distinct are later kept r;
+      all = asked_all S c.args.view.now c.args.events.now hot.numbers.nodes now.nodes hot.numbers.users now.users hot.marks _ hot.sets.rows c.renew.new.sets.rows asked.items
           is.valid is.kept distinct are later kept r;
     })
     c.renew.ensures.refreshed
