@@ -109,7 +109,7 @@ impl Direct {
         ensures err { OnErr result (self.new ≡ self.old) }
     {
         if self.cursor < rev {
-            *self = Direct::restart(alloc, view, self.cursor)?;
+            *self = Direct::restart(alloc, view, rev)?;
             return Ok(());
         }
         self.earlier.retain(|e| rev < e.rev);
