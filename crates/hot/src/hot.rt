@@ -34,7 +34,7 @@ impl Hot {
     ghost use Rattle.meaning.specs.Snap.{Snap};
     ghost use Rattle.meaning.specs.Reads.{IsValid};
     ghost use Rattle.hot.specs.Kept.{IsHot, IsMarked, marks_of, HasNumber, MarkCause};
-    ghost use Rattle.hot.specs.Kept.{HasMarked, HasUnmarked, HasSameMarks, WasAskedFew};
+    ghost use Rattle.hot.specs.Kept.{HasMarked, HasUnmarked, HasSameMarks, WereAsked, IsNewOrTouched};
 
     /// Nothing is marked, which is so at each revision. It takes no memory.
     pub fn new(alloc: Global) -> Hot
@@ -107,7 +107,7 @@ impl Hot {
         ensures hot { OnOk result ((S : Snap) → IsHot self.old S → view.now ≡ after_commit S (Tuples events.now)
             → IsHot self.new view.now) }
         ensures asked { IfOk result (λ asked. (S : Snap) → IsHot self.old S → view.now ≡ after_commit S (Tuples events.now)
-            → WasAskedFew self.old self.new S events.now asked.items) }
+            → WereAsked self.new asked.items (IsNewOrTouched self.old self.new S events.now)) }
         ensures err { OnErr result ((S : Snap) → IsHot self.old S → IsHot self.new S) }
         ensures marked { (S : Snap) → IsHot self.old S → HasSameMarks self.old self.new }
     {
