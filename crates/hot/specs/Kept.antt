@@ -68,6 +68,10 @@ pub record HasUnmarked (before now : Hot) (node : Node) : Type 0 where
 abbrev pub IsUnderMark : Hot → Snap → Node → Type 0
 IsUnderMark hot S n = (m : Node) × IsMarked hot m × Leads S m n
 
+-- the node is kept, and was not before
+abbrev pub IsNew : Hot → Hot → Node → Type 0
+IsNew old new n = IsKept new n × (IsKept old n → ⊥)
+
 -- the node is kept; where it was kept before, a walk of dependence led from it, before the commit, to the node of an event
 abbrev pub IsNewOrTouched : Hot → Hot → Snap → List Event → Node → Type 0
 IsNewOrTouched old new S events n = IsKept new n × (IsKept old n → IsTouchedBy S events n)
