@@ -139,6 +139,10 @@ abbrev pub CatchUpJudged : ℕ → Refusal → Type 0
 CatchUpJudged commits Malformed = MAX_CATCH_UP < commits
 CatchUpJudged commits _ = ⊥
 
+-- nothing speaks against a base of the newest revision
+abbrev pub RebuildJudged : Refusal → Type 0
+RebuildJudged why = ⊥
+
 -- the commit is that of the operations
 abbrev pub IsCommitOf : List Op → Commit Configured → Type 0
 IsCommitOf ops commit = (events : List Event) × AreEventsOf ops events × (commit ≡ Tuples events)

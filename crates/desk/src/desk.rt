@@ -12,7 +12,7 @@ ghost use Rattle.verdict.specs.Verdict.{AcceptsWrite, RefusesWrite};
 ghost use Rattle.shown.specs.declared.step.Step.TheVariants.{Commit as CommitStep, Marking as MarkingStep, Rebase, Take, Trim};
 ghost use Rattle.shown.specs.Standing.{standing, state_of, base_cause, cursor_of, CanRaise, HasRoom};
 ghost use Rattle.shown.specs.Marks.{marking_cause};
-ghost use Rattle.shown.specs.Raising.{floor_cause, RefusesFloor, RefusesMarking, RefusesBase};
+ghost use Rattle.shown.specs.Raising.{floor_cause, RefusesFloor, RefusesMarking};
 ghost use Rattle.expand.specs.declared.limits.TheConstants.{MAX_DEPTH};
 ghost use Rattle.shown.specs.Answers.{IsAnswer, IsRefusal};
 ghost use Rattle.shown.specs.Expanding.{IsTree, IsTreeRefusal};
@@ -27,7 +27,7 @@ ghost use Rattle.published.specs.declared.publication.TheConstants.{MAX_SESSIONS
 ghost use Rattle.published.specs.Known.{Begins};
 ghost use Rattle.desk.specs.TableChanges.{Adds, Raises};
 ghost use Rattle.desk.specs.Posts.{Agrees, OpensWith, ComesBack, FailsToLoad, SameTables, ShowsMore, PostsStep, newest_posted, shown_by};
-ghost use Rattle.desk.specs.Changes.{Tells, TellsShown, IsStored, WriteAccepted, ConfigAccepted, CatchUpAccepted, TrimAccepted, MarkingAccepted, RebuildAccepted, IsRefused, IsCommitOfWrite, IsRaiseTo, IsNoChange, CatchUpJudged, receipt_at};
+ghost use Rattle.desk.specs.Changes.{Tells, TellsShown, IsStored, WriteAccepted, ConfigAccepted, CatchUpAccepted, TrimAccepted, MarkingAccepted, RebuildAccepted, IsRefused, IsCommitOfWrite, IsRaiseTo, IsNoChange, CatchUpJudged, RebuildJudged, receipt_at};
 ghost use Rattle.desk.specs.inside.Posting.{NoCause, LeavesHistory};
 
 use crate::latched_tables::{LatchedTables, load};
@@ -216,18 +216,17 @@ impl<T: Tables + Drop, R: Wait + Drop> Desk<T, R> {
         self.remark(marking)
     }
 
-    /// Makes the base of the group index of the newest posted revision. The tables are not changed.
+    /// Makes the base of the group index of the newest posted revision. It is never refused for that revision, which is not
+    /// below the floor or the base before. The tables are not changed.
     pub fn rebuild(&mut self) -> Result<Posted, Refusal>
         ensures ok { IfOk result (λ posted.
             RebuildAccepted self.old posted.value posted.receipt self.new) }
         ensures err { IfErr result (λ why.
-            IsRefused T.Tables self.old IsNoChange
-            (RefusesBase (standing self.old.posted) (newest (standing self.old.posted).kept)) why self.new) }
+            IsRefused T.Tables self.old IsNoChange RebuildJudged why self.new) }
         ensures seats { self.new.seats ≡ self.old.seats }
     {
         self.make_ready()?;
         let rev = self.last_posted();
-        self.judge_base(rev)?;
         self.rebase(rev)
     }
 
@@ -433,14 +432,6 @@ impl<T: Tables + Drop, R: Wait + Drop> Desk<T, R> {
         self.own.judge_marking(marking)
     }
 
-    // Why the base of the index cannot be made of a revision, if it cannot.
-    fn judge_base(&self, rev: u64) -> Result<(), Refusal>
-        ensures ok { OnOk result (base_cause (standing self.now.posted) rev ≡ None) }
-        ensures err { IfErr result (RefusesBase (standing self.now.posted) rev) }
-    {
-        self.own.judge_base(rev)
-    }
-
     // Stores a commit, posts it, and shows it. All who keep it share it. Room is taken for its step first.
     fn post(&mut self, commit: Commit<Config>, puts: Puts) -> Result<Receipt, Refusal>
         requires open { self.old.failed ≡ false }
@@ -569,9 +560,10 @@ impl<T: Tables + Drop, R: Wait + Drop> Desk<T, R> {
         self.own.state().floor
     }
 
-    // The newest posted revision.
+    // The newest posted revision, of which the base of the index can always be made.
     fn last_posted(&self) -> u64
-        ensures { result ≡ newest (standing self.now.posted).kept }
+        ensures newest { result ≡ newest (standing self.now.posted).kept }
+        ensures fits { base_cause (standing self.now.posted) result ≡ None }
     {
         self.own.newest()
     }

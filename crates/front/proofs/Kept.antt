@@ -6,17 +6,16 @@ use Rattle.logbook.specs.Pages.{Book}
 use Rattle.names.specs.declared.marking.Marking.{Marking}
 use Rattle.names.specs.declared.part.Part.{Part}
 use Rattle.names.specs.declared.refusal.Refusal.{Refusal}
-use Rattle.rows.specs.Retained.{newest}
 use Rattle.tables.specs.declared.tables.Tables.{Ghosts}
 use Rattle.shown.specs.declared.step.Step.{Step}
 use Rattle.shown.specs.declared.step.Step.TheVariants.{Open}
-use Rattle.shown.specs.Raising.{RefusesBase, RefusesMarking}
+use Rattle.shown.specs.Raising.{RefusesMarking}
 use Rattle.shown.specs.Standing.{standing}
 use Rattle.published.specs.Known.{Known, Begins}
 use Rattle.published.specs.Receipts.{ReceiptFacts}
 use Rattle.published.proofs.Prefixes.{prefix_self, prefix_trans}
 use Rattle.desk.specs.Posts.{Posts, OpensWith, shown_by}
-use Rattle.desk.specs.Changes.{CatchUpAccepted, CatchUpJudged, IsNoChange, IsRefused, MarkingAccepted, RebuildAccepted}
+use Rattle.desk.specs.Changes.{CatchUpAccepted, CatchUpJudged, IsNoChange, IsRefused, MarkingAccepted, RebuildAccepted, RebuildJudged}
 use Rattle.front.specs.Kept.{IsOpened, IsKnownIn, IsKept}
 
 opened_on : (xs ys : List Step) → IsOpened xs → IsPrefix xs ys → IsOpened ys
@@ -57,7 +56,7 @@ module _ {T : Type 0} (b : Book) where
 
   -- the base was made anew, or was not
   pub rebuilt_kept : {A : Type 0} (g : Ghosts T) (value : A → ℕ) (receipt : A → ReceiptFacts) (r : Result A Refusal) (d e : Posts T)
-      → IfOk r (λ p. RebuildAccepted d (value p) (receipt p) e) → IfErr r (λ why. IsRefused g d IsNoChange (RefusesBase (standing d.posted) (newest (standing d.posted).kept)) why e)
+      → IfOk r (λ p. RebuildAccepted d (value p) (receipt p) e) → IfErr r (λ why. IsRefused g d IsNoChange RebuildJudged why e)
       → IsKept b d → IsKept b e
   rebuilt_kept g value receipt (Ok p) d e ok err kept = kept_on d e kept ok.posts.book ok.posts.later
   rebuilt_kept g value receipt (Err why) d e ok err kept = kept_on d e kept err.shows.book err.shows.later

@@ -8,14 +8,13 @@ ghost use Rattle.bodies.specs.Marking.{AsksHot, AsksRebuild};
 ghost use Rattle.bodies.specs.Requests.{AsksCatchUp};
 ghost use Rattle.bodies.specs.Trimming.{AsksTrim};
 ghost use Rattle.bodies.specs.Writing.{AsksWrite};
-ghost use Rattle.rows.specs.Retained.{newest};
 ghost use Rattle.tables.specs.Device.{IsOpen};
 ghost use Rattle.tables.specs.Opening.{CannotOpen};
-ghost use Rattle.shown.specs.Raising.{RefusesBase, RefusesMarking};
+ghost use Rattle.shown.specs.Raising.{RefusesMarking};
 ghost use Rattle.shown.specs.Standing.{standing};
 ghost use Rattle.published.specs.Known.{Begins};
 ghost use Rattle.desk.specs.Posts.{ComesBack, FailsToLoad, SameTables, ShowsMore, shown_by};
-ghost use Rattle.desk.specs.Changes.{CatchUpAccepted, CatchUpJudged, IsNoChange, IsRefused, MarkingAccepted, RebuildAccepted, TellsShown};
+ghost use Rattle.desk.specs.Changes.{CatchUpAccepted, CatchUpJudged, IsNoChange, IsRefused, MarkingAccepted, RebuildAccepted, RebuildJudged, TellsShown};
 ghost use Rattle.keeper.specs.calls.Write.{WriteStep};
 ghost use Rattle.keeper.specs.calls.Config.{ConfigStep};
 ghost use Rattle.keeper.specs.calls.Trim.{TrimStep};
@@ -136,8 +135,7 @@ impl<T: Tables + Drop, J: Naming, R: Wait + Drop> KeptDesk<T, J, R> {
         ensures ok { IfOk result (λ posted.
             RebuildAccepted self.old posted.value posted.receipt self.new) }
         ensures err { IfErr result (λ why.
-            IsRefused T.Tables self.old IsNoChange
-            (RefusesBase (standing self.old.posted) (newest (standing self.old.posted).kept)) why self.new) }
+            IsRefused T.Tables self.old IsNoChange RebuildJudged why self.new) }
         ensures seats { self.new.seats ≡ self.old.seats }
     {
         self.desk.rebuild()

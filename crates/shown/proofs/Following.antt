@@ -18,7 +18,7 @@ use Rattle.shown.proofs.Basing.{snap_with, snap_without, snap_above, after_appen
 -- ---- the members that are kept
 
 -- they stay right where the revision holds what it held
-moved : (s t : Standing) (members : Option Hot) → snap_at t.kept t.hot ≡ snap_at s.kept s.hot → AreKeptMembers s members → AreKeptMembers t members
+pub moved : (s t : Standing) (members : Option Hot) → snap_at t.kept t.hot ≡ snap_at s.kept s.hot → AreKeptMembers s members → AreKeptMembers t members
 moved s t None same right = tt
 moved s t (Some hot) same right = subst (λ (S : Snap). IsHot hot S) (sym same) right
 
@@ -94,6 +94,7 @@ sound_above s now index members floor new same room sound raised =
       steady = record {
         index_retained = can.index;
         index_there = omega (arith, left, above, can.there, sound.steady.index_there);
+        base_read = sound.steady.base_read;
         hot_retained = can.hot;
         hot_there = omega (arith, left, above, can.there, sound.steady.hot_there);
       };
