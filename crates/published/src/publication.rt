@@ -5,6 +5,7 @@ ghost use Rattle.rows.specs.Retained.{newest};
 ghost use Rattle.shown.specs.Standing.{nothing, standing, HasRoom};
 ghost use Rattle.published.specs.Known.{Begins};
 ghost use Rattle.published.specs.Posts.{IsLater};
+ghost use Rattle.published.specs.Judged.{AreJudged};
 ghost use Rattle.published.specs.Publishing.{ShowsMoreOf, IsSameBut, shown_by};
 
 use crate::book::{Book, Opened, StepPrefix};
@@ -12,6 +13,7 @@ use crate::copy::ShownCopy;
 use crate::hand::publish_all;
 use crate::post::Post;
 use crate::publisher::Publisher;
+use crate::receipt::ShownSteps;
 use crate::session::Session;
 use names::Refusal;
 use shown::{Shown, Step};
@@ -130,10 +132,11 @@ impl<R: Wait + Drop> Publication<R> {
     }
 
     /// The shown steps.
-    pub fn shown_steps(&self) -> StepPrefix
-        ensures { result ≡ shown_by self.now }
+    pub fn shown_steps(&self) -> ShownSteps
+        ensures steps { result ≡ shown_by self.now }
+        ensures judged { AreJudged self.now.shown }
     {
-        self.publisher.published().prefix.again()
+        ShownSteps::of(self.publisher.published().prefix.again())
     }
 
     /// The state that is shown, for whoever holds the publication. Sessions ask it with no lock.
@@ -153,6 +156,7 @@ impl<R: Wait + Drop> Publication<R> {
     /// A session that knows what is shown now. It is refused exactly where all were given out.
     pub fn session(&mut self) -> Result<Session, Refusal>
         ensures known { IfOk result (λ session. Begins (shown_by self.new) session) }
+        ensures judged { IfOk result (λ session. AreJudged session.steps) }
         ensures seats { IfOk result (λ _. self.new.seats + 1 ≡ self.old.seats) }
         ensures none { (result ≡ Err NoSeat) ↔ (self.old.seats ≡ 0) }
         ensures err { IfErr result (λ why.
@@ -160,11 +164,11 @@ impl<R: Wait + Drop> Publication<R> {
         ensures same { (self.new.book ≡ self.old.book) × (self.new.posted ≡ self.old.posted)
             × (self.new.shown ≡ self.old.shown) × (self.new.room ≡ self.old.room) }
     {
-        let prefix = self.shown_steps();
+        let shown = self.shown_steps();
         let Some(mut session) = self.sessions.pop() else {
             return Err(Refusal::NoSeat);
         };
-        session.learn_steps(&prefix);
+        session.learn_steps(shown.prefix());
         Ok(session)
     }
 }
@@ -174,7 +178,8 @@ fn make_sessions<R: Wait + Drop>(
     publisher: &mut Publisher<R>,
     entered: &StepPrefix,
 ) -> Result<Vec<Session>, AllocError>
-    requires { publisher.old.told ≡ Some entered.now }
+    requires told { publisher.old.told ≡ Some entered.now }
+    requires judged { AreJudged entered.now.steps }
     ensures same { OnOk result (publisher.new ≡ publisher.old) }
     ensures sessions { IfOk result (λ v.
         (vec_len v ≡ 32) × All (λ s. s.book ≡ entered.now.book) v.items) }
