@@ -1,5 +1,5 @@
 //! The publication of one store.
-ghost use Rattle.std.specs.Prelude.{◌≡◌, ◌↔◌, ◌+◌, ◌≤◌, [], ◌∷◌, ◌++◌, All, IsTrue, IfOk, IfErr, OnOk, Err, Some, vec_len};
+ghost use Rattle.std.specs.Prelude.{◌≡◌, ◌↔◌, ◌+◌, ◌≤◌, [], ◌∷◌, ◌++◌, All, IsTrue, IfOk, IfErr, OnOk, OnErr, Err, Some, vec_len};
 ghost use Rattle.names.specs.declared.refusal.Refusal.TheVariants.{NoSeat};
 ghost use Rattle.rows.specs.Retained.{newest};
 ghost use Rattle.shown.specs.Standing.{nothing, standing, HasRoom};
@@ -97,9 +97,11 @@ impl<R: Wait + Drop> Publication<R> {
         })
     }
 
-    /// Makes room for one step more to wait.
+    /// Makes room for one step more to wait, where there is none.
     pub fn reserve(&mut self) -> Result<(), AllocError>
         ensures room { OnOk result (1 ≤ self.new.room) }
+        ensures more { self.old.room ≤ self.new.room }
+        ensures full { OnErr result (self.old.room ≡ 0) }
         ensures same { IsSameBut self.old self.new }
     {
         self.backlog.reserve(1)
@@ -112,6 +114,7 @@ impl<R: Wait + Drop> Publication<R> {
         requires later { IsLater step }
         ensures posted { self.new.posted ≡ self.old.posted ++ step ∷ [] }
         ensures judged { WereJudged self.new.posted self.new.shown }
+        ensures room { self.new.room + 1 ≡ self.old.room }
         ensures same { (self.new.book ≡ self.old.book) × (self.new.shown ≡ self.old.shown)
             × (self.new.seats ≡ self.old.seats) }
     {
