@@ -1,0 +1,18 @@
+use Rattle.shown.proofs.Following.{done}
+use Rattle.shown.proofs.Marks.{are_none, are_next}
+use Rattle.shown.proofs.members.members_of.Goals as goal
+
+pub loop-mark-init : goal.loop-mark-init
+loop-mark-init c = record {
+  hot = c.new-hot.ensures.hot _ c.each_view_is_valid.ensures;
+  marked = are_none c.new-hot.result c.new-hot.ensures.marked;
+}
+
+pub loop-mark-preserved : goal.loop-mark-preserved
+loop-mark-preserved c =
+    let before = c.loop-mark.invariant in
+    let has = done c.mark.result c.in_ok-ok.field-0 c.in_ok-ok.ensures.value c.mark.ensures.ok in
+    record {
+      hot = c.mark.ensures.hot before.hot;
+      marked = are_next c.args.marks.now c.loop-mark.mark-index c.mark-item.result c.loop-mark.hot c.mark.new.hot c.loop-mark-test.true c.mark-item.is before.marked (has before.hot);
+    }
