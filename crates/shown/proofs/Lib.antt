@@ -1,5 +1,5 @@
 pub mod Watching
-pub mod Marks
+pub mod MarkedNodes
 pub mod Basing
 pub mod Following
 pub mod Taking

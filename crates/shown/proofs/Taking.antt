@@ -17,7 +17,7 @@ use Rattle.shown.specs.Standing.{Standing, cursor_after}
 use Rattle.shown.specs.inside.Basing.{AreKeptMembers, AreMarked, IsSound}
 use Rattle.shown.proofs.Basing.{moved as index_moved}
 use Rattle.shown.proofs.Following.{moved as members_moved}
-use Rattle.shown.proofs.Marks.{once_after}
+use Rattle.shown.proofs.MarkedNodes.{once_after}
 
 last_within : (base rev : ℕ) (h : History) → base ≤ rev → last_config base rev h ≤ rev + length h
 last_within base rev [] below = omega arith

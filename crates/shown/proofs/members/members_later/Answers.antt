@@ -4,7 +4,7 @@ use Rattle.meaning.specs.Snap.{Snap}
 use Rattle.hot.specs.Kept.{IsHot}
 use Rattle.rows.specs.Retained.{commits_between}
 use Rattle.shown.proofs.Following.{snap_in, view_next, all_taken, done}
-use Rattle.shown.proofs.Marks.{same_itself, same_later}
+use Rattle.shown.proofs.MarkedNodes.{same_itself, same_later}
 use Rattle.shown.proofs.members.members_later.Goals as goal
 
 pub loop-i-init : goal.loop-i-init

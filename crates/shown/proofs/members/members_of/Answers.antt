@@ -1,5 +1,5 @@
 use Rattle.shown.proofs.Following.{done}
-use Rattle.shown.proofs.Marks.{are_none, are_next}
+use Rattle.shown.proofs.MarkedNodes.{are_none, are_next}
 use Rattle.shown.proofs.members.members_of.Goals as goal
 
 pub loop-mark-init : goal.loop-mark-init

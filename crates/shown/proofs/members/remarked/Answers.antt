@@ -3,7 +3,7 @@ use Rattle.names.specs.declared.marking.Marking.{Marking}
 use Rattle.shown.specs.Marks.{after_marking}
 use Rattle.shown.specs.inside.Basing.{AreMarked}
 use Rattle.shown.proofs.Following.{done}
-use Rattle.shown.proofs.Marks.{are_with, are_without}
+use Rattle.shown.proofs.MarkedNodes.{are_with, are_without}
 use Rattle.shown.proofs.members.remarked.Goals as goal
 
 pub returns-in-Mark-clause-marked : goal.returns-in-Mark-clause-marked
