@@ -166,6 +166,7 @@ module _ {T : Type 0} (g : Ghosts T) (old mid : Posts T) (more : ShowsMore old m
             book = posts.book ∙ more.book;
             later = prefix_trans old.shown mid.shown new.shown more.later posts.later;
             beginning = posts.beginning;
+            judged = posts.judged;
             faults = posts.faults ∙ same.2;
           }
 
@@ -176,6 +177,7 @@ module _ {T : Type 0} (g : Ghosts T) (old mid : Posts T) (more : ShowsMore old m
             book = shows.book ∙ more.book;
             later = prefix_trans old.shown mid.shown new.shown more.later shows.later;
             beginning = shows.beginning;
+            judged = shows.judged;
           }
 
       stored_on : IsStored g mid new → IsStored g old new

@@ -9,6 +9,7 @@ use Rattle.shown.specs.declared.step.Step.{Step}
 use Rattle.shown.specs.Standing.{Standing, standing}
 use Rattle.tables.specs.Device.{Lasts}
 use Rattle.tables.specs.declared.tables.Tables.{Ghosts}
+use Rattle.published.specs.Judged.{WereJudged}
 use Rattle.published.specs.Publishing.{Publishing}
 use Rattle.published.proofs.Prefixes.{prefix_self}
 use Rattle.desk.specs.declared.latched_tables.LatchedTables.{LatchedTables}
@@ -33,7 +34,7 @@ module _ {T : Type 0} (g : Ghosts T) where
   latched_cause was is p q _ works latched = absurd latched
 
   -- room for a step changes nothing that is seen
-  module _ (d : Posts T) (was : LatchedTables T) (own : Standing) (p q : Publishing) (view : seen was p ≡ d) (works : d.failed ≡ false) (stands : own ≡ standing p.posted) (within : IsPrefix p.shown p.posted)
+  module _ (d : Posts T) (was : LatchedTables T) (own : Standing) (p q : Publishing) (view : seen was p ≡ d) (works : d.failed ≡ false) (stands : own ≡ standing p.posted) (within : IsPrefix p.shown p.posted) (judged : WereJudged p.posted p.shown)
       (book : q.book ≡ p.book) (posted : q.posted ≡ p.posted) (shown : q.shown ≡ p.shown) where
     here : was.failed ≡ false
     here = ap (λ (s : Posts T). s.failed) view ∙ works
@@ -44,6 +45,7 @@ module _ {T : Type 0} (g : Ghosts T) where
       book = book;
       later = subst (IsPrefix p.shown) (sym shown) (prefix_self p.shown);
       beginning = subst (IsPrefix q.shown) (sym posted) (subst (λ (xs : List Step). IsPrefix xs p.posted) (sym shown) within);
+      judged = subst (λ (xs : List Step). WereJudged xs q.shown) (sym posted) (subst (WereJudged p.posted) (sym shown) judged);
     }
 
     -- there was no room

@@ -24,6 +24,7 @@ ghost use Rattle.tables.specs.Device.{IsOpen};
 ghost use Rattle.tables.specs.Opening.{CannotOpen};
 ghost use Rattle.tables.specs.Storing.{PutsAbsent};
 ghost use Rattle.published.specs.declared.publication.TheConstants.{MAX_SESSIONS};
+ghost use Rattle.published.specs.Judged.{AreJudged, WereJudged};
 ghost use Rattle.published.specs.Known.{Begins};
 ghost use Rattle.desk.specs.TableChanges.{Adds, Raises};
 ghost use Rattle.desk.specs.Posts.{Agrees, OpensWith, ComesBack, FailsToLoad, SameTables, ShowsMore, PostsStep, newest_posted, shown_by};
@@ -97,6 +98,7 @@ impl<T: Tables + Drop, R: Wait + Drop> Desk<T, R> {
     pub fn open(alloc: Global, rt: R, opened: Opened, tables: T) -> Result<Desk<T, R>, (Refusal, T)>
         ensures posted { IfOk result (OpensWith T.Tables tables) }
         ensures shown { IfOk result (λ desk. desk.shown ≡ desk.posted) }
+        ensures judged { IfOk result (λ desk. WereJudged desk.posted desk.shown) }
         ensures book { IfOk result (λ desk. desk.book ≡ opened.book) }
         ensures seats { IfOk result (λ desk. desk.seats ≡ MAX_SESSIONS) }
         ensures failed { IfOk result (λ desk. desk.failed ≡ false) }
@@ -237,6 +239,7 @@ impl<T: Tables + Drop, R: Wait + Drop> Desk<T, R> {
         ensures more { ShowsMore self.old self.new }
         ensures same { SameTables self.old self.new }
         ensures known { IfOk result (λ session. Begins (shown_by self.new) session) }
+        ensures judged { IfOk result (λ session. AreJudged session.steps) }
         ensures seats { IfOk result (λ _. self.new.seats + 1 ≡ self.old.seats) }
         ensures none { (result ≡ Err NoSeat) ↔ (self.old.seats ≡ 0) }
         ensures err { IfErr result (λ why. (why ≡ NoSeat) × (self.new.seats ≡ self.old.seats)) }
@@ -254,6 +257,7 @@ impl<T: Tables + Drop, R: Wait + Drop> Desk<T, R> {
         ensures tells { TellsShown result self.new }
         ensures kept { Begins session.old session.new }
         ensures known { Begins (shown_by self.new) session.new }
+        ensures judged { AreJudged session.new.steps }
         ensures least { (session.new ≡ session.old) ⊎ (session.new ≡ shown_by self.new) }
     {
         let shown = self.publish();
@@ -283,6 +287,7 @@ impl<T: Tables + Drop, R: Wait + Drop> Desk<T, R> {
             (IsAnswer (standing self.now.shown) consistency.now node.now user.now) }
         ensures err { IfErr result (IsRefusal (standing self.now.shown) consistency.now node.now) }
         ensures beginning { IsPrefix self.now.shown self.now.posted }
+        ensures judged { WereJudged self.now.posted self.now.shown }
     {
         self.publication.shown().check(consistency, node, user)
     }
@@ -301,6 +306,7 @@ impl<T: Tables + Drop, R: Wait + Drop> Desk<T, R> {
         ensures err { IfErr result
             (IsTreeRefusal (standing self.now.shown) consistency.now node.now depth) }
         ensures beginning { IsPrefix self.now.shown self.now.posted }
+        ensures judged { WereJudged self.now.posted self.now.shown }
     {
         self.publication.shown().expand(consistency, node, depth)
     }
@@ -314,6 +320,7 @@ impl<T: Tables + Drop, R: Wait + Drop> Desk<T, R> {
         ensures ok { IfOk result (IsPage (standing self.now.shown) consistency.now asked.now) }
         ensures err { IfErr result (IsPageRefusal (standing self.now.shown) consistency.now) }
         ensures beginning { IsPrefix self.now.shown self.now.posted }
+        ensures judged { WereJudged self.now.posted self.now.shown }
     {
         self.publication.shown().read(consistency, asked)
     }
@@ -330,6 +337,7 @@ impl<T: Tables + Drop, R: Wait + Drop> Desk<T, R> {
         ensures err { IfErr result
             (IsGroupsRefusal (standing self.now.shown) consistency.now (query_of expr.now) limit) }
         ensures beginning { IsPrefix self.now.shown self.now.posted }
+        ensures judged { WereJudged self.now.posted self.now.shown }
     {
         self.publication.shown().groups(consistency, expr, limit)
     }
@@ -346,6 +354,7 @@ impl<T: Tables + Drop, R: Wait + Drop> Desk<T, R> {
             (IsWatched (standing self.now.shown) cursor.now namespaces.now commits) }
         ensures err { IfErr result (WatchRefused (standing self.now.shown) cursor.now) }
         ensures beginning { IsPrefix self.now.shown self.now.posted }
+        ensures judged { WereJudged self.now.posted self.now.shown }
     {
         self.publication.shown().watch(cursor, namespaces, commits)
     }
@@ -370,6 +379,14 @@ impl<T: Tables + Drop, R: Wait + Drop> Desk<T, R> {
         ensures { result ≡ newest (standing self.now.shown).kept }
     {
         self.publication.newest()
+    }
+
+    /// All that is posted was judged on what was posted before it, whether the desk has been asked or changed yet or not.
+    pub fn judged_its_steps(&self)
+        ensures { WereJudged self.now.posted self.now.shown }
+    {
+        // A proof knows the invariant where a field is used.
+        let _ = &self.publication;
     }
 
     /// Whether the tables failed. After that every change is refused.

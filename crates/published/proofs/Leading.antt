@@ -7,7 +7,7 @@ use Rattle.shown.specs.declared.step.Step.{Step}
 use Rattle.published.specs.declared.copy.ShownCopy.{ShownCopy}
 use Rattle.published.specs.declared.post.Post.{Post}
 use Rattle.published.specs.Known.{Known, next_of, Begins}
-use Rattle.published.specs.Judged.{AreJudged}
+use Rattle.published.specs.Judged.{AreJudged, WereJudged}
 use Rattle.published.specs.Copies.{absorbed, Stands, Chain}
 use Rattle.published.specs.Writing.{Writing}
 use Rattle.published.specs.Invariant.{Leads}
@@ -83,15 +83,16 @@ module _ (b : Book) (entered : Known) (p : Writing) (stuck : Option Post) (leads
 
 -- a publication as its callers see it
 pub shows_more : (b : Book) (n room room' : ℕ) (front front' : Known) (backlog backlog' : List Step) (p q : Writing) (stuck' : Option Post)
-    → Leads b front' q stuck' → front'.steps ++ backlog' ≡ front.steps ++ backlog → Begins p.published.prefix q.published.prefix → room ≤ room'
+    → Leads b front' q stuck' → AreJudged (front.steps ++ backlog) → front'.steps ++ backlog' ≡ front.steps ++ backlog → Begins p.published.prefix q.published.prefix → room ≤ room'
     → ShowsMoreOf (record { book = b; posted = front.steps ++ backlog; shown = p.published.prefix.steps; seats = n; room = room })
     (record { book = b; posted = front'.steps ++ backlog'; shown = q.published.prefix.steps; seats = n; room = room' })
-shows_more b n room room' front front' backlog backlog' p q stuck' leads posted later more =
+shows_more b n room room' front front' backlog backlog' p q stuck' leads judged posted later more =
     record {
       posted = posted;
       book = refl;
       later = later.1;
       beginning = prefix_trans q.published.prefix.steps front'.steps (front'.steps ++ backlog') (shown_begins b front' q q stuck' leads).1 (backlog', refl);
+      judged = record { posted_were = subst AreJudged (sym posted) judged; shown_were = leads.stands.1 };
       seats = refl;
       room = more;
     }

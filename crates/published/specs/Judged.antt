@@ -14,3 +14,8 @@ AreLater s (step ∷ steps) = IsLater step × HasRoom s step × AreLater (after_
 abbrev pub AreJudged : List Step → Type 0
 AreJudged [] = ⊥
 AreJudged (first ∷ steps) = HasRoom nothing first × AreLater (after_step nothing first) steps
+
+-- all that is posted was judged, and all of it that is shown
+pub record WereJudged (posted shown : List Step) : Type 0 where
+  pub posted_were : AreJudged posted
+  pub shown_were : AreJudged shown

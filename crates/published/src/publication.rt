@@ -5,7 +5,7 @@ ghost use Rattle.rows.specs.Retained.{newest};
 ghost use Rattle.shown.specs.Standing.{nothing, standing, HasRoom};
 ghost use Rattle.published.specs.Known.{Begins};
 ghost use Rattle.published.specs.Posts.{IsLater};
-ghost use Rattle.published.specs.Judged.{AreJudged};
+ghost use Rattle.published.specs.Judged.{AreJudged, WereJudged};
 ghost use Rattle.published.specs.Publishing.{ShowsMoreOf, IsSameBut, shown_by};
 
 use crate::book::{Book, Opened, StepPrefix};
@@ -74,6 +74,7 @@ impl<R: Wait + Drop> Publication<R> {
         ensures book { IfOk result (λ p. p.book ≡ opened.book) }
         ensures posted { IfOk result (λ p. p.posted ≡ first ∷ []) }
         ensures shown { IfOk result (λ p. p.shown ≡ p.posted) }
+        ensures judged { IfOk result (λ p. WereJudged p.posted p.shown) }
         ensures seats { IfOk result (λ p. p.seats ≡ MAX_SESSIONS) }
     {
         let Opened { book, prefix } = opened;
@@ -110,6 +111,7 @@ impl<R: Wait + Drop> Publication<R> {
         requires follows { HasRoom (standing self.old.posted) step }
         requires later { IsLater step }
         ensures posted { self.new.posted ≡ self.old.posted ++ step ∷ [] }
+        ensures judged { WereJudged self.new.posted self.new.shown }
         ensures same { (self.new.book ≡ self.old.book) × (self.new.shown ≡ self.old.shown)
             × (self.new.seats ≡ self.old.seats) }
     {

@@ -30,7 +30,8 @@ use zookie::{Consistency, Zookie};
 
 /// A reader of the published state, and the steps that it knows. Contracts see it as those steps, with the
 /// name of their book. What it is asked is answered by the standing of steps that begin with all it knew, and
-/// from then on it knows these. All that it knows was judged before it was posted. It outlives the publication, and answers nothing from then on.
+/// from then on it knows these. All that it knows was judged before it was posted. It outlives the publication,
+/// and answers nothing from then on.
 #[derive(Drop)]
 pub struct Session {
     reader: CopyReader,
@@ -343,6 +344,14 @@ impl Session {
         }
         self.known = prefix;
         Some((number, numbers))
+    }
+
+    /// All that a session knows was judged, whether it has been asked yet or not.
+    pub fn knows_judged_steps(&self)
+        ensures { AreJudged self.now.steps }
+    {
+        // A proof knows the invariant where a field is used.
+        let _ = &self.known;
     }
 
     /// From now on the session knows no less than what the receipt tells. It takes no memory.
