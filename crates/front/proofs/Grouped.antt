@@ -14,11 +14,11 @@ use Rattle.shown.specs.Grouping.{AreGroups, IsGroupsRefusal}
 use Rattle.published.specs.Known.{Known}
 use Rattle.bodies.specs.Grouping.{AsksGroups, groups_data}
 use Rattle.bodies.specs.Replies.{Says, SaysRefusalAt}
-use Rattle.front.specs.Kept.{GoesOn}
+use Rattle.front.specs.Kept.{KnowsMore}
 use Rattle.front.specs.declared.groups.AskedGroups.{AskedGroups}
 use Rattle.front.specs.declared.groups.AskedGroups.TheVariants.{Told, NotYet}
 use Rattle.front.specs.Groups.{GroupsTold, told_groups, told_no_groups, told_none, GroupsFrom, groups_malformed, groups_bad_zookie, groups_asked, groups_unread, AreGroupsAsked}
-use Rattle.front.proofs.Kept.{Keeps, goes_on_trans}
+use Rattle.front.proofs.Kept.{Keeps, knows_more_trans}
 
 -- the question was asked, of a store with this number
 pub grouped_told : {sought : Type 0} (steps : List Step) (consistency : Consistency) (asked : Query) (limit number : ℕ) (found : Result (Answer (List Node)) Refused) (told : Option (ℕ × List ℕ))
@@ -58,6 +58,6 @@ groups_alone old body told new (groups_unread none same) = groups_unread none sa
 
 -- the question was asked once more
 pub groups_asked_again : {sought : Type 0} (old mid more : Known) (body : List ℕ) (told : Option (ℕ × List ℕ)) (new : Known) (consistency : Consistency) (asked : Query) (limit : ℕ)
-    → AsksGroups body consistency asked limit → GoesOn old mid → GoesOn mid more → GoesOn more new → GroupsTold new.steps ⊤ consistency asked limit told → sought → GroupsFrom sought old body told new
+    → AsksGroups body consistency asked limit → KnowsMore old mid → KnowsMore mid more → KnowsMore more new → GroupsTold new.steps ⊤ consistency asked limit told → sought → GroupsFrom sought old body told new
 groups_asked_again old mid more body told new consistency asked limit asks first second third is sought =
-    groups_asked consistency asked limit asks (told_when {A = ⊤} new.steps consistency asked limit told (λ _. sought) is) (goes_on_trans old mid new first (goes_on_trans mid more new second third))
+    groups_asked consistency asked limit asks (told_when {A = ⊤} new.steps consistency asked limit told (λ _. sought) is) (knows_more_trans old mid new first (knows_more_trans mid more new second third))

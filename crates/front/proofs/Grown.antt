@@ -16,11 +16,11 @@ use Rattle.published.specs.Known.{Known}
 use Rattle.bodies.specs.Expanding.{AsksExpand}
 use Rattle.bodies.specs.Replies.{Says, SaysRefusalAt}
 use Rattle.bodies.specs.Trees.{expanded_data}
-use Rattle.front.specs.Kept.{GoesOn}
+use Rattle.front.specs.Kept.{KnowsMore}
 use Rattle.front.specs.declared.trees.AskedTree.{AskedTree}
 use Rattle.front.specs.declared.trees.AskedTree.TheVariants.{Told, NotYet}
 use Rattle.front.specs.Trees.{TreeTold, told_tree, told_no_tree, told_no_more, ExpandFrom, tree_malformed, tree_bad_zookie, tree_asked, tree_unread, IsTreeAsked}
-use Rattle.front.proofs.Kept.{Keeps, goes_on_trans}
+use Rattle.front.proofs.Kept.{Keeps, knows_more_trans}
 
 -- the question was asked, of a store with this number
 pub expanded_told : {sought : Type 0} (steps : List Step) (consistency : Consistency) (node : Node) (depth number : ℕ) (found : Result (Answer Tree) Refused) (told : Option (ℕ × List ℕ))
@@ -60,6 +60,6 @@ tree_alone old body told new (tree_unread none same) = tree_unread none same
 
 -- the question was asked once more
 pub tree_asked_again : {sought : Type 0} (old mid more : Known) (body : List ℕ) (told : Option (ℕ × List ℕ)) (new : Known) (consistency : Consistency) (node : Node) (depth : ℕ)
-    → AsksExpand body consistency node depth → GoesOn old mid → GoesOn mid more → GoesOn more new → TreeTold new.steps ⊤ consistency node depth told → sought → ExpandFrom sought old body told new
+    → AsksExpand body consistency node depth → KnowsMore old mid → KnowsMore mid more → KnowsMore more new → TreeTold new.steps ⊤ consistency node depth told → sought → ExpandFrom sought old body told new
 tree_asked_again old mid more body told new consistency node depth asks first second third is sought =
-    tree_asked consistency node depth asks (told_when {A = ⊤} new.steps consistency node depth told (λ _. sought) is) (goes_on_trans old mid new first (goes_on_trans mid more new second third))
+    tree_asked consistency node depth asks (told_when {A = ⊤} new.steps consistency node depth told (λ _. sought) is) (knows_more_trans old mid new first (knows_more_trans mid more new second third))

@@ -8,23 +8,23 @@ use Rattle.shown.specs.declared.step.Step.TheVariants.{Open}
 use Rattle.published.specs.Known.{Known, Begins}
 use Rattle.published.proofs.Prefixes.{prefix_trans}
 use Rattle.published.proofs.Rules.{begins_self, begins_trans}
-use Rattle.desk.specs.Posts.{Posts}
-use Rattle.front.specs.Kept.{IsOpened, IsKnownIn, IsKept, GoesOn}
+use Rattle.desk.specs.Posts.{Posts, ShowsMore}
+use Rattle.front.specs.Kept.{IsOpened, IsKnownIn, IsKept, KnowsMore}
 
 opened_on : (xs ys : List Step) → IsOpened xs → IsPrefix xs ys → IsOpened ys
 opened_on xs ys opened on = record { loaded = opened.loaded; begins = prefix_trans (Open opened.loaded ∷ []) xs ys opened.begins on }
 
-pub kept_on : {T : Type 0} (b : Book) (d e : Posts T) → IsKept b d → e.book ≡ d.book → IsPrefix d.shown e.shown → IsKept b e
-kept_on b d e kept book later = record { of_book = book ∙ kept.of_book; opened = opened_on d.shown e.shown kept.opened later }
+pub kept_on : {T : Type 0} (b : Book) (d e : Posts T) → IsKept b d → ShowsMore d e → IsKept b e
+kept_on b d e kept more = record { of_book = more.book ∙ kept.of_book; opened = opened_on d.shown e.shown kept.opened more.later; judged = more.judged }
 
 -- ---- a session
 
--- it knows what it knew and no more, or goes on
+-- it knows what it knew, or more
 abbrev pub Keeps : Known → Known → Type 0
-Keeps old new = (new ≡ old) ⊎ GoesOn old new
+Keeps old new = (new ≡ old) ⊎ KnowsMore old new
 
-pub goes_on_trans : (k l m : Known) → GoesOn k l → GoesOn l m → GoesOn k m
-goes_on_trans k l m one other = (begins_trans k l m one.0 other.0, other.1)
+pub knows_more_trans : (k l m : Known) → KnowsMore k l → KnowsMore l m → KnowsMore k m
+knows_more_trans k l m one other = (begins_trans k l m one.0 other.0, other.1)
 
 pub keeps_begins : (k l : Known) → Keeps k l → Begins k l
 keeps_begins k l (inl same) = subst (Begins k) (sym same) (begins_self k)

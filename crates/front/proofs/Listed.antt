@@ -14,11 +14,11 @@ use Rattle.shown.specs.Paging.{IsPage, IsPageRefusal}
 use Rattle.published.specs.Known.{Known}
 use Rattle.bodies.specs.Paging.{AsksRead, page_data}
 use Rattle.bodies.specs.Replies.{Says, SaysRefusalAt}
-use Rattle.front.specs.Kept.{GoesOn}
+use Rattle.front.specs.Kept.{KnowsMore}
 use Rattle.front.specs.declared.tuples.AskedTuples.{AskedTuples}
 use Rattle.front.specs.declared.tuples.AskedTuples.TheVariants.{Told, NotYet}
 use Rattle.front.specs.Tuples.{TuplesTold, told_tuples, told_no_tuples, told_nothing, ReadFrom, tuples_malformed, tuples_bad_zookie, tuples_asked, tuples_unread, AreTuplesAsked}
-use Rattle.front.proofs.Kept.{Keeps, goes_on_trans}
+use Rattle.front.proofs.Kept.{Keeps, knows_more_trans}
 
 -- the question was asked, of a store with this number
 pub read_told : {sought : Type 0} (steps : List Step) (consistency : Consistency) (asked : Tupleset) (number : ℕ) (found : Result (Answer (List Tuple)) Refused) (told : Option (ℕ × List ℕ))
@@ -58,6 +58,6 @@ tuples_alone old body told new (tuples_unread none same) = tuples_unread none sa
 
 -- the question was asked once more
 pub tuples_asked_again : {sought : Type 0} (old mid more : Known) (body : List ℕ) (told : Option (ℕ × List ℕ)) (new : Known) (consistency : Consistency) (asked : Tupleset)
-    → AsksRead body consistency asked → GoesOn old mid → GoesOn mid more → GoesOn more new → TuplesTold new.steps ⊤ consistency asked told → sought → ReadFrom sought old body told new
+    → AsksRead body consistency asked → KnowsMore old mid → KnowsMore mid more → KnowsMore more new → TuplesTold new.steps ⊤ consistency asked told → sought → ReadFrom sought old body told new
 tuples_asked_again old mid more body told new consistency asked asks first second third is sought =
-    tuples_asked consistency asked asks (told_when {A = ⊤} new.steps consistency asked told (λ _. sought) is) (goes_on_trans old mid new first (goes_on_trans mid more new second third))
+    tuples_asked consistency asked asks (told_when {A = ⊤} new.steps consistency asked told (λ _. sought) is) (knows_more_trans old mid new first (knows_more_trans mid more new second third))

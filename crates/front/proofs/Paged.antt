@@ -13,11 +13,11 @@ use Rattle.published.specs.Known.{Known}
 use Rattle.bodies.specs.Watching.{AsksWatch}
 use Rattle.bodies.specs.Replies.{Says, SaysRefusal}
 use Rattle.bodies.specs.Pages.{page_data}
-use Rattle.front.specs.Kept.{GoesOn}
+use Rattle.front.specs.Kept.{KnowsMore}
 use Rattle.front.specs.declared.pages.AskedPage.{AskedPage}
 use Rattle.front.specs.declared.pages.AskedPage.TheVariants.{Told, NotYet}
 use Rattle.front.specs.Pages.{PageTold, told_page, told_no_page, told_none, WatchFrom, page_malformed, page_bad_zookie, page_asked, page_unread, IsPageAsked}
-use Rattle.front.proofs.Kept.{Keeps, goes_on_trans}
+use Rattle.front.proofs.Kept.{Keeps, knows_more_trans}
 
 -- the question was asked, of a store with this number
 pub watched_told : {sought : Type 0} (steps : List Step) (cursor : Zookie) (namespaces : Namespaces) (commits number : ℕ) (found : Result Page Refusal) (told : Option (ℕ × List ℕ))
@@ -53,6 +53,6 @@ page_alone old body told new (page_unread none same) = page_unread none same
 
 -- the question was asked once more
 pub page_asked_again : {sought : Type 0} (old mid more : Known) (body : List ℕ) (told : Option (ℕ × List ℕ)) (new : Known) (cursor : Zookie) (namespaces : Namespaces) (commits : ℕ)
-    → AsksWatch body cursor namespaces commits → GoesOn old mid → GoesOn mid more → GoesOn more new → PageTold new.steps ⊤ cursor namespaces commits told → sought → WatchFrom sought old body told new
+    → AsksWatch body cursor namespaces commits → KnowsMore old mid → KnowsMore mid more → KnowsMore more new → PageTold new.steps ⊤ cursor namespaces commits told → sought → WatchFrom sought old body told new
 page_asked_again old mid more body told new cursor namespaces commits asks first second third is sought =
-    page_asked cursor namespaces commits asks (told_when {A = ⊤} new.steps cursor namespaces commits told (λ _. sought) is) (goes_on_trans old mid new first (goes_on_trans mid more new second third))
+    page_asked cursor namespaces commits asks (told_when {A = ⊤} new.steps cursor namespaces commits told (λ _. sought) is) (knows_more_trans old mid new first (knows_more_trans mid more new second third))

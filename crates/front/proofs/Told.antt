@@ -15,11 +15,11 @@ use Rattle.shown.specs.Answers.{IsAnswer, IsRefusal}
 use Rattle.published.specs.Known.{Known}
 use Rattle.bodies.specs.Requests.{AsksCheck}
 use Rattle.bodies.specs.Replies.{Says, SaysRefusalAt, answer_data, state_data}
-use Rattle.front.specs.Kept.{GoesOn}
+use Rattle.front.specs.Kept.{KnowsMore}
 use Rattle.front.specs.declared.questions.Asked.{Asked}
 use Rattle.front.specs.declared.questions.Asked.TheVariants.{Told, NotYet}
 use Rattle.front.specs.Questions.{CheckTold, told_answer, told_refusal, told_shut, CheckFrom, from_malformed, from_bad_zookie, from_asked, from_unread, IsAsked, StateFrom}
-use Rattle.front.proofs.Kept.{Keeps, goes_on_trans}
+use Rattle.front.proofs.Kept.{Keeps, knows_more_trans}
 
 -- the question was asked, of a store with this number
 pub checked_told : {sought : Type 0} (steps : List Step) (consistency : Consistency) (node : Node) (user : Object) (number : ℕ) (checked : Result (Answer Bool) Refused) (told : Option (ℕ × List ℕ))
@@ -35,7 +35,7 @@ checked_told steps consistency node user number (Err refused) told is ok err say
     told_refusal refused.why refused.at err ahead (subst (λ (n : ℕ). SaysRefusalAt told refused.why (option_map (zookie_text n) refused.at)) is denies)
 
 pub state_told : (old new : Known) (number : ℕ) (state : State) (told : Option (ℕ × List ℕ)) → number ≡ (standing new.steps).kept.number → state ≡ state_of (standing new.steps)
-    → GoesOn old new → Says told 200 (state_data number state) → StateFrom old told new
+    → KnowsMore old new → Says told 200 (state_data number state) → StateFrom old told new
 state_told old new number state told is same later says =
     inl (subst (λ (s : State). Says told 200 (state_data (standing new.steps).kept.number s)) same (subst (λ (n : ℕ). Says told 200 (state_data n state)) is says), later)
 
@@ -68,6 +68,6 @@ check_alone old body told new (from_unread none same) = from_unread none same
 
 -- the question was asked once more
 pub asked_again : {sought : Type 0} (old mid more : Known) (body : List ℕ) (told : Option (ℕ × List ℕ)) (new : Known) (consistency : Consistency) (node : Node) (user : Object)
-    → AsksCheck body consistency node user → GoesOn old mid → GoesOn mid more → GoesOn more new → CheckTold new.steps ⊤ consistency node user told → sought → CheckFrom sought old body told new
+    → AsksCheck body consistency node user → KnowsMore old mid → KnowsMore mid more → KnowsMore more new → CheckTold new.steps ⊤ consistency node user told → sought → CheckFrom sought old body told new
 asked_again old mid more body told new consistency node user asks first second third is sought =
-    from_asked consistency node user asks (told_when {A = ⊤} new.steps consistency node user told (λ _. sought) is) (goes_on_trans old mid new first (goes_on_trans mid more new second third))
+    from_asked consistency node user asks (told_when {A = ⊤} new.steps consistency node user told (λ _. sought) is) (knows_more_trans old mid new first (knows_more_trans mid more new second third))

@@ -9,7 +9,7 @@ use Rattle.published.specs.Receipts.{ReceiptFacts}
 use Rattle.desk.specs.Posts.{Posts, shown_by}
 use Rattle.desk.specs.Changes.{TellsShown}
 use Rattle.keeper.specs.Rules.{DeskStep}
-use Rattle.front.specs.Kept.{IsKept, KnowsADesk, GoesOn, NeverGoesBack}
+use Rattle.front.specs.Kept.{IsKept, KnowsADesk, KnowsMore, NeverGoesBack}
 use Rattle.front.specs.Questions.{CheckFrom, StateFrom}
 use Rattle.front.specs.Tuples.{ReadFrom}
 use Rattle.front.specs.Trees.{ExpandFrom}
@@ -23,7 +23,7 @@ pub data ChangeFrom {T : Type 0} (g : Ghosts T) (book : Book)
   off_the_desk : ((desk : Posts T) → DeskStep g desk call body told desk) → new ≡ old
       → ChangeFrom g book old call body told new
   on_a_desk : (before after : Posts T) → IsKept book before → DeskStep g before call body told after
-      → GoesOn old new → Begins (shown_by after) new → ChangeFrom g book old call body told new
+      → KnowsMore old new → Begins (shown_by after) new → ChangeFrom g book old call body told new
 
 -- A desk of the book told this of itself: its store's number, its newest shown revision, and whether all that is posted is
 -- shown. The session then knows all that the desk shows.

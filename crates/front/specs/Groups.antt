@@ -13,7 +13,7 @@ use Rattle.shown.specs.Grouping.{IsGrouped, GroupsRefused}
 use Rattle.published.specs.Known.{Known}
 use Rattle.bodies.specs.Grouping.{AsksGroups, IsGroupsForm, HasBadGroupsZookie, groups_data}
 use Rattle.bodies.specs.Replies.{Says, SaysRefusal, SaysRefusalAt}
-use Rattle.front.specs.Kept.{GoesOn}
+use Rattle.front.specs.Kept.{KnowsMore}
 use Rattle.front.specs.declared.groups.AskedGroups.{AskedGroups}
 use Rattle.front.specs.declared.groups.AskedGroups.TheVariants.{Told, NotYet}
 use Rattle.front.specs.Questions.{zookie_in, IsAhead}
@@ -41,7 +41,7 @@ pub data GroupsFrom (sought : Type 0) (old : Known) (body : List ℕ) (told : Op
       HasBadGroupsZookie body → SaysRefusal told BadZookie → new ≡ old → GroupsFrom sought old body told new
   groups_asked : (consistency : Consistency) (asked : Query) (limit : ℕ)
       → AsksGroups body consistency asked limit → GroupsTold new.steps sought consistency asked limit told
-      → GoesOn old new → GroupsFrom sought old body told new
+      → KnowsMore old new → GroupsFrom sought old body told new
   groups_unread : told ≡ None → new ≡ old → GroupsFrom sought old body told new
 
 -- the reply, which is not that the question is of the future; or the question that the body asks, whose revision the session
@@ -49,5 +49,5 @@ pub data GroupsFrom (sought : Type 0) (old : Known) (body : List ℕ) (told : Op
 abbrev pub AreGroupsAsked : Known → List ℕ → AskedGroups → Known → Type 0
 AreGroupsAsked old body (Told reply) new = GroupsFrom ⊥ old body (told_by reply) new
 AreGroupsAsked old body (NotYet question) new =
-    AsksGroups body question.consistency (query_of question.expr) question.limit × GoesOn old new
+    AsksGroups body question.consistency (query_of question.expr) question.limit × KnowsMore old new
     × IsAhead new.steps question.consistency

@@ -8,7 +8,7 @@ use Rattle.shown.specs.declared.step.Step.{Step}
 use Rattle.shown.specs.declared.step.Step.TheVariants.{Open}
 use Rattle.shown.specs.Standing.{standing}
 use Rattle.published.specs.Known.{Known, Begins}
-use Rattle.published.specs.Judged.{AreJudged}
+use Rattle.published.specs.Judged.{AreJudged, WereJudged}
 use Rattle.published.specs.Rising.{Rises}
 use Rattle.desk.specs.Posts.{Posts, Agrees, shown_by}
 
@@ -24,8 +24,8 @@ pub record IsKnownIn (book : Book) (known : Known) : Type 0 where
   pub judged : AreJudged known.steps
 
 -- a session knows all that it knew, and all that it then knows was judged
-abbrev pub GoesOn : Known → Known → Type 0
-GoesOn old new = Begins old new × AreJudged new.steps
+abbrev pub KnowsMore : Known → Known → Type 0
+KnowsMore old new = Begins old new × AreJudged new.steps
 
 -- A session knows all that it knew. The history that it answers by is of the same store, neither its floor nor its newest
 -- revision is lower, and what both retain is the same.
@@ -33,10 +33,11 @@ pub record NeverGoesBack (old new : Known) : Type 0 where
   pub begins : Begins old new
   pub rises : Rises (standing old.steps).kept (standing new.steps).kept
 
--- the desk is of the book, and shows what it was opened with
+-- the desk is of the book, and shows what it was opened with; all that is posted was judged
 pub record IsKept {T : Type 0} (book : Book) (desk : Posts T) : Type 0 where
   pub of_book : desk.book ≡ book
   pub opened : IsOpened desk.shown
+  pub judged : WereJudged desk.posted desk.shown
 
 -- a session that knows this knows all that a desk of the book shows; nobody who has not held the lock can name one
 abbrev pub KnowsADesk : Type 0 → Book → Known → Type 0

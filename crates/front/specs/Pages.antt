@@ -14,7 +14,7 @@ use Rattle.published.specs.Known.{Known}
 use Rattle.bodies.specs.Watching.{AsksWatch, IsWatchForm, HasBadCursor}
 use Rattle.bodies.specs.Replies.{Says, SaysRefusal}
 use Rattle.bodies.specs.Pages.{page_data}
-use Rattle.front.specs.Kept.{GoesOn}
+use Rattle.front.specs.Kept.{KnowsMore}
 use Rattle.front.specs.declared.pages.AskedPage.{AskedPage}
 use Rattle.front.specs.declared.pages.AskedPage.TheVariants.{Told, NotYet}
 use Rattle.front.specs.Questions.{IsAhead}
@@ -42,7 +42,7 @@ pub data WatchFrom (sought : Type 0) (old : Known) (body : List ℕ) (told : Opt
       HasBadCursor body → SaysRefusal told BadZookie → new ≡ old → WatchFrom sought old body told new
   page_asked : (cursor : Zookie) (namespaces : Namespaces) (commits : ℕ)
       → AsksWatch body cursor namespaces commits → PageTold new.steps sought cursor namespaces commits told
-      → GoesOn old new → WatchFrom sought old body told new
+      → KnowsMore old new → WatchFrom sought old body told new
   page_unread : told ≡ None → new ≡ old → WatchFrom sought old body told new
 
 -- the reply, which is not that the question is of the future; or the question that the body asks, whose revision the session
@@ -50,5 +50,5 @@ pub data WatchFrom (sought : Type 0) (old : Known) (body : List ℕ) (told : Opt
 abbrev pub IsPageAsked : Known → List ℕ → AskedPage → Known → Type 0
 IsPageAsked old body (Told reply) new = WatchFrom ⊥ old body (told_by reply) new
 IsPageAsked old body (NotYet question) new =
-    AsksWatch body question.cursor question.namespaces question.commits × GoesOn old new
+    AsksWatch body question.cursor question.namespaces question.commits × KnowsMore old new
     × IsAhead new.steps (Exactly question.cursor)

@@ -12,7 +12,7 @@ use Rattle.shown.specs.Paging.{IsRead, ReadRefused}
 use Rattle.published.specs.Known.{Known}
 use Rattle.bodies.specs.Paging.{AsksRead, IsReadForm, HasBadReadZookie, page_data}
 use Rattle.bodies.specs.Replies.{Says, SaysRefusal, SaysRefusalAt}
-use Rattle.front.specs.Kept.{GoesOn}
+use Rattle.front.specs.Kept.{KnowsMore}
 use Rattle.front.specs.declared.tuples.AskedTuples.{AskedTuples}
 use Rattle.front.specs.declared.tuples.AskedTuples.TheVariants.{Told, NotYet}
 use Rattle.front.specs.Questions.{zookie_in, IsAhead}
@@ -40,7 +40,7 @@ pub data ReadFrom (sought : Type 0) (old : Known) (body : List ℕ) (told : Opti
       HasBadReadZookie body → SaysRefusal told BadZookie → new ≡ old → ReadFrom sought old body told new
   tuples_asked : (consistency : Consistency) (asked : Tupleset)
       → AsksRead body consistency asked → TuplesTold new.steps sought consistency asked told
-      → GoesOn old new → ReadFrom sought old body told new
+      → KnowsMore old new → ReadFrom sought old body told new
   tuples_unread : told ≡ None → new ≡ old → ReadFrom sought old body told new
 
 -- the reply, which is not that the question is of the future; or the question that the body asks, whose revision the session
@@ -48,5 +48,5 @@ pub data ReadFrom (sought : Type 0) (old : Known) (body : List ℕ) (told : Opti
 abbrev pub AreTuplesAsked : Known → List ℕ → AskedTuples → Known → Type 0
 AreTuplesAsked old body (Told reply) new = ReadFrom ⊥ old body (told_by reply) new
 AreTuplesAsked old body (NotYet question) new =
-    AsksRead body question.consistency question.tupleset × GoesOn old new
+    AsksRead body question.consistency question.tupleset × KnowsMore old new
     × IsAhead new.steps question.consistency

@@ -4,7 +4,7 @@ ghost use Rattle.names.specs.Calls.{told};
 ghost use Rattle.names.specs.declared.call.Call.TheVariants.{Write, Config, Trim, CatchUp, Hot, Rebuild};
 ghost use Rattle.names.specs.declared.refusal.Refusal.TheVariants.{NoSeat};
 ghost use Rattle.published.specs.Known.{Begins};
-ghost use Rattle.front.specs.Kept.{GoesOn, IsKnownIn, KnowsADesk};
+ghost use Rattle.front.specs.Kept.{IsKnownIn, KnowsADesk, KnowsMore};
 ghost use Rattle.front.specs.Questions.{IsAsked, CheckFrom, StateFrom};
 ghost use Rattle.front.specs.Trees.{IsTreeAsked, ExpandFrom};
 ghost use Rattle.front.specs.Tuples.{AreTuplesAsked, ReadFrom};
@@ -123,7 +123,7 @@ impl<'k, T: Tables + Drop, J: Naming, R: Wait + Drop> Front<'k, T, J, R> {
 
     /// Lets the session know what is shown now, and shows what waits, as far as there is memory.
     pub fn refresh<W: Wait>(&mut self, rt: &W) -> Receipt
-        ensures kept { GoesOn self.old self.new }
+        ensures kept { KnowsMore self.old self.new }
         ensures told { Begins result.published self.new }
         ensures tells { ToldByDesk T J.book result self.new }
     {
