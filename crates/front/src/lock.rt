@@ -21,7 +21,7 @@ ghost use Rattle.keeper.specs.calls.Trim.{TrimStep};
 ghost use Rattle.keeper.specs.calls.CatchUp.{CatchUpStep};
 ghost use Rattle.keeper.specs.calls.Hot.{HotStep};
 ghost use Rattle.keeper.specs.calls.Rebuild.{RebuildStep};
-ghost use Rattle.front.specs.Kept.{IsKept, IsKnownIn, WereKept};
+ghost use Rattle.front.specs.Kept.{IsKept, IsKnownIn, KnowsMore, WereKept};
 
 use config::Config;
 use desk::{Desk, Posted};
@@ -101,7 +101,7 @@ impl<T: Tables + Drop, J: Naming, R: Wait + Drop> KeptDesk<T, J, R> {
         ensures same { SameTables self.old self.new }
         ensures seats { self.new.seats ≡ self.old.seats }
         ensures tells { TellsShown result self.new }
-        ensures kept { Begins session.old session.new }
+        ensures kept { KnowsMore session.old session.new }
         ensures known { Begins (shown_by self.new) session.new }
     {
         self.desk.refresh(session)
@@ -146,7 +146,7 @@ impl<T: Tables + Drop, J: Naming, R: Wait + Drop> KeptDesk<T, J, R> {
         requires { session.old.book ≡ J.book }
         ensures step { (body : List ℕ) → AsksWrite body write
             → WriteStep T.Tables self.old body (told result) self.new }
-        ensures kept { Begins session.old session.new }
+        ensures kept { KnowsMore session.old session.new }
         ensures known { Begins (shown_by self.new) session.new }
     {
         write_on(alloc, &mut self.desk, session, write)
@@ -157,7 +157,7 @@ impl<T: Tables + Drop, J: Naming, R: Wait + Drop> KeptDesk<T, J, R> {
         requires { session.old.book ≡ J.book }
         ensures step { (body : List ℕ) → Accepts body config
             → ConfigStep T.Tables self.old body (told result) self.new }
-        ensures kept { Begins session.old session.new }
+        ensures kept { KnowsMore session.old session.new }
         ensures known { Begins (shown_by self.new) session.new }
     {
         configure_on(alloc, &mut self.desk, session, config)
@@ -168,7 +168,7 @@ impl<T: Tables + Drop, J: Naming, R: Wait + Drop> KeptDesk<T, J, R> {
         requires { session.old.book ≡ J.book }
         ensures step { (body : List ℕ) → AsksTrim body floor
             → TrimStep T.Tables self.old body (told result) self.new }
-        ensures kept { Begins session.old session.new }
+        ensures kept { KnowsMore session.old session.new }
         ensures known { Begins (shown_by self.new) session.new }
     {
         trim_on(alloc, &mut self.desk, session, floor)
@@ -185,7 +185,7 @@ impl<T: Tables + Drop, J: Naming, R: Wait + Drop> KeptDesk<T, J, R> {
         requires { session.old.book ≡ J.book }
         ensures step { (body : List ℕ) → AsksCatchUp body part commits
             → CatchUpStep T.Tables self.old body (told result) self.new }
-        ensures kept { Begins session.old session.new }
+        ensures kept { KnowsMore session.old session.new }
         ensures known { Begins (shown_by self.new) session.new }
     {
         catch_up_on(alloc, &mut self.desk, session, part, commits)
@@ -196,7 +196,7 @@ impl<T: Tables + Drop, J: Naming, R: Wait + Drop> KeptDesk<T, J, R> {
         requires { session.old.book ≡ J.book }
         ensures step { (body : List ℕ) → AsksHot body marking
             → HotStep T.Tables self.old body (told result) self.new }
-        ensures kept { Begins session.old session.new }
+        ensures kept { KnowsMore session.old session.new }
         ensures known { Begins (shown_by self.new) session.new }
     {
         mark_on(alloc, &mut self.desk, session, marking)
@@ -207,7 +207,7 @@ impl<T: Tables + Drop, J: Naming, R: Wait + Drop> KeptDesk<T, J, R> {
         requires { session.old.book ≡ J.book }
         ensures step { (body : List ℕ) → AsksRebuild body
             → RebuildStep T.Tables self.old body (told result) self.new }
-        ensures kept { Begins session.old session.new }
+        ensures kept { KnowsMore session.old session.new }
         ensures known { Begins (shown_by self.new) session.new }
     {
         rebuild_on(alloc, &mut self.desk, session)
