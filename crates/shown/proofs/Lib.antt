@@ -1,5 +1,4 @@
 pub mod Watching
-pub mod MarkedNodes
 pub mod Basing
 pub mod Following
 pub mod Taking

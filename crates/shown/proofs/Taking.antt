@@ -1,23 +1,16 @@
--- What is true of a standing stays so where a part takes commits, and where a node is marked.
-use Rattle.std.proofs.Common.{◌≡◌, ℕ, ◌+◌, ◌-◌, ◌≤◌, List, [], ◌∷◌, length, drop, refl, sym, subst, arith}
-use Rattle.std.specs.Prelude.{Option, Some, None, IfSome, min}
-use Rattle.std.specs.List.{IsDistinct}
+-- What is true of a standing stays so where the index takes commits.
+use Rattle.std.proofs.Common.{◌≡◌, ℕ, ◌+◌, ◌-◌, ◌≤◌, [], ◌∷◌, length, drop, refl, sym, subst, arith}
+use Rattle.std.specs.Prelude.{Option, min}
 use Rattle.std.proofs.lemmas.List.{length-take}
 use Rattle.names.specs.declared.commit.Commit.TheVariants.{Tuples, Config}
-use Rattle.names.specs.declared.marking.Marking.{Marking}
-use Rattle.names.specs.declared.node.Node.{Node}
-use Rattle.names.specs.Order.{is_same_node}
 use Rattle.meaning.specs.History.{History}
 use Rattle.leopard.specs.Index.{Index}
-use Rattle.hot.specs.Kept.{IsHot}
 use Rattle.hot.specs.declared.hot.Hot.{Hot}
-use Rattle.rows.specs.Retained.{Retained, newest, snap_at, commits_between, last_config}
-use Rattle.shown.specs.Marks.{after_marking}
+use Rattle.rows.specs.Retained.{Retained, newest, commits_between, last_config}
 use Rattle.shown.specs.Standing.{Standing, cursor_after}
-use Rattle.shown.specs.inside.Basing.{AreKeptMembers, AreMarked, IsSound}
+use Rattle.shown.specs.inside.Basing.{IsSound}
 use Rattle.shown.proofs.Basing.{moved as index_moved}
 use Rattle.shown.proofs.Following.{moved as members_moved}
-use Rattle.shown.proofs.MarkedNodes.{once_after}
 
 last_within : (base rev : ℕ) (h : History) → base ≤ rev → last_config base rev h ≤ rev + length h
 last_within base rev [] below = omega arith
@@ -45,50 +38,7 @@ sound_taken s now index members commits base to same reaches is sound =
         base_read = subst (λ (n : ℕ). n ≤ to) (sym is) (base_within s.kept s.base s.index to steady.base_read later);
         hot_retained = steady.hot_retained;
         hot_there = steady.hot_there;
-        marked_once = steady.marked_once;
       };
       index_right = index_moved s after index later (λ rev come retained. (retained, refl)) sound.index_right;
-      members_right = members_moved s after members refl refl sound.members_right;
-    }
-
-kept_new : (s : Standing) (new : Option Hot) → IfSome new (λ hot. IsHot hot (snap_at s.kept s.hot)) → IfSome new (λ hot. AreMarked s.marks hot) → AreKeptMembers s new
-kept_new s None hot are = tt
-kept_new s (Some table) hot are = (hot, are)
-
-pub sound_hot : (s : Standing) (index : Option Index) (members new : Option Hot) (to : ℕ) → IsSound s index members → s.hot ≤ to → to ≤ newest s.kept
-    → IfSome new (λ hot. IsHot hot (snap_at s.kept to)) → IfSome new (λ hot. AreMarked s.marks hot)
-    → IsSound (record { kept = s.kept; base = s.base; index = s.index; hot = to; marks = s.marks }) index new
-sound_hot s index members new to sound later there hot are =
-    let steady = sound.steady in
-    let after : Standing = record { kept = s.kept; base = s.base; index = s.index; hot = to; marks = s.marks } in
-    record {
-      steady = record {
-        index_retained = steady.index_retained;
-        index_there = steady.index_there;
-        base_read = steady.base_read;
-        hot_retained = omega (arith, later, steady.hot_retained);
-        hot_there = there;
-        marked_once = steady.marked_once;
-      };
-      index_right = index_moved s after index (omega arith) (λ rev come retained. (retained, refl)) sound.index_right;
-      members_right = kept_new after new hot are;
-    }
-
-pub sound_marked : (s : Standing) (index : Option Index) (members new : Option Hot) (marks : List Node) (marking : Marking) → IsSound s index members → marks ≡ after_marking s.marks marking
-    → IfSome new (λ hot. IsHot hot (snap_at s.kept s.hot)) → IfSome new (λ hot. AreMarked marks hot)
-    → IsSound (record { kept = s.kept; base = s.base; index = s.index; hot = s.hot; marks = marks }) index new
-sound_marked s index members new marks marking sound is hot are =
-    let steady = sound.steady in
-    let after : Standing = record { kept = s.kept; base = s.base; index = s.index; hot = s.hot; marks = marks } in
-    record {
-      steady = record {
-        index_retained = steady.index_retained;
-        index_there = steady.index_there;
-        base_read = steady.base_read;
-        hot_retained = steady.hot_retained;
-        hot_there = steady.hot_there;
-        marked_once = subst (λ (ns : List Node). IsDistinct is_same_node ns) (sym is) (once_after s.marks marking steady.marked_once);
-      };
-      index_right = index_moved s after index (omega arith) (λ rev come retained. (retained, refl)) sound.index_right;
-      members_right = kept_new after new hot are;
+      members_right = members_moved s after members refl sound.members_right;
     }
