@@ -38,7 +38,9 @@ pub(crate) fn remarked(
     ensures { IfSome result (λ hot. IsHot hot view.now) }
 {
     match marking {
-        Marking::Mark(node) => hot.mark(alloc, view, node).ok()?,
+        Marking::Mark(node) => {
+            hot.mark(alloc, view, node).ok()?;
+        }
         Marking::Unmark(node) => hot.unmark(alloc, node).ok()?,
     }
     Some(hot)
@@ -80,8 +82,10 @@ fn take_commit(
         Some(events) => {
             let events = events.events(alloc)?;
             hot.take(alloc, &events, view)?;
-            Ok(())
         }
-        None => hot.restart(alloc, view),
+        None => {
+            hot.restart(alloc, view)?;
+        }
     }
+    Ok(())
 }
