@@ -270,6 +270,7 @@ module _ {T : Type 0} (g : Ghosts T) (old mid : Posts T) (more : ShowsMore old m
           record {
             follows = subst (λ (steps : List Step). CanChange (standing steps).kept change) more.posted may.follows;
             adds = subst (λ (steps : List Step). (rs : List Retained) → g.leaves old.tables rs → g.leaves new.tables (changed (standing steps).kept change ∷ rs)) more.posted adds;
+            holds = λ sound. subst (λ (steps : List Step). g.holds new.tables (standing steps).kept) more.posted (may.holds sound);
           }
 
       touches_on : (made : TableChange → Type 0) (change : TableChange) → made change → Touches g mid (λ c. c ≡ change) new → Touches g old made new

@@ -38,6 +38,7 @@ module _ {T : Type 0} (g : Ghosts T) (old mid new : Posts T) (made : TableChange
       adds_one change asked (record {
         follows = may.follows;
         adds = subst (λ (t : T). (rs : List Retained) → g.leaves old.tables rs → g.leaves t (changed (standing old.posted).kept change ∷ rs)) (sym same.0) may.adds;
+        holds = λ sound. subst (λ (t : T). g.holds t (standing old.posted).kept) (sym same.0) (may.holds (sym same.1 ∙ sound));
       })
 
   pub still_refused : IsRefused g old made judged why mid → ShowsMore mid new → SameTables mid new → IsRefused g old made judged why new

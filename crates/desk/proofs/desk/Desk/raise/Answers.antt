@@ -1,6 +1,7 @@
 use Rattle.std.proofs.Common.{◌≡◌, ap, refl, sym, ◌∙◌, subst}
 use Rattle.shown.specs.Standing.{Standing, CanRaise, after_step, standing}
 use Rattle.desk.specs.TableChanges.{Raises}
+use Rattle.desk.specs.inside.Latching.{AgreeWith}
 use Rattle.desk.proofs.Sound.{sound_same, sound_next}
 use Rattle.desk.proofs.Unposted.{no_room, not_stored}
 use Rattle.desk.proofs.desk.Desk.raise.Goals as goal
@@ -26,6 +27,7 @@ returns-in_err-step-clause-err g c =
     not_stored g.T.Tables c.args.self.now inside.tables inside.own inside.publication c.reserve.new.self c.self.view_is c.requires.open c.self.invariant.stands c.self.invariant.beginning c.self.invariant.judged
     room.0 room.1 room.2 c.from_residual-in_err-step.result c.in_err-step.field-0.0 c.store_floor.new.tables (Raises c.args.floor) (Raises c.args.floor) c.from_residual-in_err-step.ensures.1
     refl (can.above, can.there) c.in_err-step.ensures.err c.store_floor.ensures.lasts
+    (subst (λ (s : Standing). AgreeWith g.T.Tables c.store_floor.new.tables s.kept) c.in_err-step.ensures.undone c.store_floor.ensures.agrees)
 
 pub invariant_of-self-2 : goal.invariant_of-self-2
 invariant_of-self-2 g c =
