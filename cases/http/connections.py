@@ -580,7 +580,11 @@ def what_many_were_told_is_there_after_a_kill(program, folder):
             threads = [threading.Thread(target=writes_of, args=(server, number, zookies)) for number, zookies in enumerate(kept)]
             for it in threads:
                 it.start()
-            time.sleep(0.2 + 0.1 * turn)
+            # (each has been told of a write: how long that takes, the machine decides)
+            until = time.monotonic() + LIMIT
+            while not all(kept) and time.monotonic() < until:
+                time.sleep(0.01)
+            time.sleep(0.1 * turn)
             server.stop()
             for it in threads:
                 it.join(LIMIT)

@@ -21,7 +21,7 @@ use Rattle.names.specs.declared.part.Part.{Part}
 use Rattle.shown.specs.declared.step.Step.TheVariants.{Commit, Take, Trim, Marking as MarkingStep, Rebase}
 use Rattle.shown.specs.Marks.{marking_cause}
 use Rattle.shown.specs.Standing.{standing, base_cause, cursor_of}
-use Rattle.shown.specs.Raising.{floor_cause, RefusesFloor, RefusesMarking, RefusesBase}
+use Rattle.shown.specs.Raising.{floor_cause, RefusesFloor, RefusesMarking}
 use Rattle.tables.specs.Device.{IsOpen, HasFailed, Lasts}
 use Rattle.tables.specs.Storing.{one_more}
 use Rattle.tables.specs.declared.tables.Tables.{Ghosts}
@@ -32,7 +32,7 @@ use Rattle.published.specs.Receipts.{ReceiptFacts}
 use Rattle.desk.specs.Changes.{Tells, TellsShown, IsStored, WriteAccepted, ConfigAccepted, CatchUpAccepted, TrimAccepted, MarkingAccepted, RebuildAccepted, trim_raises, CatchUpJudged, IsCommitOfWrite, IsRaiseTo, IsNoChange, MayLeave, Touches, leaves_alone, adds_one, Refuses, IsRefused, IsUnopposed}
 use Rattle.desk.specs.inside.Posting.{NoCause}
 use Rattle.published.proofs.Prefixes.{prefix_trans}
-use Rattle.desk.proofs.Judged.{write_reopens, write_faults, write_wants, floor_reopens, floor_faults, floor_wants, marking_reopens, marking_faults, marking_wants, base_reopens, base_faults, base_wants}
+use Rattle.desk.proofs.Judged.{write_reopens, write_faults, write_wants, floor_reopens, floor_faults, floor_wants, marking_reopens, marking_faults, marking_wants}
 
 -- a cause is none
 pub unlike : {o : Option Refusal} → o ≡ None → IsUnopposed (λ why. o ≡ Some why)
@@ -143,17 +143,6 @@ module _ {T : Type 0} (g : Ghosts T) (old mid : Posts T) (more : ShowsMore old m
     newest_still : (rev : ℕ) → rev ≡ newest (standing mid.posted).kept → rev ≡ newest (standing old.posted).kept
     newest_still rev is = is ∙ ap (λ (steps : List Step). newest (standing steps).kept) more.posted
 
-    -- a base is refused for its revision
-    pub base_refused : {A : Type 0} (r : Result A Refusal) (rev : ℕ) (why : Refusal) → IsErrAnd r (λ e. e ≡ why) → rev ≡ newest (standing mid.posted).kept → RefusesBase (standing mid.posted) rev why
-        → IfErr r (λ e. IsRefused g old IsNoChange (RefusesBase (standing old.posted) (newest (standing old.posted).kept)) e mid)
-    base_refused r rev why was of_newest is =
-        let stood = standing old.posted in
-        let to = newest stood.kept in
-        let here : RefusesBase stood rev why = subst (λ (steps : List Step). RefusesBase (standing steps) rev why) more.posted is in
-        refused_exit (λ e. IsRefused g old IsNoChange (RefusesBase stood to) e mid) r why was
-        (refused_judged IsNoChange (RefusesBase stood to) why (base_reopens stood to) (base_faults stood to) (base_wants stood to)
-        (subst (λ (n : ℕ). RefusesBase stood n why) (newest_still rev of_newest) here))
-
     -- too many commits at once
     pub too_many : (commits : ℕ) → MAX_CATCH_UP < commits → IsRefused g old IsNoChange (CatchUpJudged commits) Malformed mid
     too_many commits many = refused_early IsNoChange (CatchUpJudged commits) Malformed (works, same.1 ∙ works, same.2, same.0, many)
@@ -166,6 +155,7 @@ module _ {T : Type 0} (g : Ghosts T) (old mid : Posts T) (more : ShowsMore old m
             book = posts.book ∙ more.book;
             later = prefix_trans old.shown mid.shown new.shown more.later posts.later;
             beginning = posts.beginning;
+            judged = posts.judged;
             faults = posts.faults ∙ same.2;
           }
 
@@ -176,6 +166,7 @@ module _ {T : Type 0} (g : Ghosts T) (old mid : Posts T) (more : ShowsMore old m
             book = shows.book ∙ more.book;
             later = prefix_trans old.shown mid.shown new.shown more.later shows.later;
             beginning = shows.beginning;
+            judged = shows.judged;
           }
 
       stored_on : IsStored g mid new → IsStored g old new
@@ -238,7 +229,7 @@ module _ {T : Type 0} (g : Ghosts T) (old mid : Posts T) (more : ShowsMore old m
         marking_accepted value receipt (Err why) posts tables sound told tells = tt
 
       module _ (rev : ℕ) (of_newest : rev ≡ newest (standing mid.posted).kept) (accepted : base_cause (standing mid.posted) rev ≡ Option.None) where
-        pub base_still : base_cause (standing old.posted) (newest (standing old.posted).kept) ≡ Option.None
+        base_still : base_cause (standing old.posted) (newest (standing old.posted).kept) ≡ Option.None
         base_still =
             subst (λ (n : ℕ). base_cause (standing old.posted) n ≡ Option.None) (newest_still rev of_newest)
             (subst (λ (steps : List Step). base_cause (standing steps) rev ≡ Option.None) more.posted accepted)
@@ -279,6 +270,7 @@ module _ {T : Type 0} (g : Ghosts T) (old mid : Posts T) (more : ShowsMore old m
           record {
             follows = subst (λ (steps : List Step). CanChange (standing steps).kept change) more.posted may.follows;
             adds = subst (λ (steps : List Step). (rs : List Retained) → g.leaves old.tables rs → g.leaves new.tables (changed (standing steps).kept change ∷ rs)) more.posted adds;
+            holds = λ sound. subst (λ (steps : List Step). g.holds new.tables (standing steps).kept) more.posted (may.holds sound);
           }
 
       touches_on : (made : TableChange → Type 0) (change : TableChange) → made change → Touches g mid (λ c. c ≡ change) new → Touches g old made new

@@ -9,13 +9,14 @@ use Rattle.shown.specs.declared.step.Step.{Step}
 use Rattle.shown.specs.Standing.{Standing, standing}
 use Rattle.tables.specs.Device.{Lasts}
 use Rattle.tables.specs.declared.tables.Tables.{Ghosts}
+use Rattle.published.specs.Judged.{WereJudged}
 use Rattle.published.specs.Publishing.{Publishing}
 use Rattle.published.proofs.Prefixes.{prefix_self}
 use Rattle.desk.specs.declared.latched_tables.LatchedTables.{LatchedTables}
 use Rattle.desk.specs.TableChanges.{TableChange, changed, CanChange}
 use Rattle.desk.specs.Posts.{Posts, ShowsMore}
 use Rattle.desk.specs.Changes.{Touches, leaves_alone, adds_one, Refuses, IsRefused, IsUnopposed}
-use Rattle.desk.specs.inside.Latching.{IsLatched, IsUnstored}
+use Rattle.desk.specs.inside.Latching.{IsLatched, IsUnstored, AgreeWith}
 use Rattle.desk.specs.inside.Posting.{NoCause}
 use Rattle.desk.proofs.Changed.{refused_exit, lasts_same}
 
@@ -33,7 +34,7 @@ module _ {T : Type 0} (g : Ghosts T) where
   latched_cause was is p q _ works latched = absurd latched
 
   -- room for a step changes nothing that is seen
-  module _ (d : Posts T) (was : LatchedTables T) (own : Standing) (p q : Publishing) (view : seen was p ≡ d) (works : d.failed ≡ false) (stands : own ≡ standing p.posted) (within : IsPrefix p.shown p.posted)
+  module _ (d : Posts T) (was : LatchedTables T) (own : Standing) (p q : Publishing) (view : seen was p ≡ d) (works : d.failed ≡ false) (stands : own ≡ standing p.posted) (within : IsPrefix p.shown p.posted) (judged : WereJudged p.posted p.shown)
       (book : q.book ≡ p.book) (posted : q.posted ≡ p.posted) (shown : q.shown ≡ p.shown) where
     here : was.failed ≡ false
     here = ap (λ (s : Posts T). s.failed) view ∙ works
@@ -44,6 +45,7 @@ module _ {T : Type 0} (g : Ghosts T) where
       book = book;
       later = subst (IsPrefix p.shown) (sym shown) (prefix_self p.shown);
       beginning = subst (IsPrefix q.shown) (sym posted) (subst (λ (xs : List Step). IsPrefix xs p.posted) (sym shown) within);
+      judged = subst (λ (xs : List Step). WereJudged xs q.shown) (sym posted) (subst (WereJudged p.posted) (sym shown) judged);
     }
 
     -- there was no room
@@ -55,18 +57,19 @@ module _ {T : Type 0} (g : Ghosts T) where
 
     touches : (is : LatchedTables T) (change kept : TableChange) → kept ≡ change → CanChange own.kept kept
         → (is.tables ≡ was.tables) ⊎ ((rs : List Retained) → g.leaves was.tables rs → g.leaves is.tables (changed own.kept kept ∷ rs))
-        → Touches g (seen was p) (λ made. made ≡ change) (seen is q)
-    touches is change kept copied can (inl same) = leaves_alone same
-    touches is change kept copied can (inr adds) = adds_one kept copied (record {
+        → AgreeWith g is own.kept → Touches g (seen was p) (λ made. made ≡ change) (seen is q)
+    touches is change kept copied can (inl same) agrees = leaves_alone same
+    touches is change kept copied can (inr adds) agrees = adds_one kept copied (record {
       follows = subst (λ (s : Standing). CanChange s.kept kept) stands can;
       adds = subst (λ (s : Standing). (rs : List Retained) → g.leaves was.tables rs → g.leaves is.tables (changed s.kept kept ∷ rs)) stands adds;
+      holds = λ sound. subst (λ (s : Standing). g.holds is.tables s.kept) stands (agrees.holds sound);
     })
 
     -- it could not be stored
     pub not_stored : {A : Type 0} (r : Result A Refusal) (why : Refusal) (is : LatchedTables T) (change kept : TableChange) → IsErrAnd r (λ e. e ≡ why)
-        → kept ≡ change → CanChange own.kept kept → IsUnstored g own.kept kept was why is → Lasts (g.device was.tables) (g.device is.tables)
+        → kept ≡ change → CanChange own.kept kept → IsUnstored g own.kept kept was why is → Lasts (g.device was.tables) (g.device is.tables) → AgreeWith g is own.kept
         → IfErr r (λ e. IsRefused g d (λ made. made ≡ change) NoCause e (seen is q))
-    not_stored r why is change kept exit copied can unstored lasts =
+    not_stored r why is change kept exit copied can unstored lasts agrees =
         refused_exit (λ e. IsRefused g d (λ made. made ≡ change) NoCause e (seen is q)) r why exit
         (subst (λ (s : Posts T). IsRefused g s (λ made. made ≡ change) NoCause why (seen is q)) view
-        (record { shows = shows is; cause = latched_cause was is p q why here unstored.latched; touches = touches is change kept copied can unstored.touched; lasts = lasts }))
+        (record { shows = shows is; cause = latched_cause was is p q why here unstored.latched; touches = touches is change kept copied can unstored.touched agrees; lasts = lasts }))

@@ -139,6 +139,10 @@ abbrev pub CatchUpJudged : ℕ → Refusal → Type 0
 CatchUpJudged commits Malformed = MAX_CATCH_UP < commits
 CatchUpJudged commits _ = ⊥
 
+-- nothing speaks against a base of the newest revision
+abbrev pub RebuildJudged : Refusal → Type 0
+RebuildJudged why = ⊥
+
 -- the commit is that of the operations
 abbrev pub IsCommitOf : List Op → Commit Configured → Type 0
 IsCommitOf ops commit = (events : List Event) × AreEventsOf ops events × (commit ≡ Tuples events)
@@ -156,12 +160,14 @@ IsRaiseTo s zookie change = (floor_cause s zookie ≡ Option.None) × (change �
 abbrev pub IsNoChange : TableChange → Type 0
 IsNoChange change = ⊥
 
--- What is left may hold one history more than before: that of the posted steps with the change.
+-- What is left may hold one history more than before: that of the posted steps with the change. As long as the tables have
+-- not failed, they hold that of the posted steps.
 pub record MayLeave {T : Type 0}
     (g : Ghosts T) (old : Posts T) (change : TableChange) (new : Posts T) : Type 0 where
   pub follows : CanChange (standing old.posted).kept change
   pub adds : (rs : List Retained) → g.leaves old.tables rs
       → g.leaves new.tables (changed (standing old.posted).kept change ∷ rs)
+  pub holds : new.failed ≡ false → g.holds new.tables (standing old.posted).kept
 
 -- What is refused leaves the tables alone, or adds the one change that was asked for to what they may leave.
 pub data Touches {T : Type 0}

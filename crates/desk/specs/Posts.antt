@@ -13,6 +13,7 @@ use Rattle.shown.specs.declared.step.Step.{Step}
 use Rattle.shown.specs.declared.step.Step.TheVariants.{Open}
 use Rattle.shown.specs.Standing.{standing}
 use Rattle.published.specs.Known.{Known}
+use Rattle.published.specs.Judged.{WereJudged}
 use Rattle.desk.specs.TableChanges.{TableChange, changed, CanChange}
 
 -- The tables, the book, the posted steps, and those of them that are shown; whether the tables failed, and
@@ -73,18 +74,20 @@ abbrev pub SameTables : {T : Type 0} → Posts T → Posts T → Type 0
 SameTables old new =
     (new.tables ≡ old.tables) × (new.failed ≡ old.failed) × (new.faults ≡ old.faults)
 
--- Nothing is posted, and no fewer steps are shown, as a beginning of the posted ones.
+-- Nothing is posted, and no fewer steps are shown, as a beginning of the posted ones. All of them were judged.
 pub record ShowsMore {T : Type 0} (old new : Posts T) : Type 0 where
   pub posted : new.posted ≡ old.posted
   pub book : new.book ≡ old.book
   pub later : IsPrefix old.shown new.shown
   pub beginning : IsPrefix new.shown new.posted
+  pub judged : WereJudged new.posted new.shown
 
 -- The step is posted behind the others, no fewer steps are shown, as a beginning of the posted ones, and the
--- tables did not fail.
+-- tables did not fail. All of the steps were judged.
 pub record PostsStep {T : Type 0} (old : Posts T) (step : Step) (new : Posts T) : Type 0 where
   pub posted : new.posted ≡ old.posted ++ step ∷ []
   pub book : new.book ≡ old.book
   pub later : IsPrefix old.shown new.shown
   pub beginning : IsPrefix new.shown new.posted
+  pub judged : WereJudged new.posted new.shown
   pub faults : new.faults ≡ old.faults

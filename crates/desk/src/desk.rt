@@ -12,7 +12,7 @@ ghost use Rattle.verdict.specs.Verdict.{AcceptsWrite, RefusesWrite};
 ghost use Rattle.shown.specs.declared.step.Step.TheVariants.{Commit as CommitStep, Marking as MarkingStep, Rebase, Take, Trim};
 ghost use Rattle.shown.specs.Standing.{standing, state_of, base_cause, cursor_of, CanRaise, HasRoom};
 ghost use Rattle.shown.specs.Marks.{marking_cause};
-ghost use Rattle.shown.specs.Raising.{floor_cause, RefusesFloor, RefusesMarking, RefusesBase};
+ghost use Rattle.shown.specs.Raising.{floor_cause, RefusesFloor, RefusesMarking};
 ghost use Rattle.expand.specs.declared.limits.TheConstants.{MAX_DEPTH};
 ghost use Rattle.shown.specs.Answers.{IsAnswer, IsRefusal};
 ghost use Rattle.shown.specs.Expanding.{IsTree, IsTreeRefusal};
@@ -24,10 +24,11 @@ ghost use Rattle.tables.specs.Device.{IsOpen};
 ghost use Rattle.tables.specs.Opening.{CannotOpen};
 ghost use Rattle.tables.specs.Storing.{PutsAbsent};
 ghost use Rattle.published.specs.declared.publication.TheConstants.{MAX_SESSIONS};
+ghost use Rattle.published.specs.Judged.{AreJudged, WereJudged};
 ghost use Rattle.published.specs.Known.{Begins};
 ghost use Rattle.desk.specs.TableChanges.{Adds, Raises};
 ghost use Rattle.desk.specs.Posts.{Agrees, OpensWith, ComesBack, FailsToLoad, SameTables, ShowsMore, PostsStep, newest_posted, shown_by};
-ghost use Rattle.desk.specs.Changes.{Tells, TellsShown, IsStored, WriteAccepted, ConfigAccepted, CatchUpAccepted, TrimAccepted, MarkingAccepted, RebuildAccepted, IsRefused, IsCommitOfWrite, IsRaiseTo, IsNoChange, CatchUpJudged, receipt_at};
+ghost use Rattle.desk.specs.Changes.{Tells, TellsShown, IsStored, WriteAccepted, ConfigAccepted, CatchUpAccepted, TrimAccepted, MarkingAccepted, RebuildAccepted, IsRefused, IsCommitOfWrite, IsRaiseTo, IsNoChange, CatchUpJudged, RebuildJudged, receipt_at};
 ghost use Rattle.desk.specs.inside.Posting.{NoCause, LeavesHistory};
 
 use crate::latched_tables::{LatchedTables, load};
@@ -97,6 +98,7 @@ impl<T: Tables + Drop, R: Wait + Drop> Desk<T, R> {
     pub fn open(alloc: Global, rt: R, opened: Opened, tables: T) -> Result<Desk<T, R>, (Refusal, T)>
         ensures posted { IfOk result (OpensWith T.Tables tables) }
         ensures shown { IfOk result (λ desk. desk.shown ≡ desk.posted) }
+        ensures judged { IfOk result (λ desk. WereJudged desk.posted desk.shown) }
         ensures book { IfOk result (λ desk. desk.book ≡ opened.book) }
         ensures seats { IfOk result (λ desk. desk.seats ≡ MAX_SESSIONS) }
         ensures failed { IfOk result (λ desk. desk.failed ≡ false) }
@@ -216,18 +218,17 @@ impl<T: Tables + Drop, R: Wait + Drop> Desk<T, R> {
         self.remark(marking)
     }
 
-    /// Makes the base of the group index of the newest posted revision. The tables are not changed.
+    /// Makes the base of the group index of the newest posted revision. It is never refused for that revision, which is not
+    /// below the floor or the base before. The tables are not changed.
     pub fn rebuild(&mut self) -> Result<Posted, Refusal>
         ensures ok { IfOk result (λ posted.
             RebuildAccepted self.old posted.value posted.receipt self.new) }
         ensures err { IfErr result (λ why.
-            IsRefused T.Tables self.old IsNoChange
-            (RefusesBase (standing self.old.posted) (newest (standing self.old.posted).kept)) why self.new) }
+            IsRefused T.Tables self.old IsNoChange RebuildJudged why self.new) }
         ensures seats { self.new.seats ≡ self.old.seats }
     {
         self.make_ready()?;
         let rev = self.last_posted();
-        self.judge_base(rev)?;
         self.rebase(rev)
     }
 
@@ -237,6 +238,7 @@ impl<T: Tables + Drop, R: Wait + Drop> Desk<T, R> {
         ensures more { ShowsMore self.old self.new }
         ensures same { SameTables self.old self.new }
         ensures known { IfOk result (λ session. Begins (shown_by self.new) session) }
+        ensures judged { IfOk result (λ session. AreJudged session.steps) }
         ensures seats { IfOk result (λ _. self.new.seats + 1 ≡ self.old.seats) }
         ensures none { (result ≡ Err NoSeat) ↔ (self.old.seats ≡ 0) }
         ensures err { IfErr result (λ why. (why ≡ NoSeat) × (self.new.seats ≡ self.old.seats)) }
@@ -254,6 +256,7 @@ impl<T: Tables + Drop, R: Wait + Drop> Desk<T, R> {
         ensures tells { TellsShown result self.new }
         ensures kept { Begins session.old session.new }
         ensures known { Begins (shown_by self.new) session.new }
+        ensures judged { AreJudged session.new.steps }
         ensures least { (session.new ≡ session.old) ⊎ (session.new ≡ shown_by self.new) }
     {
         let shown = self.publish();
@@ -283,6 +286,7 @@ impl<T: Tables + Drop, R: Wait + Drop> Desk<T, R> {
             (IsAnswer (standing self.now.shown) consistency.now node.now user.now) }
         ensures err { IfErr result (IsRefusal (standing self.now.shown) consistency.now node.now) }
         ensures beginning { IsPrefix self.now.shown self.now.posted }
+        ensures judged { WereJudged self.now.posted self.now.shown }
     {
         self.publication.shown().check(consistency, node, user)
     }
@@ -301,6 +305,7 @@ impl<T: Tables + Drop, R: Wait + Drop> Desk<T, R> {
         ensures err { IfErr result
             (IsTreeRefusal (standing self.now.shown) consistency.now node.now depth) }
         ensures beginning { IsPrefix self.now.shown self.now.posted }
+        ensures judged { WereJudged self.now.posted self.now.shown }
     {
         self.publication.shown().expand(consistency, node, depth)
     }
@@ -314,6 +319,7 @@ impl<T: Tables + Drop, R: Wait + Drop> Desk<T, R> {
         ensures ok { IfOk result (IsPage (standing self.now.shown) consistency.now asked.now) }
         ensures err { IfErr result (IsPageRefusal (standing self.now.shown) consistency.now) }
         ensures beginning { IsPrefix self.now.shown self.now.posted }
+        ensures judged { WereJudged self.now.posted self.now.shown }
     {
         self.publication.shown().read(consistency, asked)
     }
@@ -330,6 +336,7 @@ impl<T: Tables + Drop, R: Wait + Drop> Desk<T, R> {
         ensures err { IfErr result
             (IsGroupsRefusal (standing self.now.shown) consistency.now (query_of expr.now) limit) }
         ensures beginning { IsPrefix self.now.shown self.now.posted }
+        ensures judged { WereJudged self.now.posted self.now.shown }
     {
         self.publication.shown().groups(consistency, expr, limit)
     }
@@ -346,6 +353,7 @@ impl<T: Tables + Drop, R: Wait + Drop> Desk<T, R> {
             (IsWatched (standing self.now.shown) cursor.now namespaces.now commits) }
         ensures err { IfErr result (WatchRefused (standing self.now.shown) cursor.now) }
         ensures beginning { IsPrefix self.now.shown self.now.posted }
+        ensures judged { WereJudged self.now.posted self.now.shown }
     {
         self.publication.shown().watch(cursor, namespaces, commits)
     }
@@ -370,6 +378,14 @@ impl<T: Tables + Drop, R: Wait + Drop> Desk<T, R> {
         ensures { result ≡ newest (standing self.now.shown).kept }
     {
         self.publication.newest()
+    }
+
+    /// All that is posted was judged on what was posted before it, whether the desk has been asked or changed yet or not.
+    pub fn judged_its_steps(&self)
+        ensures { WereJudged self.now.posted self.now.shown }
+    {
+        // A proof knows the invariant where a field is used.
+        let _ = &self.publication;
     }
 
     /// Whether the tables failed. After that every change is refused.
@@ -431,14 +447,6 @@ impl<T: Tables + Drop, R: Wait + Drop> Desk<T, R> {
         ensures err { IfErr result (RefusesMarking (standing self.now.posted) marking.now) }
     {
         self.own.judge_marking(marking)
-    }
-
-    // Why the base of the index cannot be made of a revision, if it cannot.
-    fn judge_base(&self, rev: u64) -> Result<(), Refusal>
-        ensures ok { OnOk result (base_cause (standing self.now.posted) rev ≡ None) }
-        ensures err { IfErr result (RefusesBase (standing self.now.posted) rev) }
-    {
-        self.own.judge_base(rev)
     }
 
     // Stores a commit, posts it, and shows it. All who keep it share it. Room is taken for its step first.
@@ -569,9 +577,10 @@ impl<T: Tables + Drop, R: Wait + Drop> Desk<T, R> {
         self.own.state().floor
     }
 
-    // The newest posted revision.
+    // The newest posted revision, of which the base of the index can always be made.
     fn last_posted(&self) -> u64
-        ensures { result ≡ newest (standing self.now.posted).kept }
+        ensures newest { result ≡ newest (standing self.now.posted).kept }
+        ensures fits { base_cause (standing self.now.posted) result ≡ None }
     {
         self.own.newest()
     }

@@ -1,6 +1,7 @@
 //! What is published first.
 ghost use Rattle.std.specs.Prelude.{◌≡◌, ◌∷◌, [], IfOk};
 ghost use Rattle.published.specs.declared.publication.TheConstants.{MAX_SESSIONS};
+ghost use Rattle.published.specs.Judged.{WereJudged};
 ghost use Rattle.shown.specs.Standing.{nothing, standing, HasRoom};
 
 use published::{Opened, Publication};
@@ -20,6 +21,7 @@ pub(crate) fn publish_first<R: Wait + Drop>(
     ensures book { IfOk result (λ begun. begun.1.book ≡ opened.book) }
     ensures posted { IfOk result (λ begun. begun.1.posted ≡ first ∷ []) }
     ensures shown { IfOk result (λ begun. begun.1.shown ≡ first ∷ []) }
+    ensures judged { IfOk result (λ begun. WereJudged begun.1.posted begun.1.shown) }
     ensures seats { IfOk result (λ begun. begun.1.seats ≡ MAX_SESSIONS) }
 {
     let mut own = Shown::without_parts(alloc);

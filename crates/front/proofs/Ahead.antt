@@ -4,13 +4,13 @@ use Rattle.std.proofs.lemmas.Bool.{iff_false}
 use Rattle.std.specs.Prelude.{◌↔◌, Result, Ok, Err, IfErr, ⊤}
 use Rattle.names.specs.declared.refusal.Refusal.{Refusal}
 use Rattle.names.specs.declared.refusal.Refusal.TheVariants.{Future}
-use Rattle.published.specs.Known.{Known, Begins}
+use Rattle.published.specs.Known.{Known}
 use Rattle.published.specs.Receipts.{ReceiptFacts}
 use Rattle.published.proofs.Rules.{begins_trans}
 use Rattle.logbook.specs.Pages.{Book}
 use Rattle.shown.specs.declared.answer.Refused.{Refused}
 use Rattle.desk.specs.Posts.{shown_by}
-use Rattle.front.specs.Kept.{KnowsADesk}
+use Rattle.front.specs.Kept.{KnowsMore, KnowsADesk}
 use Rattle.front.specs.Fronts.{ToldByDesk}
 
 module _ {A : Type 0} where
@@ -33,5 +33,5 @@ module _ {A : Type 0} where
   page_maybe_ahead (Err why) = λ _. tt
 
 -- a session that was refreshed knows what a desk shows, also when it has answered since
-pub still_knows : {T : Type 0} {book : Book} {receipt : ReceiptFacts} (mid new : Known) → ToldByDesk T book receipt mid → Begins mid new → KnowsADesk T new
-still_knows mid new told later = (told.desk, begins_trans (shown_by told.desk) mid new told.known later)
+pub still_knows : {T : Type 0} {book : Book} {receipt : ReceiptFacts} (mid new : Known) → ToldByDesk T book receipt mid → KnowsMore mid new → KnowsADesk T book new
+still_knows mid new told later = (told.desk, told.kept, begins_trans (shown_by told.desk) mid new told.known later.0)

@@ -1,15 +1,43 @@
--- What a front's changes are.
-use Rattle.std.proofs.Common.{◌≡◌, ℕ, List, sym, subst}
+-- What each call does to what a front's session knows.
+use Rattle.std.proofs.Common.{◌≡◌, ℕ, List, inl, inr}
 use Rattle.std.specs.Prelude.{Option}
+use Rattle.logbook.specs.Pages.{Book}
 use Rattle.names.specs.declared.call.Call.{Call}
+use Rattle.names.specs.declared.call.Call.TheVariants.{Write, Config, Check, Read, Expand, Leopard, Watch, Trim, CatchUp, Hot, Rebuild, State}
 use Rattle.tables.specs.declared.tables.Tables.{Ghosts}
-use Rattle.published.specs.Known.{Known, Begins}
-use Rattle.published.proofs.Rules.{begins_self}
-use Rattle.front.specs.Fronts.{ChangeFrom, off_the_desk, on_a_desk, FrontStep}
+use Rattle.published.specs.Known.{Known}
+use Rattle.front.specs.Kept.{IsKnownIn}
+use Rattle.front.specs.Fronts.{ChangeFrom, off_the_desk, on_a_desk, MayTell, FrontStep}
+use Rattle.front.proofs.Kept.{Keeps}
+use Rattle.front.proofs.NeverBack.{never_back}
+use Rattle.front.proofs.Told.{from_later, state_later}
+use Rattle.front.proofs.Grown.{tree_later}
+use Rattle.front.proofs.Listed.{tuples_later}
+use Rattle.front.proofs.Grouped.{groups_later}
+use Rattle.front.proofs.Paged.{page_later}
 
-pub change_later : {T : Type 0} (g : Ghosts T) (old : Known) (call : Call) (body : List ℕ) (told : Option (ℕ × List ℕ)) (new : Known) → ChangeFrom g old call body told new → Begins old new
-change_later g old call body told new (off_the_desk stays same) = subst (Begins old) (sym same) (begins_self old)
-change_later g old call body told new (on_a_desk before after step later known) = later
+module _ {T : Type 0} (g : Ghosts T) (b : Book) where
+  change_later : (old : Known) (call : Call) (body : List ℕ) (told : Option (ℕ × List ℕ)) (new : Known) → ChangeFrom g b old call body told new → Keeps old new
+  change_later old call body told new (off_the_desk stays same) = inl same
+  change_later old call body told new (on_a_desk before after kept step later known) = inr later
 
-pub step_of : {T : Type 0} (g : Ghosts T) (old : Known) (call named : Call) (body : List ℕ) (told : Option (ℕ × List ℕ)) (new : Known) → call ≡ named → FrontStep g old named body told new → FrontStep g old call body told new
-step_of g old call named body told new is step = rw is step
+  tells_later : (old : Known) (call : Call) (body : List ℕ) (told : Option (ℕ × List ℕ)) (new : Known) → MayTell g b old call body told new → Keeps old new
+  tells_later old Check body told new tells = from_later old body told new tells
+  tells_later old Read body told new tells = tuples_later old body told new tells
+  tells_later old Expand body told new tells = tree_later old body told new tells
+  tells_later old Leopard body told new tells = groups_later old body told new tells
+  tells_later old Watch body told new tells = page_later old body told new tells
+  tells_later old State body told new tells = state_later old told new tells
+  tells_later old Write body told new tells = change_later old Write body told new tells
+  tells_later old Config body told new tells = change_later old Config body told new tells
+  tells_later old Trim body told new tells = change_later old Trim body told new tells
+  tells_later old CatchUp body told new tells = change_later old CatchUp body told new tells
+  tells_later old Hot body told new tells = change_later old Hot body told new tells
+  tells_later old Rebuild body told new tells = change_later old Rebuild body told new tells
+
+  pub tells_so : (old : Known) (call named : Call) (body : List ℕ) (told : Option (ℕ × List ℕ)) (new : Known) → call ≡ named → MayTell g b old named body told new → MayTell g b old call body told new
+  tells_so old call named body told new is tells = rw is tells
+
+  -- what it tells so goes back on nothing
+  pub step_of : (old : Known) (call : Call) (body : List ℕ) (told : Option (ℕ × List ℕ)) (new : Known) → IsKnownIn b old → MayTell g b old call body told new → FrontStep g b old call body told new
+  step_of old call body told new known tells = record { tells = tells; never_back = never_back b old new known (tells_later old call body told new tells) }

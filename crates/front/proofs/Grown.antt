@@ -1,9 +1,8 @@
 -- What a session's answers to questions for trees tell.
-use Rattle.std.proofs.Common.{◌≡◌, ℕ, List, refl, sym, subst}
+use Rattle.std.proofs.Common.{◌≡◌, ℕ, List, subst, inl, inr}
 use Rattle.std.specs.Prelude.{Option, option_map, Result, Ok, Err, IfOk, IfErr, ⊤}
 use Rattle.names.specs.declared.node.Node.{Node}
-use Rattle.names.specs.declared.refusal.Refusal.{Refusal}
-use Rattle.names.specs.declared.refusal.Refusal.TheVariants.{Malformed, BadZookie, Future, Memory}
+use Rattle.names.specs.declared.refusal.Refusal.TheVariants.{Future}
 use Rattle.zookie.specs.Text.{zookie_text}
 use Rattle.zookie.specs.declared.consistency.Consistency.{Consistency}
 use Rattle.expand.specs.declared.tree.Tree.{Tree}
@@ -13,21 +12,15 @@ use Rattle.shown.specs.declared.answer.Refused.{Refused}
 use Rattle.shown.specs.declared.step.Step.{Step}
 use Rattle.shown.specs.Standing.{standing}
 use Rattle.shown.specs.Expanding.{IsTree, IsTreeRefusal}
-use Rattle.published.specs.Known.{Known, Begins}
-use Rattle.published.proofs.Rules.{begins_self, begins_trans}
-use Rattle.bodies.specs.Expanding.{AsksExpand, ExpandBodyCause}
-use Rattle.bodies.specs.Replies.{Says, SaysRefusal, SaysRefusalAt}
+use Rattle.published.specs.Known.{Known}
+use Rattle.bodies.specs.Expanding.{AsksExpand}
+use Rattle.bodies.specs.Replies.{Says, SaysRefusalAt}
 use Rattle.bodies.specs.Trees.{expanded_data}
+use Rattle.front.specs.Kept.{KnowsMore}
 use Rattle.front.specs.declared.trees.AskedTree.{AskedTree}
 use Rattle.front.specs.declared.trees.AskedTree.TheVariants.{Told, NotYet}
 use Rattle.front.specs.Trees.{TreeTold, told_tree, told_no_tree, told_no_more, ExpandFrom, tree_malformed, tree_bad_zookie, tree_asked, tree_unread, IsTreeAsked}
-
--- the body asks for no tree
-pub tree_unasked : {sought : Type 0} (old : Known) (body : List ℕ) (why : Refusal) (told : Option (ℕ × List ℕ)) → ExpandBodyCause body why → SaysRefusal told why → ExpandFrom sought old body told old
-tree_unasked old body Malformed told cause says = tree_malformed cause says refl
-tree_unasked old body BadZookie told cause says = tree_bad_zookie cause says refl
-tree_unasked old body Memory told cause says = tree_unread says refl
-tree_unasked old body _ told cause says = absurd cause
+use Rattle.front.proofs.Kept.{Keeps, knows_more_trans}
 
 -- the question was asked, of a store with this number
 pub expanded_told : {sought : Type 0} (steps : List Step) (consistency : Consistency) (node : Node) (depth number : ℕ) (found : Result (Answer Tree) Refused) (told : Option (ℕ × List ℕ))
@@ -42,16 +35,16 @@ expanded_told steps consistency node depth number (Ok tree) told is ok err says 
 expanded_told steps consistency node depth number (Err refused) told is ok err says denies ahead =
     told_no_tree refused.why refused.at err ahead (subst (λ (n : ℕ). SaysRefusalAt told refused.why (option_map (zookie_text n) refused.at)) is denies)
 
--- the steps that are known only go on
-pub tree_later : {sought : Type 0} (old : Known) (body : List ℕ) (told : Option (ℕ × List ℕ)) (new : Known) → ExpandFrom sought old body told new → Begins old new
-tree_later old body told new (tree_malformed none says same) = subst (Begins old) (sym same) (begins_self old)
-tree_later old body told new (tree_bad_zookie none says same) = subst (Begins old) (sym same) (begins_self old)
-tree_later old body told new (tree_asked consistency node depth asks is later) = later
-tree_later old body told new (tree_unread none same) = subst (Begins old) (sym same) (begins_self old)
+-- what is known only goes on
+pub tree_later : {sought : Type 0} (old : Known) (body : List ℕ) (told : Option (ℕ × List ℕ)) (new : Known) → ExpandFrom sought old body told new → Keeps old new
+tree_later old body told new (tree_malformed none says same) = inl same
+tree_later old body told new (tree_bad_zookie none says same) = inl same
+tree_later old body told new (tree_asked consistency node depth asks is later) = inr later
+tree_later old body told new (tree_unread none same) = inl same
 
-pub tree_asked_later : (old : Known) (body : List ℕ) (asked : AskedTree) (new : Known) → IsTreeAsked old body asked new → Begins old new
+pub tree_asked_later : (old : Known) (body : List ℕ) (asked : AskedTree) (new : Known) → IsTreeAsked old body asked new → Keeps old new
 tree_asked_later old body (Told reply) new is = tree_later old body _ new is
-tree_asked_later old body (NotYet question) new is = is.1
+tree_asked_later old body (NotYet question) new is = inr is.1
 
 -- what is told stays so where more was sought
 told_when : {A B : Type 0} (steps : List Step) (consistency : Consistency) (node : Node) (depth : ℕ) (told : Option (ℕ × List ℕ)) → (A → B) → TreeTold steps A consistency node depth told → TreeTold steps B consistency node depth told
@@ -67,6 +60,6 @@ tree_alone old body told new (tree_unread none same) = tree_unread none same
 
 -- the question was asked once more
 pub tree_asked_again : {sought : Type 0} (old mid more : Known) (body : List ℕ) (told : Option (ℕ × List ℕ)) (new : Known) (consistency : Consistency) (node : Node) (depth : ℕ)
-    → AsksExpand body consistency node depth → Begins old mid → Begins mid more → Begins more new → TreeTold new.steps ⊤ consistency node depth told → sought → ExpandFrom sought old body told new
+    → AsksExpand body consistency node depth → KnowsMore old mid → KnowsMore mid more → KnowsMore more new → TreeTold new.steps ⊤ consistency node depth told → sought → ExpandFrom sought old body told new
 tree_asked_again old mid more body told new consistency node depth asks first second third is sought =
-    tree_asked consistency node depth asks (told_when {A = ⊤} new.steps consistency node depth told (λ _. sought) is) (begins_trans old mid new first (begins_trans mid more new second third))
+    tree_asked consistency node depth asks (told_when {A = ⊤} new.steps consistency node depth told (λ _. sought) is) (knows_more_trans old mid new first (knows_more_trans mid more new second third))

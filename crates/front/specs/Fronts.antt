@@ -9,21 +9,21 @@ use Rattle.published.specs.Receipts.{ReceiptFacts}
 use Rattle.desk.specs.Posts.{Posts, shown_by}
 use Rattle.desk.specs.Changes.{TellsShown}
 use Rattle.keeper.specs.Rules.{DeskStep}
-use Rattle.front.specs.Kept.{IsKept, KnowsADesk}
+use Rattle.front.specs.Kept.{IsKept, KnowsADesk, KnowsMore, NeverGoesBack}
 use Rattle.front.specs.Questions.{CheckFrom, StateFrom}
 use Rattle.front.specs.Tuples.{ReadFrom}
 use Rattle.front.specs.Trees.{ExpandFrom}
 use Rattle.front.specs.Groups.{GroupsFrom}
 use Rattle.front.specs.Pages.{WatchFrom}
 
--- A change: whatever a desk holds, it would tell this and stay as it is, and no desk was asked; or a desk was, which its
--- rules let tell this, and the session then knows no less than it did, and all that the desk shows after it.
-pub data ChangeFrom {T : Type 0} (g : Ghosts T)
+-- A change: whatever a desk holds, it would tell this and stay as it is, and no desk was asked; or a desk of the book was,
+-- which its rules let tell this, and the session then knows no less than it did, and all that the desk shows after it.
+pub data ChangeFrom {T : Type 0} (g : Ghosts T) (book : Book)
     (old : Known) (call : Call) (body : List ℕ) (told : Option (ℕ × List ℕ)) (new : Known) : Type 0 where
   off_the_desk : ((desk : Posts T) → DeskStep g desk call body told desk) → new ≡ old
-      → ChangeFrom g old call body told new
-  on_a_desk : (before after : Posts T) → DeskStep g before call body told after
-      → Begins old new → Begins (shown_by after) new → ChangeFrom g old call body told new
+      → ChangeFrom g book old call body told new
+  on_a_desk : (before after : Posts T) → IsKept book before → DeskStep g before call body told after
+      → KnowsMore old new → Begins (shown_by after) new → ChangeFrom g book old call body told new
 
 -- A desk of the book told this of itself: its store's number, its newest shown revision, and whether all that is posted is
 -- shown. The session then knows all that the desk shows.
@@ -34,13 +34,19 @@ pub record ToldByDesk (T : Type 0) (book : Book) (receipt : ReceiptFacts) (new :
   pub known : Begins (shown_by desk) new
 
 -- From what its session knows, the front may tell this to the call with this body, and then its session knows this. It tells
--- that a question is of the future only where the session then knows all that a desk shows.
-abbrev pub FrontStep : {T : Type 0}
-    → Ghosts T → Known → Call → List ℕ → Option (ℕ × List ℕ) → Known → Type 0
-FrontStep {T} g old Check body told new = CheckFrom (KnowsADesk T new) old body told new
-FrontStep {T} g old Read body told new = ReadFrom (KnowsADesk T new) old body told new
-FrontStep {T} g old Expand body told new = ExpandFrom (KnowsADesk T new) old body told new
-FrontStep {T} g old Leopard body told new = GroupsFrom (KnowsADesk T new) old body told new
-FrontStep {T} g old Watch body told new = WatchFrom (KnowsADesk T new) old body told new
-FrontStep g old State body told new = StateFrom old told new
-FrontStep g old call body told new = ChangeFrom g old call body told new
+-- that a question is of the future only where the session then knows all that a desk of the book shows.
+abbrev pub MayTell : {T : Type 0}
+    → Ghosts T → Book → Known → Call → List ℕ → Option (ℕ × List ℕ) → Known → Type 0
+MayTell {T} g book old Check body told new = CheckFrom (KnowsADesk T book new) old body told new
+MayTell {T} g book old Read body told new = ReadFrom (KnowsADesk T book new) old body told new
+MayTell {T} g book old Expand body told new = ExpandFrom (KnowsADesk T book new) old body told new
+MayTell {T} g book old Leopard body told new = GroupsFrom (KnowsADesk T book new) old body told new
+MayTell {T} g book old Watch body told new = WatchFrom (KnowsADesk T book new) old body told new
+MayTell g book old State body told new = StateFrom old told new
+MayTell g book old call body told new = ChangeFrom g book old call body told new
+
+-- It may tell so, and no later answer goes back on what its session knew.
+pub record FrontStep {T : Type 0} (g : Ghosts T) (book : Book)
+    (old : Known) (call : Call) (body : List ℕ) (told : Option (ℕ × List ℕ)) (new : Known) : Type 0 where
+  pub tells : MayTell g book old call body told new
+  pub never_back : NeverGoesBack old new

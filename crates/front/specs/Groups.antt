@@ -10,9 +10,10 @@ use Rattle.leopard.specs.Query.{Query}
 use Rattle.shown.specs.declared.step.Step.{Step}
 use Rattle.shown.specs.Standing.{standing}
 use Rattle.shown.specs.Grouping.{IsGrouped, GroupsRefused}
-use Rattle.published.specs.Known.{Known, Begins}
+use Rattle.published.specs.Known.{Known}
 use Rattle.bodies.specs.Grouping.{AsksGroups, IsGroupsForm, HasBadGroupsZookie, groups_data}
 use Rattle.bodies.specs.Replies.{Says, SaysRefusal, SaysRefusalAt}
+use Rattle.front.specs.Kept.{KnowsMore}
 use Rattle.front.specs.declared.groups.AskedGroups.{AskedGroups}
 use Rattle.front.specs.declared.groups.AskedGroups.TheVariants.{Told, NotYet}
 use Rattle.front.specs.Questions.{zookie_in, IsAhead}
@@ -32,7 +33,7 @@ pub data GroupsTold (steps : List Step) (sought : Type 0) (consistency : Consist
   told_none : SaysRefusal told Reopen → GroupsTold steps sought consistency asked limit told
 
 -- `leopard`: the body asks for no groups; its zookie is none; the question is told of by the steps that the session
--- then knows, which begin with all that it knew; or there was no memory to read the body
+-- then knows, which were judged and begin with all that it knew; or there was no memory to read the body
 pub data GroupsFrom (sought : Type 0) (old : Known) (body : List ℕ) (told : Option (ℕ × List ℕ)) (new : Known) : Type 0 where
   groups_malformed :
       ¬ (IsGroupsForm body) → SaysRefusal told Malformed → new ≡ old → GroupsFrom sought old body told new
@@ -40,7 +41,7 @@ pub data GroupsFrom (sought : Type 0) (old : Known) (body : List ℕ) (told : Op
       HasBadGroupsZookie body → SaysRefusal told BadZookie → new ≡ old → GroupsFrom sought old body told new
   groups_asked : (consistency : Consistency) (asked : Query) (limit : ℕ)
       → AsksGroups body consistency asked limit → GroupsTold new.steps sought consistency asked limit told
-      → Begins old new → GroupsFrom sought old body told new
+      → KnowsMore old new → GroupsFrom sought old body told new
   groups_unread : told ≡ None → new ≡ old → GroupsFrom sought old body told new
 
 -- the reply, which is not that the question is of the future; or the question that the body asks, whose revision the session
@@ -48,5 +49,5 @@ pub data GroupsFrom (sought : Type 0) (old : Known) (body : List ℕ) (told : Op
 abbrev pub AreGroupsAsked : Known → List ℕ → AskedGroups → Known → Type 0
 AreGroupsAsked old body (Told reply) new = GroupsFrom ⊥ old body (told_by reply) new
 AreGroupsAsked old body (NotYet question) new =
-    AsksGroups body question.consistency (query_of question.expr) question.limit × Begins old new
+    AsksGroups body question.consistency (query_of question.expr) question.limit × KnowsMore old new
     × IsAhead new.steps question.consistency

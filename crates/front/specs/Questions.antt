@@ -12,9 +12,10 @@ use Rattle.zookie.specs.declared.consistency.Consistency.{Consistency}
 use Rattle.shown.specs.declared.step.Step.{Step}
 use Rattle.shown.specs.Standing.{standing, state_of}
 use Rattle.shown.specs.Answers.{IsChecked, CheckRefused}
-use Rattle.published.specs.Known.{Known, Begins}
+use Rattle.published.specs.Known.{Known}
 use Rattle.bodies.specs.Requests.{AsksCheck, IsCheckForm, HasBadZookie}
 use Rattle.bodies.specs.Replies.{Says, SaysRefusal, SaysRefusalAt, answer_data, state_data}
+use Rattle.front.specs.Kept.{KnowsMore}
 use Rattle.front.specs.declared.questions.Asked.{Asked}
 use Rattle.front.specs.declared.questions.Asked.TheVariants.{Told, NotYet}
 
@@ -43,7 +44,7 @@ pub data CheckTold (steps : List Step) (sought : Type 0) (consistency : Consiste
   told_shut : SaysRefusal told Reopen → CheckTold steps sought consistency node user told
 
 -- `check`: the body asks no question; its zookie is none; the question is told of by the steps that the session
--- then knows, which begin with all that it knew; or there was no memory to read the body
+-- then knows, which were judged and begin with all that it knew; or there was no memory to read the body
 pub data CheckFrom (sought : Type 0) (old : Known) (body : List ℕ) (told : Option (ℕ × List ℕ)) (new : Known) : Type 0 where
   from_malformed :
       ¬ (IsCheckForm body) → SaysRefusal told Malformed → new ≡ old → CheckFrom sought old body told new
@@ -51,7 +52,7 @@ pub data CheckFrom (sought : Type 0) (old : Known) (body : List ℕ) (told : Opt
       HasBadZookie body → SaysRefusal told BadZookie → new ≡ old → CheckFrom sought old body told new
   from_asked : (consistency : Consistency) (node : Node) (user : Object)
       → AsksCheck body consistency node user → CheckTold new.steps sought consistency node user told
-      → Begins old new → CheckFrom sought old body told new
+      → KnowsMore old new → CheckFrom sought old body told new
   from_unread : told ≡ None → new ≡ old → CheckFrom sought old body told new
 
 -- the reply, which is not that the question is of the future; or the question that the body asks, whose revision the session
@@ -59,12 +60,12 @@ pub data CheckFrom (sought : Type 0) (old : Known) (body : List ℕ) (told : Opt
 abbrev pub IsAsked : Known → List ℕ → Asked → Known → Type 0
 IsAsked old body (Told reply) new = CheckFrom ⊥ old body (told_by reply) new
 IsAsked old body (NotYet question) new =
-    AsksCheck body question.consistency question.node question.user × Begins old new
+    AsksCheck body question.consistency question.node question.user × KnowsMore old new
     × IsAhead new.steps question.consistency
 
--- `state`: the numbers of the standing of the steps that the session then knows, which begin with all that it
+-- `state`: the numbers of the standing of the steps that the session then knows, which were judged and begin with all that it
 -- knew; or no session can ask any more
 abbrev pub StateFrom : Known → Option (ℕ × List ℕ) → Known → Type 0
 StateFrom old told new =
-    (Says told 200 (state_data (standing new.steps).kept.number (state_of (standing new.steps))) × Begins old new)
+    (Says told 200 (state_data (standing new.steps).kept.number (state_of (standing new.steps))) × KnowsMore old new)
     ⊎ (SaysRefusal told Reopen × (new ≡ old))

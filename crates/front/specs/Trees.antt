@@ -9,10 +9,11 @@ use Rattle.expand.specs.UsersetTree.{UsersetTree}
 use Rattle.shown.specs.declared.step.Step.{Step}
 use Rattle.shown.specs.Standing.{standing}
 use Rattle.shown.specs.Expanding.{IsExpanded, ExpandRefused}
-use Rattle.published.specs.Known.{Known, Begins}
+use Rattle.published.specs.Known.{Known}
 use Rattle.bodies.specs.Expanding.{AsksExpand, IsExpandForm, HasBadExpandZookie}
 use Rattle.bodies.specs.Replies.{Says, SaysRefusal, SaysRefusalAt}
 use Rattle.bodies.specs.Trees.{expanded_data}
+use Rattle.front.specs.Kept.{KnowsMore}
 use Rattle.front.specs.declared.trees.AskedTree.{AskedTree}
 use Rattle.front.specs.declared.trees.AskedTree.TheVariants.{Told, NotYet}
 use Rattle.front.specs.Questions.{zookie_in, IsAhead}
@@ -32,7 +33,7 @@ pub data TreeTold (steps : List Step) (sought : Type 0) (consistency : Consisten
   told_no_more : SaysRefusal told Reopen → TreeTold steps sought consistency node depth told
 
 -- `expand`: the body asks for no tree; its zookie is none; the question is told of by the steps that the session
--- then knows, which begin with all that it knew; or there was no memory to read the body
+-- then knows, which were judged and begin with all that it knew; or there was no memory to read the body
 pub data ExpandFrom (sought : Type 0) (old : Known) (body : List ℕ) (told : Option (ℕ × List ℕ)) (new : Known) : Type 0 where
   tree_malformed :
       ¬ (IsExpandForm body) → SaysRefusal told Malformed → new ≡ old → ExpandFrom sought old body told new
@@ -40,7 +41,7 @@ pub data ExpandFrom (sought : Type 0) (old : Known) (body : List ℕ) (told : Op
       HasBadExpandZookie body → SaysRefusal told BadZookie → new ≡ old → ExpandFrom sought old body told new
   tree_asked : (consistency : Consistency) (node : Node) (depth : ℕ)
       → AsksExpand body consistency node depth → TreeTold new.steps sought consistency node depth told
-      → Begins old new → ExpandFrom sought old body told new
+      → KnowsMore old new → ExpandFrom sought old body told new
   tree_unread : told ≡ None → new ≡ old → ExpandFrom sought old body told new
 
 -- the reply, which is not that the question is of the future; or the question that the body asks, whose revision the session
@@ -48,5 +49,5 @@ pub data ExpandFrom (sought : Type 0) (old : Known) (body : List ℕ) (told : Op
 abbrev pub IsTreeAsked : Known → List ℕ → AskedTree → Known → Type 0
 IsTreeAsked old body (Told reply) new = ExpandFrom ⊥ old body (told_by reply) new
 IsTreeAsked old body (NotYet question) new =
-    AsksExpand body question.consistency question.node question.depth × Begins old new
+    AsksExpand body question.consistency question.node question.depth × KnowsMore old new
     × IsAhead new.steps question.consistency

@@ -9,9 +9,10 @@ use Rattle.rows.specs.declared.tupleset.Tupleset.{Tupleset}
 use Rattle.shown.specs.declared.step.Step.{Step}
 use Rattle.shown.specs.Standing.{standing}
 use Rattle.shown.specs.Paging.{IsRead, ReadRefused}
-use Rattle.published.specs.Known.{Known, Begins}
+use Rattle.published.specs.Known.{Known}
 use Rattle.bodies.specs.Paging.{AsksRead, IsReadForm, HasBadReadZookie, page_data}
 use Rattle.bodies.specs.Replies.{Says, SaysRefusal, SaysRefusalAt}
+use Rattle.front.specs.Kept.{KnowsMore}
 use Rattle.front.specs.declared.tuples.AskedTuples.{AskedTuples}
 use Rattle.front.specs.declared.tuples.AskedTuples.TheVariants.{Told, NotYet}
 use Rattle.front.specs.Questions.{zookie_in, IsAhead}
@@ -31,7 +32,7 @@ pub data TuplesTold (steps : List Step) (sought : Type 0) (consistency : Consist
   told_nothing : SaysRefusal told Reopen → TuplesTold steps sought consistency asked told
 
 -- `read`: the body asks for no tupleset; its zookie is none; the question is told of by the steps that the session
--- then knows, which begin with all that it knew; or there was no memory to read the body
+-- then knows, which were judged and begin with all that it knew; or there was no memory to read the body
 pub data ReadFrom (sought : Type 0) (old : Known) (body : List ℕ) (told : Option (ℕ × List ℕ)) (new : Known) : Type 0 where
   tuples_malformed :
       ¬ (IsReadForm body) → SaysRefusal told Malformed → new ≡ old → ReadFrom sought old body told new
@@ -39,7 +40,7 @@ pub data ReadFrom (sought : Type 0) (old : Known) (body : List ℕ) (told : Opti
       HasBadReadZookie body → SaysRefusal told BadZookie → new ≡ old → ReadFrom sought old body told new
   tuples_asked : (consistency : Consistency) (asked : Tupleset)
       → AsksRead body consistency asked → TuplesTold new.steps sought consistency asked told
-      → Begins old new → ReadFrom sought old body told new
+      → KnowsMore old new → ReadFrom sought old body told new
   tuples_unread : told ≡ None → new ≡ old → ReadFrom sought old body told new
 
 -- the reply, which is not that the question is of the future; or the question that the body asks, whose revision the session
@@ -47,5 +48,5 @@ pub data ReadFrom (sought : Type 0) (old : Known) (body : List ℕ) (told : Opti
 abbrev pub AreTuplesAsked : Known → List ℕ → AskedTuples → Known → Type 0
 AreTuplesAsked old body (Told reply) new = ReadFrom ⊥ old body (told_by reply) new
 AreTuplesAsked old body (NotYet question) new =
-    AsksRead body question.consistency question.tupleset × Begins old new
+    AsksRead body question.consistency question.tupleset × KnowsMore old new
     × IsAhead new.steps question.consistency

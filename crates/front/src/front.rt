@@ -4,13 +4,13 @@ ghost use Rattle.names.specs.Calls.{told};
 ghost use Rattle.names.specs.declared.call.Call.TheVariants.{Write, Config, Trim, CatchUp, Hot, Rebuild};
 ghost use Rattle.names.specs.declared.refusal.Refusal.TheVariants.{NoSeat};
 ghost use Rattle.published.specs.Known.{Begins};
-ghost use Rattle.front.specs.Kept.{IsKnownIn, KnowsADesk};
+ghost use Rattle.front.specs.Kept.{IsKnownIn, KnowsADesk, KnowsMore};
 ghost use Rattle.front.specs.Questions.{IsAsked, CheckFrom, StateFrom};
 ghost use Rattle.front.specs.Trees.{IsTreeAsked, ExpandFrom};
 ghost use Rattle.front.specs.Tuples.{AreTuplesAsked, ReadFrom};
 ghost use Rattle.front.specs.Groups.{AreGroupsAsked, GroupsFrom};
 ghost use Rattle.front.specs.Pages.{IsPageAsked, WatchFrom};
-ghost use Rattle.front.specs.Fronts.{ChangeFrom, FrontStep, ToldByDesk};
+ghost use Rattle.front.specs.Fronts.{ChangeFrom, FrontStep, MayTell, ToldByDesk};
 
 use crate::groups::{AskedGroups, groups_again, groups_from};
 use crate::lock::Keeper;
@@ -63,7 +63,7 @@ impl<'k, T: Tables + Drop, J: Naming, R: Wait + Drop> Front<'k, T, J, R> {
         keeper: &'k Keeper<T, J, R>,
     ) -> Result<Front<'k, T, J, R>, Refusal>
         ensures ok { IfOk result (λ front. IsKnownIn J.book front) }
-        ensures known { IfOk result (λ front. KnowsADesk T front) }
+        ensures known { IfOk result (λ front. KnowsADesk T J.book front) }
         ensures err { IfErr result (λ why. why ≡ NoSeat) }
     {
         let session = keeper.hold(rt).session()?;
@@ -123,7 +123,7 @@ impl<'k, T: Tables + Drop, J: Naming, R: Wait + Drop> Front<'k, T, J, R> {
 
     /// Lets the session know what is shown now, and shows what waits, as far as there is memory.
     pub fn refresh<W: Wait>(&mut self, rt: &W) -> Receipt
-        ensures kept { Begins self.old self.new }
+        ensures kept { KnowsMore self.old self.new }
         ensures told { Begins result.published self.new }
         ensures tells { ToldByDesk T J.book result self.new }
     {
@@ -132,7 +132,7 @@ impl<'k, T: Tables + Drop, J: Naming, R: Wait + Drop> Front<'k, T, J, R> {
 
     /// Answers `check`. A question of the future is asked once more after a refresh.
     pub fn check<W: Wait>(&mut self, rt: &W, body: &[u8]) -> Reply
-        ensures { CheckFrom (KnowsADesk T self.new) self.old body.now (told result) self.new }
+        ensures { CheckFrom (KnowsADesk T J.book self.new) self.old body.now (told result) self.new }
     {
         match self.ask(body) {
             Asked::Told(reply) => reply,
@@ -145,7 +145,7 @@ impl<'k, T: Tables + Drop, J: Naming, R: Wait + Drop> Front<'k, T, J, R> {
 
     /// Answers `expand`. A question of the future is asked once more after a refresh.
     pub fn expand<W: Wait>(&mut self, rt: &W, body: &[u8]) -> Reply
-        ensures { ExpandFrom (KnowsADesk T self.new) self.old body.now (told result) self.new }
+        ensures { ExpandFrom (KnowsADesk T J.book self.new) self.old body.now (told result) self.new }
     {
         match self.ask_for_tree(body) {
             AskedTree::Told(reply) => reply,
@@ -158,7 +158,7 @@ impl<'k, T: Tables + Drop, J: Naming, R: Wait + Drop> Front<'k, T, J, R> {
 
     /// Answers `read`. A question of the future is asked once more after a refresh.
     pub fn read<W: Wait>(&mut self, rt: &W, body: &[u8]) -> Reply
-        ensures { ReadFrom (KnowsADesk T self.new) self.old body.now (told result) self.new }
+        ensures { ReadFrom (KnowsADesk T J.book self.new) self.old body.now (told result) self.new }
     {
         match self.ask_for_tuples(body) {
             AskedTuples::Told(reply) => reply,
@@ -171,7 +171,7 @@ impl<'k, T: Tables + Drop, J: Naming, R: Wait + Drop> Front<'k, T, J, R> {
 
     /// Answers `leopard`. A question of the future is asked once more after a refresh.
     pub fn groups<W: Wait>(&mut self, rt: &W, body: &[u8]) -> Reply
-        ensures { GroupsFrom (KnowsADesk T self.new) self.old body.now (told result) self.new }
+        ensures { GroupsFrom (KnowsADesk T J.book self.new) self.old body.now (told result) self.new }
     {
         match self.ask_for_groups(body) {
             AskedGroups::Told(reply) => reply,
@@ -184,7 +184,7 @@ impl<'k, T: Tables + Drop, J: Naming, R: Wait + Drop> Front<'k, T, J, R> {
 
     /// Answers `watch`. A question of the future is asked once more after a refresh.
     pub fn watch<W: Wait>(&mut self, rt: &W, body: &[u8]) -> Reply
-        ensures { WatchFrom (KnowsADesk T self.new) self.old body.now (told result) self.new }
+        ensures { WatchFrom (KnowsADesk T J.book self.new) self.old body.now (told result) self.new }
     {
         match self.ask_for_page(body) {
             AskedPage::Told(reply) => reply,
@@ -197,7 +197,7 @@ impl<'k, T: Tables + Drop, J: Naming, R: Wait + Drop> Front<'k, T, J, R> {
 
     /// Answers `write`. The desk is held once the body is read.
     pub fn write<W: Wait>(&mut self, rt: &W, body: &[u8]) -> Reply
-        ensures { ChangeFrom T.Tables self.old Write body.now (told result) self.new }
+        ensures { ChangeFrom T.Tables J.book self.old Write body.now (told result) self.new }
     {
         match write_body(self.alloc, body) {
             Ok(write) => self
@@ -210,7 +210,7 @@ impl<'k, T: Tables + Drop, J: Naming, R: Wait + Drop> Front<'k, T, J, R> {
 
     /// Answers `config`. The desk is held once the body is read.
     pub fn configure<W: Wait>(&mut self, rt: &W, body: &[u8]) -> Reply
-        ensures { ChangeFrom T.Tables self.old Config body.now (told result) self.new }
+        ensures { ChangeFrom T.Tables J.book self.old Config body.now (told result) self.new }
     {
         match Configuration::from_json(self.alloc, body) {
             Ok(config) => self
@@ -223,7 +223,7 @@ impl<'k, T: Tables + Drop, J: Naming, R: Wait + Drop> Front<'k, T, J, R> {
 
     /// Answers `trim`. The desk is held once the body is read.
     pub fn trim<W: Wait>(&mut self, rt: &W, body: &[u8]) -> Reply
-        ensures { ChangeFrom T.Tables self.old Trim body.now (told result) self.new }
+        ensures { ChangeFrom T.Tables J.book self.old Trim body.now (told result) self.new }
     {
         match trim_body(self.alloc, body) {
             Ok(floor) => self
@@ -236,7 +236,7 @@ impl<'k, T: Tables + Drop, J: Naming, R: Wait + Drop> Front<'k, T, J, R> {
 
     /// Answers `catchup`. The desk is held once the body is read.
     pub fn catch_up<W: Wait>(&mut self, rt: &W, body: &[u8]) -> Reply
-        ensures { ChangeFrom T.Tables self.old CatchUp body.now (told result) self.new }
+        ensures { ChangeFrom T.Tables J.book self.old CatchUp body.now (told result) self.new }
     {
         match catch_up_body(self.alloc, body) {
             Ok((part, commits)) => {
@@ -250,7 +250,7 @@ impl<'k, T: Tables + Drop, J: Naming, R: Wait + Drop> Front<'k, T, J, R> {
 
     /// Answers `hot`. The desk is held once the body is read.
     pub fn hot<W: Wait>(&mut self, rt: &W, body: &[u8]) -> Reply
-        ensures { ChangeFrom T.Tables self.old Hot body.now (told result) self.new }
+        ensures { ChangeFrom T.Tables J.book self.old Hot body.now (told result) self.new }
     {
         match hot_body(self.alloc, body) {
             Ok(marking) => {
@@ -264,7 +264,7 @@ impl<'k, T: Tables + Drop, J: Naming, R: Wait + Drop> Front<'k, T, J, R> {
 
     /// Answers `rebuild`. The desk is held once the body is read.
     pub fn rebuild<W: Wait>(&mut self, rt: &W, body: &[u8]) -> Reply
-        ensures { ChangeFrom T.Tables self.old Rebuild body.now (told result) self.new }
+        ensures { ChangeFrom T.Tables J.book self.old Rebuild body.now (told result) self.new }
     {
         match rebuild_body(self.alloc, body) {
             Ok(()) => self
@@ -275,9 +275,23 @@ impl<'k, T: Tables + Drop, J: Naming, R: Wait + Drop> Front<'k, T, J, R> {
         }
     }
 
-    /// Answers a call, whose body is these bytes.
+    /// Answers a call, whose body is these bytes. No answer goes back on what an earlier one was told by.
     pub fn answer<W: Wait>(&mut self, rt: &W, call: Call, body: &[u8]) -> Reply
-        ensures { FrontStep T.Tables self.old call body.now (told result) self.new }
+        ensures { FrontStep T.Tables J.book self.old call body.now (told result) self.new }
+    {
+        self.see();
+        self.tell(rt, call, body)
+    }
+
+    // What is true of every front: a function knows it where it looks at a field.
+    fn see(&self)
+        ensures { IsKnownIn J.book self.now }
+    {
+        let _ = &self.session;
+    }
+
+    fn tell<W: Wait>(&mut self, rt: &W, call: Call, body: &[u8]) -> Reply
+        ensures { MayTell T.Tables J.book self.old call body.now (told result) self.new }
     {
         match call {
             Call::Write => self.write(rt, body),

@@ -5,7 +5,7 @@ ghost use Rattle.bodies.specs.Replies.{Says, SaysRefusalAt};
 ghost use Rattle.bodies.specs.Grouping.{groups_data};
 ghost use Rattle.leopard.specs.Exprs.{query_of};
 ghost use Rattle.zookie.specs.Text.{zookie_text};
-ghost use Rattle.published.specs.Known.{Begins};
+ghost use Rattle.front.specs.Kept.{KnowsMore};
 ghost use Rattle.front.specs.Groups.{AreGroupsAsked, GroupsTold};
 
 use bodies::grouping::{groups, groups_body};
@@ -62,7 +62,7 @@ pub fn groups_from(alloc: Global, session: &mut Session, body: &[u8]) -> AskedGr
 pub fn groups_again(alloc: Global, session: &mut Session, question: &GroupsQuestion) -> Reply
     ensures told { GroupsTold session.new.steps ⊤
         question.now.consistency (query_of question.now.expr) question.now.limit (told result) }
-    ensures later { Begins session.old session.new }
+    ensures later { KnowsMore session.old session.new }
 {
     match session.groups_in_store(&question.consistency, &question.expr, question.limit) {
         Some((number, found)) => tell_groups(alloc, number, &found),

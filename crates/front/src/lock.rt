@@ -8,21 +8,20 @@ ghost use Rattle.bodies.specs.Marking.{AsksHot, AsksRebuild};
 ghost use Rattle.bodies.specs.Requests.{AsksCatchUp};
 ghost use Rattle.bodies.specs.Trimming.{AsksTrim};
 ghost use Rattle.bodies.specs.Writing.{AsksWrite};
-ghost use Rattle.rows.specs.Retained.{newest};
 ghost use Rattle.tables.specs.Device.{IsOpen};
 ghost use Rattle.tables.specs.Opening.{CannotOpen};
-ghost use Rattle.shown.specs.Raising.{RefusesBase, RefusesMarking};
+ghost use Rattle.shown.specs.Raising.{RefusesMarking};
 ghost use Rattle.shown.specs.Standing.{standing};
 ghost use Rattle.published.specs.Known.{Begins};
 ghost use Rattle.desk.specs.Posts.{ComesBack, FailsToLoad, SameTables, ShowsMore, shown_by};
-ghost use Rattle.desk.specs.Changes.{CatchUpAccepted, CatchUpJudged, IsNoChange, IsRefused, MarkingAccepted, RebuildAccepted, TellsShown};
+ghost use Rattle.desk.specs.Changes.{CatchUpAccepted, CatchUpJudged, IsNoChange, IsRefused, MarkingAccepted, RebuildAccepted, RebuildJudged, TellsShown};
 ghost use Rattle.keeper.specs.calls.Write.{WriteStep};
 ghost use Rattle.keeper.specs.calls.Config.{ConfigStep};
 ghost use Rattle.keeper.specs.calls.Trim.{TrimStep};
 ghost use Rattle.keeper.specs.calls.CatchUp.{CatchUpStep};
 ghost use Rattle.keeper.specs.calls.Hot.{HotStep};
 ghost use Rattle.keeper.specs.calls.Rebuild.{RebuildStep};
-ghost use Rattle.front.specs.Kept.{IsKept, IsKnownIn, WereKept};
+ghost use Rattle.front.specs.Kept.{IsKept, IsKnownIn, KnowsMore, WereKept};
 
 use config::Config;
 use desk::{Desk, Posted};
@@ -102,7 +101,7 @@ impl<T: Tables + Drop, J: Naming, R: Wait + Drop> KeptDesk<T, J, R> {
         ensures same { SameTables self.old self.new }
         ensures seats { self.new.seats ≡ self.old.seats }
         ensures tells { TellsShown result self.new }
-        ensures kept { Begins session.old session.new }
+        ensures kept { KnowsMore session.old session.new }
         ensures known { Begins (shown_by self.new) session.new }
     {
         self.desk.refresh(session)
@@ -136,8 +135,7 @@ impl<T: Tables + Drop, J: Naming, R: Wait + Drop> KeptDesk<T, J, R> {
         ensures ok { IfOk result (λ posted.
             RebuildAccepted self.old posted.value posted.receipt self.new) }
         ensures err { IfErr result (λ why.
-            IsRefused T.Tables self.old IsNoChange
-            (RefusesBase (standing self.old.posted) (newest (standing self.old.posted).kept)) why self.new) }
+            IsRefused T.Tables self.old IsNoChange RebuildJudged why self.new) }
         ensures seats { self.new.seats ≡ self.old.seats }
     {
         self.desk.rebuild()
@@ -148,7 +146,7 @@ impl<T: Tables + Drop, J: Naming, R: Wait + Drop> KeptDesk<T, J, R> {
         requires { session.old.book ≡ J.book }
         ensures step { (body : List ℕ) → AsksWrite body write
             → WriteStep T.Tables self.old body (told result) self.new }
-        ensures kept { Begins session.old session.new }
+        ensures kept { KnowsMore session.old session.new }
         ensures known { Begins (shown_by self.new) session.new }
     {
         write_on(alloc, &mut self.desk, session, write)
@@ -159,7 +157,7 @@ impl<T: Tables + Drop, J: Naming, R: Wait + Drop> KeptDesk<T, J, R> {
         requires { session.old.book ≡ J.book }
         ensures step { (body : List ℕ) → Accepts body config
             → ConfigStep T.Tables self.old body (told result) self.new }
-        ensures kept { Begins session.old session.new }
+        ensures kept { KnowsMore session.old session.new }
         ensures known { Begins (shown_by self.new) session.new }
     {
         configure_on(alloc, &mut self.desk, session, config)
@@ -170,7 +168,7 @@ impl<T: Tables + Drop, J: Naming, R: Wait + Drop> KeptDesk<T, J, R> {
         requires { session.old.book ≡ J.book }
         ensures step { (body : List ℕ) → AsksTrim body floor
             → TrimStep T.Tables self.old body (told result) self.new }
-        ensures kept { Begins session.old session.new }
+        ensures kept { KnowsMore session.old session.new }
         ensures known { Begins (shown_by self.new) session.new }
     {
         trim_on(alloc, &mut self.desk, session, floor)
@@ -187,7 +185,7 @@ impl<T: Tables + Drop, J: Naming, R: Wait + Drop> KeptDesk<T, J, R> {
         requires { session.old.book ≡ J.book }
         ensures step { (body : List ℕ) → AsksCatchUp body part commits
             → CatchUpStep T.Tables self.old body (told result) self.new }
-        ensures kept { Begins session.old session.new }
+        ensures kept { KnowsMore session.old session.new }
         ensures known { Begins (shown_by self.new) session.new }
     {
         catch_up_on(alloc, &mut self.desk, session, part, commits)
@@ -198,7 +196,7 @@ impl<T: Tables + Drop, J: Naming, R: Wait + Drop> KeptDesk<T, J, R> {
         requires { session.old.book ≡ J.book }
         ensures step { (body : List ℕ) → AsksHot body marking
             → HotStep T.Tables self.old body (told result) self.new }
-        ensures kept { Begins session.old session.new }
+        ensures kept { KnowsMore session.old session.new }
         ensures known { Begins (shown_by self.new) session.new }
     {
         mark_on(alloc, &mut self.desk, session, marking)
@@ -209,7 +207,7 @@ impl<T: Tables + Drop, J: Naming, R: Wait + Drop> KeptDesk<T, J, R> {
         requires { session.old.book ≡ J.book }
         ensures step { (body : List ℕ) → AsksRebuild body
             → RebuildStep T.Tables self.old body (told result) self.new }
-        ensures kept { Begins session.old session.new }
+        ensures kept { KnowsMore session.old session.new }
         ensures known { Begins (shown_by self.new) session.new }
     {
         rebuild_on(alloc, &mut self.desk, session)

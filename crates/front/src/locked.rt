@@ -39,7 +39,7 @@ impl<'k, T: Tables + Drop, J: Naming, R: Wait + Drop, W: Wait> Locked<'k, T, J, 
 impl<'k, T: Tables + Drop, J: Naming, R: Wait + Drop, W: Wait> Answers for Locked<'k, T, J, R, W> {
     ghost use Rattle.front.specs.Fronts.{FrontStep};
 
-    ghost step = { λ s call body told t. FrontStep T.Tables s call body told t };
+    ghost step = { λ s call body told t. FrontStep T.Tables J.book s call body told t };
 
     fn answer(&mut self, call: Call, body: &[u8]) -> Reply {
         self.front.answer(self.rt, call, body)

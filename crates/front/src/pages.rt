@@ -3,7 +3,7 @@ ghost use Rattle.std.specs.Prelude.{◌≡◌, IfOk, IfErr, ⊤};
 ghost use Rattle.names.specs.Calls.{told};
 ghost use Rattle.bodies.specs.Replies.{Says, SaysRefusal};
 ghost use Rattle.bodies.specs.Pages.{page_data};
-ghost use Rattle.published.specs.Known.{Begins};
+ghost use Rattle.front.specs.Kept.{KnowsMore};
 ghost use Rattle.front.specs.Pages.{IsPageAsked, PageTold};
 
 use bodies::pages::watched;
@@ -60,7 +60,7 @@ pub fn watch_from(alloc: Global, session: &mut Session, body: &[u8]) -> AskedPag
 pub fn watch_again(alloc: Global, session: &mut Session, question: &PageQuestion) -> Reply
     ensures told { PageTold session.new.steps ⊤
         question.now.cursor question.now.namespaces question.now.commits (told result) }
-    ensures later { Begins session.old session.new }
+    ensures later { KnowsMore session.old session.new }
 {
     match session.watch_in_store(&question.cursor, &question.namespaces, question.commits) {
         Some((number, page)) => tell_page(alloc, number, &page),

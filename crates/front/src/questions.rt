@@ -4,7 +4,7 @@ ghost use Rattle.names.specs.Calls.{told};
 ghost use Rattle.bodies.specs.Replies.{Says, SaysRefusalAt, answer_data};
 ghost use Rattle.bodies.specs.Requests.{AsksCheck};
 ghost use Rattle.zookie.specs.Text.{zookie_text};
-ghost use Rattle.published.specs.Known.{Begins};
+ghost use Rattle.front.specs.Kept.{KnowsMore};
 ghost use Rattle.front.specs.Questions.{IsAsked, CheckTold, StateFrom};
 
 use bodies::refusals::refusal;
@@ -61,7 +61,7 @@ pub fn check_from(alloc: Global, session: &mut Session, body: &[u8]) -> Asked
 pub fn check_again(alloc: Global, session: &mut Session, question: &Question) -> Reply
     ensures told { CheckTold session.new.steps ⊤
         question.now.consistency question.now.node question.now.user (told result) }
-    ensures later { Begins session.old session.new }
+    ensures later { KnowsMore session.old session.new }
 {
     match session.check_in_store(&question.consistency, &question.node, &question.user) {
         Some((number, checked)) => tell_check(alloc, number, &checked),

@@ -6,7 +6,7 @@ ghost use Rattle.bodies.specs.Trees.{expanded_data};
 ghost use Rattle.zookie.specs.Text.{zookie_text};
 ghost use Rattle.expand.specs.declared.limits.TheConstants.{MAX_DEPTH};
 ghost use Rattle.expand.specs.Viewed.{tree_of};
-ghost use Rattle.published.specs.Known.{Begins};
+ghost use Rattle.front.specs.Kept.{KnowsMore};
 ghost use Rattle.front.specs.Trees.{IsTreeAsked, TreeTold};
 
 use bodies::refusals::refusal;
@@ -66,7 +66,7 @@ pub fn expand_again(alloc: Global, session: &mut Session, question: &TreeQuestio
     requires bounded { question.now.depth ≤ MAX_DEPTH }
     ensures told { TreeTold session.new.steps ⊤
         question.now.consistency question.now.node question.now.depth (told result) }
-    ensures later { Begins session.old session.new }
+    ensures later { KnowsMore session.old session.new }
 {
     match session.expand_in_store(&question.consistency, &question.node, question.depth) {
         Some((number, found)) => tell_tree(alloc, number, &found),

@@ -4,7 +4,7 @@ ghost use Rattle.names.specs.Calls.{told};
 ghost use Rattle.bodies.specs.Replies.{Says, SaysRefusalAt};
 ghost use Rattle.bodies.specs.Paging.{page_data};
 ghost use Rattle.zookie.specs.Text.{zookie_text};
-ghost use Rattle.published.specs.Known.{Begins};
+ghost use Rattle.front.specs.Kept.{KnowsMore};
 ghost use Rattle.front.specs.Tuples.{AreTuplesAsked, TuplesTold};
 
 use bodies::paging::{page, read_body};
@@ -59,7 +59,7 @@ pub fn read_from(alloc: Global, session: &mut Session, body: &[u8]) -> AskedTupl
 pub fn read_again(alloc: Global, session: &mut Session, question: &TuplesQuestion) -> Reply
     ensures told { TuplesTold session.new.steps ⊤
         question.now.consistency question.now.tupleset (told result) }
-    ensures later { Begins session.old session.new }
+    ensures later { KnowsMore session.old session.new }
 {
     match session.read_in_store(&question.consistency, &question.tupleset) {
         Some((number, found)) => tell_tuples(alloc, number, &found),

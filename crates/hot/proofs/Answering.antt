@@ -60,9 +60,9 @@ module _ (hot : Hot) (S : Snap) (is : IsHot hot S) where
       → AreNamed hot.numbers.users ids found → (u : Object) → Contains found u ↔ IsMember S u n
   members_are id n ids found at e named u =
       let row = row_there (row_of hot.sets.rows id) ids e in (
-        λ c. (let s = (named u).0 c in (member_at id s.0 n u at s.2 row.0).0 (ap (λ xs. has xs s.0) row.1 ∙ s.1)),
+        λ c. (let s = (named.exactly u).0 c in (member_at id s.0 n u at s.2 row.0).0 (ap (λ xs. has xs s.0) row.1 ∙ s.1)),
         λ m. ⊎_elim
-            (λ s. (named u).1 (s.0, ap (λ xs. has xs s.0) (sym row.1) ∙ (member_at id s.0 n u at s.1 row.0).1 m, s.1))
+            (λ s. (named.exactly u).1 (s.0, ap (λ xs. has xs s.0) (sym row.1) ∙ (member_at id s.0 n u at s.1 row.0).1 m, s.1))
             (λ absent. absurd (stranger_at id n u at absent row.0 m))
             (find_user hot.numbers.users u),
       )

@@ -1,15 +1,25 @@
 -- Numbers and users, one by one.
-use Rattle.std.proofs.Common.{ℕ, ◌≡◌, nat_eq, List, [], ◌∷◌, ◌++◌, refl, sym, ◌∙◌, ap, subst, ⊎_elim}
+use Rattle.std.proofs.Common.{ℕ, ◌≡◌, ◌<◌, true, false, nat_eq, List, [], ◌∷◌, ◌++◌, length, take, get_or, refl, sym, ◌∙◌, ap, subst, ⊎_elim, arith, length-take}
 use Rattle.std.specs.Prelude.{Some, None, Contains}
-use Rattle.std.specs.List.{slice_get}
-use Rattle.std.proofs.lemmas.Bool.{or_cases, or_left, or_right, false≢true, eqb-true, eq-eqb}
+use Rattle.std.specs.List.{slice_get, list_any, IsDistinct}
+use Rattle.std.specs.List.Sorted.{IsStrictlyIncreasing}
+use Rattle.std.specs.Cmp.{eq_by_cmp_equiv}
+use Rattle.std.specs.Ordering.{eq_by_cmp}
+use Rattle.std.proofs.lemmas.Bool.{or_cases, or_left, or_right, false≢true, false_from_ne_true, eqb-true, eq-eqb}
 use Rattle.std.proofs.lemmas.Option.{none-some, same_Some}
+use Rattle.std.proofs.lemmas.List.{get_or-take}
 use Rattle.std.proofs.lemmas.List.Elements.{Contains-push_cases}
+use Rattle.std.proofs.lemmas.Map.Keys.{IsDistinct-push}
+use Rattle.std.proofs.lemmas.Map.Views.{Contains-from_any, tells_apart}
+use Rattle.names.specs.Order.{object_cmp}
 use Rattle.names.specs.declared.object.Object.{Object}
 use Rattle.names.specs.declared.node.Node.{Node}
 use Rattle.names.specs.declared.commit.Event.{Event}
 use Rattle.meaning.proofs.Lists.{contains_none}
+use Rattle.meaning.proofs.TupleSets.{objects_total, exact_objects}
 use Rattle.idsets.specs.Naming.{AreDistinct}
+use Rattle.idsets.proofs.Having.{lacks}
+use Rattle.idsets.proofs.Rising.{below_later}
 use Rattle.least_sets.specs.World.{has}
 use Rattle.facts.specs.inside.Tables.{has_push}
 use Rattle.facts.proofs.Naming.{in_left, in_last}
@@ -45,30 +55,46 @@ events_passed nodes ids event missing events are = record {
       (Contains-push_cases events event e c);
 }
 
-pub named_none : (table : List Object) (found : List Object) → found ≡ [] → AreNamed table [] found
-named_none table found e u = (
-  λ c. absurd (contains_none u (subst (λ xs. Contains xs u) e c)),
-  λ s. absurd (false≢true s.1),
-)
+-- no id of a rising list stands before its place
+pub not_before : (ids : List ℕ) (i id : ℕ) → IsStrictlyIncreasing ids → i < length ids → id ≡ get_or ids i 0 → has (take i ids) id ≡ false
+not_before ids i id up within is = lacks (take i ids) id (λ k lt e.
+    let few : k < i = omega (arith, lt, length-take i ids) in
+    let less = below_later ids k i up few within in
+    absurd (omega (arith, less, is, e, get_or-take i ids k 0 few)))
 
-pub named_more : (table : List Object) (found found' : List Object) (id : ℕ) (user : Object) → slice_get table id ≡ Some user → found' ≡ found ++ user ∷ []
-    → (ids : List ℕ) → AreNamed table ids found → AreNamed table (ids ++ id ∷ []) found'
-named_more table found found' id user at is ids named u = (
-  λ c. ⊎_elim
-      (λ d. (let s = (named u).0 d in (s.0, has_push ids id s.0 ∙ or_left (has ids s.0) (nat_eq s.0 id) s.1, s.2)))
-      (λ d. (id, has_push ids id id ∙ or_right (has ids id) (nat_eq id id) (eq-eqb id id refl), at ∙ ap (λ x. Some x) d))
-      (Contains-push_cases found user u (subst (λ xs. Contains xs u) is c)),
-  λ s. subst (λ xs. Contains xs u) (sym is) (⊎_elim
-      (λ q. in_left found (user ∷ []) u ((named u).1 (s.0, q, s.2)))
-      (λ q. subst (λ x. Contains (found ++ user ∷ []) x) (same_Some user u (sym at ∙ ap (slice_get table) (sym (eqb-true s.0 id q)) ∙ s.2)) (in_last found user))
-      (or_cases (has ids s.0) (nat_eq s.0 id) (sym (has_push ids id s.0) ∙ s.1))),
-)
+pub named_none : (table : List Object) (found : List Object) → found ≡ [] → AreNamed table [] found
+unfolding IsDistinct
+named_none table found e = subst (λ xs. AreNamed table [] xs) (sym e) (record {
+  exactly = λ u. (λ c. absurd (contains_none u c), λ s. absurd (false≢true s.1));
+  once = tt;
+})
+
+pub named_more : (table : List Object) (found found' : List Object) (id : ℕ) (user : Object) → AreDistinct table → slice_get table id ≡ Some user → found' ≡ found ++ user ∷ []
+    → (ids : List ℕ) → has ids id ≡ false → AreNamed table ids found → AreNamed table (ids ++ id ∷ []) found'
+named_more table found found' id user distinct at is ids new named = subst (λ xs. AreNamed table (ids ++ id ∷ []) xs) (sym is) (record {
+  exactly = λ u. (
+    λ c. ⊎_elim
+        (λ d. (let s = (named.exactly u).0 d in (s.0, has_push ids id s.0 ∙ or_left (has ids s.0) (nat_eq s.0 id) s.1, s.2)))
+        (λ d. (id, has_push ids id id ∙ or_right (has ids id) (nat_eq id id) (eq-eqb id id refl), at ∙ ap (λ x. Some x) d))
+        (Contains-push_cases found user u c),
+    λ s. ⊎_elim
+        (λ q. in_left found (user ∷ []) u ((named.exactly u).1 (s.0, q, s.2)))
+        (λ q. subst (λ x. Contains (found ++ user ∷ []) x) (same_Some user u (sym at ∙ ap (slice_get table) (sym (eqb-true s.0 id q)) ∙ s.2)) (in_last found user))
+        (or_cases (has ids s.0) (nat_eq s.0 id) (sym (has_push ids id s.0) ∙ s.1)),
+  );
+  once = IsDistinct-push (eq_by_cmp_equiv objects_total) found user named.once (false_from_ne_true (list_any (eq_by_cmp object_cmp user) found) (λ h.
+      let s = (named.exactly user).0 (Contains-from_any (tells_apart exact_objects) user found h) in
+      false≢true (sym new ∙ subst (λ j. has ids j ≡ true) (distinct s.0 id user s.2 at) s.1)));
+})
 
 pub named_passed : (table : List Object) (found : List Object) (id : ℕ) → None ≡ slice_get table id → (ids : List ℕ) → AreNamed table ids found → AreNamed table (ids ++ id ∷ []) found
-named_passed table found id off ids named u = (
-  λ c. (let s = (named u).0 c in (s.0, has_push ids id s.0 ∙ or_left (has ids s.0) (nat_eq s.0 id) s.1, s.2)),
-  λ s. ⊎_elim
-      (λ q. (named u).1 (s.0, q, s.2))
-      (λ q. absurd (none-some u (off ∙ ap (slice_get table) (sym (eqb-true s.0 id q)) ∙ s.2)))
-      (or_cases (has ids s.0) (nat_eq s.0 id) (sym (has_push ids id s.0) ∙ s.1)),
-)
+named_passed table found id off ids named = record {
+  exactly = λ u. (
+    λ c. (let s = (named.exactly u).0 c in (s.0, has_push ids id s.0 ∙ or_left (has ids s.0) (nat_eq s.0 id) s.1, s.2)),
+    λ s. ⊎_elim
+        (λ q. (named.exactly u).1 (s.0, q, s.2))
+        (λ q. absurd (none-some u (off ∙ ap (slice_get table) (sym (eqb-true s.0 id q)) ∙ s.2)))
+        (or_cases (has ids s.0) (nat_eq s.0 id) (sym (has_push ids id s.0) ∙ s.1)),
+  );
+  once = named.once;
+}

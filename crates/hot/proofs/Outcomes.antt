@@ -1,5 +1,5 @@
 -- What follows from an outcome.
-use Rattle.std.specs.Prelude.{Result, Ok, Err, IfOk, OnOk, OnErr}
+use Rattle.std.specs.Prelude.{Option, Some, None, IfSome, Result, Ok, Err, IfOk, OnOk, OnErr}
 
 pub ok_then : {T E Q : Type 0} (P : T → Type 0) (r : Result T E) → ((x : T) → P x → Q) → IfOk r P → OnOk r Q
 ok_then P (Ok x) f p = f x p
@@ -12,3 +12,7 @@ if_ok P Q (Err e) f p = tt
 pub err_then : {T E P Q : Type 0} (r : Result T E) → (P → Q) → OnErr r P → OnErr r Q
 err_then (Ok x) f p = tt
 err_then (Err e) f p = f p
+
+pub if_some : {T : Type 0} (P Q : T → Type 0) (o : Option T) → ((x : T) → P x → Q x) → IfSome o P → IfSome o Q
+if_some P Q None f p = tt
+if_some P Q (Some x) f p = f x p

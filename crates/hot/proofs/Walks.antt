@@ -53,6 +53,23 @@ module _ (S : Snap) (nodes : List Node) (users : List Object) (marks : List ℕ)
       let there = arc_kept before.0 found.0 before.2 found.1 in
       (found.0, named found.0 there ∙ ap (λ x. Some x) found.2, there)
 
+  -- what a kept node leads to is kept, at the end of a walk of arcs
+  led_walk : (m n : Node) (i : ℕ) → slice_get nodes i ≡ Some m → kept rows i ≡ true → Leads S m n
+      → (j : ℕ) × (slice_get nodes j ≡ Some n) × (kept rows j ≡ true) × Walk (arc_in rows) i j
+  led_walk m n i at h here = (i, at, h, walks.here)
+  led_walk m n i at h (on {a = a} w e) =
+      let before = led_walk m a i at h w in
+      let found = depends_told S valid nodes users before.0 n (k.world before.0) (k.told before.0 before.2) (subst (λ x. DependsOn S x n) (sym (node_is nodes before.0 a before.1)) e) in
+      let there = arc_kept before.0 found.0 before.2 found.1 in
+      (found.0, named found.0 there ∙ ap (λ x. Some x) found.2, there, walks.on before.3 (k.held.arcs before.0 found.0 before.2 ∙ found.1))
+
+  -- a kept node that is touched by an event has a walk of arcs to a changed one
+  pub touched_in : (events : List Event) (changed : List ℕ) (n : Node) (i : ℕ) → AreOfEvents nodes events changed → slice_get nodes i ≡ Some n → kept rows i ≡ true
+      → IsTouchedBy S events n → IsTouched (arc_in rows) changed i
+  touched_in events changed n i are at h t =
+      let w = led_walk n t.0.tuple.node i at h t.2 in
+      record { end = w.0; among = are.complete t.0 w.0 t.1 w.1; walk = w.3 }
+
   -- a kept node with a walk of arcs to a changed one is touched by an event
   pub touched_by : (events : List Event) (changed : List ℕ) (i : ℕ) → AreOfEvents nodes events changed → kept rows i ≡ true → IsTouched (arc_in rows) changed i → IsTouchedBy S events (node_at nodes i)
   touched_by events changed i are h t =

@@ -68,11 +68,18 @@ pub record HasUnmarked (before now : Hot) (node : Node) : Type 0 where
 abbrev pub IsUnderMark : Hot → Snap → Node → Type 0
 IsUnderMark hot S n = (m : Node) × IsMarked hot m × Leads S m n
 
--- The nodes that were asked, by their numbers: each once, and each is kept after the commit; where it was kept before, a walk
--- of dependence led from it, before the commit, to the node of an event.
-pub record WasAskedFew (old new : Hot) (S : Snap) (events : List Event) (asked : List ℕ) : Type 0 where
+-- the node is kept, and was not before
+abbrev pub IsNew : Hot → Hot → Node → Type 0
+IsNew old new n = IsKept new n × (IsKept old n → ⊥)
+
+-- the node is kept; where it was kept before, a walk of dependence led from it, before the commit, to the node of an event
+abbrev pub IsNewOrTouched : Hot → Hot → Snap → List Event → Node → Type 0
+IsNewOrTouched old new S events n = IsKept new n × (IsKept old n → IsTouchedBy S events n)
+
+-- the nodes that were asked, by their numbers: each once, and exactly those
+pub record WereAsked (hot : Hot) (asked : List ℕ) (who : Node → Type 0) : Type 0 where
   pub once : IsDistinct nat_eq asked
-  pub few : (i : ℕ) → has asked i ≡ true → (n : Node) × HasNumber new n i × IsKept new n × (IsKept old n → IsTouchedBy S events n)
+  pub exactly : (i : ℕ) → has asked i ≡ true ↔ ((n : Node) × HasNumber hot n i × who n)
 
 -- why a node is not marked: there is no room for one more mark, or no memory
 abbrev pub MarkCause : Hot → Node → Refusal → Type 0

@@ -34,7 +34,7 @@ impl Hot {
     ghost use Rattle.meaning.specs.Snap.{Snap};
     ghost use Rattle.meaning.specs.Reads.{IsValid};
     ghost use Rattle.hot.specs.Kept.{IsHot, IsMarked, marks_of, HasNumber, MarkCause};
-    ghost use Rattle.hot.specs.Kept.{HasMarked, HasUnmarked, HasSameMarks, WasAskedFew};
+    ghost use Rattle.hot.specs.Kept.{HasMarked, HasUnmarked, HasSameMarks, WereAsked, IsKept, IsNew, IsNewOrTouched};
 
     /// Nothing is marked, which is so at each revision. It takes no memory.
     pub fn new(alloc: Global) -> Hot
@@ -72,17 +72,19 @@ impl Hot {
         self.numbers.nodes.name(number)
     }
 
-    /// Marks a node, at the revision that is kept. It is refused with `Full` where so many are marked that there is no
+    /// Marks a node, at the revision that is kept, and gives the numbers of the nodes that the view was asked for, in
+    /// order. It is refused with `Full` where so many are marked that there is no
     /// room for one more, and for want of memory; then what is marked and kept is what it was.
-    pub fn mark(&mut self, alloc: Global, view: &View, node: &Node) -> Result<(), Refusal>
+    pub fn mark(&mut self, alloc: Global, view: &View, node: &Node) -> Result<Vec<u64>, Refusal>
         ensures hot { IsHot self.old view.now → IsHot self.new view.now }
         ensures ok { OnOk result (IsHot self.old view.now → HasMarked self.old self.new node.now) }
+        ensures asked { IfOk result (λ asked. IsHot self.old view.now → WereAsked self.new asked.items (IsNew self.old self.new)) }
         ensures err { OnErr result (IsHot self.old view.now → HasSameMarks self.old self.new) }
         ensures cause { IfErr result (MarkCause self.old node.now) }
     {
         let id = numbered(&mut self.numbers, node)?;
         if self.marks.contains(id) {
-            return Ok(());
+            return Ok(Vec::new(alloc));
         }
         if self.is_full() {
             return Err(Refusal::Full);
@@ -90,9 +92,9 @@ impl Hot {
         let mut marks = self.marks.again()?;
         marks.insert(id)?;
         let (numbers, sets) = (&mut self.numbers, &mut self.sets);
-        renew(alloc, view, numbers, sets, &marks, &[id], &[])?;
+        let asked = renew(alloc, view, numbers, sets, &marks, &[id], &[])?;
         self.marks = marks;
-        Ok(())
+        Ok(asked)
     }
 
     /// Takes a commit of events, of which the view has the snapshot after it, and gives the numbers of the nodes that
@@ -107,7 +109,7 @@ impl Hot {
         ensures hot { OnOk result ((S : Snap) → IsHot self.old S → view.now ≡ after_commit S (Tuples events.now)
             → IsHot self.new view.now) }
         ensures asked { IfOk result (λ asked. (S : Snap) → IsHot self.old S → view.now ≡ after_commit S (Tuples events.now)
-            → WasAskedFew self.old self.new S events.now asked.items) }
+            → WereAsked self.new asked.items (IsNewOrTouched self.old self.new S events.now)) }
         ensures err { OnErr result ((S : Snap) → IsHot self.old S → IsHot self.new S) }
         ensures marked { (S : Snap) → IsHot self.old S → HasSameMarks self.old self.new }
     {
@@ -117,19 +119,21 @@ impl Hot {
         renew(alloc, view, numbers, sets, &self.marks, &[], &changed)
     }
 
-    /// Begins anew with a view, as after a commit of a configuration. For want of memory what is marked and kept is
+    /// Begins anew with a view, as after a commit of a configuration, and gives the numbers of the nodes that the view was
+    /// asked for, in order. For want of memory what is marked and kept is
     /// what it was, at the revision at which it was.
-    pub fn restart(&mut self, alloc: Global, view: &View) -> Result<(), AllocError>
+    pub fn restart(&mut self, alloc: Global, view: &View) -> Result<Vec<u64>, AllocError>
         ensures hot { OnOk result ((S : Snap) → IsHot self.old S → IsHot self.new view.now) }
+        ensures asked { IfOk result (λ asked. (S : Snap) → IsHot self.old S → WereAsked self.new asked.items (IsKept self.new)) }
         ensures err { OnErr result ((S : Snap) → IsHot self.old S → IsHot self.new S) }
         ensures marked { (S : Snap) → IsHot self.old S → HasSameMarks self.old self.new }
     {
         each_view_is_valid(view);
         let mut sets = Sets::new(alloc);
         let (numbers, marks) = (&mut self.numbers, self.marks.as_slice());
-        renew(alloc, view, numbers, &mut sets, &self.marks, marks, &[])?;
+        let asked = renew(alloc, view, numbers, &mut sets, &self.marks, marks, &[])?;
         self.sets = sets;
-        Ok(())
+        Ok(asked)
     }
 
     /// Takes a mark off a node, and drops what no marked node depends on any more. For want of memory nothing changes.

@@ -4,8 +4,10 @@
 
 mod changed;
 mod hot;
+mod known;
 mod members;
 mod numbering;
 mod renewing;
 
 pub use hot::Hot;
+pub use known::Known;

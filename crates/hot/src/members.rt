@@ -1,5 +1,8 @@
 //! Who is kept.
-ghost use Rattle.std.specs.Prelude.{ℕ, ◌↔◌, ◌++◌, ◌∷◌, [], List, Contains, IfOk, OnOk, IfSome, IsTrue, is_some};
+ghost use Rattle.std.specs.Prelude.{◌≡◌, ℕ, ◌↔◌, ◌++◌, ◌∷◌, [], List, Contains, IfOk, OnOk, IfSome, IsTrue, false, is_some};
+ghost use Rattle.std.specs.List.Sorted.{IsStrictlyIncreasing};
+ghost use Rattle.idsets.specs.Naming.{AreDistinct};
+ghost use Rattle.least_sets.specs.World.{has};
 ghost use Rattle.hot.specs.inside.Named.{AreNamed};
 
 use crate::hot::Hot;
@@ -8,6 +11,9 @@ use names::{Node, Object};
 use std::alloc::{AllocError, Global};
 
 impl Hot {
+    ghost use Rattle.std.specs.List.{IsDistinct};
+    ghost use Rattle.std.specs.Ordering.{eq_by_cmp};
+    ghost use Rattle.names.specs.Order.{object_cmp};
     ghost use Rattle.names.specs.declared.object.Object.{Object};
     ghost use Rattle.names.specs.declared.node.Node.{Node};
     ghost use Rattle.meaning.specs.Snap.{Snap};
@@ -30,6 +36,7 @@ impl Hot {
             → IsTrue (is_some found) ↔ IsUnderMark self.now S node.now) }
         ensures members { IfOk result (λ found. IfSome found (λ users. (S : Snap) → IsHot self.now S
             → (u : Object) → Contains users.items u ↔ IsMember S u node.now)) }
+        ensures once { IfOk result (λ found. IfSome found (λ users. IsDistinct (eq_by_cmp object_cmp) users.items)) }
     {
         let Some(id) = self.numbers.nodes.id_of(node) else {
             return Ok(None);
@@ -55,10 +62,12 @@ impl Hot {
     }
 }
 
-/// The users with some numbers.
+/// The users with some numbers, each once.
 fn named(alloc: Global, users: &Ids<Object>, ids: &[u64]) -> Result<Vec<Object>, AllocError>
+    requires { IsStrictlyIncreasing ids.now }
     ensures { IfOk result (λ v. AreNamed users.now ids.now v.items) }
 {
+    let _ = users.len();
     let mut found = Vec::new(alloc);
     for id in ids {
         push_named(users, &mut found, *id)?;
@@ -68,7 +77,8 @@ fn named(alloc: Global, users: &Ids<Object>, ids: &[u64]) -> Result<Vec<Object>,
 
 /// Adds the user with a number, where there is one.
 fn push_named(users: &Ids<Object>, found: &mut Vec<Object>, id: u64) -> Result<(), AllocError>
-    ensures { OnOk result ((ids : List ℕ) → AreNamed users.now ids found.old.items
+    requires { AreDistinct users.now }
+    ensures { OnOk result ((ids : List ℕ) → has ids id ≡ false → AreNamed users.now ids found.old.items
         → AreNamed users.now (ids ++ id ∷ []) found.new.items) }
 {
     match users.name(id) {

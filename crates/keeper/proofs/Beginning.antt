@@ -16,6 +16,7 @@ began_on {T} g tables d e opens whole works settled back more same =
     record {
       posted = (opens.0, more.posted ∙ opens.1, subst (λ (t : T). g.holds t (retained_of opens.0)) (sym same.0) opens.2, λ clean. opens.3 (subst (λ (t : T). IsClean (g.device t)) same.0 clean), λ r held clean. opens.4 r held (subst (λ (t : T). IsClean (g.device t)) same.0 clean));
       shown = prefix_whole e.shown e.posted more.beginning (subst (λ (xs : List Step). length xs ≤ length e.shown) all (prefix_length d.shown e.shown more.later));
+      judged = more.judged;
       works = same.1 ∙ works;
       settled = subst (λ (xs : List Step). g.leaves e.tables ((standing xs).kept ∷ [])) (sym more.posted) (subst (λ (t : T). g.leaves t (kept_by d ∷ [])) (sym same.0) settled);
       back = subst (λ (t : T). ComesBack g tables t) (sym same.0) back;

@@ -13,4 +13,5 @@ pub mod Marking
 pub mod Rebuilding
 pub mod Stating
 pub mod ByCall
+pub mod Later
 pub mod Beginning

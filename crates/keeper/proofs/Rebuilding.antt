@@ -7,12 +7,9 @@ use Rattle.names.specs.declared.refusal.Refusal.TheVariants.{Malformed, Memory}
 use Rattle.zookie.specs.Text.{zookie_text}
 use Rattle.zookie.specs.declared.Zookie.{Zookie}
 use Rattle.tables.specs.declared.tables.Tables.{Ghosts}
-use Rattle.rows.specs.Retained.{newest}
-use Rattle.shown.specs.Raising.{RefusesBase}
-use Rattle.shown.specs.Standing.{standing}
 use Rattle.published.specs.Receipts.{ReceiptFacts}
 use Rattle.desk.specs.Posts.{Posts, ShowsMore, SameTables}
-use Rattle.desk.specs.Changes.{RebuildAccepted, IsNoChange, IsRefused}
+use Rattle.desk.specs.Changes.{RebuildAccepted, RebuildJudged, IsNoChange, IsRefused}
 use Rattle.bodies.specs.Marking.{AsksRebuild, AsksNoRebuild}
 use Rattle.bodies.specs.Replies.{Says, SaysRefusal, base_data}
 use Rattle.keeper.proofs.Refreshing.{still_refused}
@@ -32,6 +29,6 @@ rebuild_done g old body base receipt shown zookie told new asks accepted shows i
     rebuild_accepted base receipt asks accepted (let s = rw is at says in rw shows at s)
 
 pub rebuild_not_done : {T : Type 0} (g : Ghosts T) (old mid : Posts T) (body : List ℕ) (why : Refusal) (told : Option (ℕ × List ℕ)) (new : Posts T)
-    → AsksRebuild body → IsRefused g old IsNoChange (RefusesBase (standing old.posted) (newest (standing old.posted).kept)) why mid
+    → AsksRebuild body → IsRefused g old IsNoChange RebuildJudged why mid
     → ShowsMore mid new → SameTables mid new → SaysRefusal told why → RebuildStep g old body told new
 rebuild_not_done g old mid body why told new asks refused more same says = rebuild_refused why asks (still_refused g old mid new _ _ why refused more same) says

@@ -7,6 +7,7 @@ use Rattle.rows.specs.Retained.{Retained}
 use Rattle.shown.specs.Standing.{standing}
 use Rattle.tables.specs.Device.{IsOpen, HasFailed, Lasts}
 use Rattle.tables.specs.declared.tables.Tables.{Ghosts}
+use Rattle.published.specs.Judged.{WereJudged}
 use Rattle.published.proofs.Prefixes.{prefix_self, prefix_trans}
 use Rattle.desk.specs.TableChanges.{TableChange, changed}
 use Rattle.desk.specs.Posts.{Posts, ShowsMore, SameTables}
@@ -14,10 +15,10 @@ use Rattle.desk.specs.Changes.{Touches, leaves_alone, adds_one, Refuses, IsRefus
 use Rattle.keeper.specs.Showing.{OnlyShows}
 
 -- a desk that stayed as it was shows no less
-pub shows_itself : {T : Type 0} (d : Posts T) → IsPrefix d.shown d.posted → OnlyShows d d
-shows_itself d beginning =
+pub shows_itself : {T : Type 0} (d : Posts T) → IsPrefix d.shown d.posted → WereJudged d.posted d.shown → OnlyShows d d
+shows_itself d beginning judged =
     record {
-      shows = record { posted = refl; book = refl; later = prefix_self d.shown; beginning = beginning };
+      shows = record { posted = refl; book = refl; later = prefix_self d.shown; beginning = beginning; judged = judged };
       tables = (refl, refl, refl);
       seats = refl;
     }
@@ -37,6 +38,7 @@ module _ {T : Type 0} (g : Ghosts T) (old mid new : Posts T) (made : TableChange
       adds_one change asked (record {
         follows = may.follows;
         adds = subst (λ (t : T). (rs : List Retained) → g.leaves old.tables rs → g.leaves t (changed (standing old.posted).kept change ∷ rs)) (sym same.0) may.adds;
+        holds = λ sound. subst (λ (t : T). g.holds t (standing old.posted).kept) (sym same.0) (may.holds (sym same.1 ∙ sound));
       })
 
   pub still_refused : IsRefused g old made judged why mid → ShowsMore mid new → SameTables mid new → IsRefused g old made judged why new
@@ -47,6 +49,7 @@ module _ {T : Type 0} (g : Ghosts T) (old mid new : Posts T) (made : TableChange
           book = more.book ∙ refused.shows.book;
           later = prefix_trans old.shown mid.shown new.shown refused.shows.later more.later;
           beginning = more.beginning;
+          judged = more.judged;
         };
         cause = refuses_still why same refused.cause;
         touches = touches_still same refused.touches;

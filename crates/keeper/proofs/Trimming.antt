@@ -9,6 +9,7 @@ use Rattle.zookie.specs.declared.Zookie.{Zookie}
 use Rattle.tables.specs.declared.tables.Tables.{Ghosts}
 use Rattle.shown.specs.Standing.{standing}
 use Rattle.shown.specs.Raising.{RefusesFloor}
+use Rattle.published.specs.Judged.{WereJudged}
 use Rattle.published.specs.Receipts.{ReceiptFacts}
 use Rattle.desk.specs.Posts.{Posts, ShowsMore, SameTables}
 use Rattle.desk.specs.Changes.{TrimAccepted, IsTrimmed, trim_raises, trim_stays, IsRaiseTo, IsRefused}
@@ -44,3 +45,7 @@ module _ {T : Type 0} (g : Ghosts T) (old new : Posts T) (rev : ℕ) where
   pub trimmed_later : IsTrimmed g old rev new → IsPrefix old.shown new.shown
   trimmed_later (trim_raises above posts stored) = posts.later
   trimmed_later (trim_stays below shows same) = shows.later
+
+  pub trimmed_judged : IsTrimmed g old rev new → WereJudged new.posted new.shown
+  trimmed_judged (trim_raises above posts stored) = posts.judged
+  trimmed_judged (trim_stays below shows same) = shows.judged

@@ -3,6 +3,7 @@ use Rattle.std.specs.Prelude.{◌≡◌, false, [], ◌∷◌}
 use Rattle.rows.specs.Retained.{Retained}
 use Rattle.tables.specs.declared.tables.Tables.{Ghosts}
 use Rattle.shown.specs.Standing.{standing}
+use Rattle.published.specs.Judged.{WereJudged}
 use Rattle.desk.specs.Posts.{Posts, OpensWith, ComesBack}
 
 -- the history of the posted steps
@@ -13,6 +14,7 @@ kept_by desk = (standing desk.posted).kept
 pub record Began {T : Type 0} (g : Ghosts T) (tables : T) (first : Posts T) : Type 0 where
   pub posted : OpensWith g tables first
   pub shown : first.shown ≡ first.posted
+  pub judged : WereJudged first.posted first.shown
   pub works : first.failed ≡ false
   pub settled : g.leaves first.tables (kept_by first ∷ [])
   pub back : ComesBack g tables first.tables

@@ -1,6 +1,9 @@
 //! Calls by bytes.
 ghost use Rattle.names.specs.Calls.{told};
+ghost use Rattle.shown.specs.Standing.{standing};
+ghost use Rattle.published.specs.Judged.{AreJudged, WereJudged};
 ghost use Rattle.published.specs.Known.{Begins};
+ghost use Rattle.published.specs.Rising.{Rises};
 ghost use Rattle.desk.specs.Posts.{shown_by};
 ghost use Rattle.keeper.specs.Rules.{DeskStep};
 
@@ -24,8 +27,32 @@ use std::sync::Wait;
 use tables::Tables;
 
 /// Answers a call, whose body is these bytes, on a desk that the caller holds. The session then knows no less than it did,
-/// and all that is shown. A question of the future is asked once more after what waits was shown.
+/// and all that is shown. A question of the future is asked once more after what waits was shown. What is shown never goes
+/// back: its floor and its newest revision are no lower than before, in the same store.
 pub fn answer_on<T: Tables + Drop, R: Wait + Drop>(
+    alloc: Global,
+    desk: &mut Desk<T, R>,
+    session: &mut Session,
+    call: Call,
+    body: &[u8],
+) -> Reply
+    requires { Begins (shown_by desk.old) session.old }
+    ensures step { DeskStep T.Tables desk.old call body.now (told result) desk.new }
+    ensures kept { Begins session.old session.new }
+    ensures known { Begins (shown_by desk.new) session.new }
+    ensures judged { WereJudged desk.new.posted desk.new.shown }
+    ensures known_judged { AreJudged session.new.steps }
+    ensures rises { Rises (standing desk.old.shown).kept (standing desk.new.shown).kept }
+{
+    desk.judged_its_steps();
+    let reply = answer_call(alloc, desk, session, call, body);
+    desk.judged_its_steps();
+    session.knows_judged_steps();
+    reply
+}
+
+// Answers by the call's name.
+fn answer_call<T: Tables + Drop, R: Wait + Drop>(
     alloc: Global,
     desk: &mut Desk<T, R>,
     session: &mut Session,

@@ -8,20 +8,30 @@ use Rattle.published.specs.declared.post.Post.{Post}
 use Rattle.published.specs.Known.{Known, next_of, Begins}
 use Rattle.published.specs.Copies.{absorbed, Stands, Chain}
 use Rattle.published.proofs.Standings.{standing_next}
+use Rattle.published.specs.Judged.{AreJudged}
+use Rattle.published.proofs.Judging.{judged_between}
 use Rattle.published.proofs.Rules.{begins_self, begins_trans}
 
--- a copy still stands for its list after the post that follows
-pub absorbed_stands : (x : ShownCopy) (p : Post) → p.after ≡ next_of x.prefix p.step → Stands x → Stands (absorbed x p)
-absorbed_stands x p is stands = ap (λ s. after_step s p.step) stands ∙ (sym (standing_next x.prefix.steps p.step) ∙ ap (λ (k : Known). standing k.steps) (sym is))
+-- a copy still stands for its list after the post that follows, where that list was judged
+pub absorbed_stands : (x : ShownCopy) (p : Post) → p.after ≡ next_of x.prefix p.step → AreJudged p.after.steps → Stands x → Stands (absorbed x p)
+absorbed_stands x p is judged stands = (ap (λ s. after_step s p.step) stands.0 ∙ (sym (standing_next x.prefix.steps p.step) ∙ ap (λ (k : Known). standing k.steps) (sym is)), judged)
 
 pub begins_next : (k l : Known) (step : Step) → l ≡ next_of k step → Begins k l
 begins_next k l step is = subst (λ (m : Known). Begins k m) (sym is) (refl, (step ∷ [], refl))
 
--- after some of the posts
+pub chain_begins : (k : Known) (posts : List Post) (end : Known) → Chain k posts end → Begins k end
+chain_begins k [] end is = subst (λ (m : Known). Begins k m) is (begins_self k)
+chain_begins k (p ∷ posts) end chain = begins_trans k p.after end (begins_next k p.after p.step chain.0) (chain_begins p.after posts end chain.1)
+
+-- after some of the posts, which lead to a list that was judged
 module _ (more : List Post) (end : Known) where
-  pub chain_stands : (x : ShownCopy) (posts : List Post) → Chain x.prefix (posts ++ more) end → Stands x → Stands (fold absorbed x posts)
-  chain_stands x [] chain stands = stands
-  chain_stands x (p ∷ posts) chain stands = chain_stands (absorbed x p) posts chain.1 (absorbed_stands x p chain.0 stands)
+  pub chain_stands : (x : ShownCopy) (posts : List Post) → Chain x.prefix (posts ++ more) end → AreJudged end.steps → Stands x → Stands (fold absorbed x posts)
+  chain_stands x [] chain judged stands = stands
+  chain_stands x (p ∷ posts) chain judged stands =
+      let on = begins_next x.prefix p.after p.step chain.0 in
+      let rest = chain_begins p.after (posts ++ more) end chain.1 in
+      let here : AreJudged p.after.steps = judged_between x.prefix.steps p.after.steps end.steps stands.1 on.1 rest.1 judged in
+      chain_stands (absorbed x p) posts chain.1 judged (absorbed_stands x p chain.0 here stands)
 
   pub chain_goes_on : (x : ShownCopy) (posts : List Post) → Chain x.prefix (posts ++ more) end → Begins x.prefix (fold absorbed x posts).prefix
   chain_goes_on x [] chain = begins_self x.prefix
@@ -30,10 +40,6 @@ module _ (more : List Post) (end : Known) where
   pub chain_done : (x : ShownCopy) (posts : List Post) → Chain x.prefix (posts ++ more) end → Chain (fold absorbed x posts).prefix more end
   chain_done x [] chain = chain
   chain_done x (p ∷ posts) chain = chain_done (absorbed x p) posts chain.1
-
-pub chain_begins : (k : Known) (posts : List Post) (end : Known) → Chain k posts end → Begins k end
-chain_begins k [] end is = subst (λ (m : Known). Begins k m) is (begins_self k)
-chain_begins k (p ∷ posts) end chain = begins_trans k p.after end (begins_next k p.after p.step chain.0) (chain_begins p.after posts end chain.1)
 
 -- one post more
 pub chain_one_more : (k : Known) (posts : List Post) (end : Known) (p : Post) → Chain k posts end → p.after ≡ next_of end p.step → Chain k (posts ++ p ∷ []) p.after
@@ -44,7 +50,7 @@ chain_one_more k (q ∷ posts) end p chain next = (chain.0, chain_one_more q.aft
 chain_all : (k : Known) (posts : List Post) (end : Known) → Chain k posts end → Chain k (posts ++ []) end
 chain_all k posts end chain = subst (λ (ps : List Post). Chain k ps end) (sym (append-nil posts)) chain
 
-pub all_stand : (x : ShownCopy) (posts : List Post) (end : Known) → Chain x.prefix posts end → Stands x → Stands (fold absorbed x posts)
+pub all_stand : (x : ShownCopy) (posts : List Post) (end : Known) → Chain x.prefix posts end → AreJudged end.steps → Stands x → Stands (fold absorbed x posts)
 all_stand x posts end chain = chain_stands [] end x posts (chain_all x.prefix posts end chain)
 
 pub all_go_on : (x : ShownCopy) (posts : List Post) (end : Known) → Chain x.prefix posts end → Begins x.prefix (fold absorbed x posts).prefix

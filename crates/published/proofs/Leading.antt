@@ -7,24 +7,26 @@ use Rattle.shown.specs.declared.step.Step.{Step}
 use Rattle.published.specs.declared.copy.ShownCopy.{ShownCopy}
 use Rattle.published.specs.declared.post.Post.{Post}
 use Rattle.published.specs.Known.{Known, next_of, Begins}
+use Rattle.published.specs.Judged.{AreJudged, WereJudged}
 use Rattle.published.specs.Copies.{absorbed, Stands, Chain}
 use Rattle.published.specs.Writing.{Writing}
 use Rattle.published.specs.Invariant.{Leads}
 use Rattle.published.specs.Publishing.{ShowsMoreOf}
 use Rattle.published.proofs.Prefixes.{prefix_trans}
+use Rattle.published.proofs.Judging.{judged_between}
 use Rattle.published.proofs.Chains.{chain_stands, chain_done, chain_goes_on, chain_begins, chain_moves, chain_length}
 
 module _ (b : Book) (front : Known) (p q : Writing) (stuck : Option Post) (leads : Leads b front p stuck) where
   -- all that waited at the writer was published
-  pub ok_leads : q.published ≡ fold absorbed p.published p.waiting → q.waiting ≡ [] → q.told ≡ Some q.published.prefix → Leads b front q stuck
-  ok_leads is none told =
+  pub ok_leads : AreJudged front.steps → q.published ≡ fold absorbed p.published p.waiting → q.waiting ≡ [] → q.told ≡ Some q.published.prefix → Leads b front q stuck
+  ok_leads judged is none told =
       let rest : Chain (fold absorbed p.published p.waiting).prefix (option_to_list stuck) front = chain_done (option_to_list stuck) front p.published p.waiting leads.chain in
       let here : Chain q.published.prefix (option_to_list stuck) front = subst (λ (c : ShownCopy). Chain c.prefix (option_to_list stuck) front) (sym is) rest in
       record {
         of_book = leads.of_book;
         chain = subst (λ (w : List Post). Chain q.published.prefix (w ++ option_to_list stuck) front) (sym none) here;
         told = told;
-        stands = subst Stands (sym is) (chain_stands (option_to_list stuck) front p.published p.waiting leads.chain leads.stands);
+        stands = subst Stands (sym is) (chain_stands (option_to_list stuck) front p.published p.waiting leads.chain judged leads.stands);
       }
 
   pub ok_later : q.published ≡ fold absorbed p.published p.waiting → Begins p.published.prefix q.published.prefix
@@ -57,22 +59,40 @@ made b front front' p q stuck stuck' post leads order same none some =
       stands = subst Stands (sym same.0) leads.stands;
     }
 
--- the posts at the front lead somewhere
-pub chain_part : (k : Known) (posts more : List Post) (end : Known) → Chain k (posts ++ more) end → (m : Known) × Chain k posts m
-chain_part k [] more end chain = (k, refl)
-chain_part k (p ∷ posts) more end chain = let rest = chain_part p.after posts more end chain.1 in (rest.0, (chain.0, rest.1))
+-- the posts at the front lead somewhere on the way
+chain_part : (k : Known) (posts more : List Post) (end : Known) → Chain k (posts ++ more) end → (m : Known) × Chain k posts m × Chain m more end
+chain_part k [] more end chain = (k, refl, chain)
+chain_part k (p ∷ posts) more end chain = let rest = chain_part p.after posts more end chain.1 in (rest.0, (chain.0, rest.1), rest.2)
+
+module _ (b : Book) (entered : Known) (p : Writing) (stuck : Option Post) (leads : Leads b entered p stuck) where
+  -- what was entered was judged, as all that was posted
+  pub entered_judged : (backlog : List Step) → AreJudged (entered.steps ++ backlog) → AreJudged entered.steps
+  entered_judged backlog judged =
+      judged_between p.published.prefix.steps entered.steps (entered.steps ++ backlog) leads.stands.1 (shown_begins b entered p p stuck leads).1 (backlog, refl) judged
+
+  -- so was what the writer publishes next
+  pub waiting_judged : (backlog : List Step) → AreJudged (entered.steps ++ backlog) → (m : Known) × Chain p.published.prefix p.waiting m × AreJudged m.steps
+  waiting_judged backlog judged =
+      let part = chain_part p.published.prefix p.waiting (option_to_list stuck) entered leads.chain in
+      let from = chain_begins p.published.prefix p.waiting part.0 part.1 in
+      let to = chain_begins part.0 (option_to_list stuck) entered part.2 in (
+        part.0,
+        part.1,
+        judged_between p.published.prefix.steps part.0.steps entered.steps leads.stands.1 from.1 to.1 (entered_judged backlog judged),
+      )
 
 -- a publication as its callers see it
 pub shows_more : (b : Book) (n room room' : ℕ) (front front' : Known) (backlog backlog' : List Step) (p q : Writing) (stuck' : Option Post)
-    → Leads b front' q stuck' → front'.steps ++ backlog' ≡ front.steps ++ backlog → Begins p.published.prefix q.published.prefix → room ≤ room'
+    → Leads b front' q stuck' → AreJudged (front.steps ++ backlog) → front'.steps ++ backlog' ≡ front.steps ++ backlog → Begins p.published.prefix q.published.prefix → room ≤ room'
     → ShowsMoreOf (record { book = b; posted = front.steps ++ backlog; shown = p.published.prefix.steps; seats = n; room = room })
     (record { book = b; posted = front'.steps ++ backlog'; shown = q.published.prefix.steps; seats = n; room = room' })
-shows_more b n room room' front front' backlog backlog' p q stuck' leads posted later more =
+shows_more b n room room' front front' backlog backlog' p q stuck' leads judged posted later more =
     record {
       posted = posted;
       book = refl;
       later = later.1;
       beginning = prefix_trans q.published.prefix.steps front'.steps (front'.steps ++ backlog') (shown_begins b front' q q stuck' leads).1 (backlog', refl);
+      judged = record { posted_were = subst AreJudged (sym posted) judged; shown_were = leads.stands.1 };
       seats = refl;
       room = more;
     }

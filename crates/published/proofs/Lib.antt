@@ -2,7 +2,10 @@ pub mod Prefixes
 pub mod Adding
 pub mod Beginnings
 pub mod Standings
+pub mod Judging
+pub mod Rising
 pub mod Rules
 pub mod Chains
 pub mod Leading
 pub mod Postable
+pub mod Opening

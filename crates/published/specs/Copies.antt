@@ -6,14 +6,15 @@ use Rattle.shown.specs.Standing.{after_step, standing}
 use Rattle.published.specs.declared.copy.ShownCopy.{ShownCopy}
 use Rattle.published.specs.declared.post.Post.{Post}
 use Rattle.published.specs.Known.{Known, next_of, Begins}
+use Rattle.published.specs.Judged.{AreJudged}
 
 -- the copy after one post
 abbrev pub absorbed : ShownCopy → Post → ShownCopy
 absorbed c p = record { shown = after_step c.shown p.step; prefix = p.after }
 
--- the state is the standing of the copy's steps
+-- the state is the standing of the copy's steps, and they were judged
 abbrev pub Stands : ShownCopy → Type 0
-Stands c = c.shown ≡ standing c.prefix.steps
+Stands c = (c.shown ≡ standing c.prefix.steps) × AreJudged c.prefix.steps
 
 -- one who knows nothing yet, or whose list the other begins with
 abbrev pub KnowsNoMore : Option Known → Known → Type 0

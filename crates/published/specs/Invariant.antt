@@ -8,6 +8,7 @@ use Rattle.published.specs.declared.session.Session.{Session}
 use Rattle.published.specs.Known.{Known}
 use Rattle.published.specs.Copies.{Stands, Chain}
 use Rattle.published.specs.Posts.{IsPostable}
+use Rattle.published.specs.Judged.{AreJudged}
 use Rattle.published.specs.Writing.{Writing}
 
 -- What is published stands for its steps. They, what waits at the writer and what found no memory there lead
@@ -18,10 +19,12 @@ pub record Leads (book : Book) (entered : Known) (p : Writing) (stuck : Option P
   pub told : p.told ≡ Some p.published.prefix
   pub stands : Stands p.published
 
--- the publication leads so, the steps that wait to be entered can be posted, and the sessions are of the book
+-- the publication leads so, all posted steps were judged, those that wait to be entered can be posted, and the sessions are
+-- of the book
 pub record IsSound
     (book : Book) (entered : Known) (backlog : List Step) (p : Writing) (stuck : Option Post)
     (sessions : List Session) : Type 0 where
   pub leads : Leads book entered p stuck
+  pub judged : AreJudged (entered.steps ++ backlog)
   pub postable : All IsPostable backlog
   pub seated : All (λ s. s.book ≡ book) sessions

@@ -2,6 +2,8 @@ pub mod Book
 pub mod Known
 pub mod Receipts
 pub mod Posts
+pub mod Judged
+pub mod Rising
 pub mod Copies
 pub mod Writing
 pub mod Publishing

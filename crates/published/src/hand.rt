@@ -3,6 +3,7 @@ ghost use Rattle.std.specs.Prelude.{◌≡◌, ◌↔◌, ◌<◌, ◌≤◌, �
 ghost use Rattle.std.specs.VecDeque.{deque_len, deque_capacity};
 ghost use Rattle.published.specs.Known.{Begins, next_of};
 ghost use Rattle.published.specs.Posts.{IsPostable};
+ghost use Rattle.published.specs.Judged.{AreJudged};
 ghost use Rattle.published.specs.Invariant.{Leads};
 
 use crate::book::{Book, StepPrefix};
@@ -23,6 +24,7 @@ pub(crate) fn publish_all<R: Wait + Drop>(
     stuck: &mut Option<Post>,
 ) -> bool
     requires leads { Leads book.now entered.old publisher.old stuck.old }
+    requires judged { AreJudged (entered.old.steps ++ backlog.old.items) }
     requires postable { All IsPostable backlog.old.items }
     ensures leads { Leads book.now entered.new publisher.new stuck.new }
     ensures postable { All IsPostable backlog.new.items }

@@ -5,6 +5,7 @@
 mod book;
 mod copy;
 mod hand;
+mod law;
 mod post;
 mod publication;
 mod publisher;
@@ -13,6 +14,7 @@ mod rule;
 mod session;
 
 pub use book::{Book, Naming, Opened, StepPrefix};
+pub use law::revisions_rise;
 pub use publication::{MAX_SESSIONS, Publication};
-pub use receipt::Receipt;
+pub use receipt::{Receipt, ShownSteps};
 pub use session::Session;

@@ -2,7 +2,7 @@
 ghost use Rattle.std.specs.Prelude.{◌≡◌, map, true, IsTrue, IfOk};
 ghost use Rattle.rows.specs.Follows.{touch_of, touch_kind};
 ghost use Rattle.shown.specs.Standing.{HasRoom};
-ghost use Rattle.published.specs.Posts.{is_postable, touches_in};
+ghost use Rattle.published.specs.Posts.{IsLater, is_postable, touches_in};
 
 use crate::book::StepPrefix;
 use names::{Event, EventKind, Items, Op, OpKind};
@@ -23,7 +23,8 @@ pub struct Post {
 /// Whether the step can follow. It was judged before it was posted: a copy cannot know by its type which
 /// steps it has, and judges again.
 pub(crate) fn can_follow(shown: &Shown, post: &Post) -> bool
-    ensures { IsTrue result → HasRoom shown.now post.now.step }
+    ensures room { IsTrue result → HasRoom shown.now post.now.step }
+    ensures later { IsTrue result → IsLater post.now.step }
 {
     match &post.step {
         Step::Open(_) => false,

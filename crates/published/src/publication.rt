@@ -1,10 +1,11 @@
 //! The publication of one store.
-ghost use Rattle.std.specs.Prelude.{◌≡◌, ◌↔◌, ◌+◌, ◌≤◌, [], ◌∷◌, ◌++◌, All, IsTrue, IfOk, IfErr, OnOk, Err, Some, vec_len};
+ghost use Rattle.std.specs.Prelude.{◌≡◌, ◌↔◌, ◌+◌, ◌≤◌, [], ◌∷◌, ◌++◌, All, IsTrue, IfOk, IfErr, OnOk, OnErr, Err, Some, vec_len};
 ghost use Rattle.names.specs.declared.refusal.Refusal.TheVariants.{NoSeat};
 ghost use Rattle.rows.specs.Retained.{newest};
 ghost use Rattle.shown.specs.Standing.{nothing, standing, HasRoom};
 ghost use Rattle.published.specs.Known.{Begins};
 ghost use Rattle.published.specs.Posts.{IsLater};
+ghost use Rattle.published.specs.Judged.{AreJudged, WereJudged};
 ghost use Rattle.published.specs.Publishing.{ShowsMoreOf, IsSameBut, shown_by};
 
 use crate::book::{Book, Opened, StepPrefix};
@@ -12,6 +13,7 @@ use crate::copy::ShownCopy;
 use crate::hand::publish_all;
 use crate::post::Post;
 use crate::publisher::Publisher;
+use crate::receipt::ShownSteps;
 use crate::session::Session;
 use names::Refusal;
 use shown::{Shown, Step};
@@ -72,6 +74,7 @@ impl<R: Wait + Drop> Publication<R> {
         ensures book { IfOk result (λ p. p.book ≡ opened.book) }
         ensures posted { IfOk result (λ p. p.posted ≡ first ∷ []) }
         ensures shown { IfOk result (λ p. p.shown ≡ p.posted) }
+        ensures judged { IfOk result (λ p. WereJudged p.posted p.shown) }
         ensures seats { IfOk result (λ p. p.seats ≡ MAX_SESSIONS) }
     {
         let Opened { book, prefix } = opened;
@@ -94,9 +97,11 @@ impl<R: Wait + Drop> Publication<R> {
         })
     }
 
-    /// Makes room for one step more to wait.
+    /// Makes room for one step more to wait, where there is none.
     pub fn reserve(&mut self) -> Result<(), AllocError>
         ensures room { OnOk result (1 ≤ self.new.room) }
+        ensures more { self.old.room ≤ self.new.room }
+        ensures full { OnErr result (self.old.room ≡ 0) }
         ensures same { IsSameBut self.old self.new }
     {
         self.backlog.reserve(1)
@@ -108,6 +113,8 @@ impl<R: Wait + Drop> Publication<R> {
         requires follows { HasRoom (standing self.old.posted) step }
         requires later { IsLater step }
         ensures posted { self.new.posted ≡ self.old.posted ++ step ∷ [] }
+        ensures judged { WereJudged self.new.posted self.new.shown }
+        ensures room { self.new.room + 1 ≡ self.old.room }
         ensures same { (self.new.book ≡ self.old.book) × (self.new.shown ≡ self.old.shown)
             × (self.new.seats ≡ self.old.seats) }
     {
@@ -130,10 +137,11 @@ impl<R: Wait + Drop> Publication<R> {
     }
 
     /// The shown steps.
-    pub fn shown_steps(&self) -> StepPrefix
-        ensures { result ≡ shown_by self.now }
+    pub fn shown_steps(&self) -> ShownSteps
+        ensures steps { result ≡ shown_by self.now }
+        ensures judged { AreJudged self.now.shown }
     {
-        self.publisher.published().prefix.again()
+        ShownSteps::of(self.publisher.published().prefix.again())
     }
 
     /// The state that is shown, for whoever holds the publication. Sessions ask it with no lock.
@@ -153,6 +161,7 @@ impl<R: Wait + Drop> Publication<R> {
     /// A session that knows what is shown now. It is refused exactly where all were given out.
     pub fn session(&mut self) -> Result<Session, Refusal>
         ensures known { IfOk result (λ session. Begins (shown_by self.new) session) }
+        ensures judged { IfOk result (λ session. AreJudged session.steps) }
         ensures seats { IfOk result (λ _. self.new.seats + 1 ≡ self.old.seats) }
         ensures none { (result ≡ Err NoSeat) ↔ (self.old.seats ≡ 0) }
         ensures err { IfErr result (λ why.
@@ -160,11 +169,11 @@ impl<R: Wait + Drop> Publication<R> {
         ensures same { (self.new.book ≡ self.old.book) × (self.new.posted ≡ self.old.posted)
             × (self.new.shown ≡ self.old.shown) × (self.new.room ≡ self.old.room) }
     {
-        let prefix = self.shown_steps();
+        let shown = self.shown_steps();
         let Some(mut session) = self.sessions.pop() else {
             return Err(Refusal::NoSeat);
         };
-        session.learn_steps(&prefix);
+        session.learn_steps(shown.prefix());
         Ok(session)
     }
 }
@@ -174,7 +183,8 @@ fn make_sessions<R: Wait + Drop>(
     publisher: &mut Publisher<R>,
     entered: &StepPrefix,
 ) -> Result<Vec<Session>, AllocError>
-    requires { publisher.old.told ≡ Some entered.now }
+    requires told { publisher.old.told ≡ Some entered.now }
+    requires judged { AreJudged entered.now.steps }
     ensures same { OnOk result (publisher.new ≡ publisher.old) }
     ensures sessions { IfOk result (λ v.
         (vec_len v ≡ 32) × All (λ s. s.book ≡ entered.now.book) v.items) }

@@ -2,6 +2,7 @@
 ghost use Rattle.std.specs.Prelude.{◌≡◌, ◌↔◌, ◌<◌, ◌^◌, length, IsTrue, [], ◌∷◌, ◌++◌, IfOk, OnOk, OnErr, MatchResult, Some, None, drop, fold};
 ghost use Rattle.left_right.specs.Sides.{view as seen_by};
 ghost use Rattle.published.specs.Known.{Known};
+ghost use Rattle.published.specs.Judged.{AreJudged};
 ghost use Rattle.published.specs.Copies.{Stands, Chain, absorbed};
 
 use crate::copy::ShownCopy;
@@ -81,7 +82,8 @@ impl<R: Wait + Drop> Publisher<R> {
     /// Shows readers all posts that wait, and waits for those that read the other copy. For want of memory it
     /// shows none.
     pub fn publish(&mut self) -> Result<(), AllocError>
-        requires { (end : Known) × Chain self.old.published.prefix self.old.waiting end }
+        requires { (end : Known) × Chain self.old.published.prefix self.old.waiting end
+            × AreJudged end.steps }
         ensures ok { OnOk result (
             (self.new.published ≡ fold absorbed self.old.published self.old.waiting)
             × (self.new.waiting ≡ []) × (self.new.told ≡ Some self.new.published.prefix)) }
@@ -104,7 +106,8 @@ impl<R: Wait + Drop> Publisher<R> {
 // The publication, as a function of the writer.
 fn show<R: Wait>(writer: CopyWriter, rt: &R) -> (CopyWriter, Result<(), AllocError>)
     requires { (end : Known)
-        × Chain writer.desk.shown.value.prefix (drop writer.behind writer.log.items) end }
+        × Chain writer.desk.shown.value.prefix (drop writer.behind writer.log.items) end
+        × AreJudged end.steps }
     ensures ok { OnOk result.1 (
         (result.0.desk.shown.value
         ≡ fold absorbed writer.desk.shown.value (drop writer.behind writer.log.items))

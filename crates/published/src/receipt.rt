@@ -1,9 +1,47 @@
 //! Receipts.
 ghost use Rattle.std.specs.Prelude.{◌≡◌};
+ghost use Rattle.published.specs.Judged.{AreJudged};
 
 use crate::book::StepPrefix;
 use std::marker::Model;
 use zookie::Zookie;
+
+/// Steps that a publication shows. All of them were judged before they were posted.
+#[derive(Drop)]
+pub struct ShownSteps {
+    prefix: StepPrefix,
+}
+
+impl Model for ShownSteps {
+    ghost use Rattle.published.specs.Known.{Known};
+    ghost use Rattle.published.specs.Judged.{AreJudged};
+    ghost use Rattle.published.specs.inside.Codes.{coded_known};
+
+    ghost Value = { Known };
+
+    ghost coded = { coded_known };
+
+    ghost view = { λ s. s.prefix };
+
+    ghost invariant = { λ s. AreJudged s.prefix.steps };
+}
+
+impl ShownSteps {
+    pub(crate) fn of(prefix: StepPrefix) -> ShownSteps
+        requires { AreJudged prefix.steps }
+        ensures { result ≡ prefix }
+    {
+        ShownSteps { prefix }
+    }
+
+    /// The list of them.
+    pub(crate) fn prefix(&self) -> &StepPrefix
+        ensures same { result.now ≡ self.now }
+        ensures judged { AreJudged result.now.steps }
+    {
+        &self.prefix
+    }
+}
 
 /// What a caller is told of an accepted change: the zookie of the newest posted revision, whether all
 /// that is posted is shown, and the shown steps, which exist in proofs alone.
@@ -11,7 +49,7 @@ use zookie::Zookie;
 pub struct Receipt {
     zookie: Zookie,
     shown: bool,
-    published: StepPrefix,
+    published: ShownSteps,
 }
 
 impl Model for Receipt {
@@ -32,7 +70,7 @@ impl Model for Receipt {
 
 impl Receipt {
     /// A receipt that says this.
-    pub fn new(zookie: Zookie, shown: bool, published: StepPrefix) -> Receipt
+    pub fn new(zookie: Zookie, shown: bool, published: ShownSteps) -> Receipt
         ensures { result ≡ record {
           number = zookie.store;
           rev = zookie.rev;
@@ -63,8 +101,9 @@ impl Receipt {
 
     /// The shown steps.
     pub fn published_steps(&self) -> &StepPrefix
-        ensures { result.now ≡ self.now.published }
+        ensures same { result.now ≡ self.now.published }
+        ensures judged { AreJudged result.now.steps }
     {
-        &self.published
+        self.published.prefix()
     }
 }

@@ -11,6 +11,7 @@ ghost use Rattle.shown.specs.Grouping.{AreGroups, IsGroupsRefusal};
 ghost use Rattle.shown.specs.Paging.{IsPage, IsPageRefusal};
 ghost use Rattle.shown.specs.Watching.{IsWatched, WatchRefused};
 ghost use Rattle.published.specs.Known.{Known, Begins};
+ghost use Rattle.published.specs.Judged.{AreJudged};
 ghost use Rattle.published.specs.Copies.{KnowsNoMore};
 ghost use Rattle.published.specs.Answering.{IsRefusedIn, IsWatchRefusedIn};
 
@@ -29,7 +30,8 @@ use zookie::{Consistency, Zookie};
 
 /// A reader of the published state, and the steps that it knows. Contracts see it as those steps, with the
 /// name of their book. What it is asked is answered by the standing of steps that begin with all it knew, and
-/// from then on it knows these. It outlives the publication, and answers nothing from then on.
+/// from then on it knows these. All that it knows was judged before it was posted. It outlives the publication,
+/// and answers nothing from then on.
 #[derive(Drop)]
 pub struct Session {
     reader: CopyReader,
@@ -40,6 +42,7 @@ impl Model for Session {
     ghost use Rattle.std.specs.Prelude.{◌≡◌, Some};
     ghost use Rattle.left_right.specs.Sides.{view as seen_by};
     ghost use Rattle.published.specs.Known.{Known};
+    ghost use Rattle.published.specs.Judged.{AreJudged};
     ghost use Rattle.published.specs.inside.Codes.{coded_known};
 
     ghost Value = { Known };
@@ -49,12 +52,14 @@ impl Model for Session {
     ghost view = { λ s. s.known };
 
     ghost invariant = { λ s.
-        (k : Known) × (seen_by s.reader.place ≡ Some k) × (k.book ≡ s.known.book) };
+        ((k : Known) × (seen_by s.reader.place ≡ Some k) × (k.book ≡ s.known.book))
+        × AreJudged s.known.steps };
 }
 
 impl Session {
     pub(crate) fn new(reader: CopyReader, known: StepPrefix) -> Session
-        requires { (k : Known) × (view reader.place ≡ Some k) × (k.book ≡ known.book) }
+        requires seen { (k : Known) × (view reader.place ≡ Some k) × (k.book ≡ known.book) }
+        requires judged { AreJudged known.steps }
         ensures { result ≡ known }
     {
         Session { reader, known }
@@ -71,6 +76,7 @@ impl Session {
             (IsAnswer (standing self.new.steps) consistency.now node.now user.now) }
         ensures err { IfErr result (IsRefusedIn self.old self.new
             (IsRefusal (standing self.new.steps) consistency.now node.now)) }
+        ensures judged { AreJudged self.new.steps }
         ensures later { Begins self.old self.new }
     {
         match self.check_in_store(consistency, node, user) {
@@ -94,6 +100,7 @@ impl Session {
         ensures err { IfSome result (λ asked. IfErr asked.1
             (IsRefusal (standing self.new.steps) consistency.now node.now)) }
         ensures none { IfNone result (self.new ≡ self.old) }
+        ensures judged { AreJudged self.new.steps }
         ensures later { Begins self.old self.new }
     {
         let question = Question {
@@ -122,6 +129,7 @@ impl Session {
         ensures ok { IfOk result (IsTree (standing self.new.steps) consistency.now node.now depth) }
         ensures err { IfErr result (IsRefusedIn self.old self.new
             (IsTreeRefusal (standing self.new.steps) consistency.now node.now depth)) }
+        ensures judged { AreJudged self.new.steps }
         ensures later { Begins self.old self.new }
     {
         match self.expand_in_store(consistency, node, depth) {
@@ -147,6 +155,7 @@ impl Session {
         ensures err { IfSome result (λ asked. IfErr asked.1
             (IsTreeRefusal (standing self.new.steps) consistency.now node.now depth)) }
         ensures none { IfNone result (self.new ≡ self.old) }
+        ensures judged { AreJudged self.new.steps }
         ensures later { Begins self.old self.new }
     {
         let question = TreeQuestion {
@@ -171,6 +180,7 @@ impl Session {
         ensures ok { IfOk result (IsPage (standing self.new.steps) consistency.now asked.now) }
         ensures err { IfErr result (IsRefusedIn self.old self.new
             (IsPageRefusal (standing self.new.steps) consistency.now)) }
+        ensures judged { AreJudged self.new.steps }
         ensures later { Begins self.old self.new }
     {
         match self.read_in_store(consistency, asked) {
@@ -193,6 +203,7 @@ impl Session {
         ensures err { IfSome result (λ told. IfErr told.1
             (IsPageRefusal (standing self.new.steps) consistency.now)) }
         ensures none { IfNone result (self.new ≡ self.old) }
+        ensures judged { AreJudged self.new.steps }
         ensures later { Begins self.old self.new }
     {
         let question = TuplesQuestion { consistency, asked };
@@ -215,6 +226,7 @@ impl Session {
             (AreGroups (standing self.new.steps) consistency.now (query_of expr.now) limit) }
         ensures err { IfErr result (IsRefusedIn self.old self.new
             (IsGroupsRefusal (standing self.new.steps) consistency.now (query_of expr.now) limit)) }
+        ensures judged { AreJudged self.new.steps }
         ensures later { Begins self.old self.new }
     {
         match self.groups_in_store(consistency, expr, limit) {
@@ -238,6 +250,7 @@ impl Session {
         ensures err { IfSome result (λ told. IfErr told.1
             (IsGroupsRefusal (standing self.new.steps) consistency.now (query_of expr.now) limit)) }
         ensures none { IfNone result (self.new ≡ self.old) }
+        ensures judged { AreJudged self.new.steps }
         ensures later { Begins self.old self.new }
     {
         let question = GroupsQuestion {
@@ -263,6 +276,7 @@ impl Session {
         ensures ok { IfOk result
             (IsWatched (standing self.new.steps) cursor.now namespaces.now commits) }
         ensures err { IfErr result (IsWatchRefusedIn self.old self.new cursor.now) }
+        ensures judged { AreJudged self.new.steps }
         ensures later { Begins self.old self.new }
     {
         match self.watch_in_store(cursor, namespaces, commits) {
@@ -286,6 +300,7 @@ impl Session {
         ensures err { IfSome result (λ asked. IfErr asked.1
             (WatchRefused (standing self.new.steps) cursor.now)) }
         ensures none { IfNone result (self.new ≡ self.old) }
+        ensures judged { AreJudged self.new.steps }
         ensures later { Begins self.old self.new }
     {
         let question = PageQuestion {
@@ -305,6 +320,7 @@ impl Session {
     pub fn state(&mut self) -> Result<State, Refusal>
         ensures ok { IfOk result (λ state. state ≡ state_of (standing self.new.steps)) }
         ensures err { IfErr result (λ why. (why ≡ Reopen) × (self.new ≡ self.old)) }
+        ensures judged { AreJudged self.new.steps }
         ensures later { Begins self.old self.new }
     {
         match self.state_in_store() {
@@ -319,6 +335,7 @@ impl Session {
             told.0 ≡ (standing self.new.steps).kept.number) }
         ensures state { IfSome result (λ told. told.1 ≡ state_of (standing self.new.steps)) }
         ensures none { IfNone result (self.new ≡ self.old) }
+        ensures judged { AreJudged self.new.steps }
         ensures later { Begins self.old self.new }
     {
         let (numbers, number, prefix) = replace_with(&mut self.reader, (), look_at_state)?;
@@ -329,9 +346,18 @@ impl Session {
         Some((number, numbers))
     }
 
+    /// All that a session knows was judged, whether it has been asked yet or not.
+    pub fn knows_judged_steps(&self)
+        ensures { AreJudged self.now.steps }
+    {
+        // A proof knows the invariant where a field is used.
+        let _ = &self.known;
+    }
+
     /// From now on the session knows no less than what the receipt tells. It takes no memory.
     pub fn learn(&mut self, receipt: &Receipt)
         requires { receipt.now.published.book ≡ self.old.book }
+        ensures judged { AreJudged self.new.steps }
         ensures kept { Begins self.old self.new }
         ensures told { Begins receipt.now.published self.new }
         ensures least { (self.new ≡ self.old) ⊎ (self.new ≡ receipt.now.published) }
@@ -341,7 +367,9 @@ impl Session {
 
     /// From now on the session knows no less than these steps.
     pub(crate) fn learn_steps(&mut self, steps: &StepPrefix)
-        requires { steps.now.book ≡ self.old.book }
+        requires book { steps.now.book ≡ self.old.book }
+        requires judged { AreJudged steps.now.steps }
+        ensures judged { AreJudged self.new.steps }
         ensures kept { Begins self.old self.new }
         ensures told { Begins steps.now self.new }
         ensures least { (self.new ≡ self.old) ⊎ (self.new ≡ steps.now) }
@@ -408,6 +436,7 @@ fn look(
 )
     ensures seen { IfSome result.1 (λ seen.
         KnowsNoMore (view reader.place) seen.2 × (view result.0.place ≡ Some seen.2)) }
+    ensures judged { IfSome result.1 (λ seen. AreJudged seen.2.steps) }
     ensures number { IfSome result.1 (λ seen. seen.1 ≡ (standing seen.2.steps).kept.number) }
     ensures ok { IfSome result.1 (λ seen. IfOk seen.0
         (IsAnswer (standing seen.2.steps) question.entry.consistency.now question.entry.node.now question.entry.user.now)) }
@@ -440,6 +469,7 @@ fn look_at_tree(
     requires bounded { question.depth ≤ MAX_DEPTH }
     ensures seen { IfSome result.1 (λ seen.
         KnowsNoMore (view reader.place) seen.2 × (view result.0.place ≡ Some seen.2)) }
+    ensures judged { IfSome result.1 (λ seen. AreJudged seen.2.steps) }
     ensures number { IfSome result.1 (λ seen. seen.1 ≡ (standing seen.2.steps).kept.number) }
     ensures ok { IfSome result.1 (λ seen. IfOk seen.0
         (IsTree (standing seen.2.steps) question.entry.consistency.now question.entry.node.now question.entry.depth)) }
@@ -470,6 +500,7 @@ fn look_at_tuples(
 )
     ensures seen { IfSome result.1 (λ seen.
         KnowsNoMore (view reader.place) seen.2 × (view result.0.place ≡ Some seen.2)) }
+    ensures judged { IfSome result.1 (λ seen. AreJudged seen.2.steps) }
     ensures number { IfSome result.1 (λ seen. seen.1 ≡ (standing seen.2.steps).kept.number) }
     ensures ok { IfSome result.1 (λ seen. IfOk seen.0
         (IsPage (standing seen.2.steps) question.entry.consistency.now question.entry.asked.now)) }
@@ -498,6 +529,7 @@ fn look_at_groups(
 )
     ensures seen { IfSome result.1 (λ seen.
         KnowsNoMore (view reader.place) seen.2 × (view result.0.place ≡ Some seen.2)) }
+    ensures judged { IfSome result.1 (λ seen. AreJudged seen.2.steps) }
     ensures number { IfSome result.1 (λ seen. seen.1 ≡ (standing seen.2.steps).kept.number) }
     ensures ok { IfSome result.1 (λ seen. IfOk seen.0
         (AreGroups (standing seen.2.steps) question.entry.consistency.now (query_of question.entry.expr.now) question.entry.limit)) }
@@ -525,6 +557,7 @@ fn look_at_page(
 ) -> (CopyReader, Option<(Result<Page, Refusal>, u64, StepPrefix)>)
     ensures seen { IfSome result.1 (λ seen.
         KnowsNoMore (view reader.place) seen.2 × (view result.0.place ≡ Some seen.2)) }
+    ensures judged { IfSome result.1 (λ seen. AreJudged seen.2.steps) }
     ensures number { IfSome result.1 (λ seen. seen.1 ≡ (standing seen.2.steps).kept.number) }
     ensures ok { IfSome result.1 (λ seen. IfOk seen.0
         (IsWatched (standing seen.2.steps) question.entry.cursor.now question.entry.namespaces.now question.entry.commits)) }
@@ -552,6 +585,7 @@ fn look_at_state(
 ) -> (CopyReader, Option<(State, u64, StepPrefix)>)
     ensures seen { IfSome result.1 (λ seen.
         KnowsNoMore (view reader.place) seen.2 × (view result.0.place ≡ Some seen.2)) }
+    ensures judged { IfSome result.1 (λ seen. AreJudged seen.2.steps) }
     ensures number { IfSome result.1 (λ seen. seen.1 ≡ (standing seen.2.steps).kept.number) }
     ensures state { IfSome result.1 (λ seen. seen.0 ≡ state_of (standing seen.2.steps)) }
     ensures refused { IfNone result.1 (view result.0.place ≡ view reader.place) }

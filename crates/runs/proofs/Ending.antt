@@ -14,7 +14,7 @@ use Rattle.tracked_io.specs.Tracking.{TrackedReading, TrackedWriting}
 use Rattle.keeper.specs.Beginning.{Began, kept_by}
 use Rattle.runs.specs.Runs.{Ended, ServedBy, PausedBy, CutBy, IsAskedIn}
 use Rattle.runs.specs.inside.Leaving.{HasLeft, Answered}
-use Rattle.runs.proofs.Leaving.{Weaker, after_run}
+use Rattle.runs.proofs.Leaving.{Weaker, holds_first, after_run}
 use Rattle.runs.proofs.Asked.{asked_first, asked_fed}
 
 -- what is known of a desk whose tables were given back
@@ -24,7 +24,7 @@ pub record Closed {T : Type 0} (g : Ghosts T) (last : Posts T) (left : T) : Type
 
 module _ {T : Type 0} (g : Ghosts T) (weaker : Weaker g) (tables : T) (first last : Posts T) (left : T) (began : Began g tables first) (closed : Closed g last left) where
   starts : (P : TableChange → Type 0) → HasLeft g P (g.device first.tables) first
-  starts P = record { more = []; follow = All-nil (CanChange (kept_by first)); asked = All-nil P; leaves = began.settled; lasts = lasts_self (g.device first.tables) }
+  starts P = record { holds = λ _. holds_first g tables first began; more = []; follow = All-nil (CanChange (kept_by first)); asked = All-nil P; leaves = began.settled; lasts = lasts_self (g.device first.tables) }
 
   lasts_to : (P : TableChange → Type 0) → HasLeft g P (g.device first.tables) last → Lasts (g.device first.tables) (g.device left)
   lasts_to P h = subst (λ (t : T). Lasts (g.device first.tables) (g.device t)) (sym closed.given) h.lasts

@@ -1,5 +1,5 @@
 -- What the tables of a desk leave after each line.
-use Rattle.std.proofs.Common.{◌≡◌, ℕ, Bool, true, false, List, [], ◌∷◌, map, refl, sym, ap, subst, ◌∙◌, inl, inr}
+use Rattle.std.proofs.Common.{◌≡◌, ℕ, Bool, true, false, List, [], ◌∷◌, map, refl, sym, ap, subst, ◌∙◌, inl, inr, true≢false}
 use Rattle.std.specs.Prelude.{Option, Some, None, nat_le, length}
 use Rattle.std.specs.List.{All}
 use Rattle.std.proofs.lemmas.List.Elements.{All-nil, All-cons}
@@ -8,6 +8,7 @@ use Rattle.names.specs.declared.limits.TheConstants.{MAX_BODY_LEN}
 use Rattle.names.specs.declared.call.Call.{Call}
 use Rattle.names.specs.declared.call.Call.TheVariants as call
 use Rattle.names.specs.declared.refusal.Refusal.{Refusal}
+use Rattle.names.specs.declared.refusal.Refusal.TheVariants.{Memory, StoreFault, Reopen}
 use Rattle.names.specs.declared.write.Write.{Write}
 use Rattle.zookie.specs.declared.Zookie.{Zookie}
 use Rattle.bodies.specs.Writing.{AsksWrite}
@@ -23,7 +24,7 @@ use Rattle.shown.specs.Standing.{Standing, standing, nothing, after_step, after_
 use Rattle.std.proofs.lemmas.List.Sums.{fold-append}
 use Rattle.desk.specs.TableChanges.{TableChange, Adds, Raises, changed, CanChange}
 use Rattle.desk.specs.Posts.{Posts}
-use Rattle.desk.specs.Changes.{IsStored, IsTrimmed, trim_raises, trim_stays, IsCommitOfWrite, IsRaiseTo, IsRefused, Touches, leaves_alone, adds_one}
+use Rattle.desk.specs.Changes.{IsStored, IsTrimmed, trim_raises, trim_stays, IsCommitOfWrite, IsRaiseTo, IsRefused, Touches, leaves_alone, adds_one, Refuses}
 use Rattle.keeper.specs.Rules.{DeskStep}
 use Rattle.keeper.specs.Showing.{OnlyShows}
 use Rattle.keeper.specs.calls.Write.{WriteStep, write_malformed, write_bad_zookie, write_accepted, write_refused, write_unread}
@@ -39,7 +40,7 @@ use Rattle.keeper.specs.calls.Hot.{HotStep, hot_malformed, hot_accepted, hot_ref
 use Rattle.keeper.specs.calls.Rebuild.{RebuildStep, rebuild_malformed, rebuild_accepted, rebuild_refused, rebuild_unread}
 use Rattle.lines.specs.Text.{word_of, body_of}
 use Rattle.lines.specs.Machine.{IsAnswer, Run}
-use Rattle.keeper.specs.Beginning.{kept_by}
+use Rattle.keeper.specs.Beginning.{Began, kept_by}
 use Rattle.runs.specs.Runs.{AsksChange, IsAskedIn}
 use Rattle.runs.specs.inside.Leaving.{HasLeft}
 use Rattle.tables.proofs.Lasting.{lasts_trans}
@@ -62,12 +63,17 @@ kept_by_take : (s : Standing) (part : Part) (n : ℕ) → (after_take s part n).
 kept_by_take s Index n = refl
 kept_by_take s Hot n = refl
 
+-- the tables that a desk was opened on hold the history of its one step
+pub holds_first : {T : Type 0} (g : Ghosts T) (tables : T) (first : Posts T) → Began g tables first → g.holds first.tables (kept_by first)
+holds_first g tables first began = subst (λ (steps : List Step). g.holds first.tables (standing steps).kept) (sym began.posted.1) began.posted.2
+
 module _ {T : Type 0} (g : Ghosts T) (weaker : Weaker g) (P : TableChange → Type 0) (start : Device) where
   pub same_desk : (old new : Posts T) → new ≡ old → HasLeft g P start old → HasLeft g P start new
   same_desk old new same h = subst (λ (d : Posts T). HasLeft g P start d) (sym same) h
 
-  same_tables : (old new : Posts T) → new.tables ≡ old.tables → kept_by new ≡ kept_by old → HasLeft g P start old → HasLeft g P start new
-  same_tables old new tables kept h = record {
+  same_tables : (old new : Posts T) → new.tables ≡ old.tables → (new.failed ≡ false → old.failed ≡ false) → kept_by new ≡ kept_by old → HasLeft g P start old → HasLeft g P start new
+  same_tables old new tables sound kept h = record {
+    holds = λ works. subst (λ (r : Retained). g.holds new.tables r) (sym kept) (subst (λ (t : T). g.holds t (kept_by old)) (sym tables) (h.holds (sound works)));
     more = h.more;
     follow = subst (λ (r : Retained). All (CanChange r) h.more) (sym kept) h.follow;
     asked = h.asked;
@@ -76,12 +82,13 @@ module _ {T : Type 0} (g : Ghosts T) (weaker : Weaker g) (P : TableChange → Ty
   }
 
   shows_only : (old new : Posts T) → OnlyShows old new → HasLeft g P start old → HasLeft g P start new
-  shows_only old new only h = same_tables old new only.tables.0 (ap (λ (steps : List Step). (standing steps).kept) only.shows.posted) h
+  shows_only old new only h = same_tables old new only.tables.0 (λ works. sym only.tables.1 ∙ works) (ap (λ (steps : List Step). (standing steps).kept) only.shows.posted) h
 
-  one_more : (old new : Posts T) (change : TableChange) → kept_by new ≡ kept_by old → P change → CanChange (kept_by old) change
+  one_more : (old new : Posts T) (change : TableChange) → kept_by new ≡ kept_by old → P change → CanChange (kept_by old) change → (new.failed ≡ false → g.holds new.tables (kept_by old))
       → ((rs : List Retained) → g.leaves old.tables rs → g.leaves new.tables (changed (kept_by old) change ∷ rs))
       → Lasts (g.device old.tables) (g.device new.tables) → HasLeft g P start old → HasLeft g P start new
-  one_more old new change kept asked can adds lasts h = record {
+  one_more old new change kept asked can holds adds lasts h = record {
+    holds = λ works. subst (λ (r : Retained). g.holds new.tables r) (sym kept) (holds works);
     more = change ∷ h.more;
     follow = subst (λ (r : Retained). All (CanChange r) (change ∷ h.more)) (sym kept) (All-cons (CanChange (kept_by old)) change h.more can h.follow);
     asked = All-cons P change h.more asked h.asked;
@@ -92,6 +99,7 @@ module _ {T : Type 0} (g : Ghosts T) (weaker : Weaker g) (P : TableChange → Ty
 
   stored : (old new : Posts T) → IsStored g old new → HasLeft g P start old → HasLeft g P start new
   stored old new is h = record {
+    holds = λ works. is.holds;
     more = [];
     follow = All-nil (CanChange (kept_by new));
     asked = All-nil P;
@@ -99,14 +107,21 @@ module _ {T : Type 0} (g : Ghosts T) (weaker : Weaker g) (P : TableChange → Ty
     lasts = lasts_trans start (g.device old.tables) (g.device new.tables) h.lasts is.lasts;
   }
 
-  touched : (old new : Posts T) (made : TableChange → Type 0) → ((c : TableChange) → made c → P c) → kept_by new ≡ kept_by old → Lasts (g.device old.tables) (g.device new.tables)
+  touched : (old new : Posts T) (made : TableChange → Type 0) → ((c : TableChange) → made c → P c) → kept_by new ≡ kept_by old → (new.failed ≡ false → old.failed ≡ false) → Lasts (g.device old.tables) (g.device new.tables)
       → Touches g old made new → HasLeft g P start old → HasLeft g P start new
-  touched old new made asked kept lasts (leaves_alone same) h = same_tables old new same kept h
-  touched old new made asked kept lasts (adds_one change is may) h = one_more old new change kept (asked change is) may.follows may.adds lasts h
+  touched old new made asked kept sound lasts (leaves_alone same) h = same_tables old new same sound kept h
+  touched old new made asked kept sound lasts (adds_one change is may) h = one_more old new change kept (asked change is) may.follows may.holds may.adds lasts h
+
+  -- tables that have not failed had not before
+  worked : (old new : Posts T) (judged : Refusal → Type 0) (why : Refusal) → Refuses g old judged why new → new.failed ≡ false → old.failed ≡ false
+  worked old new judged Reopen cause works = absurd (true≢false (sym cause.1 ∙ works))
+  worked old new judged StoreFault cause works = absurd (true≢false (sym cause.1 ∙ works))
+  worked old new judged Memory cause works = cause.0
+  worked old new judged _ cause works = cause.0
 
   refused : (old new : Posts T) (made : TableChange → Type 0) (judged : Refusal → Type 0) (why : Refusal) → ((c : TableChange) → made c → P c)
       → IsRefused g old made judged why new → HasLeft g P start old → HasLeft g P start new
-  refused old new made judged why asked is h = touched old new made asked (ap (λ (steps : List Step). (standing steps).kept) is.shows.posted) is.lasts is.touches h
+  refused old new made judged why asked is h = touched old new made asked (ap (λ (steps : List Step). (standing steps).kept) is.shows.posted) (worked old new judged why is.cause) is.lasts is.touches h
 
   after_write : (old : Posts T) (body : List ℕ) (told : Option (ℕ × List ℕ)) (new : Posts T) → ((c : TableChange) → AsksChange call.Write body c → P c)
       → WriteStep g old body told new → HasLeft g P start old → HasLeft g P start new
@@ -161,27 +176,27 @@ module _ {T : Type 0} (g : Ghosts T) (weaker : Weaker g) (P : TableChange → Ty
   after_catch_up : (old : Posts T) (body : List ℕ) (told : Option (ℕ × List ℕ)) (new : Posts T) → CatchUpStep g old body told new → HasLeft g P start old → HasLeft g P start new
   after_catch_up old body told new (catch_up_malformed asks says same) h = same_desk old new same h
   after_catch_up old body told new (catch_up_accepted part commits cursor receipt asks is says) h =
-      same_tables old new is.tables (ap (λ (steps : List Step). (standing steps).kept) is.posts.posted ∙ (ap (λ (s : Standing). s.kept) (fold-append after_step nothing old.posted (Take part commits ∷ [])) ∙ kept_by_take (standing old.posted) part commits)) h
+      same_tables old new is.tables (λ _. is.works) (ap (λ (steps : List Step). (standing steps).kept) is.posts.posted ∙ (ap (λ (s : Standing). s.kept) (fold-append after_step nothing old.posted (Take part commits ∷ [])) ∙ kept_by_take (standing old.posted) part commits)) h
   after_catch_up old body told new (catch_up_refused part commits why asks is says) h = refused old new _ _ why (λ c none. absurd none) is h
   after_catch_up old body told new (catch_up_unread none same) h = same_desk old new same h
 
   after_hot : (old : Posts T) (body : List ℕ) (told : Option (ℕ × List ℕ)) (new : Posts T) → HotStep g old body told new → HasLeft g P start old → HasLeft g P start new
   after_hot old body told new (hot_malformed asks says same) h = same_desk old new same h
   after_hot old body told new (hot_accepted marking marked receipt asks is says) h =
-      same_tables old new is.tables (ap (λ (steps : List Step). (standing steps).kept) is.posts.posted ∙ ap (λ (s : Standing). s.kept) (fold-append after_step nothing old.posted (Marking marking ∷ []))) h
+      same_tables old new is.tables (λ _. is.works) (ap (λ (steps : List Step). (standing steps).kept) is.posts.posted ∙ ap (λ (s : Standing). s.kept) (fold-append after_step nothing old.posted (Marking marking ∷ []))) h
   after_hot old body told new (hot_refused marking why asks is says) h = refused old new _ _ why (λ c none. absurd none) is h
   after_hot old body told new (hot_unread none same) h = same_desk old new same h
 
   after_rebuild : (old : Posts T) (body : List ℕ) (told : Option (ℕ × List ℕ)) (new : Posts T) → RebuildStep g old body told new → HasLeft g P start old → HasLeft g P start new
   after_rebuild old body told new (rebuild_malformed asks says same) h = same_desk old new same h
   after_rebuild old body told new (rebuild_accepted base receipt asks is says) h =
-      same_tables old new is.tables (ap (λ (steps : List Step). (standing steps).kept) is.posts.posted ∙ ap (λ (s : Standing). s.kept) (fold-append after_step nothing old.posted (Rebase (newest (kept_by old)) ∷ []))) h
+      same_tables old new is.tables (λ _. is.works) (ap (λ (steps : List Step). (standing steps).kept) is.posts.posted ∙ ap (λ (s : Standing). s.kept) (fold-append after_step nothing old.posted (Rebase (newest (kept_by old)) ∷ []))) h
   after_rebuild old body told new (rebuild_refused why asks is says) h = refused old new _ _ why (λ c none. absurd none) is h
   after_rebuild old body told new (rebuild_unread none same) h = same_desk old new same h
 
   trimmed : (old new : Posts T) (rev : ℕ) → IsTrimmed g old rev new → HasLeft g P start old → HasLeft g P start new
   trimmed old new rev (trim_raises above posts is) h = stored old new is h
-  trimmed old new rev (trim_stays below shows same) h = same_tables old new same.0 (ap (λ (steps : List Step). (standing steps).kept) shows.posted) h
+  trimmed old new rev (trim_stays below shows same) h = same_tables old new same.0 (λ works. sym same.1 ∙ works) (ap (λ (steps : List Step). (standing steps).kept) shows.posted) h
 
   after_trim : (old : Posts T) (body : List ℕ) (told : Option (ℕ × List ℕ)) (new : Posts T) → ((c : TableChange) → AsksChange call.Trim body c → P c)
       → TrimStep g old body told new → HasLeft g P start old → HasLeft g P start new

@@ -17,7 +17,7 @@ use Rattle.http_api.specs.Talks.{Talked, TalkedSoFar, TalkCut}
 use Rattle.keeper.specs.Beginning.{Began, kept_by}
 use Rattle.runs.specs.Connections.{IsRequestedIn, IsRequestedInOne, HasServed, Serves, IsServing, StaysServing}
 use Rattle.runs.specs.inside.Leaving.{HasLeft}
-use Rattle.runs.proofs.Leaving.{Weaker, same_desk, after_step_of}
+use Rattle.runs.proofs.Leaving.{Weaker, holds_first, same_desk, after_step_of}
 
 -- what a connection goes on with is what follows the request
 rest_of : (closed : Bool) (rest left : List ℕ) → go_on left ≡ after closed rest → rest ≡ left
@@ -72,6 +72,7 @@ module _ {T : Type 0} (g : Ghosts T) (weaker : Weaker g) (input text : List ℕ)
   served_more first inputs h =
       let Asks : TableChange → Type 0 = IsRequestedInOne (input ∷ inputs) in
       let before : HasLeft g Asks (g.device first.tables) old = record {
+        holds = h.holds;
         more = h.more;
         follow = h.follow;
         asked = All-weaker (IsRequestedInOne inputs) Asks (λ c is. inr is) h.more h.asked;
@@ -79,7 +80,7 @@ module _ {T : Type 0} (g : Ghosts T) (weaker : Weaker g) (input text : List ℕ)
         lasts = h.lasts;
       } in
       let left : HasLeft g Asks (g.device first.tables) new = after_text g weaker Asks (g.device first.tables) old input text new next (λ c is. inl is) is_text before in
-      record { ran = (old, text, next, h.ran, is_text); more = left.more; follow = left.follow; asked = left.asked; leaves = left.leaves; lasts = left.lasts }
+      record { ran = (old, text, next, h.ran, is_text); holds = left.holds; more = left.more; follow = left.follow; asked = left.asked; leaves = left.leaves; lasts = left.lasts }
 
   pub serves : (Did : Posts T → Posts T → Type 0) → Did old new → Serves g input Did old new
   serves Did did = record { did = did; served = served_more }
@@ -88,6 +89,7 @@ module _ {T : Type 0} (g : Ghosts T) (weaker : Weaker g) (input text : List ℕ)
 pub ready : {T : Type 0} (g : Ghosts T) (tables : T) (desk : Posts T) → Began g tables desk → HasServed g desk [] desk
 ready g tables desk began = record {
   ran = refl;
+  holds = λ _. holds_first g tables desk began;
   more = [];
   follow = All-nil (CanChange (kept_by desk));
   asked = All-nil (IsRequestedInOne []);

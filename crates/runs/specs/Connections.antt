@@ -1,5 +1,5 @@
 -- What a desk does over connections, one after another, and what it leaves of its tables.
-use Rattle.std.specs.Prelude.{ℕ, ◌≡◌, ◌⊎◌, List, [], ◌∷◌, map, Option, Some, zero, suc}
+use Rattle.std.specs.Prelude.{ℕ, ◌≡◌, ◌⊎◌, false, List, [], ◌∷◌, map, Option, Some, zero, suc}
 use Rattle.std.specs.List.{All}
 use Rattle.names.specs.declared.call.Call.{Call}
 use Rattle.httparse.specs.Grammar.{RequestHead}
@@ -59,10 +59,12 @@ abbrev pub Connections : {S : Type 0} → Step S → S → List (List ℕ) → S
 Connections step s [] t = t ≡ s
 Connections {S} step s (input ∷ inputs) t = (mid : S) × (text : List ℕ) × (next : Next) × Connections step s inputs mid × Text step mid input text t next
 
--- Connections with these inputs, the last one first, took a desk from the first state to this one. What the end of the process
--- or a crash leaves of its tables holds the history of the posted steps, perhaps with one change more that a request asked for.
+-- Connections with these inputs, the last one first, took a desk from the first state to this one. Its tables hold the history of
+-- the posted steps as long as they have not failed. What the end of the process or a crash leaves of them holds it, perhaps with
+-- one change more that a request asked for.
 pub record HasServed {T : Type 0} (g : Ghosts T) (first : Posts T) (inputs : List (List ℕ)) (desk : Posts T) : Type 0 where
   pub ran : Connections (DeskStep g) first inputs desk
+  pub holds : desk.failed ≡ false → g.holds desk.tables (kept_by desk)
   pub more : List TableChange
   pub follow : All (CanChange (kept_by desk)) more
   pub asked : All (IsRequestedInOne inputs) more

@@ -1,3 +1,4 @@
 pub mod Crossing
+pub mod NeverBack
 pub mod Sending
 pub mod Turning

@@ -29,6 +29,7 @@ taken_still old mid new part commits cursor first then taken more same tells =
         book = more.book ∙ taken.posts.book;
         later = prefix_trans old.shown mid.shown new.shown taken.posts.later more.later;
         beginning = more.beginning;
+        judged = more.judged;
         faults = same.2 ∙ taken.posts.faults;
       };
       tables = same.0 ∙ taken.tables;

@@ -5,12 +5,14 @@
 #![tactic(auto)]
 
 mod indexer;
+mod law;
 mod pool;
 mod serving;
 mod stream;
 mod turn;
 mod worker;
 
+pub use law::connections_never_go_back;
 pub use serving::run;
 pub use stream::{serve_stream, sides_of, take_leave};
 pub use turn::{TURN_COMMITS, Turn, take_turn};

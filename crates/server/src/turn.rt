@@ -4,6 +4,7 @@ ghost use Rattle.shown.specs.Standing.{standing, cursor_after};
 ghost use Rattle.published.specs.Known.{Begins};
 ghost use Rattle.published.specs.Receipts.{ReceiptFacts};
 ghost use Rattle.desk.specs.Posts.{shown_by};
+ghost use Rattle.front.specs.Kept.{KnowsMore};
 ghost use Rattle.server.specs.Turns.{TakesTurn, TurnRefused};
 
 use front::KeptDesk;
@@ -38,7 +39,7 @@ pub fn take_turn<T: Tables + Drop, J: Naming, R: Wait + Drop>(
         ≡ cursor_after (standing desk.old.posted).kept (standing desk.old.posted).hot TURN_COMMITS) }
     ensures err { IfErr result (λ why. TurnRefused T.Tables desk.old why desk.new) }
     ensures seats { desk.new.seats ≡ desk.old.seats }
-    ensures kept { Begins session.old session.new }
+    ensures kept { KnowsMore session.old session.new }
     ensures known { Begins (shown_by desk.new) session.new }
 {
     let taken = take_both(desk);

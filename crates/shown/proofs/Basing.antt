@@ -40,7 +40,7 @@ snap_above r floor above rev later =
 -- ---- the index that is kept
 
 -- it stays right where its revision holds what it held, as far as it is retained
-moved : (s t : Standing) (index : Option Index) → s.index ≤ t.index
+pub moved : (s t : Standing) (index : Option Index) → s.index ≤ t.index
     → ((rev : ℕ) → rev ≤ s.index → t.kept.floor ≤ rev → (s.kept.floor ≤ rev) × (snap_at t.kept rev ≡ snap_at s.kept rev))
     → IsKeptIndex s index → IsKeptIndex t index
 moved s t None later kept right = tt

@@ -1,6 +1,6 @@
 -- Members of marked nodes while the history grows, loses its newest commit, or is trimmed, and while its commits are taken.
 use Rattle.std.proofs.Common.{◌≡◌, ℕ, ◌+◌, ◌-◌, ◌<◌, ◌≤◌, ◌++◌, ◌∷◌, [], length, take, drop, ap, sym, subst, ◌∙◌, arith, get_or}
-use Rattle.std.specs.Prelude.{Bool, Option, Some, None, Result, Ok, Err, OnOk, IfSome}
+use Rattle.std.specs.Prelude.{Option, Some, None, Result, Ok, Err, OnOk}
 use Rattle.std.specs.Result.{result_ok}
 use Rattle.std.proofs.lemmas.List.{take-take, take_more, length-drop, length-take-le}
 use Rattle.names.specs.declared.commit.Commit.{Commit}
@@ -18,7 +18,7 @@ use Rattle.shown.proofs.Basing.{snap_with, snap_without, snap_above, after_appen
 -- ---- the members that are kept
 
 -- they stay right where the revision holds what it held
-moved : (s t : Standing) (members : Option Hot) → snap_at t.kept t.hot ≡ snap_at s.kept s.hot → AreKeptMembers s members → AreKeptMembers t members
+pub moved : (s t : Standing) (members : Option Hot) → snap_at t.kept t.hot ≡ snap_at s.kept s.hot → AreKeptMembers s members → AreKeptMembers t members
 moved s t None same right = tt
 moved s t (Some hot) same right = subst (λ (S : Snap). IsHot hot S) (sym same) right
 
@@ -75,15 +75,11 @@ all_taken r from to i retained order there more few =
     let long = length_between r from to retained order there in
     snap_between r from to i to retained (omega (arith, few, long)) (omega (arith, order, more, few, long))
 
--- ---- what is done, and what is known
+-- ---- what is done
 
 pub done : {E P : Type 0} (r : Result (Unit {0}) E) (u : Unit {0}) → Some u ≡ result_ok r → OnOk r P → P
 done (Ok x) u is p = p
 done (Err e) u is p = absurd cc
-
-pub known : (o : Option Bool) (Is : Snap → Type 0) (T : Snap → Bool → Type 0) → IfSome o (λ b. (S : Snap) → Is S → T S b) → (S : Snap) → Is S → IfSome o (T S)
-known None Is T h S is = tt
-known (Some b) Is T h S is = h S is
 
 -- ---- a higher floor
 
@@ -98,6 +94,7 @@ sound_above s now index members floor new same room sound raised =
       steady = record {
         index_retained = can.index;
         index_there = omega (arith, left, above, can.there, sound.steady.index_there);
+        base_read = sound.steady.base_read;
         hot_retained = can.hot;
         hot_there = omega (arith, left, above, can.there, sound.steady.hot_there);
       };

@@ -1,3 +1,4 @@
 pub mod Watching
 pub mod Basing
 pub mod Following
+pub mod Taking

@@ -95,10 +95,11 @@ HasRoom s (Trim floor) = CanRaise s floor
 HasRoom s (Marking marking) = marking_cause (newest_of s.kept).held.config s.marks marking ≡ None
 HasRoom s (Rebase rev) = base_cause s rev ≡ None
 
--- the cursors are at retained revisions
+-- the cursors are at retained revisions, and the index has read up to its base
 pub record IsSteady (s : Standing) : Type 0 where
   pub index_retained : s.kept.floor ≤ s.index
   pub index_there : s.index ≤ newest s.kept
+  pub base_read : s.base ≤ s.index
   pub hot_retained : s.kept.floor ≤ s.hot
   pub hot_there : s.hot ≤ newest s.kept
 

@@ -5,27 +5,12 @@ ghost use Rattle.meaning.specs.Snap.{Snap};
 ghost use Rattle.hot.specs.Kept.{IsHot};
 ghost use Rattle.rows.specs.Retained.{newest, snap_at};
 
-use decide::Oracle;
 use facts::each_view_is_valid;
 use hot::Hot;
-use names::{Marking, Node, Object};
+use names::{Marking, Node};
 use rows::{Rows, View};
 use std::alloc::{AllocError, Global};
 use tuple_keys::KeptCommit;
-
-/// What is kept of marked nodes, for a search at the revision of which it is.
-#[derive(Drop)]
-pub(crate) struct Known<'a> {
-    pub(crate) hot: &'a Hot,
-}
-
-impl Oracle for Known<'_> {
-    ghost tells = { λ known S. IsHot known.hot.now S };
-
-    fn knows(&mut self, node: &Node, user: &Object) -> Option<bool> {
-        self.hot.has(node, user)
-    }
-}
 
 /// The members of the marked nodes, solved anew. Nothing where no node is marked, or where there is no memory.
 pub(crate) fn members_of(alloc: Global, view: &View<'_>, marks: &[Node]) -> Option<Hot>
@@ -53,7 +38,9 @@ pub(crate) fn remarked(
     ensures { IfSome result (λ hot. IsHot hot view.now) }
 {
     match marking {
-        Marking::Mark(node) => hot.mark(alloc, view, node).ok()?,
+        Marking::Mark(node) => {
+            hot.mark(alloc, view, node).ok()?;
+        }
         Marking::Unmark(node) => hot.unmark(alloc, node).ok()?,
     }
     Some(hot)
@@ -95,8 +82,10 @@ fn take_commit(
         Some(events) => {
             let events = events.events(alloc)?;
             hot.take(alloc, &events, view)?;
-            Ok(())
         }
-        None => hot.restart(alloc, view),
+        None => {
+            hot.restart(alloc, view)?;
+        }
     }
+    Ok(())
 }

@@ -32,12 +32,12 @@ ghost use Rattle.shown.specs.Grouping.{AreGroups, IsGroupsRefusal};
 
 use crate::answer::{Answer, Refused};
 use crate::marks::{count_with, remark};
-use crate::members::{Known, members_later, members_of, remarked};
+use crate::members::{members_later, members_of, remarked};
 use crate::step::Step;
 use config::Config;
 use decide::Nothing;
 use expand::Tree;
-use hot::Hot;
+use hot::{Hot, Known};
 use leopard::{Built, Expr};
 use names::limits::MAX_MARKS;
 use names::{Items, Marking, Node, Object, Op, Part, Refusal, State, Tuple, Write};

@@ -13,7 +13,7 @@ use Rattle.command_line.specs.declared.words.Task.{Task}
 use Rattle.command_line.specs.declared.words.Task.TheVariants.{Run, Serve}
 use Rattle.runs.specs.Files.{Remains}
 use Rattle.runs.specs.Runs.{is_read_fault, is_write_fault}
-use Rattle.zanz.specs.Listening.{Announced, IsStartFault, StoppedServing}
+use Rattle.zanz.specs.Listening.{Announced, StoppedServing}
 use Rattle.zanz.specs.Ran.{all_lines, whole_lines, first_lines, RanAt, RefusedAt, RunStopped, input_failed, output_failed, run_refused, DoneOf, StoppedOf}
 use Rattle.zanz.proofs.Results.{err_at}
 
@@ -25,10 +25,10 @@ module _ {R W D : Type 0} {g : disk.Ghosts D} (image : Image) (remaining : R →
   StoppedBy fault task = StoppedOf image task fault remaining contents (reader, writer) (reader_after, writer_after) left
 
   module _ (place : Place) where
-    pub done_service : (task : Task) (port : ℕ) (workers : Option ℕ) → task ≡ Serve place port workers → reader_after ≡ reader → Announced contents writer writer_after → left ≡ Err None → Done task
+    pub done_service : (task : Task) (port : ℕ) (workers : Option ℕ) → task ≡ Serve place port workers → reader_after ≡ reader → Announced contents port writer writer_after → left ≡ Err None → Done task
     done_service task port workers is same announced none = subst Done (sym is) (same, announced, none)
 
-    pub service_stops : (task : Task) (port : ℕ) (workers : Option ℕ) (fault : Fault) → task ≡ Serve place port workers → reader_after ≡ reader → StoppedServing contents fault writer writer_after → left ≡ Err None → StoppedBy fault task
+    pub service_stops : (task : Task) (port : ℕ) (workers : Option ℕ) (fault : Fault) → task ≡ Serve place port workers → reader_after ≡ reader → StoppedServing contents port fault writer writer_after → left ≡ Err None → StoppedBy fault task
     service_stops task port workers fault is same stopped none = subst (StoppedBy fault) (sym is) (same, stopped, none)
 
     pub done_run : (task : Task) → task ≡ Run place → RanAt image all_lines place remaining contents (reader, writer) (reader_after, writer_after) left → Done task
@@ -56,10 +56,6 @@ module _ {R W D : Type 0} {g : disk.Ghosts D} (image : Image) (remaining : R →
     run_stops {A} task r fault is told run unread unwritten paused cut refused = subst (StoppedBy fault) (sym is)
         (stopped_run A fault (err_at IsRunFault r fault told run) (unread ∙ ap (λ (s : Result A Fault). is_read_fault s) told) (unwritten ∙ ap (λ (s : Result A Fault). is_write_fault s) told)
         (err_at CannotReadOn r fault told paused) (err_at CannotWriteOn r fault told cut) (err_at IsRefused r fault told refused))
-
--- a store that cannot be opened keeps a service from being begun
-pub start_fault : (fault : Fault) → (why : Refusal) × (fault ≡ Refused why) → IsRunFault fault → IsStartFault fault
-start_fault fault refused run = subst IsStartFault (sym refused.1) (subst IsRunFault refused.1 run)
 
 -- a fault ends with another status than 0
 pub never_0 : (fault : Fault) → ¬ (fault_status fault ≡ 0)

@@ -23,7 +23,7 @@ use Rattle.command_line.specs.declared.fault.Fault.TheVariants.{Refused, CannotR
 use Rattle.command_line.specs.declared.words.Place.{Place}
 use Rattle.command_line.specs.declared.words.Place.TheVariants.{Memory, New, There}
 use Rattle.command_line.specs.declared.words.Task.{Task}
-use Rattle.command_line.specs.declared.words.Task.TheVariants.{Run, Config}
+use Rattle.command_line.specs.declared.words.Task.TheVariants.{Run, Serve, Config}
 use Rattle.runs.specs.Files.{Remains, IsFoundIn}
 use Rattle.runs.specs.Runs.{ServedBy, PausedBy, CutBy, Ended}
 use Rattle.runs.specs.Over.{over, listed, BeginsIn, EndedOver, CannotBeginIn, LeavesRefusedIn, IsDeservedIn}
@@ -136,14 +136,14 @@ IsReport _ = ⊥
 abbrev pub DoneOf : {R W D : Type 0} {g : disk.Ghosts D} → Image → Task → (R → Option (List ℕ)) → (W → Option (List ℕ)) → TrackedReading R × TrackedWriting W → TrackedReading R × TrackedWriting W → Remains g → Type 0
 DoneOf image (Run place) remaining contents old new left = RanAt image all_lines place remaining contents old new left
 DoneOf image (Config file) remaining contents (reader, writer) (reader_after, writer_after) left = (reader_after ≡ reader) × Reported contents true writer writer_after × (left ≡ Err None)
-DoneOf image _ remaining contents (reader, writer) (reader_after, writer_after) left = (reader_after ≡ reader) × Announced contents writer writer_after × (left ≡ Err None)
+DoneOf image (Serve place port workers) remaining contents (reader, writer) (reader_after, writer_after) left = (reader_after ≡ reader) × Announced contents port writer writer_after × (left ≡ Err None)
 
 -- For this fault it was not done, or not to its end. Of a report, or of the line that says where the program listens, a beginning
 -- was written where the writer failed, and else nothing; or it listened, and could make no worker. The fault is one that was met.
 abbrev pub StoppedOf : {R W D : Type 0} {g : disk.Ghosts D} → Image → Task → Fault → (R → Option (List ℕ)) → (W → Option (List ℕ)) → TrackedReading R × TrackedWriting W → TrackedReading R × TrackedWriting W → Remains g → Type 0
 StoppedOf image (Run place) fault remaining contents old new left = RunStopped image place fault remaining contents old new left
 StoppedOf image (Config file) fault remaining contents (reader, writer) (reader_after, writer_after) left = (reader_after ≡ reader) × StoppedReport contents fault writer writer_after × (left ≡ Err None)
-StoppedOf image _ fault remaining contents (reader, writer) (reader_after, writer_after) left = (reader_after ≡ reader) × StoppedServing contents fault writer writer_after × (left ≡ Err None)
+StoppedOf image (Serve place port workers) fault remaining contents (reader, writer) (reader_after, writer_after) left = (reader_after ≡ reader) × StoppedServing contents port fault writer writer_after × (left ≡ Err None)
 
 -- ---- any words
 

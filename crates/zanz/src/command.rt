@@ -118,10 +118,10 @@ fn serve_alone_at<
     writer: &mut TrackedWriter<W>,
 ) -> Result<(), Fault>
     requires unbroken_writer { writer.old.failed ≡ false }
-    ensures ok { OnOk result (Announced W.contents writer.old writer.new) }
+    ensures ok { OnOk result (Announced W.contents port writer.old writer.new) }
     ensures whole { OnOk result ((writer.new.failed ≡ false) × (writer.new.flushed ≡ true)) }
     ensures line { IfErr result (λ fault. fault ≢ Fault.CommandLine) }
-    ensures failed { IfErr result (λ fault. NotAnnounced W.contents fault writer.old writer.new) }
+    ensures failed { IfErr result (λ fault. NotAnnounced W.contents port fault writer.old writer.new) }
 {
     match place {
         Place::Memory { store } => {
@@ -171,10 +171,10 @@ fn share_in<
 ) -> Result<(), Fault>
     requires number { IfSome store (λ number. (1 ≤ number) × (number < 2 ^ 63)) }
     requires unbroken_writer { writer.old.failed ≡ false }
-    ensures ok { OnOk result (Announced W.contents writer.old writer.new) }
+    ensures ok { OnOk result (Announced W.contents port writer.old writer.new) }
     ensures whole { OnOk result ((writer.new.failed ≡ false) × (writer.new.flushed ≡ true)) }
     ensures line { IfErr result (λ fault. fault ≢ Fault.CommandLine) }
-    ensures failed { IfErr result (λ fault. StoppedServing W.contents fault writer.old writer.new) }
+    ensures failed { IfErr result (λ fault. StoppedServing W.contents port fault writer.old writer.new) }
 {
     match tables_in(rt, file, store, start) {
         Ok(tables) => share_over(rt.alloc(), net, wait, tables, port, workers, writer),
@@ -199,10 +199,10 @@ fn serve_shared_at<
     writer: &mut TrackedWriter<W>,
 ) -> Result<(), Fault>
     requires unbroken_writer { writer.old.failed ≡ false }
-    ensures ok { OnOk result (Announced W.contents writer.old writer.new) }
+    ensures ok { OnOk result (Announced W.contents port writer.old writer.new) }
     ensures whole { OnOk result ((writer.new.failed ≡ false) × (writer.new.flushed ≡ true)) }
     ensures line { IfErr result (λ fault. fault ≢ Fault.CommandLine) }
-    ensures failed { IfErr result (λ fault. StoppedServing W.contents fault writer.old writer.new) }
+    ensures failed { IfErr result (λ fault. StoppedServing W.contents port fault writer.old writer.new) }
 {
     match place {
         Place::Memory { store } => {
@@ -260,10 +260,10 @@ fn serve_at<
     writer: &mut TrackedWriter<W>,
 ) -> Result<(), Fault>
     requires unbroken_writer { writer.old.failed ≡ false }
-    ensures ok { OnOk result (Announced W.contents writer.old writer.new) }
+    ensures ok { OnOk result (Announced W.contents port writer.old writer.new) }
     ensures whole { OnOk result ((writer.new.failed ≡ false) × (writer.new.flushed ≡ true)) }
     ensures line { IfErr result (λ fault. fault ≢ Fault.CommandLine) }
-    ensures failed { IfErr result (λ fault. StoppedServing W.contents fault writer.old writer.new) }
+    ensures failed { IfErr result (λ fault. StoppedServing W.contents port fault writer.old writer.new) }
 {
     let workers = match workers {
         Some(workers) => workers,

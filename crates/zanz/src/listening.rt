@@ -1,10 +1,10 @@
 //! Listening for connections, and serving them.
-ghost use Rattle.std.specs.Prelude.{◌≡◌, ◌≢◌, ◌⊎◌, true, false, IfOk, IfErr, OnOk, string_bytes};
+ghost use Rattle.std.specs.Prelude.{◌≡◌, ◌≢◌, ◌⊎◌, ◌↔◌, true, false, IsTrue, IfOk, IfErr, OnOk, string_bytes};
 ghost use Rattle.std.specs.Io.KnownBytes.{Appends};
 ghost use Rattle.http_api.specs.Routes.{table};
 ghost use Rattle.tracked_io.specs.Wrote.{WroteSome};
 ghost use Rattle.runs.specs.Connections.{StaysServing};
-ghost use Rattle.zanz.specs.Listening.{Announced, IsStartFault, NotAnnounced, listening_line};
+ghost use Rattle.zanz.specs.Listening.{Announced, IsPortFor, IsStartFault, NotAnnounced, listening_line};
 
 use answers::End;
 use command_line::Fault;
@@ -32,42 +32,52 @@ fn line_of(alloc: Global, port: u16) -> Result<String, AllocError>
     format!(in alloc; "listening 127.0.0.1:{port}\n")
 }
 
-/// Says where the program listens.
-pub(crate) fn announce<W: Write>(
+// Whether it is a port that is had where `asked` is asked for.
+fn is_port_for(asked: u16, port: u16) -> bool
+    ensures { IsTrue result ↔ IsPortFor asked port }
+{
+    port != 0 && (asked == 0 || port == asked)
+}
+
+// Listens on this machine's own address, and tells on which port.
+fn bind<N: Net<Listener = TcpListener, Stream = TcpStream>>(
+    net: &N,
+    asked: u16,
+) -> Result<(TcpListener, u16), Fault>
+    ensures port { IfOk result (λ bound. IsPortFor asked bound.1) }
+    ensures cause { IfErr result (λ fault. fault ≡ Fault.CannotListen) }
+    ensures start { IfErr result IsStartFault }
+{
+    let Ok(listener) = TcpListener::bind(net, (Ipv4Addr::LOCALHOST, asked)) else {
+        return Err(Fault::CannotListen);
+    };
+    match listener.local_addr() {
+        Ok(address) if is_port_for(asked, address.port()) => Ok((listener, address.port())),
+        _ => Err(Fault::CannotListen),
+    }
+}
+
+/// Listens on a port of this machine's own address, 0 for one that is free, and says so.
+pub(crate) fn listen<N: Net<Listener = TcpListener, Stream = TcpStream>, W: Write>(
     alloc: Global,
+    net: &N,
     port: u16,
     writer: &mut TrackedWriter<W>,
-) -> Result<(), Fault>
+) -> Result<TcpListener, Fault>
     requires unbroken_writer { writer.old.failed ≡ false }
-    ensures ok { OnOk result (Announced W.contents writer.old writer.new) }
+    ensures ok { OnOk result (Announced W.contents port writer.old writer.new) }
     ensures whole { OnOk result ((writer.new.failed ≡ false) × (writer.new.flushed ≡ true)) }
     ensures line { IfErr result (λ fault. fault ≢ Fault.CommandLine) }
 
     // A beginning of it was written where the writer failed, and else nothing.
-    ensures failed { IfErr result (λ fault. NotAnnounced W.contents fault writer.old writer.new) }
+    ensures failed { IfErr result (λ fault. NotAnnounced W.contents port fault writer.old writer.new) }
 {
-    let line = line_of(alloc, port)?;
+    let (listener, bound) = bind(net, port)?;
+    let line = line_of(alloc, bound)?;
     let Ok(()) = say(writer, line.as_bytes()) else {
         return Err(Fault::CannotWrite);
     };
-    Ok(())
-}
-
-/// Listens on this machine's own address, and says on which port.
-pub(crate) fn listen<N: Net<Listener = TcpListener, Stream = TcpStream>>(
-    net: &N,
-    port: u16,
-) -> Result<(TcpListener, u16), Fault>
-    ensures cause { IfErr result (λ fault. fault ≡ Fault.CannotListen) }
-    ensures start { IfErr result IsStartFault }
-{
-    let Ok(listener) = TcpListener::bind(net, (Ipv4Addr::LOCALHOST, port)) else {
-        return Err(Fault::CannotListen);
-    };
-    match listener.local_addr() {
-        Ok(address) => Ok((listener, address.port())),
-        Err(_) => Err(Fault::CannotListen),
-    }
+    Ok(listener)
 }
 
 // Serves one connection.
@@ -123,17 +133,16 @@ pub fn serve<
     writer: &mut TrackedWriter<W>,
 ) -> Result<(), Fault>
     requires unbroken_writer { writer.old.failed ≡ false }
-    ensures ok { OnOk result (Announced W.contents writer.old writer.new) }
+    ensures ok { OnOk result (Announced W.contents port writer.old writer.new) }
     ensures whole { OnOk result ((writer.new.failed ≡ false) × (writer.new.flushed ≡ true)) }
     ensures line { IfErr result (λ fault. fault ≢ Fault.CommandLine) }
-    ensures failed { IfErr result (λ fault. NotAnnounced W.contents fault writer.old writer.new) }
+    ensures failed { IfErr result (λ fault. NotAnnounced W.contents port fault writer.old writer.new) }
     ensures goes_on { StaysServing T.Tables answering.old answering.new }
 {
     let Ok(routes) = routes(rt.alloc()) else {
         return Err(Fault::Refused(Refusal::Memory));
     };
-    let (listener, port) = listen(net, port)?;
-    announce(rt.alloc(), port, writer)?;
+    let listener = listen(rt.alloc(), net, port, writer)?;
     serve_each(rt, &listener, &routes, answering);
     Ok(())
 }

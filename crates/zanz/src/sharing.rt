@@ -3,7 +3,7 @@ ghost use Rattle.std.specs.Prelude.{◌≡◌, ◌≢◌, true, false, IfErr, On
 ghost use Rattle.command_line.specs.Words.{AreWorkers};
 ghost use Rattle.zanz.specs.Listening.{Announced, StoppedServing};
 
-use crate::listening::{announce, listen};
+use crate::listening::listen;
 use command_line::{Fault, MAX_WORKERS};
 use front::{Gate, Keeper};
 use published::{Naming, Opened};
@@ -68,18 +68,17 @@ fn serve_by_many<
 ) -> Result<(), Fault>
     requires book { opened.book ≡ J.book }
     requires unbroken_writer { writer.old.failed ≡ false }
-    ensures ok { OnOk result (Announced W.contents writer.old writer.new) }
+    ensures ok { OnOk result (Announced W.contents port writer.old writer.new) }
     ensures whole { OnOk result ((writer.new.failed ≡ false) × (writer.new.flushed ≡ true)) }
     ensures line { IfErr result (λ fault. fault ≢ Fault.CommandLine) }
 
-    ensures failed { IfErr result (λ fault. StoppedServing W.contents fault writer.old writer.new) }
+    ensures failed { IfErr result (λ fault. StoppedServing W.contents port fault writer.old writer.new) }
 {
     let keeper = match Keeper::<T, J, H>::open(alloc, wait, opened, tables) {
         Ok(keeper) => keeper,
         Err((why, _)) => return Err(Fault::Refused(why)),
     };
-    let (listener, port) = listen(net, port)?;
-    announce(alloc, port, writer)?;
+    let listener = listen(alloc, net, port, writer)?;
     match run(net, alloc, &listener, &keeper, workers, &AlwaysOpen) {
         Ok(()) => Ok(()),
         Err(why) => Err(Fault::Refused(why)),
@@ -103,10 +102,10 @@ pub fn share<
     writer: &mut TrackedWriter<W>,
 ) -> Result<(), Fault>
     requires unbroken_writer { writer.old.failed ≡ false }
-    ensures ok { OnOk result (Announced W.contents writer.old writer.new) }
+    ensures ok { OnOk result (Announced W.contents port writer.old writer.new) }
     ensures whole { OnOk result ((writer.new.failed ≡ false) × (writer.new.flushed ≡ true)) }
     ensures line { IfErr result (λ fault. fault ≢ Fault.CommandLine) }
-    ensures failed { IfErr result (λ fault. StoppedServing W.contents fault writer.old writer.new) }
+    ensures failed { IfErr result (λ fault. StoppedServing W.contents port fault writer.old writer.new) }
 {
     let opened = Opened::new();
     let workers = workers as usize;
@@ -129,10 +128,10 @@ pub fn share_over<
     writer: &mut TrackedWriter<W>,
 ) -> Result<(), Fault>
     requires unbroken_writer { writer.old.failed ≡ false }
-    ensures ok { OnOk result (Announced W.contents writer.old writer.new) }
+    ensures ok { OnOk result (Announced W.contents port writer.old writer.new) }
     ensures whole { OnOk result ((writer.new.failed ≡ false) × (writer.new.flushed ≡ true)) }
     ensures line { IfErr result (λ fault. fault ≢ Fault.CommandLine) }
-    ensures failed { IfErr result (λ fault. StoppedServing W.contents fault writer.old writer.new) }
+    ensures failed { IfErr result (λ fault. StoppedServing W.contents port fault writer.old writer.new) }
 {
     share(alloc, net, wait, tables, port, workers, writer)
 }

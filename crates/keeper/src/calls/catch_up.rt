@@ -3,6 +3,7 @@ ghost use Rattle.std.specs.Prelude.{◌≡◌, ℕ, List};
 ghost use mathlib.Core.List.{IsPrefix};
 ghost use Rattle.names.specs.Calls.{told};
 ghost use Rattle.bodies.specs.Requests.{AsksCatchUp};
+ghost use Rattle.published.specs.Judged.{AreJudged, WereJudged};
 ghost use Rattle.published.specs.Known.{Begins};
 ghost use Rattle.desk.specs.Posts.{shown_by};
 ghost use Rattle.keeper.specs.calls.CatchUp.{CatchUpStep};
@@ -35,6 +36,8 @@ pub fn catch_up_on<T: Tables + Drop, R: Wait + Drop>(
     ensures later { IsPrefix desk.old.shown desk.new.shown }
     ensures kept { Begins session.old session.new }
     ensures known { Begins (shown_by desk.new) session.new }
+    ensures judged { WereJudged desk.new.posted desk.new.shown }
+    ensures known_judged { AreJudged session.new.steps }
 {
     match desk.catch_up(part, commits) {
         Ok(posted) => {

@@ -3,6 +3,7 @@ ghost use Rattle.std.specs.Prelude.{◌≡◌, option_map};
 ghost use Rattle.names.specs.Calls.{told};
 ghost use Rattle.zookie.specs.Text.{zookie_text};
 ghost use Rattle.bodies.specs.Replies.{SaysRefusal, SaysRefusalAt};
+ghost use Rattle.published.specs.Judged.{AreJudged};
 ghost use Rattle.published.specs.Known.{Begins};
 ghost use Rattle.desk.specs.Posts.{ShowsMore, SameTables, shown_by};
 
@@ -29,6 +30,7 @@ pub(crate) fn refuse<T: Tables + Drop, R: Wait + Drop>(
     ensures same { SameTables desk.old desk.new }
     ensures kept { Begins session.old session.new }
     ensures known { Begins (shown_by desk.new) session.new }
+    ensures known_judged { AreJudged session.new.steps }
 {
     desk.refresh(session);
     refusal(alloc, why)

@@ -1,5 +1,5 @@
 -- What the tables of a desk leave while it answers.
-use Rattle.std.specs.Prelude.{ℕ, List, ◌∷◌, map}
+use Rattle.std.specs.Prelude.{ℕ, ◌≡◌, false, List, ◌∷◌, map}
 use Rattle.std.specs.List.{All}
 use Rattle.tables.specs.Device.{Device, Lasts}
 use Rattle.tables.specs.declared.tables.Tables.{Ghosts}
@@ -9,8 +9,10 @@ use Rattle.keeper.specs.Rules.{DeskStep}
 use Rattle.lines.specs.Machine.{Run}
 use Rattle.keeper.specs.Beginning.{kept_by}
 
--- what is left holds the history of the posted steps, perhaps with one change more of which P is true; and the device has gone on
+-- The tables hold the history of the posted steps as long as they have not failed; what is left holds it, perhaps with one change
+-- more of which P is true; and the device has gone on.
 pub record HasLeft {T : Type 0} (g : Ghosts T) (P : TableChange → Type 0) (start : Device) (desk : Posts T) : Type 0 where
+  pub holds : desk.failed ≡ false → g.holds desk.tables (kept_by desk)
   pub more : List TableChange
   pub follow : All (CanChange (kept_by desk)) more
   pub asked : All P more

@@ -10,8 +10,8 @@ returns-else-is_of_the_future c =
     (checked_told c.check_in_store.new.self.steps asked.0 asked.1 asked.2 c.in-Some.number c.in-Some.checked _
     c.in-Some.ensures.number c.in-Some.ensures.ok c.in-Some.ensures.err c.tell_check.ensures.ok c.tell_check.ensures.err
     (never_ahead c.in-Some.checked c.is_of_the_future.result c.is_of_the_future.ensures.err c.if-is_of_the_future.false))
-    c.check_in_store.ensures.later
+    (c.check_in_store.ensures.later, c.check_in_store.ensures.judged)
 
 pub returns-in-None : goal.returns-in-None
 returns-in-None c = let asked = c.in-Ok.asked in
-    from_asked asked.0 asked.1 asked.2 c.in-Ok.ensures.ok (told_shut c.refusal-in-None.ensures) c.check_in_store.ensures.later
+    from_asked asked.0 asked.1 asked.2 c.in-Ok.ensures.ok (told_shut c.refusal-in-None.ensures) (c.check_in_store.ensures.later, c.check_in_store.ensures.judged)

@@ -1,13 +1,14 @@
-use Rattle.std.proofs.Common.{subst, option_to_list}
+use Rattle.std.proofs.Common.{sym, subst}
 use Rattle.published.specs.declared.copy.ShownCopy.{ShownCopy}
 use Rattle.published.specs.Known.{Begins}
-use Rattle.published.proofs.Leading.{chain_part, ok_leads, ok_later, shown_where_done, not_shown_where_left, none_left}
+use Rattle.published.specs.Judged.{AreJudged}
+use Rattle.published.proofs.Leading.{entered_judged, waiting_judged, ok_leads, ok_later, shown_where_done, not_shown_where_left, none_left}
 use Rattle.published.proofs.hand.publish_all.Goals as goal
 
 pub publish-requires : goal.publish-requires
 publish-requires g c =
-    let p = c.hand_over.new.publisher in
-    chain_part p.published.prefix p.waiting (option_to_list c.hand_over.new.stuck) c.hand_over.new.entered c.hand_over.ensures.leads.chain
+    let h = c.hand_over.new in
+    waiting_judged c.args.book.now h.entered h.publisher h.stuck c.hand_over.ensures.leads h.backlog.items (subst AreJudged (sym c.hand_over.ensures.posted) c.requires.judged)
 
 pub returns-then-not-is_waiting-clause-all : goal.returns-then-not-is_waiting-clause-all
 returns-then-not-is_waiting-clause-all g c =
@@ -16,8 +17,10 @@ returns-then-not-is_waiting-clause-all g c =
 
 pub returns-in-Ok-clause-leads : goal.returns-in-Ok-clause-leads
 returns-in-Ok-clause-leads g c =
+    let h = c.hand_over.new in
     let ok = c.in-Ok.ensures.ok in
-    ok_leads c.args.book.now c.hand_over.new.entered c.hand_over.new.publisher c.publish.new.self c.hand_over.new.stuck c.hand_over.ensures.leads ok.0 ok.1 ok.2
+    let judged = entered_judged c.args.book.now h.entered h.publisher h.stuck c.hand_over.ensures.leads h.backlog.items (subst AreJudged (sym c.hand_over.ensures.posted) c.requires.judged) in
+    ok_leads c.args.book.now h.entered h.publisher c.publish.new.self h.stuck c.hand_over.ensures.leads judged ok.0 ok.1 ok.2
 
 pub returns-in-Ok-clause-later : goal.returns-in-Ok-clause-later
 returns-in-Ok-clause-later g c =
@@ -26,9 +29,11 @@ returns-in-Ok-clause-later g c =
 
 pub returns-in-Ok-clause-all : goal.returns-in-Ok-clause-all
 returns-in-Ok-clause-all g c =
+    let h = c.hand_over.new in
     let ok = c.in-Ok.ensures.ok in
-    let leads = ok_leads c.args.book.now c.hand_over.new.entered c.hand_over.new.publisher c.publish.new.self c.hand_over.new.stuck c.hand_over.ensures.leads ok.0 ok.1 ok.2 in
-    shown_where_done c.args.book.now c.hand_over.new.entered c.publish.new.self c.hand_over.new.stuck c.hand_over.new.backlog.items leads c.is_done-in-Ok.result ok.1 c.is_done-in-Ok.ensures
+    let judged = entered_judged c.args.book.now h.entered h.publisher h.stuck c.hand_over.ensures.leads h.backlog.items (subst AreJudged (sym c.hand_over.ensures.posted) c.requires.judged) in
+    let leads = ok_leads c.args.book.now h.entered h.publisher c.publish.new.self h.stuck c.hand_over.ensures.leads judged ok.0 ok.1 ok.2 in
+    shown_where_done c.args.book.now h.entered c.publish.new.self h.stuck h.backlog.items leads c.is_done-in-Ok.result ok.1 c.is_done-in-Ok.ensures
 
 pub returns-in-Err-clause-all : goal.returns-in-Err-clause-all
 returns-in-Err-clause-all g c =

@@ -13,4 +13,4 @@ publish_as-requires g c next is =
     let now = w.desk.shown.value in
     let posts = drop w.behind w.log.items in
     subst (λ (y : ShownCopy). TurnsAt Keeps w.desk.place.id (view w.desk.place) now y Sees) (sym is)
-    (turns w.desk.place.id (view w.desk.place) now _ (all_stand now posts c.requires.0 c.requires.1) (all_go_on now posts c.requires.0 c.requires.1))
+    (turns w.desk.place.id (view w.desk.place) now _ (all_stand now posts c.requires.0 c.requires.1 c.requires.2) (all_go_on now posts c.requires.0 c.requires.1))

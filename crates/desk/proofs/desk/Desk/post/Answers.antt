@@ -1,8 +1,8 @@
 use Rattle.std.proofs.Common.{◌≡◌, ap, sym, ◌∙◌, subst}
 use Rattle.rows.specs.Follows.{IsNext}
 use Rattle.shown.specs.Standing.{Standing, after_step, standing}
-use Rattle.published.specs.Posts.{IsLater}
 use Rattle.desk.specs.TableChanges.{Adds}
+use Rattle.desk.specs.inside.Latching.{AgreeWith}
 use Rattle.desk.proofs.Sound.{sound_same, sound_next}
 use Rattle.desk.proofs.Unposted.{no_room, not_stored}
 use Rattle.desk.proofs.desk.Desk.post.Goals as goal
@@ -11,7 +11,7 @@ pub returns-in_err-reserve-clause-err : goal.returns-in_err-reserve-clause-err
 returns-in_err-reserve-clause-err g c =
     let inside = c.self.inside in
     let room = c.reserve.ensures.same in
-    no_room g.T.Tables c.args.self.now inside.tables inside.own inside.publication c.reserve.new.self c.self.view_is c.requires.open c.self.invariant.stands c.self.invariant.beginning
+    no_room g.T.Tables c.args.self.now inside.tables inside.own inside.publication c.reserve.new.self c.self.view_is c.requires.open c.self.invariant.stands c.self.invariant.beginning c.self.invariant.judged
     room.0 room.1 room.2 c.from_residual-in_err-reserve.result _ c.from_residual-in_err-reserve.ensures.1
 
 pub returns-in_err-step-clause-err : goal.returns-in_err-step-clause-err
@@ -20,9 +20,10 @@ returns-in_err-step-clause-err g c =
     let stands : inside.own ≡ standing c.args.self.now.posted = c.self.invariant.stands ∙ ap standing (ap (λ d. d.posted) c.self.view_is) in
     let next : IsNext inside.own.kept c.in_ok-kept.kept = subst (IsNext inside.own.kept) (sym c.in_ok-kept.ensures) (subst (λ (s : Standing). IsNext s.kept c.args.commit) (sym stands) c.requires.next) in
     let room = c.reserve.ensures.same in
-    not_stored g.T.Tables c.args.self.now inside.tables inside.own inside.publication c.reserve.new.self c.self.view_is c.requires.open c.self.invariant.stands c.self.invariant.beginning
+    not_stored g.T.Tables c.args.self.now inside.tables inside.own inside.publication c.reserve.new.self c.self.view_is c.requires.open c.self.invariant.stands c.self.invariant.beginning c.self.invariant.judged
     room.0 room.1 room.2 c.from_residual-in_err-step.result c.in_err-step.field-0.0 c.store.new.tables (Adds c.args.commit) (Adds c.in_ok-kept.kept) c.from_residual-in_err-step.ensures.1
     (ap Adds c.in_ok-kept.ensures) next c.in_err-step.ensures.err c.store.ensures.lasts
+    (subst (λ (s : Standing). AgreeWith g.T.Tables c.store.new.tables s.kept) c.in_err-step.ensures.undone c.store.ensures.agrees)
 
 pub invariant_of-self-2 : goal.invariant_of-self-2
 invariant_of-self-2 g c =
@@ -31,5 +32,5 @@ invariant_of-self-2 g c =
     let stored = c.in_ok-step.ensures in
     sound_next g.T.Tables inside.tables.failed inside.tables.tables inside.own c.reserve.new.self c.post.new.self
     (sound_same g.T.Tables inside.tables.failed inside.tables.tables inside.own inside.publication c.reserve.new.self c.self.invariant room.1 room.2)
-    c.in_ok-step.step (subst IsLater (sym stored.step) tt) c.post.ensures.posted c.post.ensures.same.1 c.store.new.tables.failed c.store.new.tables.tables c.store.new.own
+    c.in_ok-step.step c.post.ensures.posted c.post.ensures.same.1 c.post.ensures.judged c.store.new.tables.failed c.store.new.tables.tables c.store.new.own
     (stored.done ∙ ap (after_step inside.own) (sym stored.step)) c.store.ensures.agrees

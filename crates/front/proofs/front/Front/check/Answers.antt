@@ -1,5 +1,6 @@
 use Rattle.std.proofs.Common.{subst}
-use Rattle.published.specs.Known.{Known, Begins}
+use Rattle.published.specs.Known.{Known}
+use Rattle.front.specs.Kept.{KnowsMore}
 use Rattle.front.proofs.Ahead.{still_knows}
 use Rattle.front.proofs.Told.{check_alone, asked_again}
 use Rattle.front.proofs.front.Front.check.Goals as goal
@@ -10,7 +11,7 @@ returns-in-Told g c = check_alone c.args.self.now c.args.body.now _ c.ask.new.se
 pub returns-in-NotYet : goal.returns-in-NotYet
 returns-in-NotYet g c =
     let q = c.in-NotYet.question in
-    let later = subst (λ (k : Known). Begins k c.check_again.new.session) c.self.view_is c.check_again.ensures.later in
+    let later = subst (λ (k : Known). KnowsMore k c.check_again.new.session) c.self.view_is c.check_again.ensures.later in
     asked_again c.args.self.now c.ask.new.self c.refresh.new.self c.args.body.now _ c.check_again.new.session q.consistency q.node q.user
     c.in-NotYet.ensures.0 c.in-NotYet.ensures.1 c.refresh.ensures.kept later c.check_again.ensures.told
     (still_knows c.refresh.new.self c.check_again.new.session c.refresh.ensures.tells later)

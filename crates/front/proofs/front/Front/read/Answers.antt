@@ -1,5 +1,6 @@
 use Rattle.std.proofs.Common.{subst}
-use Rattle.published.specs.Known.{Known, Begins}
+use Rattle.published.specs.Known.{Known}
+use Rattle.front.specs.Kept.{KnowsMore}
 use Rattle.front.proofs.Ahead.{still_knows}
 use Rattle.front.proofs.Listed.{tuples_alone, tuples_asked_again}
 use Rattle.front.proofs.front.Front.read.Goals as goal
@@ -10,7 +11,7 @@ returns-in-Told g c = tuples_alone c.args.self.now c.args.body.now _ c.ask_for_t
 pub returns-in-NotYet : goal.returns-in-NotYet
 returns-in-NotYet g c =
     let q = c.in-NotYet.question in
-    let later = subst (λ (k : Known). Begins k c.read_again.new.session) c.self.view_is c.read_again.ensures.later in
+    let later = subst (λ (k : Known). KnowsMore k c.read_again.new.session) c.self.view_is c.read_again.ensures.later in
     tuples_asked_again c.args.self.now c.ask_for_tuples.new.self c.refresh.new.self c.args.body.now _ c.read_again.new.session q.consistency q.tupleset
     c.in-NotYet.ensures.0 c.in-NotYet.ensures.1 c.refresh.ensures.kept later c.read_again.ensures.told
     (still_knows c.refresh.new.self c.read_again.new.session c.refresh.ensures.tells later)

@@ -6,11 +6,10 @@ use Rattle.front.proofs.front.Front.refresh.Goals as goal
 
 pub returns-clause-tells : goal.returns-clause-tells
 returns-clause-tells g c =
-    let more = c.refresh.ensures.more in
     let held = subst (λ (d : Posts g.row.T.Denot). IsKept g.J.Naming.book d) (sym c.deref_mut.ensures.value) c.hold.ensures in
     record {
       desk = c.refresh.new.self;
-      kept = kept_on g.J.Naming.book c.deref_mut.result.now c.refresh.new.self held more.book more.later;
+      kept = kept_on g.J.Naming.book c.deref_mut.result.now c.refresh.new.self held c.refresh.ensures.more;
       tells = c.refresh.ensures.tells;
       known = c.refresh.ensures.known;
     }

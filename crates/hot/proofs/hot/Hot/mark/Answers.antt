@@ -1,10 +1,13 @@
 use Rattle.std.proofs.Common.{◌≡◌, true, false, refl, sym, ◌∙◌, arith}
 use Rattle.facts.specs.inside.Growing.{later_further}
+use Rattle.hot.specs.Kept.{AreKept}
 use Rattle.facts.specs.inside.Tables.{grew_get}
 use Rattle.least_sets.specs.World.{has}
+use Rattle.least_sets.proofs.Found.{distinct_none}
 use Rattle.region.proofs.Listing.{on_err_all}
 use Rattle.hot.proofs.Marks.{kept_same, kept_marked, turned_one, marked_same, marked_more, marked_again, marks_there, not_marked, put_in}
 use Rattle.hot.proofs.Counting.{count_more}
+use Rattle.hot.proofs.Asked.{asked_once, asked_exactly, none_new, none_touched}
 use Rattle.hot.proofs.hot.Hot.mark.Goals as goal
 
 pub returns-in_err-id-clause-hot : goal.returns-in_err-id-clause-hot
@@ -47,6 +50,15 @@ returns-then-contains-clause-ok c = λ is.
       again = λ _. refl;
       more = λ off. absurd (off ((marked_same hot.numbers.nodes now.nodes hot.marks c.in_ok-id.ensures.later.nodes_grew there c.args.node.now).0
           (c.in_ok-id.id, marked, c.in_ok-id.ensures.id)));
+    }
+
+pub returns-then-contains-clause-asked : goal.returns-then-contains-clause-asked
+returns-then-contains-clause-asked c = λ is.
+    let hot = c.args.self.now in
+    let now = c.numbered.new.numbers in
+    record {
+      once = distinct_none c.new.result.items c.new.ensures.items;
+      exactly = none_new c.args.view.now hot.numbers.nodes now.nodes hot.numbers.users now.users hot.marks hot.sets.rows is.kept c.in_ok-id.ensures.later c.new.result.items c.new.ensures.items;
     }
 
 pub returns-then-is_full-clause-hot : goal.returns-then-is_full-clause-hot
@@ -114,20 +126,20 @@ returns-in_err-insert-clause-err c = on_err_all c.from_residual-in_err-insert.re
       count = refl;
     })
 
-pub returns-in_err-renew-clause-hot : goal.returns-in_err-renew-clause-hot
-returns-in_err-renew-clause-hot c = λ is.
+pub returns-in_err-asked-clause-hot : goal.returns-in_err-asked-clause-hot
+returns-in_err-asked-clause-hot c = λ is.
     let hot = c.args.self.now in
     let now = c.numbered.new.numbers in
     let end = c.renew.new.numbers in
     record {
       valid = is.valid;
-      kept = kept_same c.args.view.now hot.numbers.nodes end.nodes hot.numbers.users end.users hot.marks hot.sets.rows c.renew.new.sets.rows c.in_err-renew.ensures.err
+      kept = kept_same c.args.view.now hot.numbers.nodes end.nodes hot.numbers.users end.users hot.marks hot.sets.rows c.renew.new.sets.rows c.in_err-asked.ensures.err
           (later_further hot.numbers.nodes now.nodes end.nodes hot.numbers.users now.users end.users c.in_ok-id.ensures.later c.renew.ensures.later) is.kept;
       distinct = c.renew.ensures.later.nodes_distinct c.in_ok-id.ensures.distinct;
     }
 
-pub returns-in_err-renew-clause-err : goal.returns-in_err-renew-clause-err
-returns-in_err-renew-clause-err c = on_err_all c.from_residual-in_err-renew.result (λ is.
+pub returns-in_err-asked-clause-err : goal.returns-in_err-asked-clause-err
+returns-in_err-asked-clause-err c = on_err_all c.from_residual-in_err-asked.result (λ is.
     let hot = c.args.self.now in
     let now = c.numbered.new.numbers in
     let end = c.renew.new.numbers in
@@ -155,7 +167,7 @@ returns-clause-hot c = λ is.
     record {
       valid = is.valid;
       kept = kept_marked c.args.view.now hot.numbers.nodes end.nodes hot.numbers.users end.users hot.marks c.insert.new.self _ hot.sets.rows c.renew.new.sets.rows _ _
-          is.valid last (turned_one hot.marks c.insert.new.self c.in_ok-id.id (put_in c.args.self.now.marks c.in_ok-marks.marks c.insert.new.self c.in_ok-id.id c.in_ok-marks.ensures c.in_ok-insert.ensures.members)) is.kept c.in_ok-renew.ensures.refreshed;
+          is.valid last (turned_one hot.marks c.insert.new.self c.in_ok-id.id (put_in c.args.self.now.marks c.in_ok-marks.marks c.insert.new.self c.in_ok-id.id c.in_ok-marks.ensures c.in_ok-insert.ensures.members)) is.kept c.in_ok-asked.ensures.refreshed;
       distinct = c.renew.ensures.later.nodes_distinct c.in_ok-id.ensures.distinct;
     }
 
@@ -173,4 +185,20 @@ returns-clause-ok c = λ is.
           c.in_ok-id.ensures.id (sym c.contains.ensures ∙ c.if-contains.false) was);
       more = λ _. count_more c.args.self.now.marks c.insert.new.self c.in_ok-id.id c.args.self.now.rising c.insert.ensures.ascending (sym c.contains.ensures ∙ c.if-contains.false)
           (put_in c.args.self.now.marks c.in_ok-marks.marks c.insert.new.self c.in_ok-id.id c.in_ok-marks.ensures c.in_ok-insert.ensures.members);
+    }
+
+pub returns-clause-asked : goal.returns-clause-asked
+returns-clause-asked c = λ is.
+    let hot = c.args.self.now in
+    let end = c.renew.new.numbers in
+    let last = later_further hot.numbers.nodes c.numbered.new.numbers.nodes end.nodes hot.numbers.users c.numbered.new.numbers.users end.users c.in_ok-id.ensures.later c.renew.ensures.later in
+    let distinct = c.renew.ensures.later.nodes_distinct c.in_ok-id.ensures.distinct in
+    let now : AreKept c.args.view.now end.nodes end.users c.insert.new.self c.renew.new.sets.rows =
+    kept_marked c.args.view.now hot.numbers.nodes end.nodes hot.numbers.users end.users hot.marks c.insert.new.self _ hot.sets.rows c.renew.new.sets.rows _ _
+    is.valid last (turned_one hot.marks c.insert.new.self c.in_ok-id.id (put_in hot.marks c.in_ok-marks.marks c.insert.new.self c.in_ok-id.id c.in_ok-marks.ensures c.in_ok-insert.ensures.members)) is.kept c.in_ok-asked.ensures.refreshed in
+    record {
+      once = asked_once c.args.view.now c.args.view.now hot.numbers.nodes end.nodes hot.numbers.users end.users hot.marks c.insert.new.self _ _ _ hot.sets.rows c.renew.new.sets.rows c.in_ok-asked.asked.items
+          is.kept distinct last now c.in_ok-asked.ensures.refreshed;
+      exactly = asked_exactly c.args.view.now c.args.view.now hot.numbers.nodes end.nodes hot.numbers.users end.users hot.marks c.insert.new.self _ _ _ hot.sets.rows c.renew.new.sets.rows c.in_ok-asked.asked.items
+          is.kept distinct last now c.in_ok-asked.ensures.refreshed (λ n. ⊥) (λ n i at there. none_touched hot.sets.rows i);
     }

@@ -27,3 +27,6 @@ returns-clause-members c = λ S is.
     let hot = c.args.self.now in
     members_are hot S is c.in-Some.id c.args.node.now c.in-Some-members.ids.now c.in_ok-users.users.items c.in-Some.ensures.found c.in-Some-members.ensures
     (subst (λ xs. AreNamed hot.numbers.users xs c.in_ok-users.users.items) c.as_slice.ensures.ids c.in_ok-users.ensures)
+
+pub returns-clause-once : goal.returns-clause-once
+returns-clause-once c = c.in_ok-users.ensures.once

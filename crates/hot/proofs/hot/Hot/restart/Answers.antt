@@ -1,10 +1,11 @@
 use Rattle.std.proofs.Common.{refl}
 use Rattle.region.proofs.Listing.{on_err_all}
 use Rattle.hot.proofs.Marks.{kept_anew, kept_same, marked_same, marks_there}
+use Rattle.hot.proofs.Asked.{all_once, all_asked}
 use Rattle.hot.proofs.hot.Hot.restart.Goals as goal
 
-pub returns-in_err-renew-clause-err : goal.returns-in_err-renew-clause-err
-returns-in_err-renew-clause-err c = on_err_all c.from_residual.result (λ S is.
+pub returns-in_err-asked-clause-err : goal.returns-in_err-asked-clause-err
+returns-in_err-asked-clause-err c = on_err_all c.from_residual.result (λ S is.
     let hot = c.args.self.now in
     let now = c.renew.new.numbers in
     record {
@@ -13,8 +14,8 @@ returns-in_err-renew-clause-err c = on_err_all c.from_residual.result (λ S is.
       distinct = c.renew.ensures.later.nodes_distinct is.distinct;
     })
 
-pub returns-in_err-renew-clause-marked : goal.returns-in_err-renew-clause-marked
-returns-in_err-renew-clause-marked c = λ S is.
+pub returns-in_err-asked-clause-marked : goal.returns-in_err-asked-clause-marked
+returns-in_err-asked-clause-marked c = λ S is.
     let hot = c.args.self.now in
     record {
       nodes = λ n. marked_same hot.numbers.nodes c.renew.new.numbers.nodes hot.marks c.renew.ensures.later.nodes_grew
@@ -27,12 +28,25 @@ returns-clause-hot c = λ S is.
     let hot = c.args.self.now in
     let now = c.renew.new.numbers in
     let later = c.renew.ensures.later in
-    let r = rw c.as_slice-marks.ensures.ids at c.in_ok-renew.ensures.refreshed in
+    let r = rw c.as_slice-marks.ensures.ids at c.in_ok-asked.ensures.refreshed in
     record {
       valid = c.each_view_is_valid.ensures;
       kept = kept_anew c.args.view.now hot.numbers.nodes now.nodes hot.numbers.users now.users hot.marks c.new-sets.result.rows c.renew.new.sets.rows _ _
           c.each_view_is_valid.ensures c.new-sets.ensures.none later r;
       distinct = later.nodes_distinct is.distinct;
+    }
+
+pub returns-clause-asked : goal.returns-clause-asked
+returns-clause-asked c = λ S is.
+    let hot = c.args.self.now in
+    let now = c.renew.new.numbers in
+    let later = c.renew.ensures.later in
+    let r = rw c.as_slice-marks.ensures.ids at c.in_ok-asked.ensures.refreshed in
+    record {
+      once = all_once c.args.view.now hot.numbers.nodes now.nodes hot.numbers.users now.users hot.marks c.new-sets.result.rows c.renew.new.sets.rows c.in_ok-asked.asked.items
+          c.each_view_is_valid.ensures c.new-sets.ensures.none later (later.nodes_distinct is.distinct) r;
+      exactly = all_asked c.args.view.now hot.numbers.nodes now.nodes hot.numbers.users now.users hot.marks c.new-sets.result.rows c.renew.new.sets.rows c.in_ok-asked.asked.items
+          c.each_view_is_valid.ensures c.new-sets.ensures.none later (later.nodes_distinct is.distinct) r;
     }
 
 pub returns-clause-marked : goal.returns-clause-marked

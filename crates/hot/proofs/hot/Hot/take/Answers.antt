@@ -1,9 +1,10 @@
 use Rattle.std.proofs.Common.{sym, refl, subst}
 use Rattle.hot.specs.inside.Events.{AreOfEvents}
+use Rattle.hot.specs.Depending.{IsTouchedBy}
 use Rattle.hot.specs.Kept.{AreKept}
 use Rattle.hot.proofs.Outcomes.{ok_then, if_ok, err_then}
 use Rattle.hot.proofs.Marks.{kept_after, kept_same, marked_same, marks_there}
-use Rattle.hot.proofs.Asked.{asked_once, asked_few}
+use Rattle.hot.proofs.Asked.{asked_once, asked_exactly, touched_exactly}
 use Rattle.hot.proofs.hot.Hot.take.Goals as goal
 
 pub returns-clause-hot : goal.returns-clause-hot
@@ -33,10 +34,11 @@ returns-clause-asked c = if_ok _ _ c.renew.result
     is.valid c.each_view_is_valid.ensures view are later is.kept r in
     let distinct = later.nodes_distinct is.distinct in
     record {
-      once = asked_once S c.args.view.now c.args.events.now hot.numbers.nodes now.nodes hot.numbers.users now.users hot.marks _ hot.sets.rows c.renew.new.sets.rows asked.items
-          is.valid is.kept distinct are later kept r;
-      few = asked_few S c.args.view.now c.args.events.now hot.numbers.nodes now.nodes hot.numbers.users now.users hot.marks _ hot.sets.rows c.renew.new.sets.rows asked.items
-          is.valid is.kept distinct are later kept r;
+      once = asked_once S c.args.view.now hot.numbers.nodes now.nodes hot.numbers.users now.users hot.marks hot.marks hot.marks _ _ hot.sets.rows c.renew.new.sets.rows asked.items
+          is.kept distinct later kept r;
+      exactly = asked_exactly S c.args.view.now hot.numbers.nodes now.nodes hot.numbers.users now.users hot.marks hot.marks hot.marks _ _ hot.sets.rows c.renew.new.sets.rows asked.items
+          is.kept distinct later kept r (λ n. IsTouchedBy S c.args.events.now n)
+          (touched_exactly S c.args.events.now hot.numbers.nodes hot.numbers.users hot.marks _ hot.sets.rows is.valid are is.kept);
     })
     c.renew.ensures.refreshed
 

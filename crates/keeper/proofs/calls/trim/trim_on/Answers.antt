@@ -1,7 +1,7 @@
 use Rattle.std.proofs.Common.{ap, sym, ◌∙◌, subst}
 use Rattle.published.specs.Known.{Known, Begins}
 use Rattle.keeper.proofs.Changing.{shown_later}
-use Rattle.keeper.proofs.Trimming.{trim_done, trim_not_done, trimmed_book, trimmed_later}
+use Rattle.keeper.proofs.Trimming.{trim_done, trim_not_done, trimmed_book, trimmed_later, trimmed_judged}
 use Rattle.keeper.proofs.calls.trim.trim_on.Goals as goal
 
 pub learn-requires : goal.learn-requires
@@ -19,6 +19,9 @@ returns-in-Ok-clause-book g c = trimmed_book g.T.Tables _ _ _ c.in-Ok.ensures.ok
 
 pub returns-in-Ok-clause-later : goal.returns-in-Ok-clause-later
 returns-in-Ok-clause-later g c = trimmed_later g.T.Tables _ _ _ c.in-Ok.ensures.ok.done
+
+pub returns-in-Ok-clause-judged : goal.returns-in-Ok-clause-judged
+returns-in-Ok-clause-judged g c = trimmed_judged g.T.Tables _ _ _ c.in-Ok.ensures.ok.done
 
 pub returns-in-Ok-clause-known : goal.returns-in-Ok-clause-known
 returns-in-Ok-clause-known g c = subst (λ (k : Known). Begins k c.learn.new.self) c.in-Ok.ensures.ok.tells.published c.learn.ensures.told
