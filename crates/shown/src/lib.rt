@@ -3,6 +3,7 @@
 #![tactic(auto)]
 
 mod answer;
+mod groups;
 mod marks;
 mod members;
 mod shown;

@@ -7,23 +7,36 @@ ghost use Rattle.rows.specs.Retained.{newest, snap_at};
 
 use decide::Oracle;
 use facts::each_view_is_valid;
+use group_index::At;
 use hot::Hot;
 use names::{Marking, Node, Object};
 use rows::{Rows, View};
 use std::alloc::{AllocError, Global};
 use tuple_keys::KeptCommit;
 
-/// What is kept of marked nodes, for a search at the revision of which it is.
+/// What is kept at the revision of a search: of marked nodes, which are asked first, and of groups.
 #[derive(Drop)]
 pub(crate) struct Known<'a> {
-    pub(crate) hot: &'a Hot,
+    pub(crate) hot: Option<&'a Hot>,
+    pub(crate) groups: Option<At<'a>>,
 }
 
 impl Oracle for Known<'_> {
-    ghost tells = { λ known S. IsHot known.hot.now S };
+    ghost use Rattle.meaning.specs.Reads.{IsValid};
+    ghost use Rattle.group_index.specs.Indices.{TellsOf};
+
+    ghost tells = { λ known S. IfSome known.hot (λ hot. IsHot hot.now S) × IfSome known.groups (λ at. TellsOf at S) × IsValid S };
 
     fn knows(&mut self, node: &Node, user: &Object) -> Option<bool> {
-        self.hot.has(node, user)
+        if let Some(hot) = self.hot {
+            if let Some(has) = hot.has(node, user) {
+                return Some(has);
+            }
+        }
+        match &self.groups {
+            Some(at) => at.has(node, user),
+            None => None,
+        }
     }
 }
 
