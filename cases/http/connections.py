@@ -519,14 +519,14 @@ def many_connections_mark_no_more_nodes_than_may_be_marked(program, folder):
 
 
 def writes_until(server, end):
-    """The zookies of the writes that were accepted until the server is gone, which is killed at this time."""
+    """The zookies of the writes that were accepted until the server is gone, which is killed at this time, once one was accepted."""
     zookies = []
     killed = False
     with server.connect() as stream:
         try:
             while True:
                 stream.sendall(request("write", insert(f"u{len(zookies)}")))
-                if not killed and time.monotonic() >= end[0]:
+                if zookies and not killed and time.monotonic() >= end[0]:
                     killed = True
                     server.process.send_signal(end[1])
                 status, body = one_reply(stream)
@@ -580,7 +580,11 @@ def what_many_were_told_is_there_after_a_kill(program, folder):
             threads = [threading.Thread(target=writes_of, args=(server, number, zookies)) for number, zookies in enumerate(kept)]
             for it in threads:
                 it.start()
-            time.sleep(0.2 + 0.1 * turn)
+            # However slow the machine is, each has been told of a write.
+            end = time.monotonic() + LIMIT
+            while not all(kept) and time.monotonic() < end:
+                time.sleep(0.001)
+            time.sleep(0.1 * turn)
             server.stop()
             for it in threads:
                 it.join(LIMIT)
