@@ -1,6 +1,5 @@
-use Rattle.std.proofs.Common.{◌≡◌, List, sym, ◌∙◌, ap, subst}
+use Rattle.std.proofs.Common.{List, sym, ◌∙◌, ap, subst}
 use Rattle.std.specs.List.Sorted.{IsNonDecreasingBy}
-use Rattle.std.specs.Option.{option_map}
 use Rattle.delta.specs.declared.earlier.Earlier.{Earlier}
 use Rattle.delta.specs.Noted.{led_at}
 use Rattle.delta.proofs.Outcomes.{if_some_as, if_none_as, none_any}
