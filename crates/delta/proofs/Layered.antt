@@ -15,6 +15,7 @@ use Rattle.region.specs.Tables.{Rows}
 use Rattle.graphs.specs.Groups.{GroupWalk}
 use Rattle.facts.specs.Numbers.{AreNumbersOf}
 use Rattle.facts.specs.inside.Tables.{grew_get}
+use Rattle.leopard.specs.Finding.{IsNamedBy}
 use Rattle.leopard.specs.Groups.{IsGroup, GroupToGroup}
 use Rattle.leopard.specs.Index.{bare}
 use Rattle.leopard.specs.inside.Asking.{AreAll}
@@ -95,27 +96,33 @@ module _ (layer : Layer) (snaps : ℕ → Snap) (g : Node) (rev : ℕ) (is : IsL
         ((t.closures g n group).1 w),
   )
 
-  -- a group without a number is not kept
-  pub missing_answer : ((i : ℕ) → slice_get layer.nodes i ≡ Some g → ⊥) → (v : List Node) → AreAll (GroupWalk (bare layer.config) g) v → (n : Node) → Contains v n ↔ GroupToGroup (snaps rev) g n
-  missing_answer missing v are n = bare_answer (λ ids (i, at, led). missing i at) v are n
-
-  pub none_answer : (id : ℕ) → slice_get layer.nodes id ≡ Some g → None ≡ led_at layer.earlier.items layer.sets.rows id rev → (v : List Node) → AreAll (GroupWalk (bare layer.config) g) v
-      → (n : Node) → Contains v n ↔ GroupToGroup (snaps rev) g n
-  none_answer id there none v are n = bare_answer
-      (λ ids (i, at, led). none-some ids (none ∙ ap (λ j. led_at layer.earlier.items layer.sets.rows j rev) (is.distinct id i g there at) ∙ led))
-      v are n
-
-  pub kept_answer : (id : ℕ) (ids : List ℕ) → slice_get layer.nodes id ≡ Some g → Some ids ≡ led_at layer.earlier.items layer.sets.rows id rev → (v : List Node) → AreNamed layer.nodes ids v
-      → (n : Node) → Contains v n ↔ GroupToGroup (snaps rev) g n
-  kept_answer id ids there led v named n = (
-    λ c. (t.closures g n group).0 (inl (ids, keeps, (named n).0 c)),
+  -- what is kept of the group with this number
+  pub kept_ids : (id : ℕ) (ids : List ℕ) → slice_get layer.nodes id ≡ Some g → Some ids ≡ led_at layer.earlier.items layer.sets.rows id rev
+      → (n : Node) → IsNamedBy layer.nodes ids n ↔ GroupToGroup (snaps rev) g n
+  kept_ids id ids there led n = (
+    λ (j, at, h). (t.closures g n group).0 (inl (ids, (id, there, sym led), (j, h, at))),
     λ w. ⊎_elim
-        (λ (others, (i, at, led'), found).
-        let same : others ≡ ids = same_Some others ids (sym led' ∙ ap (λ j. led_at layer.earlier.items layer.sets.rows j rev) (is.distinct i id g at there) ∙ sym led) in
-        (named n).1 (subst (λ (xs : List ℕ). (j : ℕ) × (has xs j ≡ true) × (slice_get layer.nodes j ≡ Some n)) same found))
-        (λ (off, along). absurd (off ids keeps))
+        (λ (others, (i, at, led'), (j, h, found)).
+        let same : others ≡ ids = same_Some others ids (sym led' ∙ ap (λ k. led_at layer.earlier.items layer.sets.rows k rev) (is.distinct i id g at there) ∙ sym led) in
+        (j, found, subst (λ (xs : List ℕ). has xs j ≡ true) same h))
+        (λ (off, along). absurd (off ids (id, there, sym led)))
         ((t.closures g n group).1 w),
   )
-    where
-      keeps : KeepsAt layer rev g ids
-      keeps = (id, there, sym led)
+
+-- a group without a number is not kept
+pub missing_keeps : (layer : Layer) (g : Node) (rev : ℕ) → ((i : ℕ) → slice_get layer.nodes i ≡ Some g → ⊥) → (ids : List ℕ) → KeepsAt layer rev g ids → ⊥
+missing_keeps layer g rev missing ids (i, at, led) = missing i at
+
+-- nor is one with a number of which nothing is kept
+pub none_keeps : (layer : Layer) (g : Node) (rev id : ℕ) → AreDistinct layer.nodes → slice_get layer.nodes id ≡ Some g → None ≡ led_at layer.earlier.items layer.sets.rows id rev
+    → (ids : List ℕ) → KeepsAt layer rev g ids → ⊥
+none_keeps layer g rev id distinct there none ids (i, at, led) =
+    none-some ids (none ∙ ap (λ j. led_at layer.earlier.items layer.sets.rows j rev) (distinct id i g there at) ∙ led)
+
+-- the names of what is kept
+pub named_answer : (layer : Layer) (snaps : ℕ → Snap) (g : Node) (rev : ℕ) (ids : List ℕ) (v : List Node) → AreNamed layer.nodes ids v
+    → ((n : Node) → IsNamedBy layer.nodes ids n ↔ GroupToGroup (snaps rev) g n) → (n : Node) → Contains v n ↔ GroupToGroup (snaps rev) g n
+named_answer layer snaps g rev ids v named kept n = (
+  λ c. let (i, h, at) = (named n).0 c in (kept n).0 (i, at, h),
+  λ w. let (i, at, h) = (kept n).1 w in (named n).1 (i, h, at),
+)

@@ -33,11 +33,12 @@ pub struct Layer {
 }
 
 impl Layer {
-    ghost use Rattle.std.specs.Prelude.{◌≡◌, ◌<◌, ◌≤◌, ◌+◌, ◌-◌, ◌^◌, ◌↔◌, ℕ, [], Contains, max, OnOk, OnErr, IfOk};
+    ghost use Rattle.std.specs.Prelude.{◌≡◌, ◌<◌, ◌≤◌, ◌+◌, ◌-◌, ◌^◌, ◌↔◌, ℕ, List, Contains, max, OnOk, OnErr, IfOk, IfSome, IfNone};
     ghost use Rattle.names.specs.declared.node.Node.{Node as NodeValue};
     ghost use Rattle.meaning.specs.Snap.{Snap};
     ghost use Rattle.leopard.specs.Groups.{IsGroup, GroupToGroup};
-    ghost use Rattle.delta.specs.Layers.{IsLayerOf, IsNext, WasAskedFew};
+    ghost use Rattle.leopard.specs.Finding.{IsNamedBy};
+    ghost use Rattle.delta.specs.Layers.{IsLayerOf, IsNext, KeepsAt, WasAskedFew};
 
     /// The layer of one revision, whose view this is: base and cursor are that revision, and nothing is noted. All
     /// tuples are gone over, and each group from which a tuple leads on, or to which one leads, is asked for once.
@@ -120,16 +121,39 @@ impl Layer {
         Ok(asked)
     }
 
+    /// The configuration.
+    pub fn config(&self) -> &Config
+        ensures { result.now ≡ self.now.config }
+    {
+        &self.config
+    }
+
+    /// The groups that have a number, each at its number.
+    pub fn nodes(&self) -> &Ids<Node>
+        ensures { result.now ≡ self.now.nodes }
+    {
+        &self.nodes
+    }
+
+    /// The numbers of the groups to which the group leads at a revision from the base to the cursor, itself among them,
+    /// where they are kept. From a group of which nothing is kept computed usersets alone lead on. It takes no memory.
+    pub fn kept_at(&self, group: &Node, rev: u64) -> Option<&IdSet>
+        ensures kept { IfSome result (λ ids. (snaps : ℕ → Snap) → IsLayerOf self.now snaps → self.now.base ≤ rev → rev ≤ self.now.cursor
+            → IsGroup (snaps rev).config group.now → (n : NodeValue) → IsNamedBy self.now.nodes ids.now n ↔ GroupToGroup (snaps rev) group.now n) }
+        ensures none { IfNone result ((ids : List ℕ) → KeepsAt self.now rev group.now ids → ⊥) }
+    {
+        let _ = self.nodes.len();
+        let id = self.nodes.id_of(group)?;
+        led_at(&self.earlier, &self.sets, id, rev)
+    }
+
     /// The groups to which the group leads at a revision from the base to the cursor, itself among them. No order is
     /// promised.
     pub fn closure_at(&self, alloc: Global, group: &Node, rev: u64) -> Result<Vec<Node>, AllocError>
         ensures { IfOk result (λ v. (snaps : ℕ → Snap) → IsLayerOf self.now snaps → self.now.base ≤ rev → rev ≤ self.now.cursor
             → IsGroup (snaps rev).config group.now → (n : NodeValue) → Contains v.items n ↔ GroupToGroup (snaps rev) group.now n) }
     {
-        let Some(id) = self.nodes.id_of(group) else {
-            return led_to(alloc, &self.config, group);
-        };
-        match led_at(&self.earlier, &self.sets, id, rev) {
+        match self.kept_at(group, rev) {
             Some(ids) => named(alloc, &self.nodes, ids.as_slice()),
             None => led_to(alloc, &self.config, group),
         }
@@ -148,8 +172,19 @@ impl Layer {
             *self = Layer::restart(alloc, view, rev)?;
             return Ok(());
         }
+        self.raise(rev);
+        Ok(())
+    }
+
+    /// Moves the base up to a revision that is not above the cursor. What was noted up to it is dropped, and the later
+    /// rest is kept. It takes no memory.
+    pub fn raise(&mut self, rev: u64)
+        requires { rev ≤ self.old.cursor }
+        ensures layer { (snaps : ℕ → Snap) → IsLayerOf self.old snaps → self.old.base ≤ rev → IsLayerOf self.new snaps }
+        ensures base { self.new.base ≡ rev }
+        ensures cursor { self.new.cursor ≡ self.old.cursor }
+    {
         self.earlier.retain(|e| rev < e.rev);
         self.base = rev;
-        Ok(())
     }
 }

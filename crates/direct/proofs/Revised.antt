@@ -1,6 +1,6 @@
 -- What is told of revisions after each change.
 use Rattle.std.proofs.Common.{ℕ, ◌≡◌, ◌<◌, ◌≤◌, ◌+◌, ◌&&◌, true, List, [], length, sym, ◌∙◌, ap, subst, arith, ⊎_elim}
-use Rattle.std.specs.Prelude.{◌↔◌, Contains, Some, is_some, Result, Ok, Err, IfOk, OnErr}
+use Rattle.std.specs.Prelude.{◌↔◌, Contains, Option, Some, None, is_some, Result, Ok, Err, IfOk, IfNone, OnErr}
 use Rattle.std.specs.List.{slice_get}
 use Rattle.std.specs.Ordering.{nat_cmp}
 use Rattle.std.specs.BTreeMap.{BTreeMap, get}
@@ -20,6 +20,7 @@ use Rattle.idsets.specs.Sets.{has}
 use Rattle.idsets.proofs.Having.{same_tests}
 use Rattle.facts.specs.Numbers.{Grew}
 use Rattle.facts.specs.inside.Tables.{grew_none, grew_get}
+use Rattle.leopard.specs.Finding.{IsNamedBy}
 use Rattle.leopard.specs.Groups.{IsGroup, MemberToGroup}
 use Rattle.direct.specs.Named.{IsDirect}
 use Rattle.direct.specs.Before.{set_in, set_at, AreUpTo}
@@ -203,16 +204,23 @@ noted_few a b mid events renewed config users noted of = record {
 
 -- ---- what is answered
 
-pub answers_found : (direct : Direct) (u : Object) (user rev : ℕ) (ids : List ℕ) (nodes : List Node) → slice_get direct.kept.users user ≡ Some u → ids ≡ set_at direct.earlier.items direct.kept.sets.items user rev
-    → AreNamed direct.kept.groups ids nodes → (snaps : ℕ → Snap) → IsDirectOf direct snaps → direct.base ≤ rev → rev ≤ direct.cursor → (n : Node) → Contains nodes n ↔ MemberToGroup (snaps rev) u n
-answers_found direct u user rev ids nodes at is named snaps of from to n =
+pub kept_ids : (direct : Direct) (u : Object) (user rev : ℕ) (ids : List ℕ) → slice_get direct.kept.users user ≡ Some u → ids ≡ set_at direct.earlier.items direct.kept.sets.items user rev
+    → (snaps : ℕ → Snap) → IsDirectOf direct snaps → direct.base ≤ rev → rev ≤ direct.cursor → (n : Node) → IsNamedBy direct.kept.groups ids n ↔ MemberToGroup (snaps rev) u n
+kept_ids direct u user rev ids at is snaps of from to n =
     let tells = of.tells rev from to in (
-      λ c. let (i, h, there) = (named n).0 c in (tells.groups u n).0 (record { user = user; group = i; user_is = at; group_is = there; there = subst (λ s. has s i ≡ true) is h }),
+      λ (i, there, h). (tells.groups u n).0 (record { user = user; group = i; user_is = at; group_is = there; there = subst (λ s. has s i ≡ true) is h }),
       λ m.
           let k = (tells.groups u n).1 m in
           let same = direct.kept.users_apart k.user user u k.user_is at in
-          (named n).1 (k.group, subst (λ s. has s k.group ≡ true) (ap (λ x. set_at direct.earlier.items direct.kept.sets.items x rev) same ∙ sym is) k.there, k.group_is),
+          (k.group, k.group_is, subst (λ s. has s k.group ≡ true) (ap (λ x. set_at direct.earlier.items direct.kept.sets.items x rev) same ∙ sym is) k.there),
     )
+
+-- the names of what is kept
+pub named_answer : (groups : List Node) (ids : List ℕ) (nodes : List Node) (P : Node → Type 0) → AreNamed groups ids nodes → ((n : Node) → IsNamedBy groups ids n ↔ P n) → (n : Node) → Contains nodes n ↔ P n
+named_answer groups ids nodes P named kept n = (
+  λ c. let (i, h, there) = (named n).0 c in (kept n).0 (i, there, h),
+  λ m. let (i, there, h) = (kept n).1 m in (named n).1 (i, h, there),
+)
 
 pub answers_none : (direct : Direct) (u : Object) (rev : ℕ) → ((i : ℕ) → slice_get direct.kept.users i ≡ Some u → ⊥) → (snaps : ℕ → Snap) → IsDirectOf direct snaps → direct.base ≤ rev → rev ≤ direct.cursor
     → (n : Node) → MemberToGroup (snaps rev) u n → ⊥
@@ -243,3 +251,7 @@ err_any (Err e) p = p
 pub if_ok : {T E : Type 0} (P Q : T → Type 0) (r : Result T E) → ((x : T) → P x → Q x) → IfOk r P → IfOk r Q
 if_ok P Q (Ok x) f p = f x p
 if_ok P Q (Err e) f p = tt
+
+pub none_any : {T P : Type 0} (r : Option T) → P → IfNone r P
+none_any None p = p
+none_any (Some x) p = tt

@@ -6,6 +6,7 @@ use crate::naming::named;
 use crate::noted::{EarlierGroups, set_at};
 use crate::replacing::{number_all, renewed, replace_all};
 use config::Config;
+use idsets::{IdSet, Ids};
 use names::{Event, Node, Object};
 use rows::View;
 use std::alloc::{AllocError, Global};
@@ -24,9 +25,10 @@ pub struct Direct {
 }
 
 impl Direct {
-    ghost use Rattle.std.specs.Prelude.{◌≡◌, ◌<◌, ◌≤◌, ◌+◌, ◌-◌, ◌^◌, ◌↔◌, ℕ, Contains, max, OnOk, OnErr, IfOk};
+    ghost use Rattle.std.specs.Prelude.{◌≡◌, ◌<◌, ◌≤◌, ◌+◌, ◌-◌, ◌^◌, ◌↔◌, ℕ, Contains, max, OnOk, OnErr, IfOk, IfSome, IfNone};
     ghost use Rattle.names.specs.declared.node.Node.{Node as NodeValue};
     ghost use Rattle.meaning.specs.Snap.{Snap};
+    ghost use Rattle.leopard.specs.Finding.{IsNamedBy};
     ghost use Rattle.leopard.specs.Groups.{MemberToGroup};
     ghost use Rattle.direct.specs.Revisions.{IsDirectOf, IsNext, NotesFew};
 
@@ -84,17 +86,33 @@ impl Direct {
         Ok(())
     }
 
+    /// The groups that have a number, each at its number.
+    pub fn groups(&self) -> &Ids<Node>
+        ensures { result.now ≡ self.now.kept.groups }
+    {
+        &self.kept.groups
+    }
+
+    /// The numbers of the groups that name the user by a tuple of their own, at a revision from the base to the cursor,
+    /// where anything was ever kept of it. It takes no memory.
+    pub fn kept_at(&self, user: &Object, rev: u64) -> Option<&IdSet>
+        ensures kept { IfSome result (λ ids. (snaps : ℕ → Snap) → IsDirectOf self.now snaps → self.now.base ≤ rev → rev ≤ self.now.cursor
+            → (n : NodeValue) → IsNamedBy self.now.kept.groups ids.now n ↔ MemberToGroup (snaps rev) user.now n) }
+        ensures none { IfNone result ((snaps : ℕ → Snap) → IsDirectOf self.now snaps → self.now.base ≤ rev → rev ≤ self.now.cursor
+            → (n : NodeValue) → MemberToGroup (snaps rev) user.now n → ⊥) }
+    {
+        let id = self.kept.users.id_of(user)?;
+        Some(set_at(&self.earlier, &self.kept.sets, id, rev))
+    }
+
     /// The groups that name the user by a tuple of their own, at a revision from the base to the cursor. No order is
     /// promised.
     pub fn groups_at(&self, alloc: Global, user: &Object, rev: u64) -> Result<Vec<Node>, AllocError>
         ensures { IfOk result (λ v. (snaps : ℕ → Snap) → IsDirectOf self.now snaps → self.now.base ≤ rev → rev ≤ self.now.cursor
             → (n : NodeValue) → Contains v.items n ↔ MemberToGroup (snaps rev) user.now n) }
     {
-        match self.kept.users.id_of(user) {
-            Some(id) => {
-                let ids = set_at(&self.earlier, &self.kept.sets, id, rev);
-                named(alloc, &self.kept.groups, ids.as_slice())
-            }
+        match self.kept_at(user, rev) {
+            Some(ids) => named(alloc, &self.kept.groups, ids.as_slice()),
             None => Ok(Vec::new(alloc)),
         }
     }
@@ -112,8 +130,19 @@ impl Direct {
             *self = Direct::restart(alloc, view, rev)?;
             return Ok(());
         }
+        self.raise(rev);
+        Ok(())
+    }
+
+    /// Moves the base up to a revision that is not above the cursor. What was noted up to it is dropped, and the later
+    /// rest is kept. It takes no memory.
+    pub fn raise(&mut self, rev: u64)
+        requires { rev ≤ self.old.cursor }
+        ensures direct { (snaps : ℕ → Snap) → IsDirectOf self.old snaps → self.old.base ≤ rev → IsDirectOf self.new snaps }
+        ensures base { self.new.base ≡ rev }
+        ensures cursor { self.new.cursor ≡ self.old.cursor }
+    {
         self.earlier.retain(|e| rev < e.rev);
         self.base = rev;
-        Ok(())
     }
 }

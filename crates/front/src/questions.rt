@@ -1,8 +1,7 @@
 //! Questions by bytes, of a session alone: with no lock and no wait, by their type.
-ghost use Rattle.std.specs.Prelude.{◌≡◌, IfOk, IfErr, IfSome, IfNone, option_map, ⊤};
+ghost use Rattle.std.specs.Prelude.{◌≡◌, IfOk, IfErr, option_map, ⊤};
 ghost use Rattle.names.specs.Calls.{told};
 ghost use Rattle.bodies.specs.Replies.{Says, SaysRefusalAt, answer_data};
-ghost use Rattle.bodies.specs.Requests.{AsksCheck};
 ghost use Rattle.zookie.specs.Text.{zookie_text};
 ghost use Rattle.front.specs.Kept.{KnowsMore};
 ghost use Rattle.front.specs.Questions.{IsAsked, CheckTold, StateFrom};

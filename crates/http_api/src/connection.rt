@@ -56,7 +56,7 @@ pub fn serve<R: Read, W: Write, A: Answers>(
     // At each read, also of one that failed, each whole request of what was read before had its reply, handed on.
     ensures each_read { TalkedAtEachRead A.step answers.old (W.contents writer.old.inner) reader.old reader.new }
 
-    // A fault is told exactly where the reader or the writer failed in the call.
+    // A fault is told exactly where the flag of the tracked reader or writer is set in the call.
     ensures read_failed { reader.new.failed ≡ is_read_fault result }
     ensures write_failed { writer.new.failed ≡ is_write_fault result }
     ensures flushed { writer.new.failed ≡ false → writer.old.flushed ≡ true → writer.new.flushed ≡ true }
@@ -109,7 +109,7 @@ pub fn serve_by<R: Read, W: Write, A: Answers>(
     // At each read, also of one that failed, each whole request of what was read before had its reply, handed on.
     ensures each_read { TalkedAtEachRead A.step answers.old (W.contents writer.old.inner) reader.old reader.new }
 
-    // A fault is told exactly where the reader or the writer failed in the call.
+    // A fault is told exactly where the flag of the tracked reader or writer is set in the call.
     ensures read_failed { reader.new.failed ≡ is_read_fault result }
     ensures write_failed { writer.new.failed ≡ is_write_fault result }
     ensures flushed { writer.new.failed ≡ false → writer.old.flushed ≡ true → writer.new.flushed ≡ true }

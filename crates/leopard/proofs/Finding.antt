@@ -3,20 +3,25 @@ use Rattle.std.proofs.Common.{◌≡◌, ℕ, List, [], ◌∷◌, Bool, true, f
 use Rattle.std.specs.Prelude.{◌↔◌, ◌⊎◌, ◌&&◌, ◌||◌, not, Any, Contains, Some, nat_eq, slice_index_or}
 use Rattle.std.specs.List.{slice_get}
 use Rattle.std.proofs.lemmas.Bool.{and_parts, or_cases, false≢true, eqb-true, eq-eqb}
-use Rattle.std.proofs.lemmas.Option.{same_Some}
+use Rattle.std.proofs.lemmas.Option.{none-some, same_Some}
 use Rattle.names.specs.declared.object.Object.{Object}
 use Rattle.names.specs.declared.node.Node.{Node}
+use Rattle.meaning.specs.Config.{rel_of}
+use Rattle.meaning.specs.Snap.{Snap}
 use Rattle.meaning.proofs.Lists.{contains_none}
+use Rattle.config.specs.Valid.{is_indexed}
 use Rattle.idsets.specs.Naming.{AreDistinct}
 use Rattle.idsets.specs.Sets.{has}
 use Rattle.leopard.specs.declared.expr.Expr.{Expr}
 use Rattle.leopard.specs.declared.found.Found.{Found}
 use Rattle.leopard.specs.Exprs.{query_of, part_queries}
 use Rattle.graphs.specs.Groups.{GroupWalk}
-use Rattle.leopard.specs.Index.{Index, bare, IsKeptOf, LeadsTo, NamesUser, MeansBy, SomeMeansBy, EachMeansBy}
+use Rattle.leopard.specs.Groups.{IsGroup, GroupToGroup, Means, EachMeans}
+use Rattle.leopard.specs.Index.{Index, bare, IsKeptOf, LeadsTo, NamesUser}
 use Rattle.leopard.specs.inside.Asking.{AreAll, Gains}
-use Rattle.leopard.specs.inside.Finding.{Finds, AreUnnamed, AreApart, AreFound}
+use Rattle.leopard.specs.Finding.{Finds, AreUnnamed, AreApart, AreFound}
 use Rattle.leopard.proofs.Gather.{any_contains}
+use Rattle.leopard.proofs.Indices.{or_false, indexed_is}
 
 pub finds_nothing : (names : List Node) (ids : List ℕ) (others : List Node) (n : Node) → ids ≡ [] → others ≡ [] → Finds names ids others n → ⊥
 finds_nothing names ids others n none nothing (inl (id, at, is)) = false≢true (ap (λ l. has l id) (sym none) ∙ is)
@@ -124,12 +129,6 @@ found_less names P Q a b ids ao bo others distinct has lacked are stay = record 
       );
 }
 
-pub some_by_splits : (x : Index) (part : Expr) (parts : List Expr) (n : Node) → SomeMeansBy x (part_queries (part ∷ parts)) n ↔ (MeansBy x (query_of part) n ⊎ SomeMeansBy x (part_queries parts) n)
-some_by_splits x part parts n = (λ h. h, λ h. h)
-
-pub each_by_splits : (x : Index) (part : Expr) (parts : List Expr) (n : Node) → EachMeansBy x (part_queries (part ∷ parts)) n ↔ (MeansBy x (query_of part) n × EachMeansBy x (part_queries parts) n)
-each_by_splits x part parts n = (λ h. h, λ h. h)
-
 -- ---- what an index keeps of one group or one user
 
 module _ (x : Index) (distinct : AreDistinct x.groups) (node : Node) where
@@ -208,20 +207,55 @@ direct_none x user ids others missing none unnamed = record {
   all = λ n. (λ f. absurd (none n f), λ (at, there, kept). absurd (missing at there));
 }
 
--- the same, of a call's result
-pub less_of : {E : Type 0} (names : List Node) (P Q : Node → Type 0) (a b : Found) (r : Result Found E) → AreDistinct names → AreFound names P a.ids a.others.keys → AreFound names Q b.ids b.others.keys
+-- the same, of a call's result, under what is asked of the snapshot
+pub less_of : {E : Type 0} (names : List Node) (tells : Snap → Type 0) (P Q : Snap → Node → Type 0) (one other : Snap → Bool) (a b : Found) (r : Result Found E)
+    → ((S : Snap) → tells S → AreDistinct names)
+    → ((S : Snap) → tells S → one S ≡ false → AreFound names (P S) a.ids a.others.keys)
+    → ((S : Snap) → tells S → other S ≡ false → AreFound names (Q S) b.ids b.others.keys)
     → IfOk r (λ f. (ns : List Node) (n : Node) → AreApart ns a.others.keys b.others.keys → Finds ns f.ids f.others.keys n ↔ (Finds ns a.ids a.others.keys n × ¬ (Finds ns b.ids b.others.keys n)))
-    → IfOk r (λ f. (ns : List Node) → AreUnnamed ns a.others.keys → AreUnnamed ns f.others.keys) → IfOk r (λ f. AreFound names (λ n. P n × ¬ (Q n)) f.ids f.others.keys)
-less_of names P Q a b (Ok f) distinct has lacked less unnamed = found_less names P Q a.ids b.ids f.ids a.others.keys b.others.keys f.others.keys distinct has lacked (λ n. less names n) (unnamed names)
-less_of names P Q a b (Err e) distinct has lacked less unnamed = tt
+    → IfOk r (λ f. (ns : List Node) → AreUnnamed ns a.others.keys → AreUnnamed ns f.others.keys)
+    → IfOk r (λ f. (S : Snap) → tells S → (one S || other S) ≡ false → AreFound names (λ n. P S n × ¬ (Q S n)) f.ids f.others.keys)
+less_of names tells P Q one other a b (Ok f) distinct has lacked less unnamed = λ S told neither.
+    let both = or_false (one S) (other S) neither in
+    found_less names (P S) (Q S) a.ids b.ids f.ids a.others.keys b.others.keys f.others.keys (distinct S told) (has S told both.0) (lacked S told both.1) (λ n. less names n) (unnamed names)
+less_of names tells P Q one other a b (Err e) distinct has lacked less unnamed = tt
 
 -- what is found of each part, where none is left
-pub each_all : (x : Index) (parts others rest : List Expr) (first : Expr) (n : Node) (Have Initial : Type 0) → parts ≡ first ∷ others → rest ≡ [] → (Initial ↔ MeansBy x (query_of first) n)
-    → ((Have × EachMeansBy x (part_queries rest) n) ↔ (Initial × EachMeansBy x (part_queries others) n)) → Have ↔ EachMeansBy x (part_queries parts) n
-each_all x parts others rest first n Have Initial is none begins whole = (
-  λ h. let (i, e) = whole.0 (h, subst (λ es. EachMeansBy x (part_queries es) n) (sym none) tt) in subst (λ es. EachMeansBy x (part_queries es) n) (sym is) (begins.0 i, e),
-  λ e. let (m, es) = subst (λ ps. EachMeansBy x (part_queries ps) n) is e in (whole.1 (begins.1 m, es)).0,
+pub each_all : (S : Snap) (parts others rest : List Expr) (first : Expr) (n : Node) (Have Initial : Type 0) → parts ≡ first ∷ others → rest ≡ [] → (Initial ↔ Means S (query_of first) n)
+    → ((Have × EachMeans S (part_queries rest) n) ↔ (Initial × EachMeans S (part_queries others) n)) → Have ↔ EachMeans S (part_queries parts) n
+each_all S parts others rest first n Have Initial is none begins whole = (
+  λ h. let (i, e) = whole.0 (h, subst (λ es. EachMeans S (part_queries es) n) (sym none) tt) in subst (λ es. EachMeans S (part_queries es) n) (sym is) (begins.0 i, e),
+  λ e. let (m, es) = subst (λ ps. EachMeans S (part_queries ps) n) is e in (whole.1 (begins.1 m, es)).0,
 )
+
+-- what is found, in other words
+pub found_as : (names : List Node) (P Q : Node → Type 0) (ids : List ℕ) (others : List Node) → ((n : Node) → P n ↔ Q n) → AreFound names P ids others → AreFound names Q ids others
+found_as names P Q ids others same are = record {
+  unnamed = are.unnamed;
+  all = λ n. (λ f. (same n).0 ((are.all n).0 f), λ q. (are.all n).1 ((same n).1 q));
+}
+
+-- a closure is asked for of a group
+pub closure_as : (S : Snap) (g : Node) (names : List Node) (ids : List ℕ) (others : List Node) → not (is_indexed S.config (rel_of g)) ≡ false
+    → (IsGroup S.config g → AreFound names (GroupToGroup S g) ids others) → AreFound names (GroupToGroup S g) ids others
+closure_as S g names ids others indexed are = are (indexed_is (is_indexed S.config (rel_of g)) indexed)
+
+-- where no group has an id
+pub all_unnamed : (P : Node → Type 0) (ids : List ℕ) (others : List Node) → AreAll P others → AreFound [] P ids others
+all_unnamed P ids others all = record {
+  unnamed = λ n id c at. none-some n at;
+  all = λ n. (λ f. ⊎_elim (λ (id, at, is). absurd (none-some n at)) (λ c. (all n).0 c) f, λ p. inr ((all n).1 p));
+}
+
+pub unnamed_all : (P : Node → Type 0) (ids : List ℕ) (others : List Node) → AreFound [] P ids others → AreAll P others
+unnamed_all P ids others are n = (
+  λ c. (are.all n).0 (inr c),
+  λ p. ⊎_elim (λ (id, at, is). absurd (none-some n at)) (λ c. c) ((are.all n).1 p),
+)
+
+pub if_ok : {T E : Type 0} (P Q : T → Type 0) (r : Result T E) → ((x : T) → P x → Q x) → IfOk r P → IfOk r Q
+if_ok P Q (Ok x) f p = f x p
+if_ok P Q (Err e) f p = tt
 
 -- at first nothing is found, and all parts are left
 pub none_yet : (names : List Node) (ids : List ℕ) (others : List Node) (n : Node) (Rest : Type 0) → (Finds names ids others n → ⊥) → (Finds names ids others n ⊎ Rest) ↔ Rest

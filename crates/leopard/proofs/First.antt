@@ -21,7 +21,7 @@ use Rattle.names.specs.declared.node.Node.{Node}
 use Rattle.meaning.proofs.Lists.{contains_here, contains_there, contains_cases, contains_none}
 use Rattle.leopard.specs.Answers.{AreFirst}
 use Rattle.leopard.specs.inside.Asking.{AreAll, Gains}
-use Rattle.leopard.specs.inside.Finding.{Finds}
+use Rattle.leopard.specs.Finding.{Finds}
 use Rattle.leopard.proofs.Numbers.{not_less_itself, each_less}
 use Rattle.leopard.proofs.Gather.{any_contains}
 
@@ -72,6 +72,22 @@ are_first limit P nodes first sorted all is = subst (AreFirst limit P) (sym is) 
   only = λ n c. (all n).0 (taken_of limit nodes n c);
   others = λ n p. taken_or_after node_cmp limit nodes n sorted ((all n).1 p);
 })
+
+-- ---- those that are found, where all ids were turned into names
+
+pub all_named : (names : List Node) (ids : List ℕ) (others nodes : List Node) → Gains (λ n. Any (λ id. slice_get names id ≡ Some n) ids) others nodes → AreAll (Finds names ids others) nodes
+all_named names ids others nodes gains n = (
+  λ c. ⊎_elim
+      (λ h. inr h)
+      (λ (k, id, lt, e, at). inl (id, at, list_any-from_Contains nat_eq_equiv id ids (k, lt, e)))
+      ((gains n).0 c),
+  λ f. (gains n).1 (⊎_elim
+      (λ (id, at, h).
+      let (k, lt, here) = place_in ids id h in
+      inr (any_contains (λ j. slice_get names j ≡ Some n) ids id (k, lt, get_or_default ids k id 0 lt ∙ here) at))
+      (λ c. inl c)
+      f),
+)
 
 -- ---- the first of those that are found, where no more ids than that were turned into names
 

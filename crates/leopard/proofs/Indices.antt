@@ -142,11 +142,11 @@ module _ (S : Snap) (x : Index) (same : x.config ≡ S.config) (closures : AreCl
 
 -- ---- expressions
 
-or_false : (a b : Bool) → (a || b) ≡ false → (a ≡ false) × (b ≡ false)
+pub or_false : (a b : Bool) → (a || b) ≡ false → (a ≡ false) × (b ≡ false)
 or_false false b e = (refl, e)
 or_false true b e = absurd (true≢false e)
 
-indexed_is : (b : Bool) → not b ≡ false → b ≡ true
+pub indexed_is : (b : Bool) → not b ≡ false → b ≡ true
 indexed_is true e = refl
 indexed_is false e = absurd (true≢false e)
 

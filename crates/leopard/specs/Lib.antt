@@ -4,5 +4,6 @@ pub mod Index
 pub mod Answers
 pub mod Causes
 pub mod Exprs
+pub mod Finding
 pub mod Law
 pub mod inside

@@ -2,4 +2,4 @@ pub mod Asking
 pub mod Building
 pub mod Codes
 pub mod Direct
-pub mod Finding
+pub mod Unnamed

@@ -1,19 +1,17 @@
 //! The answers of questions about groups, by an index.
-ghost use Rattle.std.specs.Prelude.{◌≡◌, ℕ, ◌⊎◌, ◌↔◌, [], true, Any, Some, IfOk, OnOk, take, slice_index_or};
+ghost use Rattle.std.specs.Prelude.{◌≡◌, ◌⊎◌, ◌↔◌, [], Any, Some, IfOk, OnOk, slice_index_or};
 ghost use Rattle.std.specs.List.{slice_get};
 ghost use Rattle.names.specs.declared.node.Node.{Node};
 ghost use Rattle.idsets.specs.Naming.{AreDistinct};
 ghost use Rattle.leopard.specs.Answers.{AreFirst};
-ghost use Rattle.leopard.specs.Exprs.{query_of, part_queries};
-ghost use Rattle.leopard.specs.Index.{IsKeptOf, LeadsTo, NamesUser, MeansBy, SomeMeansBy, EachMeansBy};
-ghost use Rattle.leopard.specs.Query.{has_parts, all_have_parts, is_some};
+ghost use Rattle.leopard.specs.Finding.{Finds, AreUnnamed, AreFound};
+ghost use Rattle.leopard.specs.Index.{IsKeptOf, LeadsTo, NamesUser};
 ghost use Rattle.leopard.specs.inside.Asking.{Gains};
-ghost use Rattle.leopard.specs.inside.Finding.{Finds, AreUnnamed, AreFound};
 
-use crate::Expr;
 use crate::built::Built;
-use crate::found::{Found, lessened, met, nothing, united};
+use crate::found::{Found, nothing};
 use crate::sets::{first_of, put};
+use crate::source::GroupSets;
 use crate::walk::reached;
 use idsets::{IdSet, Ids, union};
 use names::{Node, Object};
@@ -71,9 +69,9 @@ fn with_kept(alloc: Global, built: &Built, found: Found, node: Node) -> Result<F
 
 /// The groups to which the group leads.
 fn closure_of(alloc: Global, built: &Built, group: &Node) -> Result<Found, AllocError>
-    requires { AreDistinct built.now.groups }
     ensures { IfOk result (λ f. AreFound built.now.groups (LeadsTo built.now group.now) f.ids f.others.keys) }
 {
+    built.groups.len();
     let nodes = reached(alloc, &built.config, group)?;
     let mut found = nothing(alloc);
     for node in nodes {
@@ -82,58 +80,23 @@ fn closure_of(alloc: Global, built: &Built, group: &Node) -> Result<Found, Alloc
     Ok(found)
 }
 
-/// The groups of an expression.
-#[cycle(finding)]
-pub(crate) fn found_of(alloc: Global, built: &Built, expr: &Expr) -> Result<Found, AllocError>
-    requires distinct { AreDistinct built.now.groups }
-    requires parts { has_parts (query_of expr.now) ≡ true }
-    ensures { IfOk result (λ f. AreFound built.now.groups (MeansBy built.now (query_of expr.now)) f.ids f.others.keys) }
-{
-    match expr {
-        Expr::Member2Group(user) => direct_of(alloc, built, user),
-        Expr::Group2Group(group) => closure_of(alloc, built, group),
-        Expr::Union(parts) => found_in_some(alloc, built, parts),
-        Expr::Intersection(parts) => found_in_each(alloc, built, parts),
-        Expr::Exclusion(base, less) => {
-            let base = found_of(alloc, built, base)?;
-            let less = found_of(alloc, built, less)?;
-            lessened(alloc, base, &less)
-        }
-    }
-}
+impl GroupSets for Built {
+    ghost use Rattle.idsets.specs.Naming.{AreDistinct};
+    ghost use Rattle.leopard.specs.Index.{IsIndexOf};
 
-/// The groups of some part.
-#[cycle(finding)]
-fn found_in_some(alloc: Global, built: &Built, parts: &[Expr]) -> Result<Found, AllocError>
-    requires distinct { AreDistinct built.now.groups }
-    requires parts { all_have_parts (part_queries parts.now) ≡ true }
-    ensures { IfOk result (λ f. AreFound built.now.groups (SomeMeansBy built.now (part_queries parts.now)) f.ids f.others.keys) }
-{
-    let mut found = nothing(alloc);
-    for part in parts {
-        let more = found_of(alloc, built, part)?;
-        found = united(alloc, found, more)?;
-    }
-    Ok(found)
-}
+    ghost names = { λ x. x.groups };
 
-/// The groups of each part.
-#[cycle(finding)]
-fn found_in_each(alloc: Global, built: &Built, parts: &[Expr]) -> Result<Found, AllocError>
-    requires distinct { AreDistinct built.now.groups }
-    requires some { is_some (part_queries parts.now) ≡ true }
-    requires parts { all_have_parts (part_queries parts.now) ≡ true }
-    ensures { IfOk result (λ f. AreFound built.now.groups (EachMeansBy built.now (part_queries parts.now)) f.ids f.others.keys) }
-{
-    let Some((first, others)) = parts.split_first() else {
-        return Ok(nothing(alloc));
-    };
-    let mut found = found_of(alloc, built, first)?;
-    for part in others {
-        let more = found_of(alloc, built, part)?;
-        found = met(alloc, found, &more)?;
+    ghost tells = { λ x S. IsIndexOf S x × AreDistinct x.groups };
+
+    fn direct(&self, alloc: Global, user: &Object) -> Result<Found, AllocError> {
+        direct_of(alloc, self, user)
     }
-    Ok(found)
+
+    fn closure(&self, alloc: Global, group: &Node) -> Result<Found, AllocError> {
+        closure_of(alloc, self, group)
+    }
+
+    ghost distinct = { λ x S told. told.1 };
 }
 
 /// Puts in the groups that have the ids.
@@ -163,5 +126,20 @@ pub(crate) fn answer_of(
     let ids = ids.as_slice();
     let count = limit.min(ids.len());
     put_named(&mut nodes, &built.groups, &ids[..count])?;
+    first_of(alloc, nodes, limit)
+}
+
+/// The same, whatever the order of ids. The names of all are copied.
+pub fn first_named(
+    alloc: Global,
+    names: &Ids<Node>,
+    found: Found,
+    limit: usize,
+) -> Result<Vec<Node>, AllocError>
+    ensures { IfOk result (λ v. AreFirst limit (Finds names.now found.ids found.others.keys) v.items) }
+{
+    let Found { ids, others } = found;
+    let mut nodes = others;
+    put_named(&mut nodes, names, ids.as_slice())?;
     first_of(alloc, nodes, limit)
 }

@@ -1,21 +1,43 @@
 //! The answers of questions about groups, read from the tuples.
-ghost use Rattle.std.specs.Prelude.{◌≡◌, IfOk, IfErr, true};
+ghost use Rattle.std.specs.Prelude.{IfOk, IfErr};
 ghost use Rattle.leopard.specs.Answers.{AreFirst};
 ghost use Rattle.leopard.specs.Causes.{IsAnswerable, AskCause};
-ghost use Rattle.leopard.specs.Exprs.{query_of, part_queries};
-ghost use Rattle.leopard.specs.Groups.{Means, SomeMeans, EachMeans};
-ghost use Rattle.leopard.specs.Query.{has_parts, all_have_parts, is_some};
-ghost use Rattle.leopard.specs.inside.Asking.{AreAll};
+ghost use Rattle.leopard.specs.Exprs.{query_of};
+ghost use Rattle.leopard.specs.Groups.{Means};
 
 use crate::Expr;
 use crate::direct::direct;
+use crate::evaluating::found_of;
+use crate::found::{Found, unnamed};
 use crate::refusing::refusal_of;
-use crate::sets::{common, first_of, put_all, without};
+use crate::sets::first_of;
+use crate::source::GroupSets;
 use crate::walk::reached;
-use names::{Node, Refusal};
+use names::{Node, Object, Refusal};
 use rows::View;
 use std::alloc::{AllocError, Global};
-use std::collections::BTreeSet;
+
+/// The tuples give no id to any group.
+impl<'a> GroupSets for View<'a> {
+    ghost use Rattle.std.specs.Prelude.{◌≡◌, []};
+    ghost use Rattle.leopard.specs.inside.Unnamed.{distinct_none};
+
+    ghost names = { λ _. [] };
+
+    ghost tells = { λ v S. v ≡ S };
+
+    fn direct(&self, alloc: Global, user: &Object) -> Result<Found, AllocError> {
+        let groups = direct(alloc, self, user)?;
+        Ok(unnamed(alloc, groups))
+    }
+
+    fn closure(&self, alloc: Global, group: &Node) -> Result<Found, AllocError> {
+        let groups = reached(alloc, self, group)?;
+        Ok(unnamed(alloc, groups))
+    }
+
+    ghost distinct = { λ v S told. distinct_none };
+}
 
 /// The first groups of an expression at the view's revision, in the order of nodes, read from its tuples (Zanzibar,
 /// section 3.2.4). Of a user's direct groups the tuples of a namespace are gone over once for each relation of it that
@@ -30,57 +52,6 @@ pub fn groups_at(alloc: Global, view: &View, expr: &Expr, limit: u32) -> Result<
     if let Some(why) = refusal_of(view.config(), expr, limit) {
         return Err(why);
     }
-    let groups = groups_of(alloc, view, expr)?;
-    Ok(first_of(alloc, groups, limit as usize)?)
-}
-
-/// The groups of an expression.
-#[cycle(meaning)]
-fn groups_of(alloc: Global, view: &View, expr: &Expr) -> Result<BTreeSet<Node>, AllocError>
-    requires { has_parts (query_of expr.now) ≡ true }
-    ensures { IfOk result (λ groups. AreAll (Means view.now (query_of expr.now)) groups.keys) }
-{
-    match expr {
-        Expr::Member2Group(user) => direct(alloc, view, user),
-        Expr::Group2Group(group) => reached(alloc, view, group),
-        Expr::Union(parts) => united(alloc, view, parts),
-        Expr::Intersection(parts) => met(alloc, view, parts),
-        Expr::Exclusion(base, less) => {
-            let base = groups_of(alloc, view, base)?;
-            let less = groups_of(alloc, view, less)?;
-            Ok(without(base, &less))
-        }
-    }
-}
-
-/// The groups of some part.
-#[cycle(meaning)]
-fn united(alloc: Global, view: &View, parts: &[Expr]) -> Result<BTreeSet<Node>, AllocError>
-    requires { all_have_parts (part_queries parts.now) ≡ true }
-    ensures { IfOk result (λ groups. AreAll (SomeMeans view.now (part_queries parts.now)) groups.keys) }
-{
-    let mut groups = BTreeSet::new(alloc);
-    for part in parts {
-        let more = groups_of(alloc, view, part)?;
-        put_all(&mut groups, more)?;
-    }
-    Ok(groups)
-}
-
-/// The groups of each part.
-#[cycle(meaning)]
-fn met(alloc: Global, view: &View, parts: &[Expr]) -> Result<BTreeSet<Node>, AllocError>
-    requires some { is_some (part_queries parts.now) ≡ true }
-    requires parts { all_have_parts (part_queries parts.now) ≡ true }
-    ensures { IfOk result (λ groups. AreAll (EachMeans view.now (part_queries parts.now)) groups.keys) }
-{
-    let Some((first, others)) = parts.split_first() else {
-        return Ok(BTreeSet::new(alloc));
-    };
-    let mut groups = groups_of(alloc, view, first)?;
-    for part in others {
-        let more = groups_of(alloc, view, part)?;
-        groups = common(groups, &more);
-    }
-    Ok(groups)
+    let found = found_of(alloc, view, expr)?;
+    Ok(first_of(alloc, found.others, limit as usize)?)
 }

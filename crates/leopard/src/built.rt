@@ -9,8 +9,9 @@ ghost use Rattle.leopard.specs.Groups.{Means};
 ghost use Rattle.leopard.specs.Index.{IsIndexOf};
 
 use crate::Expr;
-use crate::answering::{answer_of, found_of};
+use crate::answering::answer_of;
 use crate::building::{all_reached, closures_of, number, owners};
+use crate::evaluating::found_of;
 use crate::members::{Members, members_of};
 use crate::refusing::refusal_of;
 use config::Config;

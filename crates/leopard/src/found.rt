@@ -1,8 +1,8 @@
-//! Sets of groups that an index finds.
-ghost use Rattle.std.specs.Prelude.{◌≡◌, ℕ, ◌&&◌, ◌⊎◌, ◌↔◌, List, IfOk};
+//! Sets of groups on the way to an answer.
+ghost use Rattle.std.specs.Prelude.{◌≡◌, ℕ, ◌&&◌, ◌⊎◌, ◌↔◌, [], List, IfOk};
 ghost use Rattle.names.specs.declared.node.Node.{Node};
 ghost use Rattle.idsets.specs.Sets.{has};
-ghost use Rattle.leopard.specs.inside.Finding.{Finds, AreUnnamed, AreApart};
+ghost use Rattle.leopard.specs.Finding.{Finds, AreUnnamed, AreApart};
 
 use crate::sets::{common, put_all, without};
 use idsets::{Galloping, IdSet, exclude, intersect, union};
@@ -12,9 +12,9 @@ use std::collections::BTreeSet;
 
 /// Groups: by their ids, and those that have none.
 #[derive(Drop)]
-pub(crate) struct Found {
-    pub(crate) ids: IdSet,
-    pub(crate) others: BTreeSet<Node>,
+pub struct Found {
+    pub ids: IdSet,
+    pub others: BTreeSet<Node>,
 }
 
 /// No group.
@@ -25,6 +25,17 @@ pub(crate) fn nothing(alloc: Global) -> Found
     Found {
         ids: IdSet::new(alloc),
         others: BTreeSet::new(alloc),
+    }
+}
+
+/// Groups of which none has an id. It takes no memory.
+pub(crate) fn unnamed(alloc: Global, others: BTreeSet<Node>) -> Found
+    ensures ids { result.ids ≡ [] }
+    ensures others { result.others ≡ others }
+{
+    Found {
+        ids: IdSet::new(alloc),
+        others,
     }
 }
 

@@ -39,7 +39,7 @@ fn has_relation(config: &Config, node: &Node) -> bool
 }
 
 /// Whether the node's relation is there and indexed.
-pub(crate) fn is_group(config: &Config, node: &Node) -> bool
+pub fn is_group(config: &Config, node: &Node) -> bool
     ensures { result ≡ is_indexed config.now (rel_of node.now) }
 {
     match config.place_of(node) {

@@ -42,7 +42,7 @@ pub fn lines<R: Read, W: Write, A: Answers>(
     // handed on.
     ensures each_read { PausedAtEachRead A.step answers.old (W.contents writer.old.inner) reader.old reader.new }
 
-    // A fault is told exactly where the reader or the writer failed in the call.
+    // A fault is told exactly where the flag of the tracked reader or writer is set in the call.
     ensures read_failed { reader.new.failed ≡ is_read_fault result }
     ensures write_failed { writer.new.failed ≡ is_write_fault result }
     ensures flushed { writer.new.failed ≡ false → writer.old.flushed ≡ true → writer.new.flushed ≡ true }

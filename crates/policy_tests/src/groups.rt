@@ -1,7 +1,11 @@
 //! Questions about groups, answered by an index and from the tuples.
 
 use config::Config;
-use leopard::{Built, Expr, answers_are_one, groups_at, indexes_mean_what_their_snapshots_do};
+use idsets::{IdSet, Ids};
+use leopard::{
+    Built, Expr, Found, answers_are_one, first_named, found_of, groups_at,
+    indexes_mean_what_their_snapshots_do,
+};
 use names::{Commit, Items, Node, Object, Op, OpKind, Refusal, Tuple};
 use rows::{Rows, events_of};
 use std::alloc::{AllocError, Global};
@@ -176,5 +180,24 @@ fn causes_come_in_order(alloc: Global) -> Result<bool, Refusal> {
 #[test]
 fn an_index_refuses_as_the_tuples_do(rt: HostRuntime) -> Result<(), Fail> {
     assert!(rt; causes_come_in_order(rt.alloc())?);
+    Ok(())
+}
+
+/// Whether a group that has an id and groups that have none are given in the order of nodes.
+fn ids_are_named(alloc: Global) -> Result<bool, Refusal> {
+    let rows = history(alloc, CONFIG, CHAIN)?;
+    let view = rows.at(rows.newest());
+    let expr = Expr::Member2Group(Object::parse("user:ann")?);
+    let Found { others, .. } = found_of(alloc, &view, &expr)?;
+    let mut names = Ids::new(alloc);
+    let id = names.see(Node::parse("group:a#member")?)?;
+    let ids = IdSet::of(vec![in alloc; id]?);
+    let nodes = first_named(alloc, &names, Found { ids, others }, 2)?;
+    Ok(told(alloc, &nodes)?.as_str() == "group:a#member;group:b#member;")
+}
+
+#[test]
+fn groups_with_and_without_ids_are_named(rt: HostRuntime) -> Result<(), Fail> {
+    assert!(rt; ids_are_named(rt.alloc())?);
     Ok(())
 }

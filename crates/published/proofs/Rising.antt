@@ -19,7 +19,7 @@ use Rattle.published.specs.Rising.{Rises}
 
 -- ---- one step
 
-same_rises : (r : Retained) → Rises r r
+pub same_rises : (r : Retained) → Rises r r
 same_rises r = record { number = refl; floor = omega arith; newest_there = omega arith; snaps = λ rev here there. refl }
 
 commit_rises : (r : Retained) (c : Change Configured) → Rises r (with_commit r c)
@@ -61,7 +61,8 @@ step_rises s (Rebase rev) later room = same_rises s.kept
 
 -- ---- more steps
 
-rises_on : (r s t : Retained) → Rises r s → Rises s t → Rises r t
+-- what is retained at first and at last is retained between
+pub rises_on : (r s t : Retained) → Rises r s → Rises s t → Rises r t
 rises_on r s t one other =
     record {
       number = other.number ∙ one.number;

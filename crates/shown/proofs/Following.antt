@@ -1,9 +1,10 @@
 -- Members of marked nodes while the history grows, loses its newest commit, or is trimmed, and while its commits are taken.
-use Rattle.std.proofs.Common.{◌≡◌, ℕ, ◌+◌, ◌-◌, ◌<◌, ◌≤◌, ◌++◌, ◌∷◌, [], length, take, drop, ap, sym, subst, ◌∙◌, arith, get_or}
+use Rattle.std.proofs.Common.{◌≡◌, ℕ, ◌+◌, ◌-◌, ◌<◌, ◌≤◌, ◌++◌, ◌∷◌, List, [], length, take, drop, refl, ap, sym, subst, ◌∙◌, arith, get_or}
 use Rattle.std.specs.Prelude.{Option, Some, None, Result, Ok, Err, OnOk}
 use Rattle.std.specs.Result.{result_ok}
 use Rattle.std.proofs.lemmas.List.{take-take, take_more, length-drop, length-take-le}
 use Rattle.names.specs.declared.commit.Commit.{Commit}
+use Rattle.names.specs.declared.node.Node.{Node}
 use Rattle.meaning.specs.Config.{Configured}
 use Rattle.meaning.specs.Snap.{Snap}
 use Rattle.meaning.specs.History.{after_commit, after_commits}
@@ -12,29 +13,29 @@ use Rattle.hot.specs.Kept.{IsHot}
 use Rattle.hot.specs.declared.hot.Hot.{Hot}
 use Rattle.rows.specs.Retained.{Retained, newest, snap_at, with_commit, after_trim, commits_between}
 use Rattle.shown.specs.Standing.{Standing, IsSteady, CanGoBack, CanRaise, before_commit}
-use Rattle.shown.specs.inside.Basing.{AreKeptMembers, IsSound}
+use Rattle.shown.specs.inside.Basing.{AreKeptMembers, AreMarked, IsSound}
 use Rattle.shown.proofs.Basing.{snap_with, snap_without, snap_above, after_append, after_parts, kept_above}
 
 -- ---- the members that are kept
 
--- they stay right where the revision holds what it held
-pub moved : (s t : Standing) (members : Option Hot) → snap_at t.kept t.hot ≡ snap_at s.kept s.hot → AreKeptMembers s members → AreKeptMembers t members
-moved s t None same right = tt
-moved s t (Some hot) same right = subst (λ (S : Snap). IsHot hot S) (sym same) right
+-- they stay right where the revision holds what it held, and the same nodes are marked
+pub moved : (s t : Standing) (members : Option Hot) → snap_at t.kept t.hot ≡ snap_at s.kept s.hot → t.marks ≡ s.marks → AreKeptMembers s members → AreKeptMembers t members
+moved s t None same alike right = tt
+moved s t (Some hot) same alike right = (subst (λ (S : Snap). IsHot hot S) (sym same) right.0, subst (λ (marks : List Node). AreMarked marks hot) (sym alike) right.1)
 
 module _ (s : Standing) (members : Option Hot) (steady : IsSteady s) where
   pub members_with : (c : Commit Configured) → AreKeptMembers s members
       → AreKeptMembers (record { kept = with_commit s.kept c; base = s.base; index = s.index; hot = s.hot; marks = s.marks }) members
-  members_with c = moved s (record { kept = with_commit s.kept c; base = s.base; index = s.index; hot = s.hot; marks = s.marks }) members (snap_with s.kept c s.hot steady.hot_there)
+  members_with c = moved s (record { kept = with_commit s.kept c; base = s.base; index = s.index; hot = s.hot; marks = s.marks }) members (snap_with s.kept c s.hot steady.hot_there) refl
 
   pub members_without : CanGoBack s → AreKeptMembers s members → AreKeptMembers (before_commit s) members
-  members_without can = moved s (before_commit s) members (snap_without s.kept s.hot can.hot_before can.above)
+  members_without can = moved s (before_commit s) members (snap_without s.kept s.hot can.hot_before can.above) refl
 
   pub members_above : (floor : ℕ) → CanRaise s floor → AreKeptMembers s members
       → AreKeptMembers (record { kept = after_trim s.kept floor; base = s.base; index = s.index; hot = s.hot; marks = s.marks }) members
   members_above floor can =
       let above = can.above in
-      moved s (record { kept = after_trim s.kept floor; base = s.base; index = s.index; hot = s.hot; marks = s.marks }) members (snap_above s.kept floor (omega (arith, above)) s.hot can.hot)
+      moved s (record { kept = after_trim s.kept floor; base = s.base; index = s.index; hot = s.hot; marks = s.marks }) members (snap_above s.kept floor (omega (arith, above)) s.hot can.hot) refl
 
 -- ---- the commits between two revisions
 
@@ -77,7 +78,7 @@ all_taken r from to i retained order there more few =
 
 -- ---- what is done
 
-pub done : {E P : Type 0} (r : Result (Unit {0}) E) (u : Unit {0}) → Some u ≡ result_ok r → OnOk r P → P
+pub done : {A E P : Type 0} (r : Result A E) (u : A) → Some u ≡ result_ok r → OnOk r P → P
 done (Ok x) u is p = p
 done (Err e) u is p = absurd cc
 
@@ -97,6 +98,7 @@ sound_above s now index members floor new same room sound raised =
         base_read = sound.steady.base_read;
         hot_retained = can.hot;
         hot_there = omega (arith, left, above, can.there, sound.steady.hot_there);
+        marked_once = sound.steady.marked_once;
       };
       index_right = kept_above s index sound.steady floor can sound.index_right;
       members_right = members_above s members sound.steady floor can sound.members_right;

@@ -1,5 +1,7 @@
 -- What a list of steps leaves.
 use Rattle.std.specs.Prelude.{◌≤◌, ◌<◌, ◌+◌, ℕ, List, [], fold, length, min, max, nat_lt, ◌||◌, ◌≡◌, Option, None}
+use Rattle.std.specs.List.{IsDistinct}
+use Rattle.names.specs.Order.{is_same_node}
 use Rattle.meaning.specs.Snap.{empty_snap}
 use Rattle.meaning.specs.TupleSet as set
 use Rattle.rows.specs.Retained.{Retained, newest, newest_of, spans_of, with_commit, without_newest, after_trim, commits_between, last_config}
@@ -95,13 +97,14 @@ HasRoom s (Trim floor) = CanRaise s floor
 HasRoom s (Marking marking) = marking_cause (newest_of s.kept).held.config s.marks marking ≡ None
 HasRoom s (Rebase rev) = base_cause s rev ≡ None
 
--- the cursors are at retained revisions, and the index has read up to its base
+-- the cursors are at retained revisions, the index has read up to its base, and a node is marked once
 pub record IsSteady (s : Standing) : Type 0 where
   pub index_retained : s.kept.floor ≤ s.index
   pub index_there : s.index ≤ newest s.kept
   pub base_read : s.base ≤ s.index
   pub hot_retained : s.kept.floor ≤ s.hot
   pub hot_there : s.hot ≤ newest s.kept
+  pub marked_once : IsDistinct is_same_node s.marks
 
 -- there is a commit above the floor, and no cursor has come to the newest
 pub record CanGoBack (s : Standing) : Type 0 where

@@ -18,7 +18,7 @@ ghost use Rattle.hot.specs.Kept.{IsHot};
 ghost use Rattle.expand.specs.declared.limits.TheConstants.{MAX_DEPTH};
 ghost use Rattle.expand.specs.Causes.{ExpandCause};
 ghost use Rattle.expand.specs.Viewed.{tree_of};
-ghost use Rattle.shown.specs.Answers.{IsAskedAt, IsAnswer, IsRefusal};
+ghost use Rattle.shown.specs.Answers.{IsAnswer, IsRefusal};
 ghost use Rattle.shown.specs.Expanding.{IsTreeOf, IsTree, IsTreeRefusal};
 ghost use Rattle.shown.specs.Watching.{IsWatched, WatchRefused};
 ghost use Rattle.shown.specs.Paging.{IsPage, IsPageRefusal};
@@ -29,10 +29,11 @@ ghost use Rattle.leopard.specs.Groups.{Means};
 ghost use Rattle.leopard.specs.Index.{IsIndexOf};
 ghost use Rattle.leopard.specs.Query.{is_allowed};
 ghost use Rattle.shown.specs.Grouping.{AreGroups, IsGroupsRefusal};
+ghost use Rattle.shown.specs.inside.Basing.{AreMarked};
 
 use crate::answer::{Answer, Refused};
 use crate::marks::{count_with, remark};
-use crate::members::{members_later, members_of, remarked};
+use crate::members::{members_after, members_later, members_of};
 use crate::step::Step;
 use config::Config;
 use decide::Nothing;
@@ -222,20 +223,13 @@ impl Shown {
         ensures err { OnErr result (self.new ≡ self.old) }
     {
         remark(&mut self.marks, marking)?;
-        if self.keeps_parts {
-            self.keep_members(marking);
+        let kept = self.members.take();
+        if !self.keeps_parts {
+            return Ok(());
         }
-        Ok(())
-    }
-
-    fn keep_members(&mut self, marking: &Marking)
-        ensures { self.new ≡ self.old }
-    {
         let view = self.rows.at(self.hot);
-        self.members = match self.members.take() {
-            Some(hot) => remarked(self.alloc, hot, &view, marking),
-            None => members_of(self.alloc, &view, &self.marks),
-        };
+        self.members = members_after(self.alloc, kept, &view, &self.marks, marking);
+        Ok(())
     }
 
     /// Makes the index anew, of a revision.
@@ -587,22 +581,23 @@ impl Shown {
         ensures { self.new ≡ after_take self.old Part.Hot commits }
     {
         let to = self.cursor_after(self.hot, commits);
-        self.members = if self.keeps_parts {
-            self.members_up_to(to)
-        } else {
-            None
-        };
+        self.members = self.members_up_to(to);
         self.hot = to;
     }
 
-    /// The members of the marked nodes at a revision, which is not below that of the hot table.
+    /// The members of the marked nodes at a revision, which is not below that of the hot table, as far as they are kept.
     fn members_up_to(&mut self, to: u64) -> Option<Hot>
         requires later { self.old.hot ≤ to }
         requires there { to ≤ newest self.old.kept }
         ensures members { IfSome result (λ hot. IsHot hot (snap_at self.old.kept to)) }
+        ensures marked { IfSome result (λ hot. AreMarked self.old.marks hot) }
         ensures same { self.new ≡ self.old }
     {
-        match self.members.take() {
+        let kept = self.members.take();
+        if !self.keeps_parts {
+            return None;
+        }
+        match kept {
             Some(hot) => members_later(self.alloc, hot, &self.rows, self.hot, to),
             None => members_of(self.alloc, &self.rows.at(to), &self.marks),
         }

@@ -1,5 +1,5 @@
-//! Readers and writers that are tracked: a fault is told exactly where one of them failed, and nothing is waited
-//! for while an answer is held back.
+//! Readers and writers that are tracked: a call that fails sets a flag, by which a fault is told, and nothing is
+//! waited for while an answer is held back.
 //!
 //! Whatever is written by these functions is known also where the writer fails: it holds a beginning of the text.
 //! `specs/Tracking.antt` has what is known of a reader and a writer, `specs/Wrote.antt` what a write leaves,

@@ -8,7 +8,7 @@ use Rattle.names.specs.declared.node.Node.{Node}
 use Rattle.leopard.specs.Answers.{AreFirst}
 use Rattle.leopard.specs.Index.{Index}
 use Rattle.leopard.specs.inside.Asking.{Gains}
-use Rattle.leopard.specs.inside.Finding.{Finds}
+use Rattle.leopard.specs.Finding.{Finds}
 use Rattle.leopard.proofs.First.{first_found}
 use Rattle.leopard.proofs.answering.answer_of.Goals as goal
 

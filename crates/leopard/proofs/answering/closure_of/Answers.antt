@@ -2,9 +2,10 @@ use Rattle.std.proofs.Common.{List, sym, subst}
 use Rattle.std.specs.Prelude.{◌↔◌, Any}
 use Rattle.names.specs.declared.node.Node.{Node}
 use Rattle.graphs.specs.Groups.{GroupWalk}
+use Rattle.idsets.specs.Naming.{AreDistinct}
 use Rattle.leopard.specs.Index.{Index, bare, IsKeptOf, LeadsTo}
 use Rattle.leopard.specs.inside.Asking.{AreAll}
-use Rattle.leopard.specs.inside.Finding.{Finds}
+use Rattle.leopard.specs.Finding.{Finds}
 use Rattle.leopard.proofs.Finding.{all_yet, leads_all}
 use Rattle.leopard.proofs.Gather.{any_none, any_splits}
 use Rattle.leopard.proofs.Leftover.{gather, gathered}
@@ -38,3 +39,6 @@ returns c =
       unnamed = c.loop-node.invariant.unnamed;
       all = λ n. gathered (Any (λ (h : Node). IsKeptOf x h n)) _ _ c.loop-node.node-iterator c.in-None.ensures.steps.0 (any_none (λ (h : Node). IsKeptOf x h n)) (c.loop-node.invariant.groups n);
     }
+
+pub with_kept-requires : goal.with_kept-requires
+with_kept-requires c = subst (λ (y : Index). AreDistinct y.groups) c.built.view_is c.len.ensures.distinct

@@ -1,7 +1,7 @@
 use Rattle.std.specs.Prelude.{◌↔◌, ◌⊎◌, Any}
 use Rattle.names.specs.declared.node.Node.{Node}
 use Rattle.leopard.specs.Index.{IsKeptOf, LeadsTo}
-use Rattle.leopard.specs.inside.Finding.{Finds, AreUnnamed}
+use Rattle.leopard.specs.Finding.{Finds, AreUnnamed}
 use Rattle.leopard.proofs.answering.closure_of.Given as goal
 
 -- what is found or left is what the group leads to

@@ -1,30 +1,22 @@
 use Rattle.std.proofs.Common.{◌≡◌, false, subst}
-use Rattle.names.specs.declared.node.Node.{Node}
 use Rattle.meaning.specs.Config.{Configured}
 use Rattle.idsets.specs.Naming.{AreDistinct}
 use Rattle.leopard.specs.Causes.{names_unindexed}
 use Rattle.leopard.specs.Exprs.{query_of}
+use Rattle.leopard.specs.Finding.{Finds}
 use Rattle.leopard.specs.Groups.{Means}
 use Rattle.leopard.specs.Index.{Index}
-use Rattle.leopard.specs.inside.Finding.{Finds}
 use Rattle.leopard.proofs.First.{first_as}
-use Rattle.leopard.proofs.Indices.{means_by}
 use Rattle.leopard.proofs.Numbers.{sorted_distinct}
 use Rattle.leopard.proofs.built.Built.groups.Goals as goal
-
-pub found_of-requires-clause-distinct : goal.found_of-requires-clause-distinct
-found_of-requires-clause-distinct c = subst (λ (x : Index). AreDistinct x.groups) c.self.view_is (sorted_distinct c.self.inside.groups c.self.invariant)
 
 pub returns-clause-groups : goal.returns-clause-groups
 returns-clause-groups c S is =
     let x = c.args.self.now in
     let q = query_of c.args.expr.now in
     let found = c.in_ok-found.found in
+    let distinct : AreDistinct x.groups = subst (λ (y : Index). AreDistinct y.groups) c.self.view_is (sorted_distinct c.self.inside.groups c.self.invariant) in
     let mine : names_unindexed x.config q ≡ false = subst (λ (y : Index). names_unindexed y.config q ≡ false) c.self.view_is c.in_default.ensures.none.indexed in
     let indexed : names_unindexed S.config q ≡ false = subst (λ (k : Configured). names_unindexed k q ≡ false) is.config mine in
     first_as c.args.limit (Finds x.groups found.ids found.others.keys) (Means S q) c.in_ok-answer_of.field-0.items
-    (λ (n : Node).
-    let by = c.in_ok-found.ensures.all n in
-    let means = means_by S x is q indexed n in
-    (λ f. means.0 (by.0 f), λ m. by.1 (means.1 m)))
-    c.in_ok-answer_of.ensures
+    (c.in_ok-found.ensures S (is, distinct) indexed).all c.in_ok-answer_of.ensures

@@ -1,13 +1,17 @@
--- The groups that an index finds, on the way to an answer: ids, and groups that have none. No promise rests on it.
+-- Groups on the way to an answer: ids in place of those that have one, and the others.
 use Rattle.std.specs.Prelude.{◌≡◌, ℕ, ◌⊎◌, ◌↔◌, true, List, Some, Contains}
 use Rattle.std.specs.List.{slice_get}
 use Rattle.names.specs.declared.node.Node.{Node}
 use Rattle.idsets.specs.Sets.{has}
 use Rattle.idsets.specs.Naming.{AreDistinct}
 
--- the group's id is among the ids, or it is one of the others
+-- the group's id is one of these
+abbrev pub IsNamedBy : List Node → List ℕ → Node → Type 0
+IsNamedBy names ids n = (id : ℕ) × (slice_get names id ≡ Some n) × (has ids id ≡ true)
+
+-- the same, or it is one of the others
 abbrev pub Finds : List Node → List ℕ → List Node → Node → Type 0
-Finds names ids others n = ((id : ℕ) × (slice_get names id ≡ Some n) × (has ids id ≡ true)) ⊎ Contains others n
+Finds names ids others n = IsNamedBy names ids n ⊎ Contains others n
 
 -- the others have no id
 abbrev pub AreUnnamed : List Node → List Node → Type 0
