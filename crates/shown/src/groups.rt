@@ -50,10 +50,10 @@ fn rebased(
         → IsIndexIn (snap_at rows.now) rows.now.floor (max cursor rev) index.new) }
     ensures err { OnErr result (index.new ≡ index.old) }
 {
-    if index.base() <= rev {
-        index.rebase(alloc, &rows.at(rev), rev)?;
+    if rev < index.base() {
+        return Ok(());
     }
-    Ok(())
+    index.rebase(alloc, &rows.at(rev), rev)
 }
 
 /// The index from one revision to another.
@@ -114,12 +114,20 @@ fn after(
 /// Moves the base up to a higher floor. It takes no memory.
 pub(crate) fn raise(index: &mut Option<GroupIndex>, floor: u64)
     requires { IfSome index.old (λ i. floor ≤ cursor_of i) }
-    ensures { (snaps : ℕ → Snap) (old cursor : ℕ) → IfSome index.old (IsIndexIn snaps old cursor)
+    ensures { (snaps : ℕ → Snap) (from cursor : ℕ) → IfSome index.old (IsIndexIn snaps from cursor)
         → IfSome index.new (IsIndexIn snaps floor cursor) }
 {
-    if let Some(index) = index {
-        if index.base() < floor {
-            index.raise(floor);
-        }
+    match index {
+        Some(index) => raised(index, floor),
+        None => {}
+    }
+}
+
+fn raised(index: &mut GroupIndex, floor: u64)
+    requires { floor ≤ cursor_of index.old }
+    ensures { (snaps : ℕ → Snap) (from cursor : ℕ) → IsIndexIn snaps from cursor index.old → IsIndexIn snaps floor cursor index.new }
+{
+    if index.base() < floor {
+        index.raise(floor);
     }
 }
