@@ -10,7 +10,8 @@ use Rattle.meaning.specs.History.{History, after_commit, after_commits}
 use Rattle.delta.specs.Layers.{AreKept, AreRoots}
 use Rattle.delta.specs.Layers as layers
 use Rattle.direct.specs.Revisions as revisions
-use Rattle.group_index.specs.Indices.{IsGroupIndexOf, base_of, cursor_of}
+use Rattle.group_index.specs.Indices.{IsGroupIndexOf, TellsOf, base_of, cursor_of}
+use Rattle.group_index.specs.declared.at.At.{At}
 use Rattle.group_index.specs.declared.index.GroupIndex.{GroupIndex}
 use Rattle.rows.specs.Retained.{Retained, newest, snap_at, with_commit, without_newest, after_trim}
 use Rattle.shown.specs.Standing.{Standing, IsSteady, CanGoBack, CanRaise, before_commit}
@@ -95,3 +96,12 @@ pub kept_above : (s : Standing) (index : Option GroupIndex) (floor : ℕ) → Ca
 kept_above s index floor can =
     let above = can.above in
     kept_alike index (snap_at s.kept) (snap_at (after_trim s.kept floor)) floor s.index (λ rev from to. snap_above s.kept floor (omega (arith, above)) rev from)
+
+-- ---- what it tells
+
+pub told : (s now : Standing) (index : Option GroupIndex) (x : GroupIndex) (found : Option At) (rev : ℕ) → s ≡ now → index ≡ Some x → IsKeptIndex s index
+    → IfSome found (λ at. (snaps : ℕ → Snap) → IsGroupIndexOf x snaps → TellsOf at (snaps rev)) → IfSome found (λ at. TellsOf at (snap_at now.kept rev))
+told s now index x None rev same is right gives = tt
+told s now index x (Some at) rev same is right gives =
+    let kept : IsIndexIn (snap_at s.kept) s.kept.floor s.index x = subst (λ (o : Option GroupIndex). IsKeptIndex s o) is right in
+    subst (λ (t : Standing). TellsOf at (snap_at t.kept rev)) same (gives (snap_at s.kept) kept.index_of)

@@ -1,5 +1,6 @@
 pub mod Watching
 pub mod MarkedNodes
+pub mod Outcomes
 pub mod Basing
 pub mod Indexing
 pub mod Following

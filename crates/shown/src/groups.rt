@@ -127,7 +127,8 @@ fn raised(index: &mut GroupIndex, floor: u64)
     requires { floor ≤ cursor_of index.old }
     ensures { (snaps : ℕ → Snap) (from cursor : ℕ) → IsIndexIn snaps from cursor index.old → IsIndexIn snaps floor cursor index.new }
 {
-    if index.base() < floor {
-        index.raise(floor);
+    if floor <= index.base() {
+        return;
     }
+    index.raise(floor);
 }

@@ -340,13 +340,19 @@ impl Shown {
     {
         let view = self.rows.at(rev);
         each_view_is_valid(&view);
-        let hot = if rev == self.hot {
+        let (hot, groups) = (self.members_at(rev), self.index_at(rev));
+        decide::check_at(self.alloc, &view, &mut Known { hot, groups }, node, user)
+    }
+
+    /// The members of the marked nodes, where they are those at a retained revision.
+    fn members_at(&self, rev: u64) -> Option<&Hot>
+        ensures { IfSome result (λ hot. IsHot hot.now (snap_at self.now.kept rev)) }
+    {
+        if rev == self.hot {
             self.members.as_ref()
         } else {
             None
-        };
-        let groups = self.index_at(rev);
-        decide::check_at(self.alloc, &view, &mut Known { hot, groups }, node, user)
+        }
     }
 
     /// The userset tree of the node, at the revision that the consistency chooses. At most `depth` nodes are open on a
