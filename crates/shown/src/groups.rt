@@ -38,12 +38,7 @@ pub(crate) fn rebase(
 }
 
 /// The same, where there is an index.
-fn rebased(
-    alloc: Global,
-    index: &mut GroupIndex,
-    rows: &Rows,
-    rev: u64,
-) -> Result<(), AllocError>
+fn rebased(alloc: Global, index: &mut GroupIndex, rows: &Rows, rev: u64) -> Result<(), AllocError>
     requires retained { rows.now.floor ≤ rev }
     requires there { rev ≤ newest rows.now }
     ensures ok { OnOk result ((cursor : ℕ) → IsIndexIn (snap_at rows.now) rows.now.floor cursor index.old
