@@ -1,6 +1,6 @@
 -- Groups that have numbers in two tables.
-use Rattle.std.proofs.Common.{ℕ, ◌≡◌, ◌<◌, ◌≤◌, ◌+◌, ◌⊎◌, true, false, List, [], length, take, get_or, sym, ◌∙◌, ap, subst, ⊎_elim}
-use Rattle.std.specs.Prelude.{◌↔◌, Some, None, Contains, IsTrue, Bool}
+use Rattle.std.proofs.Common.{ℕ, ◌≡◌, ◌<◌, ◌+◌, true, false, List, [], length, take, get_or, sym, ◌∙◌, subst, ⊎_elim}
+use Rattle.std.specs.Prelude.{◌↔◌, Some, None, IsTrue, Bool}
 use Rattle.std.specs.List.{slice_get}
 use Rattle.std.specs.Cmp.{nat_eq_equiv}
 use Rattle.std.proofs.lemmas.Bool.{false≢true}

@@ -1,6 +1,6 @@
 -- What the index tells of a revision.
 use Rattle.std.proofs.Common.{ℕ, ◌≡◌, ◌≤◌, true, false, sym, ◌∙◌, ap, subst}
-use Rattle.std.specs.Prelude.{◌↔◌, Bool, Result, Ok, Err, Some, IsTrue, IfOk}
+use Rattle.std.specs.Prelude.{◌↔◌, Bool, Result, Ok, Err, Option, Some, None, IsTrue, IfOk, IfNone}
 use Rattle.std.specs.Result.{result_ok}
 use Rattle.std.proofs.lemmas.Bool.{false≢true}
 use Rattle.std.proofs.lemmas.Option.{none-some, same_Some}
@@ -55,3 +55,8 @@ told_group at S told config g answer same is indexed = subst (λ (k : Configured
 pub ok_is : {T E : Type 0} (P : T → Type 0) (r : Result T E) (v : T) → Some v ≡ result_ok r → IfOk r P → P v
 ok_is P (Ok x) v e p = subst P (sym (same_Some v x e)) p
 ok_is P (Err f) v e p = absurd (none-some v (sym e))
+
+-- and what holds in any case holds where it gave none
+pub none_any : {T P : Type 0} (r : Option T) → P → IfNone r P
+none_any (Some x) p = tt
+none_any None p = p

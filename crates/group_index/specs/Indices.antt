@@ -1,7 +1,8 @@
 -- What the group index tells of the revisions from its base to its cursor (Zanzibar, section 3.2.4).
-use Rattle.std.specs.Prelude.{ℕ, ◌≡◌, ◌≤◌}
+use Rattle.std.specs.Prelude.{ℕ, ◌≡◌, ◌≤◌, List}
+use Rattle.names.specs.declared.node.Node.{Node}
 use Rattle.meaning.specs.Snap.{Snap}
-use Rattle.delta.specs.Layers.{IsLayerOf}
+use Rattle.delta.specs.Layers.{IsLayerOf, KeepsAt}
 use Rattle.direct.specs.Revisions.{IsDirectOf}
 use Rattle.group_index.specs.declared.index.GroupIndex.{GroupIndex}
 use Rattle.group_index.specs.declared.at.At.{At}
@@ -12,6 +13,10 @@ base_of index = index.layer.base
 
 abbrev pub cursor_of : GroupIndex → ℕ
 cursor_of index = index.layer.cursor
+
+-- the groups that have a number, each at its number
+abbrev pub nodes_of : At → List Node
+nodes_of at = at.index.now.layer.nodes
 
 -- the index is that of the snapshots from its base to its cursor
 pub record IsGroupIndexOf (index : GroupIndex) (snaps : ℕ → Snap) : Type 0 where
@@ -25,3 +30,7 @@ pub record TellsOf (at : At) (S : Snap) : Type 0 where
   pub from : base_of at.index.now ≤ at.rev
   pub to : at.rev ≤ cursor_of at.index.now
   pub holds : snaps at.rev ≡ S
+
+-- to which groups the group leads at the revision is kept, and need not be found
+abbrev pub IsKept : At → Node → Type 0
+IsKept at g = (ids : List ℕ) × KeepsAt at.index.now.layer at.rev g ids

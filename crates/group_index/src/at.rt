@@ -23,9 +23,9 @@ pub struct At<'a> {
 }
 
 impl<'a> GroupSets for At<'a> {
-    ghost use Rattle.group_index.specs.Indices.{TellsOf};
+    ghost use Rattle.group_index.specs.Indices.{TellsOf, nodes_of};
 
-    ghost names = { λ at. at.index.now.layer.nodes };
+    ghost names = { nodes_of };
 
     ghost tells = { TellsOf };
 
@@ -71,16 +71,15 @@ impl<'a> Oracle for At<'a> {
 }
 
 impl<'a> At<'a> {
-    ghost use Rattle.std.specs.Prelude.{ℕ, ◌↔◌, List, IsTrue, IfOk, IfErr, IfSome, IfNone};
+    ghost use Rattle.std.specs.Prelude.{◌↔◌, IsTrue, IfOk, IfErr, IfSome, IfNone};
     ghost use Rattle.meaning.specs.Membership.{IsMember};
     ghost use Rattle.meaning.specs.Reads.{IsValid};
     ghost use Rattle.meaning.specs.Snap.{Snap};
-    ghost use Rattle.delta.specs.Layers.{KeepsAt};
     ghost use Rattle.leopard.specs.Answers.{AreFirst};
     ghost use Rattle.leopard.specs.Causes.{IsAnswerable, AskCause};
     ghost use Rattle.leopard.specs.Exprs.{query_of};
     ghost use Rattle.leopard.specs.Groups.{IsGroup, Means};
-    ghost use Rattle.group_index.specs.Indices.{TellsOf};
+    ghost use Rattle.group_index.specs.Indices.{TellsOf, IsKept};
 
     /// The first groups of an expression, in the order of nodes, as `leopard::groups_at` gives them from the tuples of the
     /// revision. It takes memory for the names of all groups of the expression, however few are asked for.
@@ -103,8 +102,7 @@ impl<'a> At<'a> {
     pub fn has(&self, node: &Node, user: &Object) -> Option<bool>
         ensures has { IfSome result (λ has. (S : Snap) → TellsOf self.now S → IsValid S → IsTrue has ↔ IsMember S user.now node.now) }
         ensures group { IfSome result (λ has. (S : Snap) → TellsOf self.now S → IsGroup S.config node.now) }
-        ensures kept { IfNone result ((S : Snap) → TellsOf self.now S → IsGroup S.config node.now
-            → (ids : List ℕ) → KeepsAt self.now.index.now.layer self.now.rev node.now ids → ⊥) }
+        ensures kept { IfNone result ((S : Snap) → TellsOf self.now S → IsGroup S.config node.now → IsKept self.now node.now → ⊥) }
     {
         closures_meet_where_members();
         let (layer, direct) = (&self.index.layer, &self.index.direct);

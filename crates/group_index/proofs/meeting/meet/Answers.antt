@@ -1,4 +1,4 @@
-use Rattle.std.proofs.Common.{List, subst}
+use Rattle.std.proofs.Common.{subst}
 use Rattle.std.specs.Prelude.{◌↔◌, IsTrue}
 use Rattle.group_index.proofs.Among.{Meet, meet_turned}
 use Rattle.group_index.proofs.meeting.meet.Goals as goal

@@ -1,4 +1,4 @@
-use Rattle.std.proofs.Common.{List, [], take, refl, subst, arith}
+use Rattle.std.proofs.Common.{[], take, refl, subst, arith}
 use Rattle.std.proofs.lemmas.Bool.{false≢true}
 use Rattle.region.proofs.Listing.{place_same}
 use Rattle.facts.proofs.Naming.{one_more, all_of}

@@ -7,7 +7,6 @@ use Rattle.leopard.specs.Exprs.{query_of}
 use Rattle.leopard.specs.Finding.{Finds}
 use Rattle.leopard.specs.Groups.{Means}
 use Rattle.leopard.proofs.First.{first_as}
-use Rattle.group_index.specs.Indices.{TellsOf}
 use Rattle.group_index.proofs.Telling.{told_config}
 use Rattle.group_index.proofs.at.At.first_groups.Goals as goal
 

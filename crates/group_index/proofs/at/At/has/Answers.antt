@@ -5,7 +5,7 @@ use Rattle.meaning.specs.Snap.{Snap}
 use Rattle.config.specs.Valid as valid
 use Rattle.leopard.specs.Finding.{IsNamedBy}
 use Rattle.leopard.specs.Groups.{IsGroup, GroupToGroup, MemberToGroup}
-use Rattle.group_index.proofs.Telling.{ok_is, told_config, told_group, by_closures, by_direct, met_member, unnamed_member}
+use Rattle.group_index.proofs.Telling.{ok_is, none_any, told_config, told_group, by_closures, by_direct, met_member, unnamed_member}
 use Rattle.group_index.proofs.at.At.has.Goals as goal
 
 pub returns-in_default-clause-has : goal.returns-in_default-clause-has
@@ -69,3 +69,6 @@ pub returns-in_ok-led-in-None-clause-group : goal.returns-in_ok-led-in-None-clau
 returns-in_ok-led-in-None-clause-group c = λ S told.
     let yes : c.is_group.result ≡ true = search rules in
     told_group c.args.self.now S told c.config-2.result.now c.args.node.now c.is_group.result c.config-2.ensures c.is_group.ensures yes
+
+pub returns-in_err-led-in-None-clause-kept : goal.returns-in_err-led-in-None-clause-kept
+returns-in_err-led-in-None-clause-kept c = none_any c.from_residual.result (λ S told group (ids, there). c.in-None.ensures.none ids there)

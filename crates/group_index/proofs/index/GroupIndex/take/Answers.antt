@@ -1,5 +1,4 @@
-use Rattle.std.proofs.Common.{◌+◌, sym, ◌∙◌, subst}
-use Rattle.meaning.specs.Snap.{Snap}
+use Rattle.std.proofs.Common.{sym, ◌∙◌, subst}
 use Rattle.direct.specs.Revisions as revisions
 use Rattle.group_index.proofs.index.GroupIndex.take.Goals as goal
 
