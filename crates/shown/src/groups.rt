@@ -11,14 +11,15 @@ use rows::{Rows, View};
 use std::alloc::{AllocError, Global};
 use tuple_keys::KeptCommit;
 
-/// The index with a new base. Where there is none, it is begun there, and takes the commits up to the cursor. One whose base is
-/// above the revision stays as it is. For want of memory nothing changes.
+/// The index with a new base. Where there is none and one is to be kept, it is begun there, and takes the commits up to the
+/// cursor. One whose base is above the revision stays as it is. For want of memory nothing changes.
 pub(crate) fn rebase(
     alloc: Global,
     index: &mut Option<GroupIndex>,
     rows: &Rows,
     rev: u64,
     cursor: u64,
+    is_kept: bool,
 ) -> Result<(), AllocError>
     requires retained { rows.now.floor ≤ rev }
     requires there { rev ≤ newest rows.now }
@@ -30,6 +31,9 @@ pub(crate) fn rebase(
     match index {
         Some(index) => rebased(alloc, index, rows, rev),
         None => {
+            if !is_kept {
+                return Ok(());
+            }
             let begun = begun(alloc, rows, rev, cursor.max(rev))?;
             *index = Some(begun);
             Ok(())

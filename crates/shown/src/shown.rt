@@ -242,11 +242,8 @@ impl Shown {
         ensures ok { OnOk result (self.new ≡ after_step self.old (Step.Rebase rev)) }
         ensures err { OnErr result (self.new ≡ self.old) }
     {
-        if self.keeps_parts {
-            groups::rebase(self.alloc, &mut self.groups, &self.rows, rev, self.index)?;
-        } else {
-            self.groups = None;
-        }
+        let (rows, is_kept) = (&self.rows, self.keeps_parts);
+        groups::rebase(self.alloc, &mut self.groups, rows, rev, self.index, is_kept)?;
         self.base = rev;
         self.index = self.index.max(rev);
         Ok(())

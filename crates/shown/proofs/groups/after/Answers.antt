@@ -1,10 +1,5 @@
-use Rattle.std.proofs.Common.{sym, ◌∙◌}
 use Rattle.shown.proofs.Indexing.{after_events, after_config}
 use Rattle.shown.proofs.groups.after.Goals as goal
-
-pub returns-in-Some : goal.returns-in-Some
-returns-in-Some c =
-    after_events c.args.index c.args.rev c.args.view.now c.args.commit.now c.take.result _ c.requires c.in-Some.ensures.some c.take.ensures.index c.take.ensures.base c.take.ensures.cursor
 
 pub returns-in-None : goal.returns-in-None
 returns-in-None c =

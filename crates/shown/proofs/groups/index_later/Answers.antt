@@ -17,8 +17,8 @@ loop-i-preserved c =
     let at : c.index-commits-i.result ≡ get_or commits c.loop-i.i c.index-commits-i.result =
     subst (λ (h : History). c.index-commits-i.result ≡ get_or h c.loop-i.i c.index-commits-i.result) same c.index-commits-i.is in
     let later = view_after r c.args.from c.args.to c.loop-i.i c.index-commits-i.result c.at.result c.requires.from c.requires.order c.requires.to small at c.at.ensures in
-    subst (λ (n : ℕ). IsIndexIn (snap_at r) r.floor n c.in_ok-after.index) (add_assoc c.args.from c.loop-i.i 1)
-    (c.in_ok-after.ensures (snap_at r) r.floor (c.args.from + c.loop-i.i) c.loop-i.invariant (sym c.at.ensures) later)
+    subst (λ (n : ℕ). IsIndexIn (snap_at r) r.floor n c.in_ok-index.index) (add_assoc c.args.from c.loop-i.i 1)
+    (c.in_ok-index.ensures (snap_at r) r.floor (c.args.from + c.loop-i.i) c.loop-i.invariant (sym c.at.ensures) later)
 
 pub returns : goal.returns
 returns c =

@@ -1,5 +1,4 @@
-use Rattle.hot.proofs.Outcomes.{ok_then, if_ok}
-use Rattle.shown.proofs.Outcomes.{if_err}
+use Rattle.shown.proofs.Outcomes.{ok_then, if_ok, if_err}
 use Rattle.shown.proofs.shown.Shown.groups_at.Goals as goal
 
 pub returns-in-Some-clause-ok : goal.returns-in-Some-clause-ok
