@@ -1,6 +1,6 @@
 -- The group index after a commit, with a new base, and with a higher floor.
 use Rattle.std.proofs.Common.{◌≡◌, ℕ, ◌+◌, ◌<◌, ◌≤◌, List, ap, sym, subst, ◌∙◌, arith}
-use Rattle.std.specs.Prelude.{Option, Some, None, Result, Ok, Err, IfOk, IfSome, max}
+use Rattle.std.specs.Prelude.{Result, Ok, Err, IfOk, max}
 use Rattle.std.specs.declared.alloc.AllocError.{AllocError}
 use Rattle.names.specs.declared.commit.Commit.{Commit}
 use Rattle.names.specs.declared.commit.Commit.TheVariants.{Tuples}

@@ -1,4 +1,4 @@
-use Rattle.shown.proofs.Indexing.{after_events, after_config}
+use Rattle.shown.proofs.Indexing.{after_config}
 use Rattle.shown.proofs.groups.after.Goals as goal
 
 pub returns-in-None : goal.returns-in-None

@@ -1,4 +1,4 @@
-use Rattle.std.proofs.Common.{◌≤◌, ◌<◌, ℕ, sym, subst, ◌∙◌, arith}
+use Rattle.std.proofs.Common.{◌≤◌, ℕ, sym, subst, ◌∙◌, arith}
 use Rattle.group_index.specs.Indices.{base_of}
 use Rattle.shown.proofs.groups.raised.Goals as goal
 
