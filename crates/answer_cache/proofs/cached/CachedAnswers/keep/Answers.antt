@@ -1,5 +1,5 @@
 use Rattle.std.proofs.lemmas.Bool.{false≢true}
-use Rattle.std.proofs.Common.{◌≡◌, Bool, List, inr, refl, sym, ap, ◌∙◌, subst}
+use Rattle.std.proofs.Common.{◌≡◌, Bool, inr, refl, sym, ap, ◌∙◌, subst}
 use Rattle.std.specs.Prelude.{◌≤◌, Contains, length}
 use Rattle.std.specs.List.{IsDistinct}
 use Rattle.std.specs.Map.{keys_of}
@@ -7,7 +7,7 @@ use Rattle.lru.specs.LruCache.{LruCache, put_entries}
 use Rattle.answer_cache.specs.declared.question.Question.{Question}
 use Rattle.answer_cache.specs.declared.cached.TheConstants.{CAPACITY}
 use Rattle.answer_cache.specs.Questions.{question, is_same}
-use Rattle.answer_cache.specs.Kept.{answers_with, AreAnswers}
+use Rattle.answer_cache.specs.Kept.{AreAnswers}
 use Rattle.answer_cache.specs.inside.Fits.{Fits}
 use Rattle.answer_cache.proofs.Entries.{has_this, one_answer_each}
 use Rattle.answer_cache.proofs.Keeping.{list_after, fits_after, no_other, stays_right, is_there}
