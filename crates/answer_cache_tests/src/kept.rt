@@ -16,17 +16,15 @@ fn found(alloc: Global, node: &str, user: &str, revision: u64) -> Result<Option<
     Ok(kept.knows_at(revision, &Node::parse(node)?, &Object::parse(user)?))
 }
 
-const FOUND: [(&str, &str, u64, Option<bool>); 5] = [
-    ("document:readme#viewer", "user:ann", 7, Some(true)),
-    ("document:readme#viewer", "user:bob", 7, Some(false)),
-    ("document:readme#viewer", "user:ann", 8, None),
-    ("document:readme#viewer", "user:cy", 7, None),
-    ("document:readme#owner", "user:ann", 7, None),
-];
-
 #[test]
 fn an_answer_is_found_again(rt: HostRuntime) -> Result<(), Fail> {
-    for (node, user, revision, wanted) in FOUND {
+    for (node, user, revision, wanted) in [
+        ("document:readme#viewer", "user:ann", 7, Some(true)),
+        ("document:readme#viewer", "user:bob", 7, Some(false)),
+        ("document:readme#viewer", "user:ann", 8, None),
+        ("document:readme#viewer", "user:cy", 7, None),
+        ("document:readme#owner", "user:ann", 7, None),
+    ] {
         let answer = found(rt.alloc(), node, user, revision)?;
         assert!(rt; answer == wanted, "{node}@{user} at {revision}");
     }
@@ -61,25 +59,19 @@ fn the_one_used_least_lately_goes(rt: HostRuntime) -> Result<(), Fail> {
     Ok(())
 }
 
+fn told_at(kept: &CachedAnswers, revision: u64, node: &Node, user: &Object) -> Option<bool> {
+    let mut at = At { kept, revision };
+    at.knows(node, user)
+}
+
 // What a check at the revision is told, after an answer at revision 7, and after the cache was cleared.
 fn told(alloc: Global, revision: u64) -> Result<(Option<bool>, Option<bool>), Refusal> {
     let (node, user) = (Node::parse("group:a#member")?, Object::parse("user:ann")?);
     let mut kept = CachedAnswers::new(alloc)?;
     kept.keep(7, &node, &user, true)?;
-    let before = At {
-        kept: &kept,
-        revision,
-    }
-    .knows(&node, &user);
+    let before = told_at(&kept, revision, &node, &user);
     kept.clear();
-    Ok((
-        before,
-        At {
-            kept: &kept,
-            revision,
-        }
-        .knows(&node, &user),
-    ))
+    Ok((before, told_at(&kept, revision, &node, &user)))
 }
 
 #[test]
