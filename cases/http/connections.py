@@ -488,6 +488,17 @@ def one_worker_alone_keeps_a_file(program, folder):
         same("check of the file that is there", found, ask(stream, "check", exactly(second)))
 
 
+def a_service_makes_no_new_store_over_one(program, folder):
+    found = answered(program, folder, [("config", CONFIG), ("write", insert("ann"))], "--db", "there.db", "--store", "1")
+    same("a store is made", [200, 200], [status for status, _ in found])
+    for workers in ("1", "4"):
+        wanted = (1, b"zanz: refused 22 StoreFault\n")
+        same(f"{workers} workers", wanted, refused(program, folder, "--workers", workers, "--db", "there.db", "--store", "1", "--port", "0"))
+    second = "AQAAAAAAAAABAAAAAAAAAAI"
+    kept = [(200, f'{{"allowed":true,"zookie":"{second}"}}')]
+    same("what the file holds", kept, answered(program, folder, [("check", exactly(second))], "--db", "there.db"))
+
+
 def marks_of(server, number, told):
     """Marks forty nodes of its own, and between them one that is marked already, and keeps what it was told of its own."""
     with server.connect() as stream:
@@ -621,6 +632,7 @@ CASES = [
     what_is_written_is_read_by_the_parts,
     one_worker_alone_leaves_the_parts_to_its_callers,
     one_worker_alone_keeps_a_file,
+    a_service_makes_no_new_store_over_one,
     many_connections_mark_no_more_nodes_than_may_be_marked,
     what_was_accepted_is_there_after_a_kill,
     what_many_were_told_is_there_after_a_kill,

@@ -1,0 +1,1 @@
+SELECT subject, added, removed FROM row ORDER BY subject, added;
