@@ -12,13 +12,13 @@ pub record SoFar (old new : Taken) (bytes rest : List ℕ) : Type 0 where
   pub took : Took old new written
 
 pub took_none : (at : Taken) → Took at at []
-took_none at = (sym (append-nil at.bytes), refl)
+took_none at = record { bytes = sym (append-nil at.bytes); first = refl }
 
 pub took_both : (a b c : Taken) (xs ys : List ℕ) → Took a b xs → Took b c ys → Took a c (xs ++ ys)
-took_both a b c xs ys h k = (k.0 ∙ ap (λ z. z ++ ys) h.0 ∙ append_assoc a.bytes xs ys, k.1 ∙ h.1)
+took_both a b c xs ys h k = record { bytes = k.bytes ∙ ap (λ z. z ++ ys) h.bytes ∙ append_assoc a.bytes xs ys; first = k.first ∙ h.first }
 
 pub took_kept : (a b c : Taken) (xs : List ℕ) → Took a b xs → c ≡ b → Took a c xs
-took_kept a b c xs h e = (ap (λ (t : Taken). t.bytes) e ∙ h.0, ap (λ (t : Taken). t.first) e ∙ h.1)
+took_kept a b c xs h e = record { bytes = ap (λ (t : Taken). t.bytes) e ∙ h.bytes; first = ap (λ (t : Taken). t.first) e ∙ h.first }
 
 pub so_far_none : (at : Taken) (bytes : List ℕ) → SoFar at at bytes bytes
 so_far_none at bytes = record { written = []; parts = refl; took = took_none at }
