@@ -8,7 +8,7 @@ use Rattle.http_api.proofs.Pausing.{few_for_body, few_behind}
 use Rattle.http_api.proofs.connection.serve_on.Goals as goal
 
 pub loop-heading-init : goal.loop-heading-init
-loop-heading-init g c = (going_none _ _ _ _ _ c.requires.empty c.requires.unbroken_reader c.requires.unbroken_writer, omega arith, omega (arith, ap length c.requires.empty))
+loop-heading-init g c = (going_none _ _ _ _ c.requires.empty c.requires.unbroken_reader c.requires.unbroken_writer, omega arith, omega (arith, ap length c.requires.empty))
 
 pub returns-in-Err-clause-finished : goal.returns-in-Err-clause-finished
 returns-in-Err-clause-finished g c =
