@@ -59,14 +59,20 @@ module _ {A F : Type 0} (r : Result A F) where
 
 -- ---- the writer
 
-pub is_unbroken : {W : Type 0} (contents : W → Option (List ℕ)) (writer : TrackedWriting W) (output : W) → writer.inner ≡ output → writer.failed ≡ false → writer.flushed ≡ true
-    → writer.taken ≡ nothing_taken (contents output) → writer ≡ unbroken contents output
-is_unbroken {W} contents writer output inner failed flushed taken =
-    let none : Taken = nothing_taken (contents output) in
+pub is_unbroken : {W : Type 0} (known : Option (List ℕ)) (writer : TrackedWriting W) (output : W) → writer.inner ≡ output → writer.failed ≡ false → writer.flushed ≡ true
+    → writer.taken ≡ nothing_taken known → writer ≡ unbroken known output
+is_unbroken {W} known writer output inner failed flushed taken =
+    let none : Taken = nothing_taken known in
     subst (λ (i : W). writer ≡ record { inner = i; failed = false; flushed = true; taken = none }) inner (
     subst (λ (f : Bool). writer ≡ record { inner = writer.inner; failed = f; flushed = true; taken = none }) failed (
     subst (λ (f : Bool). writer ≡ record { inner = writer.inner; failed = writer.failed; flushed = f; taken = none }) flushed (
     subst (λ (t : Taken). writer ≡ record { inner = writer.inner; failed = writer.failed; flushed = writer.flushed; taken = t }) taken refl)))
+
+pub is_untouched : {W F : Type 0} (contents : W → Option (List ℕ)) (r : Result W F) (output : W) (writer : TrackedWriting W) → r ≡ Ok output → writer ≡ unbroken (contents output) output → Some writer ≡ untouched contents r
+is_untouched {W} {F} contents r output writer is same = subst (λ (s : Result W F). Some writer ≡ untouched contents s) (sym is) (ap (λ (w : TrackedWriting W). Some w) same)
+
+pub untouched_as : {W F : Type 0} (contents : W → Option (List ℕ)) (r : Result W F) (e : F) → r ≡ Err e → untouched {W = W} {F = F} contents (Err e) ≡ untouched contents r
+untouched_as {W} {F} contents r e is = ap (λ (s : Result W F). untouched contents s) (sym is)
 
 module _ {R W D : Type 0} {g : disk.Ghosts D} (image : Image) (serves : Bool) (remaining : R → Option (List ℕ)) (reader : TrackedReading R) (writer start : TrackedWriting W) (new : TrackedReading R × TrackedWriting W) (left : Remains g) (is : writer ≡ start) where
   pub obeyed_from : Obeyed image serves remaining (reader, writer) new left → Obeyed image serves remaining (reader, start) new left

@@ -20,13 +20,13 @@ use Rattle.command_line.specs.declared.fault.Fault.{Fault}
 use Rattle.runs.specs.Files.{Remains, HoldsOneOf, HoldsAmong}
 use Rattle.zanz.specs.Telling.{Tells}
 
--- a writer that has not failed, has taken nothing, and holds nothing back
-abbrev pub unbroken : {W : Type 0} → (W → Option (List ℕ)) → W → TrackedWriting W
-unbroken contents w = record { inner = w; failed = false; flushed = true; taken = nothing_taken (contents w) }
+-- a writer that is known to hold this, has not failed, has taken nothing, and holds nothing back
+abbrev pub unbroken : {W : Type 0} → Option (List ℕ) → W → TrackedWriting W
+unbroken known w = record { inner = w; failed = false; flushed = true; taken = nothing_taken known }
 
 -- the writer, where there is one, with nothing written
 abbrev pub untouched : {W F : Type 0} → (W → Option (List ℕ)) → Result W F → Option (TrackedWriting W)
-untouched contents (Ok output) = Some (unbroken contents output)
+untouched contents (Ok output) = Some (unbroken (contents output) output)
 untouched contents (Err e) = None
 
 -- what closing a connection left: the two files, or a store, where the log could not be copied

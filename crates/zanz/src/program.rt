@@ -107,14 +107,14 @@ pub fn program<
     // A task was done, all that it wrote was handed on, its file was closed, and nothing was told.
     ensures done { result.0 ≡ 0 → IsOkAnd words (λ words. IsOkAnd output (λ output. IsSomeAnd result.2 (λ writer. (left : _)
         × Obeyed (image_at P.Start) (asks_to_serve (map string_bytes (into_iter_items words)))
-        R.remaining (reader.old, unbroken W.contents output) (reader.new, writer) left
+        R.remaining (reader.old, unbroken (W.contents output) output) (reader.new, writer) left
         × AreWhole reader.new writer × EndsWith 0 left result.1))) }
     ensures quiet { result.0 ≡ 0 → errors.new ≡ errors.old }
 
     // A task was stopped, and its file is as that left it.
     ensures stopped { result.0 ≡ 1 → IfOk words (λ words. IfOk output (λ output. IsSomeAnd result.2 (λ writer. (left : _)
         × Stopped (image_at P.Start) (asks_to_serve (map string_bytes (into_iter_items words)))
-        R.remaining (reader.old, unbroken W.contents output) (reader.new, writer) left
+        R.remaining (reader.old, unbroken (W.contents output) output) (reader.new, writer) left
         (Tells errors.old errors.new) (errors.new ≡ errors.old)
         × EndsWith 1 left result.1))) }
 
