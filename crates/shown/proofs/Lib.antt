@@ -1,5 +1,7 @@
 pub mod Watching
 pub mod MarkedNodes
+pub mod Outcomes
 pub mod Basing
+pub mod Indexing
 pub mod Following
 pub mod Taking

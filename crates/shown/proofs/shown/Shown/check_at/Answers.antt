@@ -6,12 +6,7 @@ use Rattle.rows.specs.Retained.{snap_at}
 use Rattle.shown.specs.Standing.{Standing}
 use Rattle.shown.proofs.shown.Shown.check_at.Goals as goal
 
-pub returns-in-Some-clause-ok : goal.returns-in-Some-clause-ok
-returns-in-Some-clause-ok c =
-    subst (λ (S : Snap). IfOk c.check_at.result (λ answer. IsTrue answer ↔ IsMember S c.args.user.now c.args.node.now))
-    (c.at-view.ensures ∙ ap (λ (s : Standing). snap_at s.kept c.args.rev) c.self.view_is) c.check_at.ensures.ok
-
 pub returns-clause-ok : goal.returns-clause-ok
 returns-clause-ok c =
-    subst (λ (S : Snap). IfOk c.check_at-2.result (λ answer. IsTrue answer ↔ IsMember S c.args.user.now c.args.node.now))
-    (c.at-view.ensures ∙ ap (λ (s : Standing). snap_at s.kept c.args.rev) c.self.view_is) c.check_at-2.ensures.ok
+    subst (λ (S : Snap). IfOk c.check_at.result (λ answer. IsTrue answer ↔ IsMember S c.args.user.now c.args.node.now))
+    (c.at-view.ensures ∙ ap (λ (s : Standing). snap_at s.kept c.args.rev) c.self.view_is) c.check_at.ensures.ok
