@@ -1,37 +1,21 @@
 -- The group index after a commit, with a new base, and with a higher floor.
-use Rattle.std.proofs.Common.{◌≡◌, ℕ, ◌+◌, ◌<◌, ◌≤◌, List, ap, sym, subst, ◌∙◌, arith}
+use Rattle.std.proofs.Common.{◌≡◌, ℕ, ◌+◌, ◌<◌, ◌≤◌, ap, sym, subst, ◌∙◌, arith}
 use Rattle.std.specs.Prelude.{Result, Ok, Err, IfOk, max}
 use Rattle.std.specs.declared.alloc.AllocError.{AllocError}
 use Rattle.names.specs.declared.commit.Commit.{Commit}
-use Rattle.names.specs.declared.commit.Commit.TheVariants.{Tuples}
-use Rattle.names.specs.declared.commit.Event.{Event}
 use Rattle.meaning.specs.Config.{Configured}
 use Rattle.meaning.specs.Snap.{Snap}
 use Rattle.meaning.specs.History.{after_commit}
-use Rattle.delta.specs.Layers.{IsNext}
 use Rattle.group_index.specs.Indices.{IsGroupIndexOf, base_of, cursor_of}
 use Rattle.group_index.specs.declared.index.GroupIndex.{GroupIndex}
 use Rattle.shown.specs.inside.Basing.{IsIndexIn}
 
--- ---- after a commit
+-- ---- after a commit of a configuration
 
 module _ (index : GroupIndex) (rev : ℕ) (view : Snap) (commit : Commit Configured) where
   -- it is the index after the commit, wherever the other is that before it
   abbrev pub IsAfter : GroupIndex → Type 0
   IsAfter next = (snaps : ℕ → Snap) (floor cursor : ℕ) → IsIndexIn snaps floor cursor index → snaps rev ≡ view → view ≡ after_commit (snaps cursor) commit → IsIndexIn snaps floor rev next
-
-  pub after_events : (r : Result GroupIndex AllocError) (events : List Event) → rev ≡ cursor_of index + 1 → commit ≡ Tuples events
-      → IfOk r (λ next. (snaps : ℕ → Snap) → IsGroupIndexOf index snaps → IsNext snaps (cursor_of index) events view → IsGroupIndexOf next snaps)
-      → IfOk r (λ next. base_of next ≡ base_of index) → IfOk r (λ next. cursor_of next ≡ cursor_of index + 1) → IfOk r IsAfter
-  after_events (Err e) events next_is is gives base cursor = tt
-  after_events (Ok next) events next_is is gives base cursor = λ snaps floor at was there later. record {
-    index_of = gives snaps was.index_of (record {
-      now = ap snaps (sym next_is) ∙ there;
-      after = later ∙ ap (λ (n : ℕ). after_commit (snaps n) commit) (sym was.come) ∙ ap (after_commit (snaps (cursor_of index))) is;
-    });
-    retained = subst (λ (n : ℕ). floor ≤ n) (sym base) was.retained;
-    come = cursor ∙ sym next_is;
-  }
 
   pub after_config : (r : Result GroupIndex AllocError) → rev ≡ cursor_of index + 1 → IfOk r (λ next. (snaps : ℕ → Snap) → snaps rev ≡ view → IsGroupIndexOf next snaps)
       → IfOk r (λ next. base_of next ≡ rev) → IfOk r (λ next. cursor_of next ≡ rev) → IfOk r IsAfter
