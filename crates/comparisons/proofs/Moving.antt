@@ -5,10 +5,11 @@ use Rattle.std.proofs.lemmas.List.{length-drop, length-take-le, take-append-le, 
 use Rattle.names.specs.declared.commit.Commit.{Commit}
 use Rattle.meaning.specs.Config.{Configured}
 use Rattle.meaning.specs.Snap.{Snap}
+use Rattle.meaning.specs.Reads.{IsValid}
 use Rattle.meaning.specs.History.{History, after_commit, after_commits}
 use Rattle.hot.specs.Kept.{IsHot}
 use Rattle.hot.specs.declared.hot.Hot.{Hot}
-use Rattle.rows.specs.Retained.{Retained, IsRetained, newest, snap_at, with_commit, after_trim, commits_between}
+use Rattle.rows.specs.Retained.{Retained, IsRetained, newest, snap_at, empty_store, with_commit, after_trim, commits_between}
 use Rattle.comparisons.specs.Following.{IsFollowing}
 
 snap_with : (r : Retained) (c : Commit Configured) (rev : ℕ) → rev ≤ newest r → snap_at (with_commit r c) rev ≡ snap_at r rev
@@ -27,6 +28,25 @@ snap_above r floor above rev later =
     after_parts r.base (floor - r.floor) (rev - floor) r.commits ∙ ap (λ (n : ℕ). after_commits r.base (take n r.commits)) sum
 
 module _ (r : Retained) (hot : Hot) (cursor : ℕ) (following : IsFollowing r hot cursor) where
+  -- as it was
+  pub unchanged : (new : Retained) → new ≡ r → IsFollowing new hot cursor
+  unchanged new is = subst (λ (t : Retained). IsFollowing t hot cursor) (sym is) following
+
+  -- what is kept is that of a view at the cursor
+  pub of_view : (view : Snap) → view ≡ snap_at r cursor → IsHot hot view
+  of_view view seen = subst (λ (S : Snap). IsHot hot S) (sym seen) following.members
+
+  -- something else is kept of the same revision
+  pub renewed : (new : Hot) → ((S : Snap) → IsHot hot S → IsHot new S) → IsFollowing r new cursor
+  renewed new keeps = record { retained = following.retained; members = keeps (snap_at r cursor) following.members }
+
+  pub marked : (new : Hot) (view : Snap) → view ≡ snap_at r cursor → (IsHot hot view → IsHot new view) → IsFollowing r new cursor
+  marked new view seen keeps = record { retained = following.retained; members = subst (λ (S : Snap). IsHot new S) seen (keeps (of_view view seen)) }
+
+  -- it is begun anew at another revision
+  pub begun_anew : (new : Hot) (view : Snap) (rev : ℕ) → IsRetained r rev → view ≡ snap_at r rev → ((S : Snap) → IsHot hot S → IsHot new view) → IsFollowing r new rev
+  begun_anew new view rev retained seen keeps = record { retained = retained; members = subst (λ (S : Snap). IsHot new S) seen (keeps (snap_at r cursor) following.members) }
+
   -- one commit more
   pub with_one : (new : Retained) (c : Commit Configured) → new ≡ with_commit r c → IsFollowing new hot cursor
   with_one new c is =
@@ -61,3 +81,31 @@ next r from c view retained there at seen =
     let one : take 1 above ≡ c ∷ [] = sym (take-take 1 n above (omega arith)) ∙ take_more (take n above) 0 c some ∙ ap (λ (d : Commit Configured). d ∷ []) (sym at) in
     let sum : k + 1 ≡ (from + 1) - r.floor = omega (arith, retained) in
     seen ∙ ap (λ (m : ℕ). after_commits r.base (take m r.commits)) (sym sum) ∙ sym (after_parts r.base k 1 r.commits) ∙ ap (after_commits (snap_at r from)) one
+
+pub some_next : (r : Retained) (from : ℕ) (h : History) → r.floor ≤ from → from + 1 ≤ newest r → h ≡ commits_between r from (from + 1) → 0 < length h
+some_next r from h retained there is =
+    let n : ℕ = (from + 1) - from in
+    let above : History = drop (from - r.floor) r.commits in
+    let left : length above ≡ length r.commits - (from - r.floor) = length-drop (from - r.floor) r.commits in
+    let few : n ≤ length above = omega (arith, left, retained, there) in
+    let long : length (take n above) ≡ n = length-take-le n above few in
+    let same : length h ≡ length (take n above) = ap length is in
+    omega (arith, long, same)
+
+-- the next commit is taken
+pub taken : (r : Retained) (old new : Hot) (from : ℕ) (c : Commit Configured) (h : History) (view : Snap) → IsFollowing r old from → from + 1 ≤ newest r → h ≡ commits_between r from (from + 1) → c ≡ get_or h 0 c
+    → view ≡ snap_at r (from + 1) → ((S : Snap) → IsHot old S → view ≡ after_commit S c → IsHot new view) → IsFollowing r new (from + 1)
+taken r old new from c h view following there is at seen takes =
+    let below = following.retained.not_below in
+    let same : c ≡ get_or (commits_between r from (from + 1)) 0 c = subst (λ (g : History). c ≡ get_or g 0 c) is at in
+    record {
+      retained = record { not_below = omega (arith, below); not_above = there };
+      members = subst (λ (S : Snap). IsHot new S) seen (takes (snap_at r from) following.members (next r from c view below there same seen));
+    }
+
+-- before the first commit
+pub at_first : (r : Retained) → r ≡ empty_store 0 → IsRetained r 0
+at_first r is = subst (λ (t : Retained). IsRetained t 0) (sym is) (record { not_below = omega arith; not_above = omega arith })
+
+pub begun : (r : Retained) (hot : Hot) (view : Snap) → r ≡ empty_store 0 → view ≡ snap_at r 0 → IsValid view → ((S : Snap) → IsValid S → IsHot hot S) → IsFollowing r hot 0
+begun r hot view is seen valid each = record { retained = at_first r is; members = each (snap_at r 0) (subst (λ (S : Snap). IsValid S) seen valid) }
