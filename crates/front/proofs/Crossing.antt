@@ -20,7 +20,13 @@ use Rattle.idsets.proofs.ids.Ids.TheSendSync as Ids
 use Rattle.idsets.proofs.set.IdSet.TheSendSync as IdSet
 use Rattle.names.proofs.object.Object.TheSendSync as Object
 use Rattle.hot.proofs.hot.Hot.TheSendSync as Hot
-use Rattle.leopard.specs.contracts.built.Built as Built
+use Rattle.region.proofs.sets.Sets.TheSendSync as Sets
+use Rattle.delta.proofs.earlier.Earlier.TheSendSync as Earlier
+use Rattle.delta.specs.contracts.layer.Layer as Layer
+use Rattle.direct.proofs.memberships.Memberships.TheSendSync as Memberships
+use Rattle.direct.proofs.noted.EarlierGroups.TheSendSync as EarlierGroups
+use Rattle.direct.specs.contracts.direct.Direct as Direct
+use Rattle.group_index.specs.contracts.index.GroupIndex as GroupIndex
 use Rattle.tuple_keys.specs.contracts.kept_commit.KeptCommit as KeptCommit
 use Rattle.rows.specs.contracts.loaded.Loaded as Loaded
 use Rattle.shown.specs.contracts.shown.Shown as Shown
@@ -67,17 +73,29 @@ KeptCommit-send = search (Config-send, Config-sync, crosses, sendable) depth 40
 pub KeptCommit-sync : IsSync KeptCommit.the_row
 KeptCommit-sync = search (Config-send, Config-sync, crosses, sendable) depth 40
 
-pub Built-send : IsSend Built.the_row
-Built-send = search (Config-send, Node.the_send, Object.the_send, Ids.the_send, IdSet.the_send, crosses, sendable) depth 40
+pub Layer-send : IsSend Layer.the_row
+Layer-send = search (Config-send, Node.the_send, Ids.the_send, IdSet.the_send, Sets.the_send, Earlier.the_send, crosses, sendable) depth 40
 
-pub Built-sync : IsSync Built.the_row
-Built-sync = search (Config-sync, Node.the_sync, Object.the_sync, Ids.the_sync, IdSet.the_sync, crosses, sendable) depth 40
+pub Layer-sync : IsSync Layer.the_row
+Layer-sync = search (Config-sync, Node.the_sync, Ids.the_sync, IdSet.the_sync, Sets.the_sync, Earlier.the_sync, crosses, sendable) depth 40
+
+pub Direct-send : IsSend Direct.the_row
+Direct-send = search (Config-send, Memberships.the_send, EarlierGroups.the_send, crosses, sendable) depth 40
+
+pub Direct-sync : IsSync Direct.the_row
+Direct-sync = search (Config-sync, Memberships.the_sync, EarlierGroups.the_sync, crosses, sendable) depth 40
+
+pub GroupIndex-send : IsSend GroupIndex.the_row
+GroupIndex-send = search (Layer-send, Direct-send, sendable) depth 40
+
+pub GroupIndex-sync : IsSync GroupIndex.the_row
+GroupIndex-sync = search (Layer-sync, Direct-sync, sendable) depth 40
 
 pub Shown-send : IsSend Shown.the_row
-Shown-send = search (Config-send, KeptCommit-send, Built-send, Hot.the_send, VersionMap.the_send, Node.the_send, crosses, sendable) depth 40
+Shown-send = search (Config-send, KeptCommit-send, GroupIndex-send, Hot.the_send, VersionMap.the_send, Node.the_send, crosses, sendable) depth 40
 
 pub Shown-sync : IsSync Shown.the_row
-Shown-sync = search (Config-sync, KeptCommit-sync, Built-sync, Hot.the_sync, VersionMap.the_sync, Node.the_sync, crosses, sendable) depth 40
+Shown-sync = search (Config-sync, KeptCommit-sync, GroupIndex-sync, Hot.the_sync, VersionMap.the_sync, Node.the_sync, crosses, sendable) depth 40
 
 pub Loaded-send : IsSend Loaded.the_row
 Loaded-send = search (Config-send, KeptCommit-send, Tuple.the_send, crosses, sendable) depth 40
