@@ -7,3 +7,5 @@ mod closures;
 mod direct_groups;
 #[cfg(test)]
 mod history;
+#[cfg(test)]
+mod index;

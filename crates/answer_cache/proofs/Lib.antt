@@ -1,0 +1,4 @@
+pub mod Same
+pub mod Entries
+pub mod Looking
+pub mod Keeping

@@ -1,0 +1,4 @@
+pub mod Parts
+pub mod Questions
+pub mod Kept
+pub mod inside
