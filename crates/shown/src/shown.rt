@@ -19,6 +19,7 @@ ghost use Rattle.expand.specs.declared.limits.TheConstants.{MAX_DEPTH};
 ghost use Rattle.expand.specs.Causes.{ExpandCause};
 ghost use Rattle.expand.specs.Viewed.{tree_of};
 ghost use Rattle.shown.specs.Answers.{IsAnswer, IsRefusal};
+ghost use Rattle.shown.specs.KeptAnswers.{AreRetainedAnswers};
 ghost use Rattle.shown.specs.Expanding.{IsTreeOf, IsTree, IsTreeRefusal};
 ghost use Rattle.shown.specs.Watching.{IsWatched, WatchRefused};
 ghost use Rattle.shown.specs.Paging.{IsPage, IsPageRefusal};
@@ -33,10 +34,11 @@ ghost use Rattle.shown.specs.inside.Basing.{AreMarked, IsIndexIn};
 
 use crate::answer::{Answer, Refused};
 use crate::groups::{self, index_later};
-use crate::known::Known;
+use crate::known::{Known, answers_at};
 use crate::marks::{count_with, remark};
 use crate::members::{members_after, members_later, members_of};
 use crate::step::Step;
+use answer_cache::CachedAnswers;
 use config::Config;
 use expand::Tree;
 use facts::each_view_is_valid;
@@ -309,12 +311,42 @@ impl Shown {
         ensures ok { IfOk result (IsAnswer self.now consistency.now node.now user.now) }
         ensures err { IfErr result (IsRefusal self.now consistency.now node.now) }
     {
+        self.check_by(None, consistency, node, user)
+    }
+
+    /// The same, asked by one who keeps answers of checks: at a retained revision they are what the check would answer, and it
+    /// asks them where it comes to a question of theirs.
+    pub fn check_knowing(
+        &self,
+        kept: &CachedAnswers,
+        consistency: &Consistency,
+        node: &Node,
+        user: &Object,
+    ) -> Result<Answer<bool>, Refused>
+        requires { AreRetainedAnswers self.now.kept kept.now }
+        ensures ok { IfOk result (IsAnswer self.now consistency.now node.now user.now) }
+        ensures err { IfErr result (IsRefusal self.now consistency.now node.now) }
+    {
+        self.check_by(Some(kept), consistency, node, user)
+    }
+
+    fn check_by(
+        &self,
+        kept: Option<&CachedAnswers>,
+        consistency: &Consistency,
+        node: &Node,
+        user: &Object,
+    ) -> Result<Answer<bool>, Refused>
+        requires { IfSome kept (λ kept. AreRetainedAnswers self.now.kept kept.now) }
+        ensures ok { IfOk result (IsAnswer self.now consistency.now node.now user.now) }
+        ensures err { IfErr result (IsRefusal self.now consistency.now node.now) }
+    {
         let newest = self.rows.newest();
         if let Err(why) = consistency.judge(self.rows.number(), self.rows.floor(), newest) {
             return Err(Refused { why, at: None });
         }
         let rev = consistency.choose(newest, self.index);
-        match self.check_at(rev, node, user) {
+        match self.check_at(kept, rev, node, user) {
             Ok(value) => Ok(Answer { rev, value }),
             Err(why) => {
                 let at = match &why {
@@ -327,8 +359,15 @@ impl Shown {
     }
 
     /// Whether the user is a member of the node at a retained revision.
-    fn check_at(&self, rev: u64, node: &Node, user: &Object) -> Result<bool, Refusal>
-        requires { IsRetained self.now.kept rev }
+    fn check_at(
+        &self,
+        kept: Option<&CachedAnswers>,
+        rev: u64,
+        node: &Node,
+        user: &Object,
+    ) -> Result<bool, Refusal>
+        requires retained { IsRetained self.now.kept rev }
+        requires kept { IfSome kept (λ kept. AreRetainedAnswers self.now.kept kept.now) }
         ensures ok { IfOk result (λ answer.
             IsTrue answer ↔ IsMember (snap_at self.now.kept rev) user.now node.now) }
         ensures known { OnOk result
@@ -338,7 +377,13 @@ impl Shown {
         let view = self.rows.at(rev);
         each_view_is_valid(&view);
         let (hot, groups) = (self.members_at(rev), self.index_at(rev));
-        decide::check_at(self.alloc, &view, &mut Known { hot, groups }, node, user)
+        let answers = answers_at(kept, rev);
+        let mut known = Known {
+            hot,
+            groups,
+            answers,
+        };
+        decide::check_at(self.alloc, &view, &mut known, node, user)
     }
 
     /// The members of the marked nodes, where they are those at a retained revision.
