@@ -33,6 +33,7 @@ use Rattle.shown.specs.contracts.shown.Shown as Shown
 use Rattle.shown.specs.contracts.step.Step as Step
 use Rattle.published.proofs.book.StepPrefix.TheSendSync as StepPrefix
 use Rattle.published.proofs.book.Book.TheSendSync as Book
+use Rattle.published.proofs.remembered.Remembered.TheSendSync as Remembered
 use denote.RattleType.{RattleType}
 use Rattle.left_right.proofs.reader.Reader.TheSendSync as Reader
 use Rattle.published.specs.contracts.copy.ShownCopy as ShownCopy
@@ -73,23 +74,41 @@ KeptCommit-send = search (Config-send, Config-sync, crosses, sendable) depth 40
 pub KeptCommit-sync : IsSync KeptCommit.the_row
 KeptCommit-sync = search (Config-send, Config-sync, crosses, sendable) depth 40
 
+Layer-field-send : IsSend (Struct (S.shape Layer.the_type))
+Layer-field-send = search (Config-send, Node.the_send, Ids.the_send, IdSet.the_send, Sets.the_field_send, Earlier.the_send, crosses, sendable) depth 40
+
+Layer-field-sync : IsSync (Struct (S.shape Layer.the_type))
+Layer-field-sync = search (Config-sync, Node.the_sync, Ids.the_sync, IdSet.the_sync, Sets.the_field_sync, Earlier.the_sync, crosses, sendable) depth 40
+
 pub Layer-send : IsSend Layer.the_row
-Layer-send = search (Config-send, Node.the_send, Ids.the_send, IdSet.the_send, Sets.the_send, Earlier.the_send, crosses, sendable) depth 40
+Layer-send = let T = Layer.the_type in recorded_send _ _ T.to T.to_one Layer-field-send
 
 pub Layer-sync : IsSync Layer.the_row
-Layer-sync = search (Config-sync, Node.the_sync, Ids.the_sync, IdSet.the_sync, Sets.the_sync, Earlier.the_sync, crosses, sendable) depth 40
+Layer-sync = let T = Layer.the_type in recorded_sync _ _ T.to T.to_one Layer-field-sync
+
+Direct-field-send : IsSend (Struct (S.shape Direct.the_type))
+Direct-field-send = search (Config-send, Memberships.the_field_send, EarlierGroups.the_send, crosses, sendable) depth 40
+
+Direct-field-sync : IsSync (Struct (S.shape Direct.the_type))
+Direct-field-sync = search (Config-sync, Memberships.the_field_sync, EarlierGroups.the_sync, crosses, sendable) depth 40
 
 pub Direct-send : IsSend Direct.the_row
-Direct-send = search (Config-send, Memberships.the_send, EarlierGroups.the_send, crosses, sendable) depth 40
+Direct-send = let T = Direct.the_type in recorded_send _ _ T.to T.to_one Direct-field-send
 
 pub Direct-sync : IsSync Direct.the_row
-Direct-sync = search (Config-sync, Memberships.the_sync, EarlierGroups.the_sync, crosses, sendable) depth 40
+Direct-sync = let T = Direct.the_type in recorded_sync _ _ T.to T.to_one Direct-field-sync
+
+GroupIndex-field-send : IsSend (Struct (S.shape GroupIndex.the_type))
+GroupIndex-field-send = search (Layer-field-send, Direct-field-send, sendable) depth 40
+
+GroupIndex-field-sync : IsSync (Struct (S.shape GroupIndex.the_type))
+GroupIndex-field-sync = search (Layer-field-sync, Direct-field-sync, sendable) depth 40
 
 pub GroupIndex-send : IsSend GroupIndex.the_row
-GroupIndex-send = search (Layer-send, Direct-send, sendable) depth 40
+GroupIndex-send = let T = GroupIndex.the_type in recorded_send _ _ T.to T.to_one GroupIndex-field-send
 
 pub GroupIndex-sync : IsSync GroupIndex.the_row
-GroupIndex-sync = search (Layer-sync, Direct-sync, sendable) depth 40
+GroupIndex-sync = let T = GroupIndex.the_type in recorded_sync _ _ T.to T.to_one GroupIndex-field-sync
 
 pub Shown-send : IsSend Shown.the_row
 Shown-send = search (Config-send, KeptCommit-send, GroupIndex-send, Hot.the_send, VersionMap.the_send, Node.the_send, crosses, sendable) depth 40
@@ -134,7 +153,7 @@ pub ShownCopy-sync : IsSync ShownCopy.the_row
 ShownCopy-sync = search (Shown-sync, StepPrefix.the_sync, sendable) depth 40
 
 Session-inside-send : IsSend Session.TheInside.the_row
-Session-inside-send = search (Reader.the_field_send, ShownCopy-sync, StepPrefix.the_send, crosses, sendable) depth 40
+Session-inside-send = search (Reader.the_field_send, ShownCopy-sync, Remembered.the_send, crosses, sendable) depth 40
 
 pub Session-send : IsSend Session.the_row
 Session-send = search (Session-inside-send, sendable) depth 10
