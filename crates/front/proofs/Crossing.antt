@@ -80,23 +80,11 @@ Layer-field-send = search (Config-send, Node.the_send, Ids.the_send, IdSet.the_s
 Layer-field-sync : IsSync (Struct (S.shape Layer.the_type))
 Layer-field-sync = search (Config-sync, Node.the_sync, Ids.the_sync, IdSet.the_sync, Sets.the_field_sync, Earlier.the_sync, crosses, sendable) depth 40
 
-pub Layer-send : IsSend Layer.the_row
-Layer-send = let T = Layer.the_type in recorded_send _ _ T.to T.to_one Layer-field-send
-
-pub Layer-sync : IsSync Layer.the_row
-Layer-sync = let T = Layer.the_type in recorded_sync _ _ T.to T.to_one Layer-field-sync
-
 Direct-field-send : IsSend (Struct (S.shape Direct.the_type))
 Direct-field-send = search (Config-send, Memberships.the_field_send, EarlierGroups.the_send, crosses, sendable) depth 40
 
 Direct-field-sync : IsSync (Struct (S.shape Direct.the_type))
 Direct-field-sync = search (Config-sync, Memberships.the_field_sync, EarlierGroups.the_sync, crosses, sendable) depth 40
-
-pub Direct-send : IsSend Direct.the_row
-Direct-send = let T = Direct.the_type in recorded_send _ _ T.to T.to_one Direct-field-send
-
-pub Direct-sync : IsSync Direct.the_row
-Direct-sync = let T = Direct.the_type in recorded_sync _ _ T.to T.to_one Direct-field-sync
 
 GroupIndex-field-send : IsSend (Struct (S.shape GroupIndex.the_type))
 GroupIndex-field-send = search (Layer-field-send, Direct-field-send, sendable) depth 40
