@@ -39,8 +39,11 @@ impl Oracle for Known<'_> {
                 return Some(has);
             }
         }
-        match &mut self.answers {
-            Some(at) => at.knows(node, user),
+        match &self.answers {
+            Some(at) => {
+                let (kept, revision) = (at.kept, at.revision);
+                AnswersAt { kept, revision }.knows(node, user)
+            }
             None => None,
         }
     }
@@ -48,7 +51,7 @@ impl Oracle for Known<'_> {
 
 /// The answers that are kept of a revision, where any are kept.
 pub(crate) fn answers_at(kept: Option<&CachedAnswers>, revision: u64) -> Option<AnswersAt<'_>>
-    ensures { (S : Snap) → IfSome kept (λ kept. AreAnswersAt kept.now revision S)
+    ensures { (S : Snap) → IfSome kept.entry (λ kept. AreAnswersAt kept.now revision S)
         → IfSome result (λ at. AreAnswersAt at.kept.now at.revision S) }
 {
     match kept {

@@ -1,9 +1,7 @@
-use Rattle.answer_cache.specs.Kept.{AreAnswersAt}
-use Rattle.group_index.specs.Indices.{TellsOf}
 use Rattle.hot.specs.Kept.{IsHot}
 use Rattle.shown.proofs.Outcomes.{some_is}
 use Rattle.shown.proofs.known.KnownOracle.knows.Goals as goal
 
 pub returns-in-Some-has-clause-right : goal.returns-in-Some-has-clause-right
 returns-in-Some-has-clause-right c S told =
-    c.in-Some-has.ensures.has S (some_is c.args.self.now.hot c.in-Some-hot.hot (λ hot. IsHot hot.now S) c.in-Some-hot.is told.0)
+    c.in-Some-has.ensures.has S (some_is c.args.self.now.hot c.in-Some.hot (λ hot. IsHot hot.now S) c.in-Some.is told.0)
