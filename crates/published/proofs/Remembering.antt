@@ -55,7 +55,7 @@ kept_with r rev n u b old new retained right no_other are q a has = ⊎_elim
 -- what a check was answered can be kept
 pub can_be_kept : (s : Standing) (consistency : Consistency) (n : Node) (u : Object) (r : Result (Answer Bool) Refused) → IfOk r (check.IsAnswer s consistency n u)
     → IfOk r (λ answer. IsRetained s.kept answer.rev × IsAnswer (snap_at s.kept answer.rev) u n answer.value)
-can_be_kept s consistency n u (Ok answer) is = (record { not_below = is.asked.fits.0; not_above = is.asked.fits.1.0 }, is.meaning)
+can_be_kept s consistency n u (Ok answer) is = (record { not_below = is.asked.fits.0; not_above = is.asked.fits.1 }, is.meaning)
 can_be_kept s consistency n u (Err refused) is = tt
 
 -- in the branch that a test chose

@@ -39,11 +39,8 @@ impl Oracle for Known<'_> {
                 return Some(has);
             }
         }
-        match &self.answers {
-            Some(at) => {
-                let (kept, revision) = (at.kept, at.revision);
-                AnswersAt { kept, revision }.knows(node, user)
-            }
+        match &mut self.answers {
+            Some(at) => at.knows(node, user),
             None => None,
         }
     }
