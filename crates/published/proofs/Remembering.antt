@@ -20,10 +20,6 @@ use Rattle.published.specs.Judged.{AreJudged}
 use Rattle.published.specs.Rising.{Rises}
 use Rattle.published.proofs.Rising.{rise}
 
--- none is kept
-pub none_kept : (r : Retained) (kept : List (Question × Bool)) → kept ≡ [] → AreRetainedAnswers r kept
-none_kept r kept none q b has = absurd (subst (λ (l : List (Question × Bool)). Contains l (q, b)) none has)
-
 -- after later steps
 still_right : (r s : Retained) (q : Question) (b : Bool) → Rises r s → IsRetainedAnswer r q b → IsRetainedAnswer s q b
 still_right r s q b rises was = record {
@@ -59,5 +55,5 @@ can_be_kept s consistency n u (Ok answer) is = (record { not_below = is.asked.fi
 can_be_kept s consistency n u (Err refused) is = tt
 
 -- in the branch that a test chose
-pub begun : {P Q : Type 0} (t : Bool) → t ≡ true → MatchBool t P Q → P
-begun {P = P} {Q = Q} t is known = subst (λ (b : Bool). MatchBool b P Q) is known
+pub begun : {P : Type 0} (Q : Type 0) (t : Bool) → t ≡ true → MatchBool t P Q → P
+begun {P = P} Q t is known = subst (λ (b : Bool). MatchBool b P Q) is known
