@@ -18,6 +18,12 @@ impl Dice {
         (self.state >> 33).checked_rem(sides).unwrap_or(0)
     }
 
+    /// Any of some, where there are any.
+    pub(crate) fn pick<'a, T>(&mut self, some: &'a [T]) -> Option<&'a T> {
+        let place = self.roll(some.len() as u64) as usize;
+        some.get(place)
+    }
+
     /// Any of the words.
     pub(crate) fn word<'a>(&mut self, words: &'a str) -> &'a str {
         let count = words.split_ascii_whitespace().count() as u64;

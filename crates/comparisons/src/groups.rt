@@ -1,115 +1,77 @@
-//! Closures and direct groups that are kept, beside the definitions.
+//! The group index of retained revisions.
+ghost use Rattle.std.specs.Prelude.{◌≡◌, ◌≤◌, ◌+◌, IfOk, IfSome, OnOk, OnErr};
+ghost use Rattle.meaning.specs.History.{after_commit};
+ghost use Rattle.rows.specs.Retained.{Retained, newest, snap_at};
+ghost use Rattle.group_index.specs.Indices.{base_of, cursor_of};
+ghost use Rattle.comparisons.specs.Following.{IsIndexIn};
 
-use crate::layers::Layers;
-use crate::score::{Asked, Score};
-use crate::table::Table;
-use crate::universe::Universe;
-use delta::Layer;
-use direct::Direct;
-use names::Node;
+use group_index::GroupIndex;
+use rows::{Rows, View};
 use std::alloc::{AllocError, Global};
+use tuple_keys::KeptCommit;
 
-// Whether they are the same groups, in any order.
-fn are_same(found: &[Node], wanted: &[Node]) -> bool {
-    found.len() == wanted.len() && wanted.iter().all(|group| found.contains(group))
+/// The index after the next commit, where there is one.
+pub(crate) fn next(alloc: Global, index: GroupIndex, rows: &Rows) -> Result<GroupIndex, AllocError>
+    requires { IsIndexIn rows.now index }
+    ensures { IfOk result (IsIndexIn rows.now) }
+{
+    let from = index.cursor();
+    if rows.newest() <= from {
+        return Ok(index);
+    }
+    let view = rows.at(from + 1);
+    let commits = rows.commits(from, from + 1);
+    after(alloc, index, &commits[0], &view, from + 1)
 }
 
-/// Compares the closure of each group that is one at a revision from the base to the cursor.
-fn compare_closures(
+/// The index after the commit of the next revision, of which the view has the snapshot. With a configuration it is begun
+/// anew.
+fn after(
     alloc: Global,
-    layer: &Layer,
+    index: GroupIndex,
+    commit: &KeptCommit,
+    view: &View<'_>,
     rev: u64,
-    universe: &Universe,
-    table: &Table,
-    score: &mut Score,
-) -> Result<(), AllocError> {
-    let parts = table.indexed.iter().zip(table.led.iter());
-    for (node, (indexed, led)) in universe.nodes.iter().zip(parts) {
-        if *indexed {
-            let found = layer.closure_at(alloc, node, rev)?;
-            let same = found.len() == led.len() && found.iter().all(|group| led.contains(group));
-            let asked = Asked {
-                part: "closure",
-                rev,
-                node: Some(node),
-                user: None,
-            };
-            score.compare(alloc, same, asked)?;
+) -> Result<GroupIndex, AllocError>
+    requires { rev ≡ cursor_of index + 1 }
+    ensures { IfOk result (λ next. (r : Retained) → IsIndexIn r index → rev ≤ newest r → snap_at r rev ≡ view.now
+        → view.now ≡ after_commit (snap_at r (cursor_of index)) commit.now → IsIndexIn r next) }
+{
+    match commit.events() {
+        Some(events) => {
+            let events = events.events(alloc)?;
+            index.take(alloc, &events, view)
         }
+        None => GroupIndex::restart(alloc, view, rev),
     }
-    Ok(())
 }
 
-/// Compares the groups that name each user at a revision from the base to the cursor.
-fn compare_direct(
+/// Moves the base up to a revision, where it is below it. What has not come so far begins anew there.
+pub(crate) fn rebase(
     alloc: Global,
-    direct: &Direct,
+    index: &mut GroupIndex,
+    rows: &Rows,
     rev: u64,
-    universe: &Universe,
-    table: &Table,
-    score: &mut Score,
-) -> Result<(), AllocError> {
-    for (user, wanted) in universe.users.iter().zip(table.direct.iter()) {
-        let found = direct.groups_at(alloc, user, rev)?;
-        let asked = Asked {
-            part: "direct groups",
-            rev,
-            node: None,
-            user: Some(user),
-        };
-        score.compare(alloc, are_same(&found, wanted), asked)?;
+) -> Result<(), AllocError>
+    requires retained { rows.now.floor ≤ rev }
+    requires there { rev ≤ newest rows.now }
+    ensures ok { OnOk result (IsIndexIn rows.now index.old → IsIndexIn rows.now index.new) }
+    ensures err { OnErr result (index.new ≡ index.old) }
+{
+    if rev < index.base() {
+        return Ok(());
     }
-    Ok(())
+    index.rebase(alloc, &rows.at(rev), rev)
 }
 
-/// Compares whether the user's direct groups meet a group's closure with whether the user is a member of the group.
-fn compare_meeting(
-    alloc: Global,
-    layers: &Layers,
-    rev: u64,
-    universe: &Universe,
-    table: &Table,
-    score: &mut Score,
-) -> Result<(), AllocError> {
-    let direct = layers.direct.groups_at(alloc, &table.user, rev)?;
-    let parts = table.indexed.iter().zip(table.answers.iter());
-    for (node, (indexed, answer)) in universe.nodes.iter().zip(parts) {
-        if *indexed {
-            let closure = layers.layer.closure_at(alloc, node, rev)?;
-            let meet = direct.iter().any(|group| closure.contains(group));
-            let asked = Asked {
-                part: "membership by groups",
-                rev,
-                node: Some(node),
-                user: Some(&table.user),
-            };
-            score.compare(alloc, Some(meet) == *answer, asked)?;
-        }
+/// Moves the base up to a revision that is not above the cursor, where it is below it.
+pub(crate) fn raise(index: &mut GroupIndex, rev: u64)
+    requires { rev ≤ cursor_of index.old }
+    ensures index { (r : Retained) → IsIndexIn r index.old → IsIndexIn r index.new }
+    ensures base { rev ≤ base_of index.new }
+{
+    if rev <= index.base() {
+        return;
     }
-    Ok(())
-}
-
-/// Compares what both layers tell of the revisions of which tables are given, the first of them that of revision 0.
-pub(crate) fn compare_layers(
-    alloc: Global,
-    layers: &Layers,
-    universe: &Universe,
-    tables: &[Table],
-    score: &mut Score,
-) -> Result<(), AllocError> {
-    for (place, table) in tables.iter().enumerate() {
-        let rev = place as u64;
-        let closures = layers.layer.base() <= rev && rev <= layers.layer.cursor();
-        let direct = layers.direct.base() <= rev && rev <= layers.direct.cursor();
-        if closures {
-            compare_closures(alloc, &layers.layer, rev, universe, table, score)?;
-        }
-        if direct {
-            compare_direct(alloc, &layers.direct, rev, universe, table, score)?;
-        }
-        if closures && direct {
-            compare_meeting(alloc, layers, rev, universe, table, score)?;
-        }
-    }
-    Ok(())
+    index.raise(rev);
 }

@@ -1,12 +1,10 @@
 //! One random history, compared after each commit.
 
 use crate::changes::{any_changes, clearing, follow};
+use crate::comparing::{compare_checks, compare_groups, compare_members};
 use crate::configurations::any_config;
 use crate::dice::Dice;
 use crate::followed::Followed;
-use crate::groups::compare_layers;
-use crate::layers::Layers;
-use crate::members::{compare_checks, compare_checks_by_kept, compare_kept};
 use crate::score::Score;
 use crate::table::Table;
 use crate::universe::Universe;
@@ -29,7 +27,6 @@ struct Run<'a> {
     tables: Vec<Table>,
     marks: Vec<Node>,
     followed: Followed,
-    layers: Layers,
 }
 
 impl Run<'_> {
@@ -39,13 +36,19 @@ impl Run<'_> {
             return Ok(());
         }
         follow(self.alloc, &mut self.snapshot, commit)?;
+        score.count_commit(self.followed.newest());
+        self.tell()
+    }
+
+    // A table of the newest revision.
+    fn tell(&mut self) -> Result<(), Refusal> {
         let user = any_user(self.universe, &mut self.dice)?;
         let table = Table::of(self.alloc, &self.snapshot, self.universe, user)?;
         self.tables.push(table)?;
-        score.count_commit();
         Ok(())
     }
 
+    // A commit, or two.
     fn grow(&mut self, score: &mut Score) -> Result<(), Refusal> {
         if self.followed.newest() > 0 && self.dice.roll(6) > 0 {
             let commit = any_changes(self.alloc, &self.snapshot, &mut self.dice)?;
@@ -59,20 +62,24 @@ impl Run<'_> {
 
     // A mark comes or goes.
     fn remark(&mut self) -> Result<(), Refusal> {
-        let place = self.dice.roll(self.universe.nodes.len() as u64) as usize;
-        let Some(node) = self.universe.nodes.get(place) else {
+        if self.dice.roll(3) == 0 {
+            return Ok(self.drop_mark()?);
+        }
+        let Some(node) = self.dice.pick(&self.universe.nodes) else {
             return Ok(());
         };
-        if self.dice.roll(3) > 0 {
-            self.followed.mark(self.alloc, node)?;
+        self.followed.mark(node)?;
+        if !self.marks.contains(node) {
             self.marks.push(node.clone()?)?;
-            return Ok(());
         }
-        let gone = self.dice.roll(self.marks.len() as u64) as usize;
-        if gone < self.marks.len() {
-            let node = self.marks.swap_remove(gone);
-            self.followed.unmark(self.alloc, &node)?;
-            self.marks.retain(|mark| *mark != node);
+        Ok(())
+    }
+
+    fn drop_mark(&mut self) -> Result<(), AllocError> {
+        let place = self.dice.roll(self.marks.len() as u64) as usize;
+        if place < self.marks.len() {
+            let node = self.marks.swap_remove(place);
+            self.followed.unmark(&node)?;
         }
         Ok(())
     }
@@ -80,102 +87,71 @@ impl Run<'_> {
     // Each part takes some commits, or none.
     fn catch_up(&mut self) -> Result<(), AllocError> {
         for _ in 0..self.dice.roll(4) {
-            self.followed.take_next(self.alloc)?;
+            self.followed.take_for_members()?;
         }
         for _ in 0..self.dice.roll(4) {
-            self.layers.take_closures(self.alloc, &self.followed)?;
-        }
-        for _ in 0..self.dice.roll(4) {
-            self.layers.take_direct(self.alloc, &self.followed)?;
+            self.followed.take_for_groups()?;
         }
         Ok(())
     }
 
-    // The floor rises, and the bases of the layers, which are not to have their next commit below it; or the bases alone.
+    // The base of the group index rises, or the floor, or the members begin anew.
     fn raise(&mut self) -> Result<(), AllocError> {
         let sides = self.followed.newest().saturating_add(1);
         let rev = self.dice.roll(sides);
-        match self.dice.roll(24) {
-            0..3 => {
-                let below = rev.min(self.followed.cursor());
-                self.layers.rebase(self.alloc, &self.followed, below)?;
-                self.followed.trim(below);
+        match self.dice.roll(16) {
+            0 | 1 => self.followed.rebase(rev),
+            2 | 3 => {
+                self.followed.trim(rev);
+                Ok(())
             }
-            3..6 => self.layers.rebase(self.alloc, &self.followed, rev)?,
-            6..9 => self.layers.raise(rev),
-            9 => self.followed.begin_anew(self.alloc)?,
-            _ => {}
+            4 => self.followed.begin_anew(),
+            _ => Ok(()),
         }
-        Ok(())
     }
 
     fn compare(&self, score: &mut Score) -> Result<(), Refusal> {
-        let cursor = self.followed.cursor();
-        let newest = self.followed.newest();
-        for (place, table) in self.tables.iter().enumerate() {
-            let rev = place as u64;
-            if rev == cursor {
-                compare_kept(
-                    self.alloc,
-                    &self.followed,
-                    self.universe,
-                    table,
-                    &self.marks,
-                    score,
-                )?;
-                compare_checks_by_kept(self.alloc, &self.followed, self.universe, table, score)?;
-            }
-            if rev == newest {
-                if let Some(view) = self.followed.at(rev) {
-                    compare_checks(self.alloc, &view, rev, self.universe, table, score)?;
-                }
-            }
+        let (alloc, followed) = (self.alloc, &self.followed);
+        if let Some(table) = self.tables.get(followed.cursor() as usize) {
+            compare_members(alloc, followed, table, &self.marks, score)?;
+            compare_checks(alloc, followed, followed.cursor(), table, score)?;
         }
-        compare_layers(self.alloc, &self.layers, self.universe, &self.tables, score)?;
-        Ok(())
+        if let Some(table) = self.tables.get(followed.base() as usize) {
+            compare_checks(alloc, followed, followed.base(), table, score)?;
+        }
+        compare_groups(alloc, followed, &self.tables, score)
     }
 }
 
 fn any_user(universe: &Universe, dice: &mut Dice) -> Result<Object, Refusal> {
-    let place = dice.roll(universe.users.len() as u64) as usize;
-    match universe.users.get(place) {
+    match dice.pick(&universe.users) {
         Some(user) => Ok(user.clone()?),
         None => Err(Refusal::Malformed),
     }
 }
 
-fn begun<'a>(alloc: Global, universe: &'a Universe, seed: u64) -> Result<Option<Run<'a>>, Refusal> {
-    let followed = Followed::new(alloc);
-    let Some(layers) = Layers::new(alloc, &followed)? else {
-        return Ok(None);
-    };
-    let mut dice = Dice::new(seed);
-    let user = any_user(universe, &mut dice)?;
-    let snapshot = Snapshot::empty(alloc);
-    let mut tables = Vec::new(alloc);
-    tables.push(Table::of(alloc, &snapshot, universe, user)?)?;
-    Ok(Some(Run {
+fn begun(alloc: Global, universe: &Universe, seed: u64) -> Result<Run<'_>, Refusal> {
+    let mut run = Run {
         alloc,
         universe,
-        dice,
-        snapshot,
-        tables,
+        dice: Dice::new(seed),
+        snapshot: Snapshot::empty(alloc),
+        tables: Vec::new(alloc),
         marks: Vec::new(alloc),
-        followed,
-        layers,
-    }))
+        followed: Followed::new(alloc)?,
+    };
+    run.tell()?;
+    Ok(run)
 }
 
-/// Compares a history of the seed.
+/// Compares a history of the seed, up to the first difference.
 pub(crate) fn compare(
     alloc: Global,
     universe: &Universe,
     seed: u64,
     score: &mut Score,
 ) -> Result<(), Refusal> {
-    let Some(mut run) = begun(alloc, universe, seed)? else {
-        return Ok(());
-    };
+    let mut run = begun(alloc, universe, seed)?;
     for _ in 0..TURNS {
         run.grow(score)?;
         run.remark()?;

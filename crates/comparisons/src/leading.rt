@@ -6,6 +6,9 @@ use snapshots::Snapshot;
 use std::alloc::{AllocError, Global};
 use std::collections::BTreeSet;
 
+/// More than there are nodes.
+const ROUNDS: u64 = 64;
+
 fn add(nodes: &mut BTreeSet<Node>, object: &Object, relation: &Name) -> Result<(), AllocError> {
     nodes.insert(Node {
         object: object.clone()?,
@@ -105,17 +108,16 @@ fn add_next(
     }
 }
 
-/// The node, and all that it depends on: what its rewrite looks up, and so on, in at most so many rounds. Of a group they
-/// are those to which it leads.
+/// The node, and all that it depends on: what its rewrite looks up, and so on. Of a group they are those to which it
+/// leads.
 pub(crate) fn led_to(
     alloc: Global,
     snapshot: &Snapshot,
     from: &Node,
-    rounds: usize,
 ) -> Result<BTreeSet<Node>, AllocError> {
     let mut found = BTreeSet::new(alloc);
     found.insert(from.clone()?)?;
-    for _ in 0..rounds {
+    for _ in 0..ROUNDS {
         let mut next = BTreeSet::new(alloc);
         for node in &found {
             next.insert(node.clone()?)?;

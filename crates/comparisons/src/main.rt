@@ -1,18 +1,18 @@
 //! `comparisons [HISTORIES [SEED]]` compares what is kept of a store with the definition of membership, executed, after
-//! each commit of so many random histories: members of marked nodes, closures and direct groups at each revision from a
-//! base to a cursor, and checks that ask what is kept or know nothing. It prints how much was compared. At the first
-//! difference it ends with status 1, and says where that is.
+//! each commit of so many random histories: members of marked nodes, the group index at each revision from its base to
+//! its cursor, and checks that ask these or ask nothing. It prints how much was compared. At the first difference it ends
+//! with status 1, and says of which seed it is, after which commit, and what differs.
 #![tactic(auto)]
 
 mod changes;
+mod comparing;
 mod configurations;
 mod dice;
 mod followed;
 mod groups;
 mod history;
-mod layers;
+mod known;
 mod leading;
-mod members;
 mod rewriting;
 mod score;
 mod table;
@@ -24,7 +24,7 @@ use std::process::ExitCode;
 use universe::Universe;
 
 /// So many histories, where no word says how many.
-const FEW: u64 = 20;
+const MANY: u64 = 2_000;
 
 fn main(rt: HostRuntime) -> ExitCode {
     let status = match told(&rt) {
@@ -38,7 +38,7 @@ fn main(rt: HostRuntime) -> ExitCode {
 // Whether nothing differs.
 fn told(rt: &HostRuntime) -> Result<bool, Refusal> {
     let numbers = numbers_asked(rt)?;
-    let count = numbers.first().copied().unwrap_or(FEW);
+    let count = numbers.first().copied().unwrap_or(MANY);
     let first = numbers.get(1).copied().unwrap_or(1);
     let universe = Universe::new(rt.alloc())?;
     let mut score = Score::new();
@@ -64,7 +64,7 @@ fn told(rt: &HostRuntime) -> Result<bool, Refusal> {
 }
 
 fn print_difference(rt: &HostRuntime, seed: u64, difference: &str) -> Result<(), Refusal> {
-    match println!(rt; "a difference at seed {seed}: {difference}") {
+    match println!(rt; "a difference at seed {seed}, {difference}") {
         Ok(()) => Ok(()),
         Err(_) => Err(Refusal::Memory),
     }

@@ -12,11 +12,12 @@ pub(crate) struct Asked<'a> {
     pub(crate) user: Option<&'a Object>,
 }
 
-/// How much was compared, and where the first difference is.
+/// How much was compared, the commit after which it was compared last, and where the first difference is.
 #[derive(Drop)]
 pub(crate) struct Score {
     pub(crate) commits: u64,
     pub(crate) questions: u64,
+    pub(crate) commit: u64,
     pub(crate) difference: Option<String>,
 }
 
@@ -25,12 +26,15 @@ impl Score {
         Score {
             commits: 0,
             questions: 0,
+            commit: 0,
             difference: None,
         }
     }
 
-    pub(crate) fn count_commit(&mut self) {
+    /// Counts a commit, of a revision.
+    pub(crate) fn count_commit(&mut self, rev: u64) {
         self.commits = self.commits.saturating_add(1);
+        self.commit = rev;
     }
 
     /// Counts a question. The first whose answers are not the same is kept.
@@ -42,15 +46,15 @@ impl Score {
     ) -> Result<(), AllocError> {
         self.questions = self.questions.saturating_add(1);
         if !same && self.difference.is_none() {
-            self.difference = Some(told(alloc, asked)?);
+            self.difference = Some(told(alloc, self.commit, asked)?);
         }
         Ok(())
     }
 }
 
-fn told(alloc: Global, asked: Asked<'_>) -> Result<String, AllocError> {
+fn told(alloc: Global, commit: u64, asked: Asked<'_>) -> Result<String, AllocError> {
     let (part, rev) = (asked.part, asked.rev);
-    let mut text = format!(in alloc; "{part}, revision {rev}")?;
+    let mut text = format!(in alloc; "after commit {commit}: {part} at revision {rev}")?;
     if let Some(node) = asked.node {
         text.push_str(format!(in alloc; ", {node}")?.as_str())?;
     }

@@ -8,47 +8,68 @@ use snapshots::Snapshot;
 use std::alloc::{AllocError, Global};
 use std::collections::BTreeSet;
 
-/// What one revision holds of one user, of each node of a universe and of each of its users, in their orders.
+/// What a revision holds of a node.
+#[derive(Drop)]
+pub(crate) struct OfNode {
+    pub(crate) node: Node,
+    /// Whether the table's user is a member, where the relation is there.
+    pub(crate) answer: Option<bool>,
+    /// The node, and those on which it depends; of a group they are those to which it leads.
+    pub(crate) led: BTreeSet<Node>,
+    /// Whether it is a group: its relation is indexed.
+    pub(crate) indexed: bool,
+}
+
+/// What a revision holds of a user.
+#[derive(Drop)]
+pub(crate) struct OfUser {
+    pub(crate) user: Object,
+    /// The groups that name the user.
+    pub(crate) direct: BTreeSet<Node>,
+}
+
+/// What a revision holds of each node and of each user of a universe.
 #[derive(Drop)]
 pub(crate) struct Table {
     pub(crate) user: Object,
-    /// Whether the user is a member, where the relation is there.
-    pub(crate) answers: Vec<Option<bool>>,
-    /// On which nodes it depends.
-    pub(crate) led: Vec<BTreeSet<Node>>,
-    /// Whether its relation is indexed.
-    pub(crate) indexed: Vec<bool>,
-    /// The groups that name each user.
-    pub(crate) direct: Vec<Vec<Node>>,
+    pub(crate) nodes: Vec<OfNode>,
+    pub(crate) users: Vec<OfUser>,
 }
 
 impl Table {
+    /// The table of one user.
     pub(crate) fn of(
         alloc: Global,
         snapshot: &Snapshot,
         universe: &Universe,
         user: Object,
     ) -> Result<Table, Refusal> {
-        let mut table = Table {
-            user,
-            answers: Vec::new(alloc),
-            led: Vec::new(alloc),
-            indexed: Vec::new(alloc),
-            direct: Vec::new(alloc),
-        };
+        let mut nodes = Vec::new(alloc);
         for node in &universe.nodes {
-            let answer = answer_of(alloc, snapshot, node, &table.user)?;
-            table.answers.push(answer)?;
-            let led = led_to(alloc, snapshot, node, universe.nodes.len())?;
-            table.led.push(led)?;
-            table.indexed.push(is_indexed(snapshot, node))?;
+            nodes.push(of_node(alloc, snapshot, node, &user)?)?;
         }
+        let mut users = Vec::new(alloc);
         for user in &universe.users {
-            let direct = direct_of(alloc, snapshot, &universe.groups, user)?;
-            table.direct.push(direct)?;
+            let direct = direct_of(alloc, snapshot, &universe.nodes, user)?;
+            let user = user.clone()?;
+            users.push(OfUser { user, direct })?;
         }
-        Ok(table)
+        Ok(Table { user, nodes, users })
     }
+}
+
+fn of_node(
+    alloc: Global,
+    snapshot: &Snapshot,
+    node: &Node,
+    user: &Object,
+) -> Result<OfNode, Refusal> {
+    Ok(OfNode {
+        node: node.clone()?,
+        answer: answer_of(alloc, snapshot, node, user)?,
+        led: led_to(alloc, snapshot, node)?,
+        indexed: is_indexed(snapshot, node),
+    })
 }
 
 fn answer_of(
@@ -78,17 +99,17 @@ fn is_indexed(snapshot: &Snapshot, node: &Node) -> bool {
 fn direct_of(
     alloc: Global,
     snapshot: &Snapshot,
-    groups: &[Node],
+    nodes: &[Node],
     user: &Object,
-) -> Result<Vec<Node>, AllocError> {
-    let mut direct = Vec::new(alloc);
-    for group in groups {
+) -> Result<BTreeSet<Node>, AllocError> {
+    let mut direct = BTreeSet::new(alloc);
+    for node in nodes {
         let tuple = Tuple {
-            node: group.clone()?,
+            node: node.clone()?,
             subject: Subject::one(user.clone()?),
         };
-        if is_indexed(snapshot, group) && snapshot.contains(&tuple) {
-            direct.push(group.clone()?)?;
+        if is_indexed(snapshot, node) && snapshot.contains(&tuple) {
+            direct.insert(tuple.node)?;
         }
     }
     Ok(direct)

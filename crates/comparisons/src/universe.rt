@@ -13,17 +13,15 @@ const OF_GROUPS: &str = "member admin";
 
 const OF_DOCUMENTS: &str = "banned editor guest viewer";
 
-/// All groups, all nodes, the groups first, and all users.
+/// All nodes and all users.
 #[derive(Drop)]
 pub(crate) struct Universe {
-    pub(crate) groups: Vec<Node>,
     pub(crate) nodes: Vec<Node>,
     pub(crate) users: Vec<Object>,
 }
 
 impl Universe {
     pub(crate) fn new(alloc: Global) -> Result<Universe, Refusal> {
-        let groups = nodes_of(alloc, "group", MANY, OF_GROUPS)?;
         let mut nodes = nodes_of(alloc, "group", MANY, OF_GROUPS)?;
         let mut others = nodes_of(alloc, "doc", DOCUMENTS, OF_DOCUMENTS)?;
         nodes.append(&mut others)?;
@@ -32,11 +30,7 @@ impl Universe {
             let text = format!(in alloc; "user:{number}")?;
             users.push(Object::parse(text.as_str())?)?;
         }
-        Ok(Universe {
-            groups,
-            nodes,
-            users,
-        })
+        Ok(Universe { nodes, users })
     }
 }
 
