@@ -61,6 +61,13 @@ pub(crate) fn compare_members(
     score: &mut Score,
 ) -> Result<(), AllocError> {
     let hot = followed.hot();
+    let asked = Asked {
+        part: "number of marks",
+        rev: followed.cursor(),
+        node: None,
+        user: None,
+    };
+    score.compare(alloc, hot.marked() == marks.len(), asked)?;
     for of_node in &table.nodes {
         let is_kept = is_under_mark(table, marks, &of_node.node);
         let same = is_right(alloc, hot, table, of_node, is_kept)?;

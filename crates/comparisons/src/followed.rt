@@ -1,5 +1,5 @@
 //! A history, and what is kept of it.
-ghost use Rattle.std.specs.Prelude.{◌≡◌, ◌≤◌, IfSome, OnOk, OnErr};
+ghost use Rattle.std.specs.Prelude.{◌≡◌, true, IfSome, OnOk, OnErr};
 ghost use Rattle.meaning.specs.History.{after_commit};
 ghost use Rattle.meaning.specs.Snap.{Snap};
 ghost use Rattle.hot.specs.Kept.{IsHot};
@@ -84,7 +84,9 @@ impl Followed {
         }
     }
 
-    fn is_retained(&self, rev: u64) -> bool {
+    fn is_retained(&self, rev: u64) -> bool
+        ensures { result ≡ true → IsRetained self.now rev }
+    {
         self.rows.floor() <= rev && rev <= self.rows.newest()
     }
 

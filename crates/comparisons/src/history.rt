@@ -48,6 +48,26 @@ impl Run<'_> {
         Ok(())
     }
 
+    // (Apart from who owns it: each way out of a function that does costs the proof that it is let go.)
+    fn go_on(&mut self, score: &mut Score) -> Result<(), Refusal> {
+        self.tell()?;
+        for _ in 0..TURNS {
+            self.turn(score)?;
+            if score.difference.is_some() {
+                return Ok(());
+            }
+        }
+        Ok(())
+    }
+
+    fn turn(&mut self, score: &mut Score) -> Result<(), Refusal> {
+        self.grow(score)?;
+        self.remark()?;
+        self.catch_up()?;
+        self.raise()?;
+        self.compare(score)
+    }
+
     // A commit, or two.
     fn grow(&mut self, score: &mut Score) -> Result<(), Refusal> {
         if self.followed.newest() > 0 && self.dice.roll(6) > 0 {
@@ -65,7 +85,8 @@ impl Run<'_> {
         if self.dice.roll(3) == 0 {
             return Ok(self.drop_mark()?);
         }
-        let Some(node) = self.dice.pick(&self.universe.nodes) else {
+        let universe = self.universe;
+        let Some(node) = self.dice.pick(&universe.nodes) else {
             return Ok(());
         };
         self.followed.mark(node)?;
@@ -130,18 +151,17 @@ fn any_user(universe: &Universe, dice: &mut Dice) -> Result<Object, Refusal> {
     }
 }
 
-fn begun(alloc: Global, universe: &Universe, seed: u64) -> Result<Run<'_>, Refusal> {
-    let mut run = Run {
+fn begun(alloc: Global, universe: &Universe, seed: u64) -> Result<Run<'_>, AllocError> {
+    let followed = Followed::new(alloc)?;
+    Ok(Run {
         alloc,
         universe,
         dice: Dice::new(seed),
         snapshot: Snapshot::empty(alloc),
         tables: Vec::new(alloc),
         marks: Vec::new(alloc),
-        followed: Followed::new(alloc)?,
-    };
-    run.tell()?;
-    Ok(run)
+        followed,
+    })
 }
 
 /// Compares a history of the seed, up to the first difference.
@@ -152,15 +172,5 @@ pub(crate) fn compare(
     score: &mut Score,
 ) -> Result<(), Refusal> {
     let mut run = begun(alloc, universe, seed)?;
-    for _ in 0..TURNS {
-        run.grow(score)?;
-        run.remark()?;
-        run.catch_up()?;
-        run.raise()?;
-        run.compare(score)?;
-        if score.difference.is_some() {
-            return Ok(());
-        }
-    }
-    Ok(())
+    run.go_on(score)
 }

@@ -117,16 +117,34 @@ pub(crate) fn led_to(
 ) -> Result<BTreeSet<Node>, AllocError> {
     let mut found = BTreeSet::new(alloc);
     found.insert(from.clone()?)?;
+    let mut last = BTreeSet::new(alloc);
+    last.insert(from.clone()?)?;
     for _ in 0..ROUNDS {
-        let mut next = BTreeSet::new(alloc);
-        for node in &found {
-            next.insert(node.clone()?)?;
-            add_next(&mut next, snapshot, node)?;
-        }
-        if next.len() == found.len() {
+        last = next(alloc, snapshot, &mut found, &last)?;
+        if last.is_empty() {
             return Ok(found);
         }
-        found = next;
     }
     Ok(found)
+}
+
+// Those that the last ones look up, and that are not found yet; they are found then.
+fn next(
+    alloc: Global,
+    snapshot: &Snapshot,
+    found: &mut BTreeSet<Node>,
+    last: &BTreeSet<Node>,
+) -> Result<BTreeSet<Node>, AllocError> {
+    let mut reached = BTreeSet::new(alloc);
+    for node in last {
+        add_next(&mut reached, snapshot, node)?;
+    }
+    let mut new = BTreeSet::new(alloc);
+    for node in &reached {
+        if !found.contains(node) {
+            found.insert(node.clone()?)?;
+            new.insert(node.clone()?)?;
+        }
+    }
+    Ok(new)
 }
