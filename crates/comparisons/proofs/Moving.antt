@@ -1,6 +1,6 @@
 -- What is kept is that of its revisions while the history grows, is trimmed, and its next commit is taken.
 use Rattle.std.proofs.Common.{◌≡◌, ℕ, ◌+◌, ◌-◌, ◌<◌, ◌≤◌, ◌++◌, ◌∷◌, List, [], length, take, drop, refl, ap, sym, subst, ◌∙◌, arith, get_or, length-append}
-use Rattle.std.specs.Prelude.{Option, Some, None, Result, Ok, Err, IfSome, IfOk, max}
+use Rattle.std.specs.Prelude.{Option, Some, None, Result, Ok, Err, IfSome, IfOk, OnOk, max}
 use Rattle.std.specs.declared.alloc.AllocError.{AllocError}
 use Rattle.std.proofs.Math.Seq.{take-add}
 use Rattle.std.proofs.lemmas.List.{length-drop, length-take-le, take-append-le, take-take, take_more}
@@ -24,6 +24,14 @@ use Rattle.comparisons.specs.Following.{AreMembersIn, IsIndexIn, IsFollowing}
 
 pub some_is : {A : Type 0} (o : Option A) (x : A) (P : A → Type 0) → o ≡ Some x → IfSome o P → P x
 some_is {A = A} o x P is p = subst (λ (q : Option A). IfSome q P) is p
+
+pub if_ok : {T E : Type 0} (P Q : T → Type 0) (r : Result T E) → ((x : T) → P x → Q x) → IfOk r P → IfOk r Q
+if_ok P Q (Ok x) f p = f x p
+if_ok P Q (Err e) f p = tt
+
+pub ok_all : {T E P Q R S : Type 0} (r : Result T E) → (P → Q → R → S) → OnOk r P → OnOk r Q → OnOk r R → OnOk r S
+ok_all (Ok x) f p q s = f p q s
+ok_all (Err e) f p q s = tt
 
 -- ---- snapshots
 
@@ -188,6 +196,13 @@ pub next_retained : (r : Retained) (index : GroupIndex) (from : ℕ) → from �
 next_retained r index from at there is =
     let below = from_floor r index is in
     record { not_below = omega (arith, at, below); not_above = there }
+
+pub later : (r : Retained) (index : GroupIndex) (from : ℕ) (c : Commit Configured) (h : History) (view : Snap) → IsIndexIn r index → from ≡ cursor_of index → from + 1 ≤ newest r
+    → h ≡ commits_between r from (from + 1) → c ≡ get_or h 0 c → view ≡ snap_at r (from + 1) → view ≡ after_commit (snap_at r (cursor_of index)) c
+later r index from c h view is at there are one seen =
+    let below : r.floor ≤ from = subst (λ (n : ℕ). r.floor ≤ n) (sym at) (from_floor r index is) in
+    let same : c ≡ get_or (commits_between r from (from + 1)) 0 c = subst (λ (g : History). c ≡ get_or g 0 c) are one in
+    subst (λ (n : ℕ). view ≡ after_commit (snap_at r n) c) at (next r from c view below there same seen)
 
 -- after the commit of the next revision
 module _ (index : GroupIndex) (rev : ℕ) (view : Snap) (commit : Commit Configured) where
