@@ -1,6 +1,6 @@
 -- Answers that a session keeps stay right, and so does one more.
 use Rattle.std.proofs.Common.{◌≡◌, ℕ, ◌≤◌, Bool, ◌⊎◌, List, ap, sym, subst, ◌∙◌, arith, ⊎_elim}
-use Rattle.std.specs.Prelude.{Contains}
+use Rattle.std.specs.Prelude.{Contains, Result, Ok, Err, IfOk, MatchBool, true}
 use mathlib.Core.List.{IsPrefix}
 use Rattle.names.specs.declared.object.Object.{Object}
 use Rattle.names.specs.declared.node.Node.{Node}
@@ -9,9 +9,13 @@ use Rattle.decide.specs.Answers.{IsAnswer}
 use Rattle.answer_cache.specs.declared.question.Question.{Question}
 use Rattle.answer_cache.specs.Questions.{question}
 use Rattle.rows.specs.Retained.{Retained, IsRetained, newest, snap_at}
+use Rattle.shown.specs.declared.answer.Answer.{Answer}
+use Rattle.shown.specs.declared.answer.Refused.{Refused}
 use Rattle.shown.specs.declared.step.Step.{Step}
+use Rattle.shown.specs.Answers as check
 use Rattle.shown.specs.KeptAnswers.{IsRetainedAnswer, AreRetainedAnswers}
-use Rattle.shown.specs.Standing.{standing}
+use Rattle.shown.specs.Standing.{Standing, standing}
+use Rattle.zookie.specs.declared.consistency.Consistency.{Consistency}
 use Rattle.published.specs.Judged.{AreJudged}
 use Rattle.published.specs.Rising.{Rises}
 use Rattle.published.proofs.Rising.{rise}
@@ -47,3 +51,13 @@ kept_with r rev n u b old new retained right no_other are q a has = ⊎_elim
     subst (λ (e : Question × Bool). IsRetainedAnswer r e.0 e.1) (sym (ap (λ x. (x, a)) this.0 ∙ ap (λ x. (question rev n u, x)) this.1)) (one_more r rev n u b retained right))
     (λ (was : Contains old (q, a)). are q a was)
     (no_other q a has)
+
+-- what a check was answered can be kept
+pub can_be_kept : (s : Standing) (consistency : Consistency) (n : Node) (u : Object) (r : Result (Answer Bool) Refused) → IfOk r (check.IsAnswer s consistency n u)
+    → IfOk r (λ answer. IsRetained s.kept answer.rev × IsAnswer (snap_at s.kept answer.rev) u n answer.value)
+can_be_kept s consistency n u (Ok answer) is = (record { not_below = is.asked.fits.0; not_above = is.asked.fits.1 }, is.meaning)
+can_be_kept s consistency n u (Err refused) is = tt
+
+-- in the branch that a test chose
+pub begun : {P Q : Type 0} (t : Bool) → t ≡ true → MatchBool t P Q → P
+begun {P = P} {Q = Q} t is known = subst (λ (b : Bool). MatchBool b P Q) is known

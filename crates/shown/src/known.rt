@@ -48,7 +48,7 @@ impl Oracle for Known<'_> {
 
 /// The answers that are kept of a revision, where any are kept.
 pub(crate) fn answers_at(kept: Option<&CachedAnswers>, revision: u64) -> Option<AnswersAt<'_>>
-    ensures { (S : Snap) → IfSome kept (λ kept. AreAnswersAt kept.now revision S)
+    ensures { (S : Snap) → IfSome kept.entry (λ kept. AreAnswersAt kept.now revision S)
         → IfSome result (λ at. AreAnswersAt at.kept.now at.revision S) }
 {
     match kept {
