@@ -24,7 +24,7 @@ use std::process::ExitCode;
 use universe::Universe;
 
 /// So many histories, where no word says how many.
-const MANY: u64 = 2_000;
+const MANY: u64 = 3_000;
 
 fn main(rt: HostRuntime) -> ExitCode {
     let status = match told(&rt) {
