@@ -20,13 +20,20 @@ use Rattle.idsets.proofs.ids.Ids.TheSendSync as Ids
 use Rattle.idsets.proofs.set.IdSet.TheSendSync as IdSet
 use Rattle.names.proofs.object.Object.TheSendSync as Object
 use Rattle.hot.proofs.hot.Hot.TheSendSync as Hot
-use Rattle.leopard.specs.contracts.built.Built as Built
+use Rattle.region.proofs.sets.Sets.TheSendSync as Sets
+use Rattle.delta.proofs.earlier.Earlier.TheSendSync as Earlier
+use Rattle.delta.specs.contracts.layer.Layer as Layer
+use Rattle.direct.proofs.memberships.Memberships.TheSendSync as Memberships
+use Rattle.direct.proofs.noted.EarlierGroups.TheSendSync as EarlierGroups
+use Rattle.direct.specs.contracts.direct.Direct as Direct
+use Rattle.group_index.specs.contracts.index.GroupIndex as GroupIndex
 use Rattle.tuple_keys.specs.contracts.kept_commit.KeptCommit as KeptCommit
 use Rattle.rows.specs.contracts.loaded.Loaded as Loaded
 use Rattle.shown.specs.contracts.shown.Shown as Shown
 use Rattle.shown.specs.contracts.step.Step as Step
 use Rattle.published.proofs.book.StepPrefix.TheSendSync as StepPrefix
 use Rattle.published.proofs.book.Book.TheSendSync as Book
+use Rattle.published.proofs.remembered.Remembered.TheSendSync as Remembered
 use denote.RattleType.{RattleType}
 use Rattle.left_right.proofs.reader.Reader.TheSendSync as Reader
 use Rattle.published.specs.contracts.copy.ShownCopy as ShownCopy
@@ -67,17 +74,35 @@ KeptCommit-send = search (Config-send, Config-sync, crosses, sendable) depth 40
 pub KeptCommit-sync : IsSync KeptCommit.the_row
 KeptCommit-sync = search (Config-send, Config-sync, crosses, sendable) depth 40
 
-pub Built-send : IsSend Built.the_row
-Built-send = search (Config-send, Node.the_send, Object.the_send, Ids.the_send, IdSet.the_send, crosses, sendable) depth 40
+Layer-field-send : IsSend (Struct (S.shape Layer.the_type))
+Layer-field-send = search (Config-send, Node.the_send, Ids.the_send, IdSet.the_send, Sets.the_field_send, Earlier.the_send, crosses, sendable) depth 40
 
-pub Built-sync : IsSync Built.the_row
-Built-sync = search (Config-sync, Node.the_sync, Object.the_sync, Ids.the_sync, IdSet.the_sync, crosses, sendable) depth 40
+Layer-field-sync : IsSync (Struct (S.shape Layer.the_type))
+Layer-field-sync = search (Config-sync, Node.the_sync, Ids.the_sync, IdSet.the_sync, Sets.the_field_sync, Earlier.the_sync, crosses, sendable) depth 40
+
+Direct-field-send : IsSend (Struct (S.shape Direct.the_type))
+Direct-field-send = search (Config-send, Memberships.the_field_send, EarlierGroups.the_send, crosses, sendable) depth 40
+
+Direct-field-sync : IsSync (Struct (S.shape Direct.the_type))
+Direct-field-sync = search (Config-sync, Memberships.the_field_sync, EarlierGroups.the_sync, crosses, sendable) depth 40
+
+GroupIndex-field-send : IsSend (Struct (S.shape GroupIndex.the_type))
+GroupIndex-field-send = search (Layer-field-send, Direct-field-send, sendable) depth 40
+
+GroupIndex-field-sync : IsSync (Struct (S.shape GroupIndex.the_type))
+GroupIndex-field-sync = search (Layer-field-sync, Direct-field-sync, sendable) depth 40
+
+pub GroupIndex-send : IsSend GroupIndex.the_row
+GroupIndex-send = let T = GroupIndex.the_type in recorded_send _ _ T.to T.to_one GroupIndex-field-send
+
+pub GroupIndex-sync : IsSync GroupIndex.the_row
+GroupIndex-sync = let T = GroupIndex.the_type in recorded_sync _ _ T.to T.to_one GroupIndex-field-sync
 
 pub Shown-send : IsSend Shown.the_row
-Shown-send = search (Config-send, KeptCommit-send, Built-send, Hot.the_send, VersionMap.the_send, Node.the_send, crosses, sendable) depth 40
+Shown-send = search (Config-send, KeptCommit-send, GroupIndex-send, Hot.the_send, VersionMap.the_send, Node.the_send, crosses, sendable) depth 40
 
 pub Shown-sync : IsSync Shown.the_row
-Shown-sync = search (Config-sync, KeptCommit-sync, Built-sync, Hot.the_sync, VersionMap.the_sync, Node.the_sync, crosses, sendable) depth 40
+Shown-sync = search (Config-sync, KeptCommit-sync, GroupIndex-sync, Hot.the_sync, VersionMap.the_sync, Node.the_sync, crosses, sendable) depth 40
 
 pub Loaded-send : IsSend Loaded.the_row
 Loaded-send = search (Config-send, KeptCommit-send, Tuple.the_send, crosses, sendable) depth 40
@@ -116,7 +141,7 @@ pub ShownCopy-sync : IsSync ShownCopy.the_row
 ShownCopy-sync = search (Shown-sync, StepPrefix.the_sync, sendable) depth 40
 
 Session-inside-send : IsSend Session.TheInside.the_row
-Session-inside-send = search (Reader.the_field_send, ShownCopy-sync, StepPrefix.the_send, crosses, sendable) depth 40
+Session-inside-send = search (Reader.the_field_send, ShownCopy-sync, Remembered.the_send, crosses, sendable) depth 40
 
 pub Session-send : IsSend Session.the_row
 Session-send = search (Session-inside-send, sendable) depth 10

@@ -1,14 +1,13 @@
 -- A connection that reads on, or ends before a request has come whole.
 use Rattle.std.proofs.Common.{◌≡◌, ℕ, ◌++◌, Bool, true, false, List, [], ◌∷◌, length, ◌+◌, ◌<◌, ◌≤◌, drop, refl, sym, ap, ◌∙◌, subst, arith, append_assoc, true≢false, inl, inr}
 use Rattle.std.specs.Prelude.{Option, Some, None, Result, Ok, Err, MatchResult, is_err}
-use Rattle.std.specs.Io.KnownBytes.{Appends, Consumes, Keeps, IsAtEnd}
+use Rattle.std.specs.Io.KnownBytes.{Consumes, Keeps, IsAtEnd}
 use Rattle.std.proofs.lemmas.List.{append-nil, length-append, length-drop, drop-append-le}
-use Rattle.std.proofs.KnownBytes.{Keeps-refl, Keeps-trans}
 use Rattle.tracked_io.specs.Tracking.{TrackedReading, TrackedWriting}
 use Rattle.tracked_io.specs.Waiting.{OneRead, with_read, Waited}
-use Rattle.tracked_io.specs.Wrote.{WroteSome}
+use Rattle.tracked_io.specs.Wrote.{Taken, Took, WroteSome}
 use Rattle.tracked_io.proofs.Waiting.{gave_waited, reads_none, reads_both, waited_none, waited_more, waited_both, waited_as}
-use Rattle.tracked_io.proofs.Appending.{appends_none, appends_kept, appends_both, some_after}
+use Rattle.tracked_io.proofs.Appending.{took_none, took_kept, took_both, some_after}
 use Rattle.answers.specs.declared.end.End.{End}
 use Rattle.answers.specs.declared.end.End.TheVariants.{Closed, Asked, Broken, ReadFault, WriteFault, Memory}
 use Rattle.answers.specs.Ends.{is_read_fault, is_write_fault}
@@ -37,58 +36,58 @@ pub nothing : (xs : List ℕ) → length xs ≡ 0 → xs ≡ []
 nothing [] e = refl
 nothing (x ∷ xs) e = absurd (omega (arith, e))
 
-pub appends_nothing : (a b : Option (List ℕ)) → Keeps a b → Appends a b []
-appends_nothing a b k = appends_kept a a b [] (appends_none a) k
+pub took_nothing : (a b : Taken) → b ≡ a → Took a b []
+took_nothing a b k = took_kept a a b [] (took_none a) k
 
-pub no_text : (a b : Option (List ℕ)) → Keeps a b → WroteSome a b []
-no_text a b k = record { written = []; missing = []; parts = refl; appends = appends_nothing a b k }
+pub no_text : (a b : Taken) → b ≡ a → WroteSome a b []
+no_text a b k = record { written = []; missing = []; parts = refl; took = took_nothing a b k }
 
 -- an input that stops there, of which nothing is to be written
-pub pause_ends : (input : List ℕ) (a b : Option (List ℕ)) (end : End) → IsPause end → NoRequest input [] end → Keeps a b → EndsSo input a b end
-pause_ends input a b end (inl e) n k = subst (EndsSo input a b) (sym e) (subst (NoRequest input []) e n, appends_nothing a b k)
-pause_ends input a b end (inr e) n k = subst (EndsSo input a b) (sym e) (subst (NoRequest input []) e n, appends_nothing a b k)
+pub pause_ends : (input : List ℕ) (a b : Taken) (end : End) → IsPause end → NoRequest input [] end → b ≡ a → EndsSo input a b end
+pause_ends input a b end (inl e) n k = subst (EndsSo input a b) (sym e) (subst (NoRequest input []) e n, took_nothing a b k)
+pause_ends input a b end (inr e) n k = subst (EndsSo input a b) (sym e) (subst (NoRequest input []) e n, took_nothing a b k)
 
 pub no_fault : (end : End) → IsPause end → (false ≡ is_read_fault end) × (false ≡ is_write_fault end)
 no_fault end (inl e) = (sym (ap is_read_fault e), sym (ap is_write_fault e))
 no_fault end (inr e) = (sym (ap is_read_fault e), sym (ap is_write_fault e))
 
 -- one read, while no whole request waits
-pub waited_once : (waiting : List ℕ) (held holds : Option (List ℕ)) (end : End) (old new : List OneRead) (more : List ℕ) → IsPause end → NoRequest waiting [] end → IsFew waiting → Keeps held holds
+pub waited_once : (waiting : List ℕ) (held holds : Taken) (end : End) (old new : List OneRead) (more : List ℕ) → IsPause end → NoRequest waiting [] end → IsFew waiting → holds ≡ held
     → new ≡ with_read old holds more → Waited (WaitsBehind waiting held) old new more
 waited_once waiting held holds end old new more pause none few keeps e =
     let here : IsUnfinished (waiting ++ []) = subst IsUnfinished (sym (append-nil waiting)) (end, pause, none, few) in
     waited_more (WaitsBehind waiting held) old old new [] holds more (waited_none (WaitsBehind waiting held) old) e (here, keeps)
 
 -- nothing more was read before the end
-pub ended_now : {R W : Type 0} (remaining : R → Option (List ℕ)) (contents : W → Option (List ℕ)) (old : Place R W) (reader : TrackedReading R) (writer : TrackedWriting W) (end : End)
-    (more : List ℕ) → Consumes (remaining old.1.inner) (remaining reader.inner) more → Waited (WaitsBehind old.0 (contents old.2.inner)) old.1.reads reader.reads more → more ≡ [] → (IsPause end → IsAtEnd (remaining reader.inner))
-    → EndsSo old.0 (contents old.2.inner) (contents writer.inner) end → IsFew old.0 → reader.failed ≡ is_read_fault end → HandedOn writer end → Ended remaining contents old reader writer end
-ended_now remaining contents old reader writer end more consumes waited none all ends few failed handed = record {
+pub ended_now : {R W : Type 0} (remaining : R → Option (List ℕ)) (old : Place R W) (reader : TrackedReading R) (writer : TrackedWriting W) (end : End)
+    (more : List ℕ) → Consumes (remaining old.1.inner) (remaining reader.inner) more → Waited (WaitsBehind old.0 old.2.taken) old.1.reads reader.reads more → more ≡ [] → (IsPause end → IsAtEnd (remaining reader.inner))
+    → EndsSo old.0 old.2.taken writer.taken end → IsFew old.0 → reader.failed ≡ is_read_fault end → HandedOn writer end → Ended remaining old reader writer end
+ended_now remaining old reader writer end more consumes waited none all ends few failed handed = record {
   more = more;
   reads = (consumes, gave_waited _ _ _ more waited);
   waited = waited;
   all = all;
-  ends = subst (λ (i : List ℕ). EndsSo i (contents old.2.inner) (contents writer.inner) end) (sym (ap (λ m. old.0 ++ m) none ∙ append-nil old.0)) ends;
+  ends = subst (λ (i : List ℕ). EndsSo i old.2.taken writer.taken end) (sym (ap (λ m. old.0 ++ m) none ∙ append-nil old.0)) ends;
   few = subst IsFew (sym (ap (λ m. old.0 ++ m) none ∙ append-nil old.0)) few;
   reader_failed = failed;
   handed_on = handed;
 }
 
-kept_appends : (a b c : Option (List ℕ)) (text : List ℕ) → Keeps a b → Appends b c text → Appends a c text
-kept_appends a b c text k h = appends_both a b c [] text (appends_nothing a b k) h
+kept_took : (a b c : Taken) (text : List ℕ) → b ≡ a → Took b c text → Took a c text
+kept_took a b c text k h = took_both a b c [] text (took_nothing a b k) h
 
-kept_some : (a b c : Option (List ℕ)) (text : List ℕ) → Keeps a b → WroteSome b c text → WroteSome a c text
-kept_some a b c text k w = some_after a b c [] text (appends_nothing a b k) w
+kept_some : (a b c : Taken) (text : List ℕ) → b ≡ a → WroteSome b c text → WroteSome a c text
+kept_some a b c text k w = some_after a b c [] text (took_nothing a b k) w
 
 -- the same end, from before what changed nothing
-ends_kept : (input : List ℕ) (a b c : Option (List ℕ)) (end : End) {before : List ℕ} → before ≡ input → Keeps a b → EndsSo before b c end → EndsSo input a c end
+ends_kept : (input : List ℕ) (a b c : Taken) (end : End) {before : List ℕ} → before ≡ input → b ≡ a → EndsSo before b c end → EndsSo input a c end
 ends_kept input a b c end {before} same k e = by_end end (subst (λ (i : List ℕ). EndsSo i b c end) same e)
   where
     by_end : (x : End) → EndsSo input b c x → EndsSo input a c x
-    by_end Closed h = (h.0, kept_appends a b c [] k h.1)
-    by_end Asked h = (h.0, h.1, kept_appends a b c h.0 k h.2)
-    by_end Broken h = (h.0, kept_appends a b c [] k h.1)
-    by_end ReadFault h = (h.0, h.1, h.2, kept_appends a b c [] k h.3)
+    by_end Closed h = (h.0, kept_took a b c [] k h.1)
+    by_end Asked h = (h.0, h.1, kept_took a b c h.0 k h.2)
+    by_end Broken h = (h.0, kept_took a b c [] k h.1)
+    by_end ReadFault h = (h.0, h.1, h.2, kept_took a b c [] k h.3)
     by_end WriteFault h = (h.0, h.1, h.2, kept_some a b c h.1 k h.3)
     by_end Memory h = absurd h
 
@@ -103,18 +102,18 @@ broken_is_not_asked : Broken ≡ Asked → ⊥
 broken_is_not_asked e = true≢false (sym (ap is_asked e))
 
 -- after a refusal
-pub ended_refused : {R W : Type 0} (remaining : R → Option (List ℕ)) (contents : W → Option (List ℕ)) (old : Place R W) (writer : TrackedWriting W) (end : End)
-    (text : List ℕ) → old.1.failed ≡ false → NoRequest old.0 text Asked → IsFew old.0 → EndsAfter contents text old.2 writer end → Ended remaining contents old old.1 writer end
-ended_refused remaining contents old writer end text works n few (handed, inl (e, h)) =
-    let ends : EndsSo old.0 (contents old.2.inner) (contents writer.inner) end = subst (EndsSo old.0 (contents old.2.inner) (contents writer.inner)) (sym e) (text, n, h) in
-    ended_now remaining contents old old.1 writer end [] (reads_none remaining old.1).0 (waited_none _ _) refl (λ p. absurd (not_asked p)) ends few (works ∙ sym (ap is_read_fault e)) handed
+pub ended_refused : {R W : Type 0} (remaining : R → Option (List ℕ)) (old : Place R W) (writer : TrackedWriting W) (end : End)
+    (text : List ℕ) → old.1.failed ≡ false → NoRequest old.0 text Asked → IsFew old.0 → EndsAfter text old.2 writer end → Ended remaining old old.1 writer end
+ended_refused remaining old writer end text works n few (handed, inl (e, h)) =
+    let ends : EndsSo old.0 old.2.taken writer.taken end = subst (EndsSo old.0 old.2.taken writer.taken) (sym e) (text, n, h) in
+    ended_now remaining old old.1 writer end [] (reads_none remaining old.1).0 (waited_none _ _) refl (λ p. absurd (not_asked p)) ends few (works ∙ sym (ap is_read_fault e)) handed
   where
     not_asked : IsPause end → ⊥
     not_asked (inl p) = closed_is_not_asked (sym p ∙ e)
     not_asked (inr p) = broken_is_not_asked (sym p ∙ e)
-ended_refused remaining contents old writer end text works n few (handed, inr (e, h)) =
-    let ends : EndsSo old.0 (contents old.2.inner) (contents writer.inner) end = subst (EndsSo old.0 (contents old.2.inner) (contents writer.inner)) (sym e) (Asked, text, n, h) in
-    ended_now remaining contents old old.1 writer end [] (reads_none remaining old.1).0 (waited_none _ _) refl (λ p. absurd (true≢false (sym (ap is_write_fault e) ∙ sym (no_fault end p).1))) ends few (works ∙ sym (ap is_read_fault e)) handed
+ended_refused remaining old writer end text works n few (handed, inr (e, h)) =
+    let ends : EndsSo old.0 old.2.taken writer.taken end = subst (EndsSo old.0 old.2.taken writer.taken) (sym e) (Asked, text, n, h) in
+    ended_now remaining old old.1 writer end [] (reads_none remaining old.1).0 (waited_none _ _) refl (λ p. absurd (true≢false (sym (ap is_write_fault e) ∙ sym (no_fault end p).1))) ends few (works ∙ sym (ap is_read_fault e)) handed
 
 -- what waits, where no more comes
 pub waits_none : (input : List ℕ) → input ≡ [] → NoRequest input [] Closed
@@ -154,48 +153,48 @@ pub few_behind : (input : List ℕ) (heading : Heading) → IsFewFor heading inp
 few_behind input heading (inl short) = omega (arith, short, length-drop (heading.head + heading.body) input)
 few_behind input heading (inr short) = omega (arith, short, length-drop (heading.head + heading.body) input)
 
-module _ {R W : Type 0} (remaining : R → Option (List ℕ)) (contents : W → Option (List ℕ)) where
+module _ {R W : Type 0} (remaining : R → Option (List ℕ)) where
   -- nothing was read yet
-  pub read_on_none : (at : Place R W) → at.1.failed ≡ false → at.2.failed ≡ false → ReadOn remaining contents at at
+  pub read_on_none : (at : Place R W) → at.1.failed ≡ false → at.2.failed ≡ false → ReadOn remaining at at
   read_on_none at r w = record {
     more = [];
     reads = reads_none remaining at.1;
     waited = waited_none _ at.1.reads;
     holds = sym (append-nil at.0);
-    keeps = Keeps-refl _;
+    keeps = refl;
     reader_works = r;
     writer_works = w;
   }
 
   -- what waits behind more, waits behind all
-  behind_more : (a b : Place R W) (p : ReadOn remaining contents a b) (input : List ℕ) (holds : Option (List ℕ)) → WaitsBehind b.0 (contents b.2.inner) input holds → WaitsBehind a.0 (contents a.2.inner) (p.more ++ input) holds
-  behind_more a b p input holds w = (subst IsUnfinished (ap (λ m. m ++ input) p.holds ∙ append_assoc a.0 p.more input) w.0, Keeps-trans _ _ _ p.keeps w.1)
+  behind_more : (a b : Place R W) (p : ReadOn remaining a b) (input : List ℕ) (holds : Taken) → WaitsBehind b.0 b.2.taken input holds → WaitsBehind a.0 a.2.taken (p.more ++ input) holds
+  behind_more a b p input holds w = (subst IsUnfinished (ap (λ m. m ++ input) p.holds ∙ append_assoc a.0 p.more input) w.0, w.1 ∙ p.keeps)
 
-  waited_later : (a b : Place R W) (p : ReadOn remaining contents a b) (reads : List OneRead) (more : List ℕ) → Waited (WaitsBehind b.0 (contents b.2.inner)) b.1.reads reads more
-      → Waited (WaitsBehind a.0 (contents a.2.inner)) a.1.reads reads (p.more ++ more)
+  waited_later : (a b : Place R W) (p : ReadOn remaining a b) (reads : List OneRead) (more : List ℕ) → Waited (WaitsBehind b.0 b.2.taken) b.1.reads reads more
+      → Waited (WaitsBehind a.0 a.2.taken) a.1.reads reads (p.more ++ more)
   waited_later a b p reads more w = waited_both _ a.1.reads b.1.reads reads p.more more p.waited (waited_as _ _ (behind_more a b p) b.1.reads reads more w)
 
   -- and then more
-  pub read_on_more : (a b c : Place R W) → ReadOn remaining contents a b → ReadOn remaining contents b c → ReadOn remaining contents a c
+  pub read_on_more : (a b c : Place R W) → ReadOn remaining a b → ReadOn remaining b c → ReadOn remaining a c
   read_on_more a b c p q = record {
     more = p.more ++ q.more;
     reads = reads_both remaining a.1 b.1 c.1 p.more q.more p.reads q.reads;
     waited = waited_later a b p c.1.reads q.more q.waited;
     holds = q.holds ∙ ap (λ m. m ++ q.more) p.holds ∙ append_assoc a.0 p.more q.more;
-    keeps = Keeps-trans _ _ _ p.keeps q.keeps;
+    keeps = q.keeps ∙ p.keeps;
     reader_works = q.reader_works;
     writer_works = q.writer_works;
   }
 
   -- and then the end
-  pub ended_later : (a b : Place R W) (reader : TrackedReading R) (writer : TrackedWriting W) (end : End) → ReadOn remaining contents a b
-      → Ended remaining contents b reader writer end → Ended remaining contents a reader writer end
+  pub ended_later : (a b : Place R W) (reader : TrackedReading R) (writer : TrackedWriting W) (end : End) → ReadOn remaining a b
+      → Ended remaining b reader writer end → Ended remaining a reader writer end
   ended_later a b reader writer end p e = record {
     more = p.more ++ e.more;
     reads = reads_both remaining a.1 b.1 reader p.more e.more p.reads e.reads;
     waited = waited_later a b p reader.reads e.more e.waited;
     all = e.all;
-    ends = ends_kept _ _ _ (contents writer.inner) end (ap (λ m. m ++ e.more) p.holds ∙ append_assoc a.0 p.more e.more) p.keeps e.ends;
+    ends = ends_kept _ _ _ writer.taken end (ap (λ m. m ++ e.more) p.holds ∙ append_assoc a.0 p.more e.more) p.keeps e.ends;
     few = subst IsFew (ap (λ m. m ++ e.more) p.holds ∙ append_assoc a.0 p.more e.more) e.few;
     reader_failed = e.reader_failed;
     handed_on = e.handed_on;

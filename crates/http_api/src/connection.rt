@@ -32,29 +32,29 @@ pub fn serve<R: Read, W: Write, A: Answers>(
 
     // All that was there was read, and each request answered; or the last one breaks off.
     ensures closed { result ≡ End.Closed → (input : List ℕ) × ReadsAll R.remaining reader.old reader.new input
-        × Talked A.step answers.old (W.contents writer.old.inner) input answers.new (W.contents writer.new.inner) End.Closed }
+        × Talked A.step answers.old writer.old.taken input answers.new writer.new.taken End.Closed }
     ensures broken { result ≡ End.Broken → (input : List ℕ) × ReadsAll R.remaining reader.old reader.new input
-        × Talked A.step answers.old (W.contents writer.old.inner) input answers.new (W.contents writer.new.inner) End.Broken }
+        × Talked A.step answers.old writer.old.taken input answers.new writer.new.taken End.Broken }
 
     // The last reply says that the connection is closed.
     ensures asked { result ≡ End.Asked → (input : List ℕ) × Reads R.remaining reader.old reader.new input
-        × Talked A.step answers.old (W.contents writer.old.inner) input answers.new (W.contents writer.new.inner) End.Asked }
+        × Talked A.step answers.old writer.old.taken input answers.new writer.new.taken End.Asked }
 
     // There was no memory for the router or the buffer, and nothing was read, answered or written; or none for a reply.
     ensures memory { result ≡ End.Memory → ((reader.new ≡ reader.old) × (writer.new ≡ writer.old) × (answers.new ≡ answers.old))
         ⊎ ((input : List ℕ) × Reads R.remaining reader.old reader.new input
-        × Talked A.step answers.old (W.contents writer.old.inner) input answers.new (W.contents writer.new.inner) End.Memory) }
+        × Talked A.step answers.old writer.old.taken input answers.new writer.new.taken End.Memory) }
 
     // Each whole request of what was read was answered.
     ensures read_fault { result ≡ End.ReadFault → (input : List ℕ) × Reads R.remaining reader.old reader.new input
-        × TalkedSoFar A.step answers.old (W.contents writer.old.inner) input answers.new (W.contents writer.new.inner) }
+        × TalkedSoFar A.step answers.old writer.old.taken input answers.new writer.new.taken }
 
     // Some first requests of what was read were answered, and a beginning of the text was written.
     ensures write_fault { result ≡ End.WriteFault → (input : List ℕ) × Reads R.remaining reader.old reader.new input
-        × TalkCut A.step answers.old (W.contents writer.old.inner) input answers.new (W.contents writer.new.inner) }
+        × TalkCut A.step answers.old writer.old.taken input answers.new writer.new.taken }
 
     // At each read, also of one that failed, each whole request of what was read before had its reply, handed on.
-    ensures each_read { TalkedAtEachRead A.step answers.old (W.contents writer.old.inner) reader.old reader.new }
+    ensures each_read { TalkedAtEachRead A.step answers.old writer.old.taken reader.old reader.new }
 
     // A fault is told exactly where the flag of the tracked reader or writer is set in the call.
     ensures read_failed { reader.new.failed ≡ is_read_fault result }
@@ -85,29 +85,29 @@ pub fn serve_by<R: Read, W: Write, A: Answers>(
 
     // All that was there was read, and each request answered; or the last one breaks off.
     ensures closed { result ≡ End.Closed → (input : List ℕ) × ReadsAll R.remaining reader.old reader.new input
-        × Talked A.step answers.old (W.contents writer.old.inner) input answers.new (W.contents writer.new.inner) End.Closed }
+        × Talked A.step answers.old writer.old.taken input answers.new writer.new.taken End.Closed }
     ensures broken { result ≡ End.Broken → (input : List ℕ) × ReadsAll R.remaining reader.old reader.new input
-        × Talked A.step answers.old (W.contents writer.old.inner) input answers.new (W.contents writer.new.inner) End.Broken }
+        × Talked A.step answers.old writer.old.taken input answers.new writer.new.taken End.Broken }
 
     // The last reply says that the connection is closed.
     ensures asked { result ≡ End.Asked → (input : List ℕ) × Reads R.remaining reader.old reader.new input
-        × Talked A.step answers.old (W.contents writer.old.inner) input answers.new (W.contents writer.new.inner) End.Asked }
+        × Talked A.step answers.old writer.old.taken input answers.new writer.new.taken End.Asked }
 
     // There was no memory for the buffer, and nothing was read, answered or written; or none for a reply.
     ensures memory { result ≡ End.Memory → ((reader.new ≡ reader.old) × (writer.new ≡ writer.old) × (answers.new ≡ answers.old))
         ⊎ ((input : List ℕ) × Reads R.remaining reader.old reader.new input
-        × Talked A.step answers.old (W.contents writer.old.inner) input answers.new (W.contents writer.new.inner) End.Memory) }
+        × Talked A.step answers.old writer.old.taken input answers.new writer.new.taken End.Memory) }
 
     // Each whole request of what was read was answered.
     ensures read_fault { result ≡ End.ReadFault → (input : List ℕ) × Reads R.remaining reader.old reader.new input
-        × TalkedSoFar A.step answers.old (W.contents writer.old.inner) input answers.new (W.contents writer.new.inner) }
+        × TalkedSoFar A.step answers.old writer.old.taken input answers.new writer.new.taken }
 
     // Some first requests of what was read were answered, and a beginning of the text was written.
     ensures write_fault { result ≡ End.WriteFault → (input : List ℕ) × Reads R.remaining reader.old reader.new input
-        × TalkCut A.step answers.old (W.contents writer.old.inner) input answers.new (W.contents writer.new.inner) }
+        × TalkCut A.step answers.old writer.old.taken input answers.new writer.new.taken }
 
     // At each read, also of one that failed, each whole request of what was read before had its reply, handed on.
-    ensures each_read { TalkedAtEachRead A.step answers.old (W.contents writer.old.inner) reader.old reader.new }
+    ensures each_read { TalkedAtEachRead A.step answers.old writer.old.taken reader.old reader.new }
 
     // A fault is told exactly where the flag of the tracked reader or writer is set in the call.
     ensures read_failed { reader.new.failed ≡ is_read_fault result }
@@ -132,8 +132,8 @@ fn serve_on<R: Read, W: Write, A: Answers>(
     requires routes { routes.now ≡ table }
     requires unbroken_reader { reader.old.failed ≡ false }
     requires unbroken_writer { writer.old.failed ≡ false }
-    ensures finished { Finished A.step R.remaining W.contents (answers.old, reader.old, writer.old) (answers.new, reader.new, writer.new) result }
-    ensures each_read { TalkedAtEachRead A.step answers.old (W.contents writer.old.inner) reader.old reader.new }
+    ensures finished { Finished A.step R.remaining (answers.old, reader.old, writer.old) (answers.new, reader.new, writer.new) result }
+    ensures each_read { TalkedAtEachRead A.step answers.old writer.old.taken reader.old reader.new }
     ensures read_failed { reader.new.failed ≡ is_read_fault result }
     ensures handed_on { HandedOn writer.new result }
 {

@@ -75,11 +75,11 @@ impl Inbox {
         requires room { most ≤ 73728 }
         ensures ok { IfOk result (λ n. (more : List ℕ) × (length more ≡ n) × (held self.new ≡ held self.old ++ more)
             × Consumes (R.remaining reader.old.inner) (R.remaining reader.new.inner) more
-            × (reader.new.reads ≡ with_read reader.old.reads (W.contents answered.now.inner) more)) }
+            × (reader.new.reads ≡ with_read reader.old.reads answered.now.taken more)) }
         ensures end { IfOk result (λ n. n ≡ 0 → IsAtEnd (R.remaining reader.new.inner)) }
         ensures err { OnErr result ((held self.new ≡ held self.old)
             × Keeps (R.remaining reader.old.inner) (R.remaining reader.new.inner)
-            × (reader.new.reads ≡ with_read reader.old.reads (W.contents answered.now.inner) [])) }
+            × (reader.new.reads ≡ with_read reader.old.reads answered.now.taken [])) }
         ensures most { length (held self.new) ≤ most }
         ensures failed { FailsWith result reader.old.failed reader.new.failed }
         ensures turns { OnOk result (reader.old.turns < reader.new.turns) }

@@ -28,7 +28,7 @@ const BODY_TOO_LARGE: &[u8] = b"{\"error\":{\"code\":0,\"name\":\"BodyTooLarge\"
 
 // Writes the reply of a refusal, after which the connection is closed.
 fn put_refusal<W: Write>(writer: &mut TrackedWriter<W>, why: Refused) -> io::Result<()>
-    ensures wrote { Writes W.contents result writer.old writer.new (refusal_text why) }
+    ensures wrote { Writes result writer.old writer.new (refusal_text why) }
     ensures failed { FailsWith result writer.old.failed writer.new.failed }
 {
     match why {
@@ -40,7 +40,7 @@ fn put_refusal<W: Write>(writer: &mut TrackedWriter<W>, why: Refused) -> io::Res
 
 // Refuses what was asked, and hands on what was written.
 fn say_refusal<W: Write>(writer: &mut TrackedWriter<W>, why: Refused) -> io::Result<()>
-    ensures wrote { Writes W.contents result writer.old writer.new (refusal_text why) }
+    ensures wrote { Writes result writer.old writer.new (refusal_text why) }
     ensures failed { FailsWith result writer.old.failed writer.new.failed }
     ensures flushed { OnOk result (writer.new.flushed ≡ true) }
 {
@@ -51,7 +51,7 @@ fn say_refusal<W: Write>(writer: &mut TrackedWriter<W>, why: Refused) -> io::Res
 // Refuses what was asked, after which the connection is closed.
 fn refuse<W: Write>(writer: &mut TrackedWriter<W>, why: Refused) -> End
     requires writes { writer.old.failed ≡ false }
-    ensures { EndsAfter W.contents (refusal_text why) writer.old writer.new result }
+    ensures { EndsAfter (refusal_text why) writer.old writer.new result }
 {
     match say_refusal(writer, why) {
         Ok(()) => End::Asked,
@@ -75,11 +75,11 @@ fn read_more<R: Read, W: Write>(
     requires few { IsFew (held inbox.old) }
     requires more { length (held inbox.old) < most }
     requires room { most ≤ 73728 }
-    ensures ok { OnOk result (ReadOn R.remaining W.contents (held inbox.old, reader.old, writer.old) (held inbox.new, reader.new, writer.new)) }
+    ensures ok { OnOk result (ReadOn R.remaining (held inbox.old, reader.old, writer.old) (held inbox.new, reader.new, writer.new)) }
     ensures most { length (held inbox.new) ≤ most }
     ensures turns { OnOk result (reader.old.turns < reader.new.turns) }
     ensures tried { OnOk result (reader.new.turns < 2 ^ 64) }
-    ensures err { IfErr result (λ e. Ended R.remaining W.contents (held inbox.old, reader.old, writer.old) reader.new writer.new e) }
+    ensures err { IfErr result (λ e. Ended R.remaining (held inbox.old, reader.old, writer.old) reader.new writer.new e) }
 {
     if writer.flush().is_err() {
         return Err(End::WriteFault);
@@ -102,10 +102,10 @@ fn receive_head<R: Read, W: Write>(
     requires few { length (held inbox.old) ≤ max_head }
     requires reads { reader.old.failed ≡ false }
     requires writes { writer.old.failed ≡ false }
-    ensures ok { OnOk result (ReadOn R.remaining W.contents (held inbox.old, reader.old, writer.old) (held inbox.new, reader.new, writer.new)) }
+    ensures ok { OnOk result (ReadOn R.remaining (held inbox.old, reader.old, writer.old) (held inbox.new, reader.new, writer.new)) }
     ensures head { IfOk result (λ heading. (h : RequestHead) × HasHeading (held inbox.new) h heading) }
     ensures few { length (held inbox.new) ≤ max_head }
-    ensures err { IfErr result (λ e. Ended R.remaining W.contents (held inbox.old, reader.old, writer.old) reader.new writer.new e) }
+    ensures err { IfErr result (λ e. Ended R.remaining (held inbox.old, reader.old, writer.old) reader.new writer.new e) }
 {
     loop {
         match look(routes, inbox.bytes()) {
@@ -133,10 +133,10 @@ fn receive_body<R: Read, W: Write>(
     requires few { length (held inbox.old) ≤ max_head }
     requires reads { reader.old.failed ≡ false }
     requires writes { writer.old.failed ≡ false }
-    ensures ok { OnOk result (ReadOn R.remaining W.contents (held inbox.old, reader.old, writer.old) (held inbox.new, reader.new, writer.new)) }
+    ensures ok { OnOk result (ReadOn R.remaining (held inbox.old, reader.old, writer.old) (held inbox.new, reader.new, writer.new)) }
     ensures whole { OnOk result (heading.head + heading.body ≤ length (held inbox.new)) }
     ensures few { OnOk result (IsFewFor heading (held inbox.new)) }
-    ensures err { IfErr result (λ e. Ended R.remaining W.contents (held inbox.old, reader.old, writer.old) reader.new writer.new e) }
+    ensures err { IfErr result (λ e. Ended R.remaining (held inbox.old, reader.old, writer.old) reader.new writer.new e) }
 {
     let most = heading.head + heading.body;
     while inbox.bytes().len() < most {
@@ -157,11 +157,11 @@ pub fn receive<R: Read, W: Write>(
     requires few { length (held inbox.old) ≤ max_head }
     requires reads { reader.old.failed ≡ false }
     requires writes { writer.old.failed ≡ false }
-    ensures ok { OnOk result (ReadOn R.remaining W.contents (held inbox.old, reader.old, writer.old) (held inbox.new, reader.new, writer.new)) }
+    ensures ok { OnOk result (ReadOn R.remaining (held inbox.old, reader.old, writer.old) (held inbox.new, reader.new, writer.new)) }
     ensures head { IfOk result (λ heading. (h : RequestHead) × HasHeading (held inbox.new) h heading) }
     ensures whole { IfOk result (λ heading. heading.head + heading.body ≤ length (held inbox.new)) }
     ensures few { IfOk result (λ heading. IsFewFor heading (held inbox.new)) }
-    ensures err { IfErr result (λ e. Ended R.remaining W.contents (held inbox.old, reader.old, writer.old) reader.new writer.new e) }
+    ensures err { IfErr result (λ e. Ended R.remaining (held inbox.old, reader.old, writer.old) reader.new writer.new e) }
 {
     let heading = receive_head(routes, reader, writer, inbox)?;
     receive_body(reader, writer, inbox, heading)?;

@@ -43,7 +43,7 @@ pub fn put_reply<W: Write>(
     body: &[u8],
     closed: bool,
 ) -> io::Result<()>
-    ensures wrote { Writes W.contents result writer.old writer.new (reply_text status body.now closed) }
+    ensures wrote { Writes result writer.old writer.new (reply_text status body.now closed) }
     ensures failed { FailsWith result writer.old.failed writer.new.failed }
 {
     put_start(writer, status)?;
@@ -53,7 +53,7 @@ pub fn put_reply<W: Write>(
 
 // Writes the lines of a reply that do not depend on its body.
 fn put_start<W: Write>(writer: &mut TrackedWriter<W>, status: u16) -> io::Result<()>
-    ensures wrote { Writes W.contents result writer.old writer.new (start_text status) }
+    ensures wrote { Writes result writer.old writer.new (start_text status) }
     ensures failed { FailsWith result writer.old.failed writer.new.failed }
 {
     let mut number = Buffer::new();
@@ -69,7 +69,7 @@ fn put_start<W: Write>(writer: &mut TrackedWriter<W>, status: u16) -> io::Result
 
 // Writes the lines that do, and the empty line.
 fn put_middle<W: Write>(writer: &mut TrackedWriter<W>, size: usize, closed: bool) -> io::Result<()>
-    ensures wrote { Writes W.contents result writer.old writer.new (middle_text size closed) }
+    ensures wrote { Writes result writer.old writer.new (middle_text size closed) }
     ensures failed { FailsWith result writer.old.failed writer.new.failed }
 {
     let mut length = Buffer::new();
@@ -85,7 +85,7 @@ fn put_middle<W: Write>(writer: &mut TrackedWriter<W>, size: usize, closed: bool
 
 /// Writes what stands for a reply for which there is no memory. It takes none.
 pub fn put_no_memory<W: Write>(writer: &mut TrackedWriter<W>) -> io::Result<()>
-    ensures wrote { Writes W.contents result writer.old writer.new memory_text }
+    ensures wrote { Writes result writer.old writer.new memory_text }
     ensures failed { FailsWith result writer.old.failed writer.new.failed }
 {
     put_reply(writer, 503, MEMORY, true)

@@ -22,7 +22,7 @@ fn say_reply<W: Write>(
     body: &[u8],
     closed: bool,
 ) -> io::Result<()>
-    ensures wrote { Writes W.contents result writer.old writer.new (reply_text status body.now closed) }
+    ensures wrote { Writes result writer.old writer.new (reply_text status body.now closed) }
     ensures failed { FailsWith result writer.old.failed writer.new.failed }
     ensures flushed { OnOk result (writer.new.flushed ≡ true) }
 {
@@ -38,7 +38,7 @@ fn send<W: Write>(
     closed: bool,
 ) -> Result<(), End>
     requires writes { writer.old.failed ≡ false }
-    ensures sent { IsSent W.contents closed (reply_text status body.now closed) writer.old writer.new result }
+    ensures sent { IsSent closed (reply_text status body.now closed) writer.old writer.new result }
     ensures ok { OnOk result (writer.new.failed ≡ false) }
     ensures err { IfErr result (λ end. HandedOn writer.new end) }
 {
@@ -56,7 +56,7 @@ fn send<W: Write>(
 
 // Writes what stands for a reply for which there is no memory, and hands it on.
 fn say_no_memory<W: Write>(writer: &mut TrackedWriter<W>) -> io::Result<()>
-    ensures wrote { Writes W.contents result writer.old writer.new memory_text }
+    ensures wrote { Writes result writer.old writer.new memory_text }
     ensures failed { FailsWith result writer.old.failed writer.new.failed }
     ensures flushed { OnOk result (writer.new.flushed ≡ true) }
 {
@@ -67,7 +67,7 @@ fn say_no_memory<W: Write>(writer: &mut TrackedWriter<W>) -> io::Result<()>
 // Ends where there is no memory for a reply.
 fn give_up<W: Write>(writer: &mut TrackedWriter<W>) -> End
     requires writes { writer.old.failed ≡ false }
-    ensures given_up { IsGivenUp W.contents writer.old writer.new result }
+    ensures given_up { IsGivenUp writer.old writer.new result }
     ensures handed_on { HandedOn writer.new result }
 {
     match say_no_memory(writer) {
@@ -85,7 +85,7 @@ pub fn settle<W: Write, A: Answers>(
     number: u64,
 ) -> Result<(), End>
     requires writes { writer.old.failed ≡ false }
-    ensures settles { Settles A.step W.contents heading body.now number (answers.old, writer.old) (answers.new, writer.new) result }
+    ensures settles { Settles A.step heading body.now number (answers.old, writer.old) (answers.new, writer.new) result }
     ensures ok { OnOk result (writer.new.failed ≡ false) }
     ensures room { OnOk result (number < 18446744073709551615) }
     ensures err { IfErr result (λ end. HandedOn writer.new end) }

@@ -22,7 +22,7 @@ fn answer_line<W: Write, A: Answers>(
 ) -> io::Result<()>
     ensures answered { (text : List ℕ)
         × AnswersPending A.step answers.old line.now text answers.new
-        × Writes W.contents result writer.old writer.new text }
+        × Writes result writer.old writer.new text }
     ensures failed { FailsWith result writer.old.failed writer.new.failed }
 {
     if !line.fits() {
@@ -42,7 +42,7 @@ fn feed<W: Write, A: Answers>(
     line: &mut Pending,
     b: u8,
 ) -> io::Result<()>
-    ensures goes_on { GoesOn A.step W.contents result
+    ensures goes_on { GoesOn A.step result
         (line.old, answers.old, writer.old) (b ∷ []) (line.new, answers.new, writer.new) }
     ensures failed { FailsWith result writer.old.failed writer.new.failed }
 {
@@ -62,7 +62,7 @@ pub fn feed_all<W: Write, A: Answers>(
     line: &mut Pending,
     bytes: &[u8],
 ) -> io::Result<()>
-    ensures goes_on { GoesOn A.step W.contents result
+    ensures goes_on { GoesOn A.step result
         (line.old, answers.old, writer.old) bytes.now (line.new, answers.new, writer.new) }
     ensures failed { FailsWith result writer.old.failed writer.new.failed }
 {
@@ -78,7 +78,7 @@ fn answer_rest<W: Write, A: Answers>(
     answers: &mut A,
     line: &Pending,
 ) -> io::Result<()>
-    ensures served { ServesRest A.step W.contents result (line.now, answers.old, writer.old) (answers.new, writer.new) }
+    ensures served { ServesRest A.step result (line.now, answers.old, writer.old) (answers.new, writer.new) }
     ensures failed { FailsWith result writer.old.failed writer.new.failed }
 {
     if line.is_empty() {
@@ -93,7 +93,7 @@ pub fn finish<W: Write, A: Answers>(
     answers: &mut A,
     line: &Pending,
 ) -> io::Result<()>
-    ensures served { ServesRest A.step W.contents result (line.now, answers.old, writer.old) (answers.new, writer.new) }
+    ensures served { ServesRest A.step result (line.now, answers.old, writer.old) (answers.new, writer.new) }
     ensures failed { FailsWith result writer.old.failed writer.new.failed }
     ensures flushed { OnOk result (writer.new.flushed ≡ true) }
 {

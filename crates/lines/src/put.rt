@@ -14,7 +14,7 @@ const NO_MEMORY: &[u8] = b"503 {\"error\":{\"code\":21,\"name\":\"Memory\"}}\n";
 
 /// Writes the line of a reply.
 pub fn put_reply<W: Write>(writer: &mut TrackedWriter<W>, reply: &Reply) -> io::Result<()>
-    ensures wrote { Writes W.contents result writer.old writer.new (reply_line (told reply.now)) }
+    ensures wrote { Writes result writer.old writer.new (reply_line (told reply.now)) }
     ensures failed { FailsWith result writer.old.failed writer.new.failed }
 {
     match reply {
@@ -24,7 +24,7 @@ pub fn put_reply<W: Write>(writer: &mut TrackedWriter<W>, reply: &Reply) -> io::
 }
 
 fn put_said<W: Write>(writer: &mut TrackedWriter<W>, status: u16, body: &[u8]) -> io::Result<()>
-    ensures wrote { Writes W.contents result writer.old writer.new (reply_line (Some (status, body.now))) }
+    ensures wrote { Writes result writer.old writer.new (reply_line (Some (status, body.now))) }
     ensures failed { FailsWith result writer.old.failed writer.new.failed }
 {
     let mut buffer = Buffer::new();

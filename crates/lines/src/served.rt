@@ -27,20 +27,20 @@ pub fn lines<R: Read, W: Write, A: Answers>(
 
     // All that was there was read, each line answered, and the answers handed on.
     ensures closed { result ≡ End.Closed → (input : List ℕ) × ReadsAll R.remaining reader.old reader.new input
-        × Served A.step answers.old (W.contents writer.old.inner) input answers.new (W.contents writer.new.inner) }
+        × Served A.step answers.old writer.old.taken input answers.new writer.new.taken }
     ensures handed_on { result ≡ End.Closed → writer.new.flushed ≡ true }
 
     // Each whole line of what was read was answered.
     ensures read_fault { result ≡ End.ReadFault → (input : List ℕ) × Reads R.remaining reader.old reader.new input
-        × Paused A.step answers.old (W.contents writer.old.inner) input answers.new (W.contents writer.new.inner) }
+        × Paused A.step answers.old writer.old.taken input answers.new writer.new.taken }
 
     // Some first lines of what was read were answered, and a beginning of the answers was written.
     ensures write_fault { result ≡ End.WriteFault → (input : List ℕ) × Reads R.remaining reader.old reader.new input
-        × Cut A.step answers.old (W.contents writer.old.inner) input answers.new (W.contents writer.new.inner) }
+        × Cut A.step answers.old writer.old.taken input answers.new writer.new.taken }
 
     // At each read, also of one that failed, each whole line of what was read before was answered, and the answers
     // handed on.
-    ensures each_read { PausedAtEachRead A.step answers.old (W.contents writer.old.inner) reader.old reader.new }
+    ensures each_read { PausedAtEachRead A.step answers.old writer.old.taken reader.old reader.new }
 
     // A fault is told exactly where the flag of the tracked reader or writer is set in the call.
     ensures read_failed { reader.new.failed ≡ is_read_fault result }

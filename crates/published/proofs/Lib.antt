@@ -9,3 +9,4 @@ pub mod Chains
 pub mod Leading
 pub mod Postable
 pub mod Opening
+pub mod Remembering

@@ -10,6 +10,7 @@ mod post;
 mod publication;
 mod publisher;
 mod receipt;
+mod remembered;
 mod rule;
 mod session;
 

@@ -14,6 +14,7 @@ use crate::hand::publish_all;
 use crate::post::Post;
 use crate::publisher::Publisher;
 use crate::receipt::ShownSteps;
+use crate::remembered::Remembered;
 use crate::session::Session;
 use names::Refusal;
 use shown::{Shown, Step};
@@ -192,7 +193,8 @@ fn make_sessions<R: Wait + Drop>(
     let mut sessions = Vec::with_capacity(alloc, MAX_SESSIONS)?;
     for _ in 0..MAX_SESSIONS {
         let reader = publisher.reader()?;
-        sessions.push(Session::new(reader, entered.again()))?;
+        let known = Remembered::new(alloc, entered.again())?;
+        sessions.push(Session::new(reader, known))?;
     }
     Ok(sessions)
 }

@@ -17,6 +17,7 @@ ghost use Rattle.published.specs.Answering.{IsRefusedIn, IsWatchRefusedIn};
 
 use crate::book::StepPrefix;
 use crate::receipt::Receipt;
+use crate::remembered::Remembered;
 use crate::rule::{CopyReader, Seeing};
 use core::mem::replace_with;
 use expand::Tree;
@@ -31,11 +32,12 @@ use zookie::{Consistency, Zookie};
 /// A reader of the published state, and the steps that it knows. Contracts see it as those steps, with the
 /// name of their book. What it is asked is answered by the standing of steps that begin with all it knew, and
 /// from then on it knows these. All that it knows was judged before it was posted. It outlives the publication,
-/// and answers nothing from then on.
+/// and answers nothing from then on. It keeps up to 1,024 answers of its checks, and asks them at its next checks: what is
+/// answered is the same.
 #[derive(Drop)]
 pub struct Session {
     reader: CopyReader,
-    known: StepPrefix,
+    known: Remembered,
 }
 
 impl Model for Session {
@@ -57,7 +59,7 @@ impl Model for Session {
 }
 
 impl Session {
-    pub(crate) fn new(reader: CopyReader, known: StepPrefix) -> Session
+    pub(crate) fn new(reader: CopyReader, known: Remembered) -> Session
         requires seen { (k : Known) × (view reader.place ≡ Some k) × (k.book ≡ known.book) }
         requires judged { AreJudged known.steps }
         ensures { result ≡ known }
@@ -104,15 +106,14 @@ impl Session {
         ensures later { Begins self.old self.new }
     {
         let question = Question {
+            known: &self.known,
             consistency,
             node,
             user,
         };
         let (checked, number, prefix) = replace_with(&mut self.reader, question, look)?;
-        if !self.known.begins(&prefix) {
-            return None;
-        }
-        self.known = prefix;
+        self.known.advance(prefix);
+        self.known.keep(node, user, &checked);
         Some((number, checked))
     }
 
@@ -167,7 +168,7 @@ impl Session {
         if !self.known.begins(&prefix) {
             return None;
         }
-        self.known = prefix;
+        self.known.advance(prefix);
         Some((number, found))
     }
 
@@ -211,7 +212,7 @@ impl Session {
         if !self.known.begins(&prefix) {
             return None;
         }
-        self.known = prefix;
+        self.known.advance(prefix);
         Some((number, tuples))
     }
 
@@ -262,7 +263,7 @@ impl Session {
         if !self.known.begins(&prefix) {
             return None;
         }
-        self.known = prefix;
+        self.known.advance(prefix);
         Some((number, groups))
     }
 
@@ -312,7 +313,7 @@ impl Session {
         if !self.known.begins(&prefix) {
             return None;
         }
-        self.known = prefix;
+        self.known.advance(prefix);
         Some((number, page))
     }
 
@@ -342,7 +343,7 @@ impl Session {
         if !self.known.begins(&prefix) {
             return None;
         }
-        self.known = prefix;
+        self.known.advance(prefix);
         Some((number, numbers))
     }
 
@@ -350,8 +351,7 @@ impl Session {
     pub fn knows_judged_steps(&self)
         ensures { AreJudged self.now.steps }
     {
-        // A proof knows the invariant where a field is used.
-        let _ = &self.known;
+        self.known.knows_judged_steps();
     }
 
     /// From now on the session knows no less than what the receipt tells. It takes no memory.
@@ -374,13 +374,14 @@ impl Session {
         ensures told { Begins steps.now self.new }
         ensures least { (self.new ≡ self.old) ⊎ (self.new ≡ steps.now) }
     {
-        self.known = self.known.longer(steps);
+        self.known.learn(steps);
     }
 }
 
-// What a session asks.
+// What a session asks, and what it remembers.
 #[derive(Drop)]
 struct Question<'a> {
+    known: &'a Remembered,
     consistency: &'a Consistency,
     node: &'a Node,
     user: &'a Object,
@@ -427,6 +428,7 @@ fn no_publication() -> Refused
     }
 }
 
+// Where the copy does not begin with what the session knows, it is not asked.
 fn look(
     reader: CopyReader,
     question: Question<'_>,
@@ -434,22 +436,25 @@ fn look(
     CopyReader,
     Option<(Result<Answer<bool>, Refused>, u64, StepPrefix)>,
 )
-    ensures seen { IfSome result.1 (λ seen.
-        KnowsNoMore (view reader.place) seen.2 × (view result.0.place ≡ Some seen.2)) }
+    requires book { (k : Known) × (view reader.place ≡ Some k) × (k.book ≡ question.known.now.book) }
+    ensures book { (k : Known) × (view result.0.place ≡ Some k) × (k.book ≡ question.entry.known.now.book) }
+    ensures later { IfSome result.1 (λ seen. Begins question.entry.known.now seen.2) }
     ensures judged { IfSome result.1 (λ seen. AreJudged seen.2.steps) }
     ensures number { IfSome result.1 (λ seen. seen.1 ≡ (standing seen.2.steps).kept.number) }
     ensures ok { IfSome result.1 (λ seen. IfOk seen.0
         (IsAnswer (standing seen.2.steps) question.entry.consistency.now question.entry.node.now question.entry.user.now)) }
     ensures err { IfSome result.1 (λ seen. IfErr seen.0
         (IsRefusal (standing seen.2.steps) question.entry.consistency.now question.entry.node.now)) }
-    ensures refused { IfNone result.1 (view result.0.place ≡ view reader.place) }
 {
     match reader.enter_as::<Seeing>() {
         Ok(reading) => {
             let copy = reading.get();
+            let Some(kept) = question.known.answers_for(&copy.prefix) else {
+                return (reading.leave(), None);
+            };
             let answer = copy
                 .shown
-                .check(question.consistency, question.node, question.user);
+                .check_knowing(kept, question.consistency, question.node, question.user);
             let number = copy.shown.number();
             let prefix = copy.prefix.again();
             (reading.leave(), Some((answer, number, prefix)))

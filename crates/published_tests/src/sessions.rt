@@ -140,3 +140,44 @@ fn learn<R: Wait + Drop>(handle: R, alloc: Global) -> Result<bool, Refusal> {
 fn a_receipt_is_learnt_by_two(rt: HostRuntime) {
     assert!(rt; learn(&rt, rt.alloc()).unwrap_or(false));
 }
+
+// What the session answers of Ann, and at which revision.
+fn answered(session: &mut Session, at: &Consistency) -> Result<(u64, bool), Refusal> {
+    let node = Node::parse("group:a#member")?;
+    let user = Object::parse("user:ann")?;
+    match session.check(at, &node, &user) {
+        Ok(answer) => Ok((answer.rev, answer.value)),
+        Err(refused) => Err(refused.why),
+    }
+}
+
+// Whether the session answers so, asked twice.
+fn answers(
+    session: &mut Session,
+    at: &Consistency,
+    rev: u64,
+    value: bool,
+) -> Result<bool, Refusal> {
+    let first = answered(session, at)?;
+    let again = answered(session, at)?;
+    Ok(first == (rev, value) && again == (rev, value))
+}
+
+// A session is asked before a commit that changes the answer, after it, and then at the revision before.
+fn asks_again<R: Wait + Drop>(handle: R, alloc: Global) -> Result<bool, Refusal> {
+    let mut desk = configure(alloc, open(handle, alloc)?, GROUPS)?;
+    desk.publication.publish();
+    let mut session = desk.publication.session()?;
+    let no = answers(&mut session, &Consistency::Latest, 1, false)?;
+    let mut desk = insert(alloc, desk, "group:a#member@user:ann")?;
+    desk.publication.publish();
+    let yes = answers(&mut session, &Consistency::Latest, 2, true)?;
+    let before = Consistency::Exactly(Zookie { store: 7, rev: 1 });
+    let still_no = answers(&mut session, &before, 1, false)?;
+    Ok(no && yes && still_no)
+}
+
+#[test]
+fn a_repeated_check_is_answered_at_its_revision(rt: HostRuntime) {
+    assert!(rt; asks_again(&rt, rt.alloc()).unwrap_or(false));
+}

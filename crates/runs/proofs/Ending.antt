@@ -1,6 +1,5 @@
 -- A desk was opened, answered lines, and was closed.
 use Rattle.std.proofs.Common.{◌≡◌, ℕ, List, [], ◌∷◌, map, take, sym, ap, subst, ◌∙◌}
-use Rattle.std.specs.Prelude.{Option}
 use Rattle.std.proofs.lemmas.List.Elements.{All-nil}
 use Rattle.tables.specs.Device.{Lasts}
 use Rattle.tables.specs.declared.tables.Tables.{Ghosts}
@@ -57,16 +56,16 @@ module _ {T : Type 0} (g : Ghosts T) (weaker : Weaker g) (tables : T) (first las
       → HasLeft g (IsAskedIn (lines_of input)) (g.device first.tables) last
   ran input lines text asked run = after_run g weaker (IsAskedIn (lines_of input)) (g.device first.tables) lines first text last asked run (starts (IsAskedIn (lines_of input)))
 
-  module _ {R W : Type 0} (contents : W → Option (List ℕ)) (old new : TrackedReading R × TrackedWriting W) (input : List ℕ) where
-    pub ended_served : ServedBy g contents old input new first last → Ended g tables input (ServedBy g contents old input new) left
+  module _ {R W : Type 0} (old new : TrackedReading R × TrackedWriting W) (input : List ℕ) where
+    pub ended_served : ServedBy g old input new first last → Ended g tables input (ServedBy g old input new) left
     ended_served v = ended input _ (ran input (lines_of input) v.served.text (λ c is. is) v.served.run) v
 
-    pub ended_paused : PausedBy g contents old input new first last → Ended g tables input (PausedBy g contents old input new) left
+    pub ended_paused : PausedBy g old input new first last → Ended g tables input (PausedBy g old input new) left
     ended_paused v =
         let fed = v.paused.fed in
         ended input _ (ran input fed.lines v.paused.text (asked_fed (DeskStep g) first input v.paused.rest v.paused.text last fed) fed.run) v
 
-    pub ended_cut : CutBy g contents old input new first last → Ended g tables input (CutBy g contents old input new) left
+    pub ended_cut : CutBy g old input new first last → Ended g tables input (CutBy g old input new) left
     ended_cut v = ended input _ (ran input (take v.cut.count (lines_of input)) v.cut.text (asked_first v.cut.count (lines_of input)) v.cut.run) v
 
 -- nothing was done, and the tables are given back

@@ -1,6 +1,6 @@
 -- What the tables of a desk leave after each connection.
 use Rattle.std.proofs.Common.{◌≡◌, ℕ, Bool, true, false, List, [], ◌∷◌, zero, suc, sym, refl, ◌∙◌, subst, inl, inr}
-use Rattle.std.specs.Prelude.{Option, Some, None}
+use Rattle.std.specs.Prelude.{Some, None}
 use Rattle.std.proofs.lemmas.List.Elements.{All-nil, All-weaker}
 use Rattle.httparse.specs.Grammar.{RequestHead}
 use Rattle.tables.specs.Device.{Device}
@@ -18,6 +18,7 @@ use Rattle.keeper.specs.Beginning.{Began, kept_by}
 use Rattle.runs.specs.Connections.{IsRequestedIn, IsRequestedInOne, HasServed, Serves, IsServing, StaysServing}
 use Rattle.runs.specs.inside.Leaving.{HasLeft}
 use Rattle.runs.proofs.Leaving.{Weaker, holds_first, same_desk, after_step_of}
+use Rattle.tracked_io.specs.Wrote.{Taken}
 
 -- what a connection goes on with is what follows the request
 rest_of : (closed : Bool) (rest left : List ℕ) → go_on left ≡ after closed rest → rest ≡ left
@@ -105,7 +106,7 @@ kept_by_serving g input Did old new s first known = (input ∷ known.0, s.served
 pub kept_alone : {T : Type 0} (g : Ghosts T) (old new : Posts T) → new ≡ old → StaysServing g old new
 kept_alone {T} g old new same first known = subst (λ (d : Posts T). IsServing g first d) (sym same) known
 
-module _ {T : Type 0} (g : Ghosts T) (weaker : Weaker g) (input : List ℕ) (old new : Posts T) (held holds : Option (List ℕ)) where
+module _ {T : Type 0} (g : Ghosts T) (weaker : Weaker g) (input : List ℕ) (old new : Posts T) (held holds : Taken) where
   pub serves_talked : (end : End) (Did : Posts T → Posts T → Type 0) → Did old new → Talked (DeskStep g) old held input new holds end → Serves g input Did old new
   serves_talked end Did did t = serves g weaker input t.text old new (stop end) t.is_text Did did
 
@@ -116,7 +117,7 @@ module _ {T : Type 0} (g : Ghosts T) (weaker : Weaker g) (input : List ℕ) (old
   pub serves_cut : (Did : Posts T → Posts T → Type 0) → Did old new → TalkCut (DeskStep g) old held input new holds → Serves g input Did old new
   serves_cut Did did t = serves g weaker input t.text old new t.next t.is_text Did did
 
-module _ {T : Type 0} (g : Ghosts T) (weaker : Weaker g) (input : List ℕ) (old new : Posts T) (held holds : Option (List ℕ)) where
+module _ {T : Type 0} (g : Ghosts T) (weaker : Weaker g) (input : List ℕ) (old new : Posts T) (held holds : Taken) where
   pub talked_on : (end : End) → Talked (DeskStep g) old held input new holds end → StaysServing g old new
   talked_on end t = kept_by_serving g input (λ a b. Unit {0}) old new (serves_talked g weaker input old new held holds end (λ a b. Unit {0}) tt t)
 

@@ -1,5 +1,5 @@
 -- What a desk does over connections, one after another, and what it leaves of its tables.
-use Rattle.std.specs.Prelude.{ℕ, ◌≡◌, ◌⊎◌, false, List, [], ◌∷◌, map, Option, Some, zero, suc}
+use Rattle.std.specs.Prelude.{ℕ, ◌≡◌, ◌⊎◌, false, List, [], ◌∷◌, map, Some, zero, suc}
 use Rattle.std.specs.List.{All}
 use Rattle.names.specs.declared.call.Call.{Call}
 use Rattle.httparse.specs.Grammar.{RequestHead}
@@ -41,16 +41,16 @@ IsRequestedInOne (input ∷ inputs) change = IsRequestedIn input change ⊎ IsRe
 -- ---- what was written
 
 -- the text of the connection over this input was written, of a run of the desk, and it ends so
-abbrev pub TalkedBy : {T W : Type 0} → Ghosts T → (W → Option (List ℕ)) → TrackedWriting W → List ℕ → TrackedWriting W → End → Posts T → Posts T → Type 0
-TalkedBy g contents old input new end first last = Talked (DeskStep g) first (contents old.inner) input last (contents new.inner) end
+abbrev pub TalkedBy : {T W : Type 0} → Ghosts T → TrackedWriting W → List ℕ → TrackedWriting W → End → Posts T → Posts T → Type 0
+TalkedBy g old input new end first last = Talked (DeskStep g) first old.taken input last new.taken end
 
 -- the same, as if the input had ended here
-abbrev pub TalkedSoFarBy : {T W : Type 0} → Ghosts T → (W → Option (List ℕ)) → TrackedWriting W → List ℕ → TrackedWriting W → Posts T → Posts T → Type 0
-TalkedSoFarBy g contents old input new first last = TalkedSoFar (DeskStep g) first (contents old.inner) input last (contents new.inner)
+abbrev pub TalkedSoFarBy : {T W : Type 0} → Ghosts T → TrackedWriting W → List ℕ → TrackedWriting W → Posts T → Posts T → Type 0
+TalkedSoFarBy g old input new first last = TalkedSoFar (DeskStep g) first old.taken input last new.taken
 
 -- a beginning of the text of some first requests was written
-abbrev pub TalkCutBy : {T W : Type 0} → Ghosts T → (W → Option (List ℕ)) → TrackedWriting W → List ℕ → TrackedWriting W → Posts T → Posts T → Type 0
-TalkCutBy g contents old input new first last = TalkCut (DeskStep g) first (contents old.inner) input last (contents new.inner)
+abbrev pub TalkCutBy : {T W : Type 0} → Ghosts T → TrackedWriting W → List ℕ → TrackedWriting W → Posts T → Posts T → Type 0
+TalkCutBy g old input new first last = TalkCut (DeskStep g) first old.taken input last new.taken
 
 -- ---- one connection after another
 

@@ -1,5 +1,5 @@
 -- What a run does over tables, and what it leaves of them.
-use Rattle.std.specs.Prelude.{ℕ, ◌≡◌, ◌⊎◌, Bool, true, false, List, [], ◌∷◌, Option, Some, Result, Err}
+use Rattle.std.specs.Prelude.{ℕ, ◌≡◌, ◌⊎◌, Bool, true, false, List, [], ◌∷◌, Some, Result, Err}
 use Rattle.std.specs.List.{All}
 use Rattle.names.specs.Calls.{call_of}
 use Rattle.names.specs.declared.call.Call.{Call}
@@ -67,19 +67,19 @@ IsAskedIn (line ∷ lines) change = LineAsks line change ⊎ IsAskedIn lines cha
 
 -- Each line of the input was answered, and the answers written. None was held back: at each read, the lines that had ended in what
 -- was read before were answered, and the answers handed on.
-pub record ServedBy {T R W : Type 0} (g : Ghosts T) (contents : W → Option (List ℕ)) (old : TrackedReading R × TrackedWriting W) (input : List ℕ) (new : TrackedReading R × TrackedWriting W) (first last : Posts T) : Type 0 where
-  pub served : Served (DeskStep g) first (contents old.1.inner) input last (contents new.1.inner)
-  pub each_read : PausedAtEachRead (DeskStep g) first (contents old.1.inner) old.0 new.0
+pub record ServedBy {T R W : Type 0} (g : Ghosts T) (old : TrackedReading R × TrackedWriting W) (input : List ℕ) (new : TrackedReading R × TrackedWriting W) (first last : Posts T) : Type 0 where
+  pub served : Served (DeskStep g) first old.1.taken input last new.1.taken
+  pub each_read : PausedAtEachRead (DeskStep g) first old.1.taken old.0 new.0
 
 -- the same of the lines that end in the input
-pub record PausedBy {T R W : Type 0} (g : Ghosts T) (contents : W → Option (List ℕ)) (old : TrackedReading R × TrackedWriting W) (input : List ℕ) (new : TrackedReading R × TrackedWriting W) (first last : Posts T) : Type 0 where
-  pub paused : Paused (DeskStep g) first (contents old.1.inner) input last (contents new.1.inner)
-  pub each_read : PausedAtEachRead (DeskStep g) first (contents old.1.inner) old.0 new.0
+pub record PausedBy {T R W : Type 0} (g : Ghosts T) (old : TrackedReading R × TrackedWriting W) (input : List ℕ) (new : TrackedReading R × TrackedWriting W) (first last : Posts T) : Type 0 where
+  pub paused : Paused (DeskStep g) first old.1.taken input last new.1.taken
+  pub each_read : PausedAtEachRead (DeskStep g) first old.1.taken old.0 new.0
 
 -- the same of some first lines, of whose answers a beginning was written
-pub record CutBy {T R W : Type 0} (g : Ghosts T) (contents : W → Option (List ℕ)) (old : TrackedReading R × TrackedWriting W) (input : List ℕ) (new : TrackedReading R × TrackedWriting W) (first last : Posts T) : Type 0 where
-  pub cut : Cut (DeskStep g) first (contents old.1.inner) input last (contents new.1.inner)
-  pub each_read : PausedAtEachRead (DeskStep g) first (contents old.1.inner) old.0 new.0
+pub record CutBy {T R W : Type 0} (g : Ghosts T) (old : TrackedReading R × TrackedWriting W) (input : List ℕ) (new : TrackedReading R × TrackedWriting W) (first last : Posts T) : Type 0 where
+  pub cut : Cut (DeskStep g) first old.1.taken input last new.1.taken
+  pub each_read : PausedAtEachRead (DeskStep g) first old.1.taken old.0 new.0
 
 -- ---- what is left
 

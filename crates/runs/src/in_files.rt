@@ -44,20 +44,20 @@ pub fn run_in<P: Start, H: Wait + Drop, R: Read, W: Write>(
     // each read, also of one that failed, each whole line of what was read before had its answer, handed on.
     ensures ok { OnOk result.0 ((input : List ℕ) × ReadsAll R.remaining reader.old reader.new input × IsOkAnd result.1
         (EndedOver over_files (BeginsIn (image_at P.Start) store) input
-        (ServedBy (over over_files) W.contents (reader.old, writer.old) input (reader.new, writer.new)))) }
+        (ServedBy (over over_files) (reader.old, writer.old) input (reader.new, writer.new)))) }
     ensures handed_on { OnOk result.0 (writer.new.flushed ≡ true) }
 
     // Each whole line of what was read was answered.
     ensures cannot_read { IfErr result.0 (λ fault. fault ≡ Fault.CannotRead → (input : List ℕ)
         × Reads R.remaining reader.old reader.new input × IsOkAnd result.1
         (EndedOver over_files (BeginsIn (image_at P.Start) store) input
-        (PausedBy (over over_files) W.contents (reader.old, writer.old) input (reader.new, writer.new)))) }
+        (PausedBy (over over_files) (reader.old, writer.old) input (reader.new, writer.new)))) }
 
     // Some first lines of what was read were answered, and a beginning of the answers was written.
     ensures cannot_write { IfErr result.0 (λ fault. fault ≡ Fault.CannotWrite → (input : List ℕ)
         × Reads R.remaining reader.old reader.new input × IsOkAnd result.1
         (EndedOver over_files (BeginsIn (image_at P.Start) store) input
-        (CutBy (over over_files) W.contents (reader.old, writer.old) input (reader.new, writer.new)))) }
+        (CutBy (over over_files) (reader.old, writer.old) input (reader.new, writer.new)))) }
 
     // A fault is told exactly where the flag of the tracked reader or writer is set in the call. Where the writer's is not, one
     // that held nothing back before holds nothing back.

@@ -43,20 +43,20 @@ pub fn run_over<S: Alter + Drop, H: Wait + Drop, R: Read, W: Write>(
     // each read, also of one that failed, each whole line of what was read before had its answer, handed on.
     ensures ok { OnOk result.0 ((input : List ℕ) × ReadsAll R.remaining reader.old reader.new input
         × EndedOver S.Store (Begins S.Store conn store) input
-        (ServedBy (over S.Store) W.contents (reader.old, writer.old) input (reader.new, writer.new)) result.1) }
+        (ServedBy (over S.Store) (reader.old, writer.old) input (reader.new, writer.new)) result.1) }
     ensures handed_on { OnOk result.0 (writer.new.flushed ≡ true) }
 
     // Each whole line of what was read was answered.
     ensures cannot_read { IfErr result.0 (λ fault. fault ≡ Fault.CannotRead → (input : List ℕ)
         × Reads R.remaining reader.old reader.new input
         × EndedOver S.Store (Begins S.Store conn store) input
-        (PausedBy (over S.Store) W.contents (reader.old, writer.old) input (reader.new, writer.new)) result.1) }
+        (PausedBy (over S.Store) (reader.old, writer.old) input (reader.new, writer.new)) result.1) }
 
     // Some first lines of what was read were answered, and a beginning of the answers was written.
     ensures cannot_write { IfErr result.0 (λ fault. fault ≡ Fault.CannotWrite → (input : List ℕ)
         × Reads R.remaining reader.old reader.new input
         × EndedOver S.Store (Begins S.Store conn store) input
-        (CutBy (over S.Store) W.contents (reader.old, writer.old) input (reader.new, writer.new)) result.1) }
+        (CutBy (over S.Store) (reader.old, writer.old) input (reader.new, writer.new)) result.1) }
 
     // A fault is told exactly where the flag of the tracked reader or writer is set in the call. Where the writer's is not, one
     // that held nothing back before holds nothing back.

@@ -34,18 +34,18 @@ pub fn run<T: Tables + Drop, H: Wait + Drop, R: Read, W: Write>(
     // All that was there was read, each line answered, and the answers handed on. Here and below none was held back: at
     // each read, also of one that failed, each whole line of what was read before had its answer, handed on.
     ensures ok { OnOk result.0 ((input : List ℕ) × ReadsAll R.remaining reader.old reader.new input
-        × Ended T.Tables tables input (ServedBy T.Tables W.contents (reader.old, writer.old) input (reader.new, writer.new)) result.1) }
+        × Ended T.Tables tables input (ServedBy T.Tables (reader.old, writer.old) input (reader.new, writer.new)) result.1) }
     ensures handed_on { OnOk result.0 (writer.new.flushed ≡ true) }
 
     // Each whole line of what was read was answered.
     ensures cannot_read { IfErr result.0 (λ fault. fault ≡ Fault.CannotRead → (input : List ℕ)
         × Reads R.remaining reader.old reader.new input
-        × Ended T.Tables tables input (PausedBy T.Tables W.contents (reader.old, writer.old) input (reader.new, writer.new)) result.1) }
+        × Ended T.Tables tables input (PausedBy T.Tables (reader.old, writer.old) input (reader.new, writer.new)) result.1) }
 
     // Some first lines of what was read were answered, and a beginning of the answers was written.
     ensures cannot_write { IfErr result.0 (λ fault. fault ≡ Fault.CannotWrite → (input : List ℕ)
         × Reads R.remaining reader.old reader.new input
-        × Ended T.Tables tables input (CutBy T.Tables W.contents (reader.old, writer.old) input (reader.new, writer.new)) result.1) }
+        × Ended T.Tables tables input (CutBy T.Tables (reader.old, writer.old) input (reader.new, writer.new)) result.1) }
 
     // A fault is told exactly where the flag of the tracked reader or writer is set in the call. Where the writer's is not, one
     // that held nothing back before holds nothing back.
@@ -84,18 +84,18 @@ fn serve<T: Tables + Drop, H: Wait + Drop, R: Read, W: Write>(
     // All that was there was read, each line answered, and the answers handed on. Here and below none was held back: at
     // each read, also of one that failed, each whole line of what was read before had its answer, handed on.
     ensures ok { OnOk result ((input : List ℕ) × ReadsAll R.remaining reader.old reader.new input
-        × ServedBy T.Tables W.contents (reader.old, writer.old) input (reader.new, writer.new) answering.old answering.new) }
+        × ServedBy T.Tables (reader.old, writer.old) input (reader.new, writer.new) answering.old answering.new) }
     ensures handed_on { OnOk result (writer.new.flushed ≡ true) }
 
     // Each whole line of what was read was answered.
     ensures cannot_read { IfErr result (λ fault. fault ≡ Fault.CannotRead → (input : List ℕ)
         × Reads R.remaining reader.old reader.new input
-        × PausedBy T.Tables W.contents (reader.old, writer.old) input (reader.new, writer.new) answering.old answering.new) }
+        × PausedBy T.Tables (reader.old, writer.old) input (reader.new, writer.new) answering.old answering.new) }
 
     // Some first lines of what was read were answered, and a beginning of the answers was written.
     ensures cannot_write { IfErr result (λ fault. fault ≡ Fault.CannotWrite → (input : List ℕ)
         × Reads R.remaining reader.old reader.new input
-        × CutBy T.Tables W.contents (reader.old, writer.old) input (reader.new, writer.new) answering.old answering.new) }
+        × CutBy T.Tables (reader.old, writer.old) input (reader.new, writer.new) answering.old answering.new) }
 
     // A fault is told exactly where the flag of the tracked reader or writer is set in the call. Where the writer's is not, one
     // that held nothing back before holds nothing back.

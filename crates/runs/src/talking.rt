@@ -35,29 +35,29 @@ pub fn talk<T: Tables + Drop, H: Wait + Drop, R: Read, W: Write>(
 
     // All that was there was read, and each request answered; or the last one breaks off.
     ensures closed { result ≡ End.Closed → (input : List ℕ) × ReadsAll R.remaining reader.old reader.new input
-        × Serves T.Tables input (TalkedBy T.Tables W.contents writer.old input writer.new End.Closed) answering.old answering.new }
+        × Serves T.Tables input (TalkedBy T.Tables writer.old input writer.new End.Closed) answering.old answering.new }
     ensures broken { result ≡ End.Broken → (input : List ℕ) × ReadsAll R.remaining reader.old reader.new input
-        × Serves T.Tables input (TalkedBy T.Tables W.contents writer.old input writer.new End.Broken) answering.old answering.new }
+        × Serves T.Tables input (TalkedBy T.Tables writer.old input writer.new End.Broken) answering.old answering.new }
 
     // The last reply says that the connection is closed.
     ensures asked { result ≡ End.Asked → (input : List ℕ) × Reads R.remaining reader.old reader.new input
-        × Serves T.Tables input (TalkedBy T.Tables W.contents writer.old input writer.new End.Asked) answering.old answering.new }
+        × Serves T.Tables input (TalkedBy T.Tables writer.old input writer.new End.Asked) answering.old answering.new }
 
     // There was no memory for the buffer, and nothing was read, answered or written; or none for a reply.
     ensures memory { result ≡ End.Memory → ((reader.new ≡ reader.old) × (writer.new ≡ writer.old) × (answering.new ≡ answering.old))
         ⊎ ((input : List ℕ) × Reads R.remaining reader.old reader.new input
-        × Serves T.Tables input (TalkedBy T.Tables W.contents writer.old input writer.new End.Memory) answering.old answering.new) }
+        × Serves T.Tables input (TalkedBy T.Tables writer.old input writer.new End.Memory) answering.old answering.new) }
 
     // Each whole request of what was read was answered.
     ensures read_fault { result ≡ End.ReadFault → (input : List ℕ) × Reads R.remaining reader.old reader.new input
-        × Serves T.Tables input (TalkedSoFarBy T.Tables W.contents writer.old input writer.new) answering.old answering.new }
+        × Serves T.Tables input (TalkedSoFarBy T.Tables writer.old input writer.new) answering.old answering.new }
 
     // Some first requests of what was read were answered, and a beginning of the text was written.
     ensures write_fault { result ≡ End.WriteFault → (input : List ℕ) × Reads R.remaining reader.old reader.new input
-        × Serves T.Tables input (TalkCutBy T.Tables W.contents writer.old input writer.new) answering.old answering.new }
+        × Serves T.Tables input (TalkCutBy T.Tables writer.old input writer.new) answering.old answering.new }
 
     // At each read, also of one that failed, each whole request of what was read before had its reply, handed on.
-    ensures each_read { TalkedAtEachRead (DeskStep T.Tables) answering.old (W.contents writer.old.inner) reader.old reader.new }
+    ensures each_read { TalkedAtEachRead (DeskStep T.Tables) answering.old writer.old.taken reader.old reader.new }
 
     // A fault is told exactly where the flag of the tracked reader or writer is set in the call. Where the writer's is not, one
     // that held nothing back before holds nothing back.

@@ -1,5 +1,5 @@
 //! One connection over TCP.
-ghost use Rattle.std.specs.Prelude.{◌≡◌, ◌≤◌, ◌*◌, ◌⊎◌, false, true, IfSome};
+ghost use Rattle.std.specs.Prelude.{◌≡◌, ◌≤◌, ◌*◌, ◌⊎◌, [], false, true, IfSome};
 ghost use Rattle.http_api.specs.Routes.{table};
 ghost use Rattle.server.specs.Attending.{Attended};
 
@@ -34,6 +34,7 @@ pub fn sides_of(alloc: Global, stream: &TcpStream) -> Option<Sides<'_>>
     ensures reader { IfSome result (λ sides. sides.0.failed ≡ false) }
     ensures writer { IfSome result (λ sides. sides.1.failed ≡ false) }
     ensures flushed { IfSome result (λ sides. sides.1.flushed ≡ true) }
+    ensures unwritten { IfSome result (λ sides. sides.1.taken.bytes ≡ []) }
 {
     let _ = stream.set_nodelay(true);
     let Ok(out) = BufWriter::new(alloc, stream) else {

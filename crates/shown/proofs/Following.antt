@@ -1,6 +1,6 @@
 -- Members of marked nodes while the history grows, loses its newest commit, or is trimmed, and while its commits are taken.
 use Rattle.std.proofs.Common.{◌≡◌, ℕ, ◌+◌, ◌-◌, ◌<◌, ◌≤◌, ◌++◌, ◌∷◌, List, [], length, take, drop, refl, ap, sym, subst, ◌∙◌, arith, get_or}
-use Rattle.std.specs.Prelude.{Option, Some, None, Result, Ok, Err, OnOk}
+use Rattle.std.specs.Prelude.{Option, Some, None, Result, Ok, Err, IfSome, OnOk}
 use Rattle.std.specs.Result.{result_ok}
 use Rattle.std.proofs.lemmas.List.{take-take, take_more, length-drop, length-take-le}
 use Rattle.names.specs.declared.commit.Commit.{Commit}
@@ -8,12 +8,12 @@ use Rattle.names.specs.declared.node.Node.{Node}
 use Rattle.meaning.specs.Config.{Configured}
 use Rattle.meaning.specs.Snap.{Snap}
 use Rattle.meaning.specs.History.{after_commit, after_commits}
-use Rattle.leopard.specs.Index.{Index}
+use Rattle.group_index.specs.declared.index.GroupIndex.{GroupIndex}
 use Rattle.hot.specs.Kept.{IsHot}
 use Rattle.hot.specs.declared.hot.Hot.{Hot}
 use Rattle.rows.specs.Retained.{Retained, newest, snap_at, with_commit, after_trim, commits_between}
 use Rattle.shown.specs.Standing.{Standing, IsSteady, CanGoBack, CanRaise, before_commit}
-use Rattle.shown.specs.inside.Basing.{AreKeptMembers, AreMarked, IsSound}
+use Rattle.shown.specs.inside.Basing.{AreKeptMembers, AreMarked, IsIndexIn, IsSound}
 use Rattle.shown.proofs.Basing.{snap_with, snap_without, snap_above, after_append, after_parts, kept_above}
 
 -- ---- the members that are kept
@@ -71,6 +71,14 @@ view_next r from to i c view retained order there small is seen =
     let at = seen ∙ sym (snap_between r from to (i + 1) (from + i + 1) retained (omega (arith, small, long)) (omega arith)) in
     (at, at ∙ snap_next r from to i c small is)
 
+-- which is that after a commit on the snapshot of the revision before
+pub view_after : (r : Retained) (from to i : ℕ) (c : Commit Configured) (view : Snap) → r.floor ≤ from → from ≤ to → to ≤ newest r → i < length (commits_between r from to) → c ≡ get_or (commits_between r from to) i c
+    → view ≡ snap_at r (from + i + 1) → view ≡ after_commit (snap_at r (from + i)) c
+view_after r from to i c view retained order there small is seen =
+    let long = length_between r from to retained order there in
+    (view_next r from to i c view retained order there small is seen).1
+    ∙ ap (λ (S : Snap). after_commit S c) (snap_between r from to i (from + i) retained (omega (arith, small, long)) refl)
+
 pub all_taken : (r : Retained) (from to i : ℕ) → r.floor ≤ from → from ≤ to → to ≤ newest r → length (commits_between r from to) ≤ i → i ≤ length (commits_between r from to) → snap_in r from to i ≡ snap_at r to
 all_taken r from to i retained order there more few =
     let long = length_between r from to retained order there in
@@ -84,9 +92,10 @@ done (Err e) u is p = absurd cc
 
 -- ---- a higher floor
 
-pub sound_above : (s now : Standing) (index : Option Index) (members : Option Hot) (floor : ℕ) (new : Retained) → s ≡ now → CanRaise now floor → IsSound s index members
+pub sound_above : (s now : Standing) (old index : Option GroupIndex) (members : Option Hot) (floor : ℕ) (new : Retained) → s ≡ now → CanRaise now floor → IsSound s old members
+    → ((snaps : ℕ → Snap) (from cursor : ℕ) → IfSome old (IsIndexIn snaps from cursor) → IfSome index (IsIndexIn snaps floor cursor))
     → (s.kept.floor ≤ floor → new ≡ after_trim s.kept floor) → IsSound (record { kept = new; base = s.base; index = s.index; hot = s.hot; marks = s.marks }) index members
-sound_above s now index members floor new same room sound raised =
+sound_above s now old index members floor new same room sound up raised =
     let can = subst (λ (t : Standing). CanRaise t floor) (sym same) room in
     let above = can.above in
     let is = raised (omega (arith, above)) in
@@ -100,6 +109,6 @@ sound_above s now index members floor new same room sound raised =
         hot_there = omega (arith, left, above, can.there, sound.steady.hot_there);
         marked_once = sound.steady.marked_once;
       };
-      index_right = kept_above s index sound.steady floor can sound.index_right;
+      index_right = kept_above s index floor can (up (snap_at s.kept) s.kept.floor s.index sound.index_right);
       members_right = members_above s members sound.steady floor can sound.members_right;
     })

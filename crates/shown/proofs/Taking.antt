@@ -1,6 +1,6 @@
 -- What is true of a standing stays so where a part takes commits, and where a node is marked.
 use Rattle.std.proofs.Common.{◌≡◌, ℕ, ◌+◌, ◌-◌, ◌≤◌, List, [], ◌∷◌, length, drop, refl, ap, sym, subst, ◌∙◌, arith}
-use Rattle.std.specs.Prelude.{Option, Some, None, IfSome, min}
+use Rattle.std.specs.Prelude.{Option, Some, None, IfSome, min, max}
 use Rattle.std.specs.List.{IsDistinct}
 use Rattle.std.proofs.lemmas.List.{length-take}
 use Rattle.names.specs.declared.commit.Commit.TheVariants.{Tuples, Config}
@@ -9,14 +9,13 @@ use Rattle.names.specs.declared.node.Node.{Node}
 use Rattle.names.specs.Order.{is_same_node}
 use Rattle.meaning.specs.Snap.{Snap}
 use Rattle.meaning.specs.History.{History}
-use Rattle.leopard.specs.Index.{Index}
+use Rattle.group_index.specs.declared.index.GroupIndex.{GroupIndex}
 use Rattle.hot.specs.Kept.{IsHot, HasSameMarks}
 use Rattle.hot.specs.declared.hot.Hot.{Hot}
 use Rattle.rows.specs.Retained.{Retained, newest, snap_at, commits_between, last_config}
 use Rattle.shown.specs.Marks.{after_marking}
 use Rattle.shown.specs.Standing.{Standing, cursor_after}
-use Rattle.shown.specs.inside.Basing.{AreKeptMembers, AreMarked, IsSound}
-use Rattle.shown.proofs.Basing.{moved as index_moved}
+use Rattle.shown.specs.inside.Basing.{AreKeptMembers, AreMarked, IsIndexIn, IsSound}
 use Rattle.shown.proofs.Following.{moved as members_moved}
 use Rattle.shown.proofs.MarkedNodes.{are_same, once_after}
 
@@ -31,12 +30,13 @@ base_within r base from to below order =
     let few = length-take (to - from) (drop (from - r.floor) r.commits) in
     omega (arith, last_within base from (commits_between r from to) below, few)
 
-pub sound_taken : (s now : Standing) (index : Option Index) (members : Option Hot) (commits base to : ℕ) → s ≡ now → to ≡ cursor_after now.kept s.index commits
-    → base ≡ last_config s.base s.index (commits_between s.kept s.index to) → IsSound s index members
-    → IsSound (record { kept = s.kept; base = base; index = to; hot = s.hot; marks = s.marks }) index members
-sound_taken s now index members commits base to same reaches is sound =
+pub sound_taken : (s now before : Standing) (index new : Option GroupIndex) (members : Option Hot) (commits base to : ℕ) → s ≡ now → before ≡ now → to ≡ cursor_after now.kept before.index commits
+    → base ≡ last_config s.base s.index (commits_between s.kept s.index to) → IfSome new (IsIndexIn (snap_at now.kept) now.kept.floor to) → IsSound s index members
+    → IsSound (record { kept = s.kept; base = base; index = to; hot = s.hot; marks = s.marks }) new members
+sound_taken s now before index new members commits base to same was reaches is right sound =
     let steady = sound.steady in
-    let at : to ≡ min (s.index + commits) (newest s.kept) = subst (λ (t : Standing). to ≡ cursor_after t.kept s.index commits) (sym same) reaches in
+    let at : to ≡ min (s.index + commits) (newest s.kept) =
+    reaches ∙ ap (λ (t : Standing). cursor_after now.kept t.index commits) was ∙ ap (λ (t : Standing). cursor_after t.kept t.index commits) (sym same) in
     let later : s.index ≤ to = omega (arith, at, steady.index_there) in
     let after : Standing = record { kept = s.kept; base = base; index = to; hot = s.hot; marks = s.marks } in
     record {
@@ -48,7 +48,26 @@ sound_taken s now index members commits base to same reaches is sound =
         hot_there = steady.hot_there;
         marked_once = steady.marked_once;
       };
-      index_right = index_moved s after index later (λ rev come retained. (retained, refl)) sound.index_right;
+      index_right = subst (λ (t : Standing). IfSome new (IsIndexIn (snap_at t.kept) t.kept.floor to)) (sym same) right;
+      members_right = members_moved s after members refl refl sound.members_right;
+    }
+
+-- the index has a new base
+pub sound_rebased : (s : Standing) (index new : Option GroupIndex) (members : Option Hot) (rev next : ℕ) → s.kept.floor ≤ rev → s.base ≤ rev → rev ≤ newest s.kept → next ≡ max s.index rev
+    → IfSome new (IsIndexIn (snap_at s.kept) s.kept.floor next) → IsSound s index members → IsSound (record { kept = s.kept; base = rev; index = next; hot = s.hot; marks = s.marks }) new members
+sound_rebased s index new members rev next retained up there is right sound =
+    let steady = sound.steady in
+    let after : Standing = record { kept = s.kept; base = rev; index = next; hot = s.hot; marks = s.marks } in
+    record {
+      steady = record {
+        index_retained = omega (arith, is, retained);
+        index_there = omega (arith, is, there, steady.index_there);
+        base_read = omega (arith, is);
+        hot_retained = steady.hot_retained;
+        hot_there = steady.hot_there;
+        marked_once = steady.marked_once;
+      };
+      index_right = right;
       members_right = members_moved s after members refl refl sound.members_right;
     }
 
@@ -57,7 +76,7 @@ kept_new s None hot are = tt
 kept_new s (Some table) hot are = (hot, are)
 
 -- a part has taken commits
-pub sound_hot : (s now before : Standing) (index : Option Index) (members new : Option Hot) (commits to : ℕ) → s ≡ now → before ≡ now → to ≡ cursor_after now.kept before.hot commits
+pub sound_hot : (s now before : Standing) (index : Option GroupIndex) (members new : Option Hot) (commits to : ℕ) → s ≡ now → before ≡ now → to ≡ cursor_after now.kept before.hot commits
     → IfSome new (λ hot. IsHot hot (snap_at now.kept to)) → IfSome new (λ hot. AreMarked now.marks hot) → IsSound s index members
     → IsSound (record { kept = s.kept; base = s.base; index = s.index; hot = to; marks = s.marks }) index new
 sound_hot s now before index members new commits to same was reaches hot are sound =
@@ -74,7 +93,7 @@ sound_hot s now before index members new commits to same was reaches hot are sou
         hot_there = omega (arith, at);
         marked_once = steady.marked_once;
       };
-      index_right = index_moved s after index (omega arith) (λ rev come retained. (retained, refl)) sound.index_right;
+      index_right = sound.index_right;
       members_right = kept_new after new
           (subst (λ (t : Standing). IfSome new (λ hot. IsHot hot (snap_at t.kept to))) (sym same) hot)
           (subst (λ (t : Standing). IfSome new (λ hot. AreMarked t.marks hot)) (sym same) are);
@@ -86,7 +105,7 @@ have_marks s None right = tt
 have_marks s (Some hot) right = right.1
 
 -- a node was marked, or is so no longer
-module _ (s : Standing) (index : Option Index) (members new : Option Hot) (marks : List Node) (marking : Marking) (sound : IsSound s index members) (is : marks ≡ after_marking s.marks marking) where
+module _ (s : Standing) (index : Option GroupIndex) (members new : Option Hot) (marks : List Node) (marking : Marking) (sound : IsSound s index members) (is : marks ≡ after_marking s.marks marking) where
   pub sound_marked : IfSome new (λ hot. IsHot hot (snap_at s.kept s.hot)) → IfSome new (λ hot. AreMarked marks hot)
       → IsSound (record { kept = s.kept; base = s.base; index = s.index; hot = s.hot; marks = marks }) index new
   sound_marked hot are =
@@ -101,7 +120,7 @@ module _ (s : Standing) (index : Option Index) (members new : Option Hot) (marks
           hot_there = steady.hot_there;
           marked_once = subst (λ (ns : List Node). IsDistinct is_same_node ns) (sym is) (once_after s.marks marking steady.marked_once);
         };
-        index_right = index_moved s after index (omega arith) (λ rev come retained. (retained, refl)) sound.index_right;
+        index_right = sound.index_right;
         members_right = kept_new after new hot are;
       }
 

@@ -2,6 +2,7 @@ pub mod Marks
 pub mod Standing
 pub mod Raising
 pub mod Answers
+pub mod KeptAnswers
 pub mod Expanding
 pub mod Watching
 pub mod Paging

@@ -3,6 +3,8 @@
 #![tactic(auto)]
 
 mod answer;
+mod groups;
+mod known;
 mod marks;
 mod members;
 mod shown;

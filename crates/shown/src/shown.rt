@@ -19,6 +19,7 @@ ghost use Rattle.expand.specs.declared.limits.TheConstants.{MAX_DEPTH};
 ghost use Rattle.expand.specs.Causes.{ExpandCause};
 ghost use Rattle.expand.specs.Viewed.{tree_of};
 ghost use Rattle.shown.specs.Answers.{IsAnswer, IsRefusal};
+ghost use Rattle.shown.specs.KeptAnswers.{AreRetainedAnswers};
 ghost use Rattle.shown.specs.Expanding.{IsTreeOf, IsTree, IsTreeRefusal};
 ghost use Rattle.shown.specs.Watching.{IsWatched, WatchRefused};
 ghost use Rattle.shown.specs.Paging.{IsPage, IsPageRefusal};
@@ -26,20 +27,24 @@ ghost use Rattle.leopard.specs.Answers.{AreFirst};
 ghost use Rattle.leopard.specs.Causes.{IsAnswerable, AskCause};
 ghost use Rattle.leopard.specs.Exprs.{query_of};
 ghost use Rattle.leopard.specs.Groups.{Means};
-ghost use Rattle.leopard.specs.Index.{IsIndexOf};
 ghost use Rattle.leopard.specs.Query.{is_allowed};
+ghost use Rattle.group_index.specs.Indices.{TellsOf};
 ghost use Rattle.shown.specs.Grouping.{AreGroups, IsGroupsRefusal};
-ghost use Rattle.shown.specs.inside.Basing.{AreMarked};
+ghost use Rattle.shown.specs.inside.Basing.{AreMarked, IsIndexIn};
 
 use crate::answer::{Answer, Refused};
+use crate::groups::{self, index_later};
+use crate::known::{Known, answers_at};
 use crate::marks::{count_with, remark};
 use crate::members::{members_after, members_later, members_of};
 use crate::step::Step;
+use answer_cache::CachedAnswers;
 use config::Config;
-use decide::Nothing;
 use expand::Tree;
-use hot::{Hot, Known};
-use leopard::{Built, Expr};
+use facts::each_view_is_valid;
+use group_index::{At, GroupIndex};
+use hot::Hot;
+use leopard::Expr;
 use names::limits::MAX_MARKS;
 use names::{Items, Marking, Node, Object, Op, Part, Refusal, State, Tuple, Write};
 use rows::{Loaded, Rows, Tupleset, what_follows_has_room};
@@ -59,7 +64,7 @@ pub struct Shown {
     hot: u64,
     marks: Vec<Node>,
     keeps_parts: bool,
-    built: Option<Built>,
+    groups: Option<GroupIndex>,
     members: Option<Hot>,
 }
 
@@ -76,12 +81,12 @@ impl Model for Shown {
 
     ghost invariant = { λ s.
         IsSound (record { kept = s.rows; base = s.base; index = s.index; hot = s.hot; marks = s.marks.items })
-        s.built s.members };
+        s.groups s.members };
 }
 
 impl Shown {
-    /// The state before the first step. Once a base is asked for, its index is kept, and once a node is marked, who is a
-    /// member of it at the revision of the hot table.
+    /// The state before the first step. Once a base is asked for, the group index is kept from it up to the index cursor,
+    /// and once a node is marked, who is a member of it at the revision of the hot table.
     pub fn new(alloc: Global) -> Shown
         ensures { result ≡ nothing }
     {
@@ -106,7 +111,7 @@ impl Shown {
             hot: 0,
             marks: Vec::new(alloc),
             keeps_parts,
-            built: None,
+            groups: None,
             members: None,
         }
     }
@@ -138,6 +143,7 @@ impl Shown {
         requires { CanRaise self.old floor }
         ensures { self.new ≡ after_step self.old (Step.Trim floor) }
     {
+        groups::raise(&mut self.groups, floor);
         self.rows.trim(floor);
     }
 
@@ -232,39 +238,17 @@ impl Shown {
         Ok(())
     }
 
-    /// Makes the index anew, of a revision.
+    /// Moves the base of the index up to a revision, or begins the index there.
     fn build(&mut self, rev: u64) -> Result<(), AllocError>
         requires { base_cause self.old rev ≡ None }
         ensures ok { OnOk result (self.new ≡ after_step self.old (Step.Rebase rev)) }
         ensures err { OnErr result (self.new ≡ self.old) }
     {
-        if !self.keeps_parts {
-            self.rebase(rev);
-            return Ok(());
-        }
-        let Ok(built) = self.index_of(rev) else {
-            return Err(AllocError);
-        };
-        self.rebase(rev);
-        self.built = Some(built);
-        Ok(())
-    }
-
-    fn index_of(&self, rev: u64) -> Result<Built, Refusal>
-        requires { IsRetained self.now.kept rev }
-        ensures index { IfOk result (λ built. IsIndexOf (snap_at self.now.kept rev) built) }
-        ensures rev { IfOk result (λ built. built.rev ≡ rev) }
-    {
-        let view = self.rows.at(rev);
-        Built::of(self.alloc, &view, rev)
-    }
-
-    fn rebase(&mut self, rev: u64)
-        requires { base_cause self.old rev ≡ None }
-        ensures { self.new ≡ after_step self.old (Step.Rebase rev) }
-    {
+        let (rows, is_kept) = (&self.rows, self.keeps_parts);
+        groups::rebase(self.alloc, &mut self.groups, rows, rev, self.index, is_kept)?;
         self.base = rev;
         self.index = self.index.max(rev);
+        Ok(())
     }
 
     /// The revision of the last configuration that comes to lie at or below a higher floor, or 0.
@@ -327,12 +311,42 @@ impl Shown {
         ensures ok { IfOk result (IsAnswer self.now consistency.now node.now user.now) }
         ensures err { IfErr result (IsRefusal self.now consistency.now node.now) }
     {
+        self.check_by(None, consistency, node, user)
+    }
+
+    /// The same, asked by one who keeps answers of checks: at a retained revision they are what the check would answer, and it
+    /// asks them where it comes to a question of theirs.
+    pub fn check_knowing(
+        &self,
+        kept: &CachedAnswers,
+        consistency: &Consistency,
+        node: &Node,
+        user: &Object,
+    ) -> Result<Answer<bool>, Refused>
+        requires { AreRetainedAnswers self.now.kept kept.now }
+        ensures ok { IfOk result (IsAnswer self.now consistency.now node.now user.now) }
+        ensures err { IfErr result (IsRefusal self.now consistency.now node.now) }
+    {
+        self.check_by(Some(kept), consistency, node, user)
+    }
+
+    fn check_by(
+        &self,
+        kept: Option<&CachedAnswers>,
+        consistency: &Consistency,
+        node: &Node,
+        user: &Object,
+    ) -> Result<Answer<bool>, Refused>
+        requires { IfSome kept (λ kept. AreRetainedAnswers self.now.kept kept.now) }
+        ensures ok { IfOk result (IsAnswer self.now consistency.now node.now user.now) }
+        ensures err { IfErr result (IsRefusal self.now consistency.now node.now) }
+    {
         let newest = self.rows.newest();
         if let Err(why) = consistency.judge(self.rows.number(), self.rows.floor(), newest) {
             return Err(Refused { why, at: None });
         }
         let rev = consistency.choose(newest, self.index);
-        match self.check_at(rev, node, user) {
+        match self.check_at(kept, rev, node, user) {
             Ok(value) => Ok(Answer { rev, value }),
             Err(why) => {
                 let at = match &why {
@@ -345,8 +359,15 @@ impl Shown {
     }
 
     /// Whether the user is a member of the node at a retained revision.
-    fn check_at(&self, rev: u64, node: &Node, user: &Object) -> Result<bool, Refusal>
-        requires { IsRetained self.now.kept rev }
+    fn check_at(
+        &self,
+        kept: Option<&CachedAnswers>,
+        rev: u64,
+        node: &Node,
+        user: &Object,
+    ) -> Result<bool, Refusal>
+        requires retained { IsRetained self.now.kept rev }
+        requires kept { IfSome kept (λ kept. AreRetainedAnswers self.now.kept kept.now) }
         ensures ok { IfOk result (λ answer.
             IsTrue answer ↔ IsMember (snap_at self.now.kept rev) user.now node.now) }
         ensures known { OnOk result
@@ -354,12 +375,26 @@ impl Shown {
         ensures err { IfErr result (CheckCause (snap_at self.now.kept rev) node.now) }
     {
         let view = self.rows.at(rev);
+        each_view_is_valid(&view);
+        let (hot, groups) = (self.members_at(rev), self.index_at(rev));
+        let answers = answers_at(kept, rev);
+        let mut known = Known {
+            hot,
+            groups,
+            answers,
+        };
+        decide::check_at(self.alloc, &view, &mut known, node, user)
+    }
+
+    /// The members of the marked nodes, where they are those at a retained revision.
+    fn members_at(&self, rev: u64) -> Option<&Hot>
+        ensures { IfSome result (λ hot. IsHot hot.now (snap_at self.now.kept rev)) }
+    {
         if rev == self.hot {
-            if let Some(hot) = &self.members {
-                return decide::check_at(self.alloc, &view, &mut Known { hot }, node, user);
-            }
+            self.members.as_ref()
+        } else {
+            None
         }
-        decide::check_at(self.alloc, &view, &mut Nothing, node, user)
     }
 
     /// The userset tree of the node, at the revision that the consistency chooses. At most `depth` nodes are open on a
@@ -499,13 +534,22 @@ impl Shown {
         ensures err { IfErr result
             (AskCause (snap_at self.now.kept rev).config (query_of expr.now) limit) }
     {
-        if let Some(built) = &self.built {
-            if rev == built.rev() {
-                return built.groups(self.alloc, expr, limit);
-            }
+        if let Some(at) = self.index_at(rev) {
+            return at.first_groups(expr, limit);
         }
         let view = self.rows.at(rev);
         leopard::groups_at(self.alloc, &view, expr, limit)
+    }
+
+    /// The group index at a retained revision, where it tells of that.
+    fn index_at(&self, rev: u64) -> Option<At<'_>>
+        requires { IsRetained self.now.kept rev }
+        ensures { IfSome result (λ at. TellsOf at (snap_at self.now.kept rev)) }
+    {
+        match &self.groups {
+            Some(index) => index.at(self.alloc, rev),
+            None => None,
+        }
     }
 
     /// Why a write is refused at the newest revision, if it is. It takes no memory.
@@ -540,7 +584,7 @@ impl Shown {
     {
         let rows = Rows::new(self.alloc, loaded)?;
         let newest = rows.newest();
-        self.built = None;
+        self.groups = None;
         self.members = None;
         self.rows = rows;
         self.base = newest;
@@ -573,8 +617,20 @@ impl Shown {
         ensures { self.new ≡ after_take self.old Part.Index commits }
     {
         let to = self.cursor_after(self.index, commits);
+        self.groups = self.groups_up_to(to);
         self.base = self.rows.last_config(self.base, self.index, to);
         self.index = to;
+    }
+
+    /// The group index with the commits up to a revision, as far as it is kept.
+    fn groups_up_to(&mut self, to: u64) -> Option<GroupIndex>
+        requires later { self.old.index ≤ to }
+        requires there { to ≤ newest self.old.kept }
+        ensures index { IfSome result (IsIndexIn (snap_at self.old.kept) self.old.kept.floor to) }
+        ensures same { self.new ≡ self.old }
+    {
+        let index = self.groups.take()?;
+        index_later(self.alloc, index, &self.rows, self.index, to).ok()
     }
 
     fn take_hot(&mut self, commits: u32)

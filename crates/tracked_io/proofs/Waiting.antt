@@ -3,6 +3,7 @@ use Rattle.std.proofs.Common.{◌≡◌, ℕ, ◌++◌, List, [], ◌∷◌, ref
 use Rattle.std.specs.Prelude.{Option}
 use Rattle.std.proofs.KnownBytes.{Consumes-nil, Consumes-trans}
 use Rattle.tracked_io.specs.Tracking.{TrackedReading, Reads, AtEachRead}
+use Rattle.tracked_io.specs.Wrote.{Taken}
 use Rattle.tracked_io.specs.Waiting.{OneRead, with_read, given, Gave, HoldsAtEach, Waited}
 
 given_both : (xs ys : List OneRead) → given (xs ++ ys) ≡ given xs ++ given ys
@@ -19,7 +20,7 @@ gave_both a b c xs ys g h = (
   given_both g.0 h.0 ∙ ap (λ bytes. bytes ++ given h.0) g.2 ∙ ap (λ bytes. xs ++ bytes) h.2,
 )
 
-module _ (P : List ℕ → Option (List ℕ) → Type 0) where
+module _ (P : List ℕ → Taken → Type 0) where
   holds_both : (input : List ℕ) (xs ys : List OneRead) → HoldsAtEach P input xs → HoldsAtEach P (input ++ given xs) ys → HoldsAtEach P input (xs ++ ys)
   holds_both input [] ys h k = subst (λ (i : List ℕ). HoldsAtEach P i ys) (append-nil input) k
   holds_both input (x ∷ xs) ys h k = (h.0, holds_both (input ++ x.gave) xs ys h.1 (subst (λ (i : List ℕ). HoldsAtEach P i ys) (sym (append_assoc input x.gave (given xs))) k))
@@ -41,12 +42,12 @@ module _ (P : List ℕ → Option (List ℕ) → Type 0) where
   }
 
   -- one read more
-  pub waited_more : (a b c : List OneRead) (input : List ℕ) (held : Option (List ℕ)) (gave : List ℕ) → Waited P a b input → c ≡ with_read b held gave → P input held → Waited P a c (input ++ gave)
+  pub waited_more : (a b c : List OneRead) (input : List ℕ) (held : Taken) (gave : List ℕ) → Waited P a b input → c ≡ with_read b held gave → P input held → Waited P a c (input ++ gave)
   waited_more a b c input held gave w e here =
       waited_both a b c input gave w (record { more = (record { held = held; gave = gave }) ∷ []; grown = e; gives = append-nil gave; held = (subst (λ (i : List ℕ). P i held) (sym (append-nil input)) here, tt) })
 
   -- one read more, which gave nothing
-  pub waited_still : (a b c : List OneRead) (input : List ℕ) (held : Option (List ℕ)) (gave : List ℕ) → Waited P a b input → c ≡ with_read b held gave → gave ≡ [] → P input held → Waited P a c input
+  pub waited_still : (a b c : List OneRead) (input : List ℕ) (held : Taken) (gave : List ℕ) → Waited P a b input → c ≡ with_read b held gave → gave ≡ [] → P input held → Waited P a c input
   waited_still a b c input held gave w e none here =
       subst (λ (i : List ℕ). Waited P a c i) (ap (λ bytes. input ++ bytes) none ∙ append-nil input) (waited_more a b c input held gave w e here)
 
@@ -57,11 +58,11 @@ module _ (P : List ℕ → Option (List ℕ) → Type 0) where
   at_each_waited old new input w = (w.more, w.grown, w.held)
 
 -- the same of what follows from it
-holds_as : (P Q : List ℕ → Option (List ℕ) → Type 0) → ((i : List ℕ) (h : Option (List ℕ)) → P i h → Q i h) → (input : List ℕ) (xs : List OneRead) → HoldsAtEach P input xs → HoldsAtEach Q input xs
+holds_as : (P Q : List ℕ → Taken → Type 0) → ((i : List ℕ) (h : Taken) → P i h → Q i h) → (input : List ℕ) (xs : List OneRead) → HoldsAtEach P input xs → HoldsAtEach Q input xs
 holds_as P Q f input [] h = tt
 holds_as P Q f input (x ∷ xs) h = (f input x.held h.0, holds_as P Q f (input ++ x.gave) xs h.1)
 
-pub waited_as : (P Q : List ℕ → Option (List ℕ) → Type 0) → ((i : List ℕ) (h : Option (List ℕ)) → P i h → Q i h) → (a b : List OneRead) (input : List ℕ) → Waited P a b input → Waited Q a b input
+pub waited_as : (P Q : List ℕ → Taken → Type 0) → ((i : List ℕ) (h : Taken) → P i h → Q i h) → (a b : List OneRead) (input : List ℕ) → Waited P a b input → Waited Q a b input
 waited_as P Q f a b input w = record { more = w.more; grown = w.grown; gives = w.gives; held = holds_as P Q f [] w.more w.held }
 
 module _ {R : Type 0} (remaining : R → Option (List ℕ)) where

@@ -1,10 +1,9 @@
 //! The reads of a reader, which only proofs see.
-ghost use Rattle.std.specs.Prelude.{◌≡◌, List, [], Option};
+ghost use Rattle.std.specs.Prelude.{◌≡◌, List, []};
 ghost use Rattle.std.specs.Borrow.{ftrue};
 ghost use Rattle.tracked_io.specs.Waiting.{OneRead, with_read};
 
-use crate::tracked_writer::TrackedWriter;
-use std::io::Write;
+use crate::write_log::WriteLog;
 use std::marker::Model;
 
 /// Each read so far. It takes no memory, and its methods do nothing when they run.
@@ -25,9 +24,9 @@ impl ReadLog {
         ReadLog {}
     }
 
-    /// These reads, and then one that was lent the writer and gave the bytes.
-    pub fn with<W: Write>(&self, _answered: &TrackedWriter<W>, _gave: &[u8]) -> ReadLog
-        ensures { result.reads ≡ with_read self.now.reads (W.contents _answered.now.inner) _gave.now }
+    /// These reads, and then one that was lent a writer that had taken this, and gave the bytes.
+    pub fn with(&self, _held: &WriteLog, _gave: &[u8]) -> ReadLog
+        ensures { result.reads ≡ with_read self.now.reads _held.now.taken _gave.now }
     {
         ReadLog {}
     }

@@ -13,7 +13,7 @@ use std::io::{ErrorKind, Read, Write};
 use std::marker::Model;
 
 /// A reader that remembers whether a read failed. In proofs alone it has each read of it so far, with what the writer
-/// that it was lent had in it: only [`read`](TrackedReader::read) adds to these.
+/// that it was lent had taken: only [`read`](TrackedReader::read) adds to these.
 #[derive(Drop)]
 pub struct TrackedReader<R> {
     inner: R,
@@ -64,8 +64,7 @@ impl<R: Read> TrackedReader<R> {
         requires { answered.now.flushed ≡ true }
         ensures bound { ReadsAtMost result buf.new }
         ensures bytes { ReadConsumes (R.remaining self.old.inner) (R.remaining self.new.inner) result buf.new }
-        ensures reads { self.new.reads
-            ≡ with_read self.old.reads (W.contents answered.now.inner) (given_by result buf.new) }
+        ensures reads { self.new.reads ≡ with_read self.old.reads answered.now.taken (given_by result buf.new) }
         ensures failed { FailsWith result self.old.failed self.new.failed }
         ensures retried { IfErr result (λ e. error_kind e ≢ ErrorKind.Interrupted) }
         ensures turns { OnOk result (self.old.turns < self.new.turns) }
@@ -73,11 +72,11 @@ impl<R: Read> TrackedReader<R> {
     {
         match self.try_to_read(buf) {
             Ok(n) => {
-                self.log = self.log.with(answered, &buf[..n]);
+                self.log = self.log.with(answered.log(), &buf[..n]);
                 Ok(n)
             }
             Err(e) => {
-                self.log = self.log.with(answered, &[]);
+                self.log = self.log.with(answered.log(), &[]);
                 Err(e)
             }
         }

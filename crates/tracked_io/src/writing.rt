@@ -7,9 +7,9 @@ use crate::tracked_writer::TrackedWriter;
 use std::io;
 use std::io::Write;
 
-/// Writes the bytes. Where the writer fails, it holds a beginning of them.
+/// Writes the bytes. Where the writer fails, it took a beginning of them.
 pub fn put<W: Write>(writer: &mut TrackedWriter<W>, bytes: &[u8]) -> io::Result<()>
-    ensures wrote { Writes W.contents result writer.old writer.new bytes.now }
+    ensures wrote { Writes result writer.old writer.new bytes.now }
     ensures failed { FailsWith result writer.old.failed writer.new.failed }
 {
     let mut rest = bytes;
@@ -20,9 +20,9 @@ pub fn put<W: Write>(writer: &mut TrackedWriter<W>, bytes: &[u8]) -> io::Result<
     Ok(())
 }
 
-/// Writes the bytes and hands them on. Where the writer fails, it holds a beginning of them.
+/// Writes the bytes and hands them on. Where the writer fails, it took a beginning of them.
 pub fn say<W: Write>(writer: &mut TrackedWriter<W>, bytes: &[u8]) -> io::Result<()>
-    ensures wrote { Writes W.contents result writer.old writer.new bytes.now }
+    ensures wrote { Writes result writer.old writer.new bytes.now }
     ensures failed { FailsWith result writer.old.failed writer.new.failed }
     ensures flushed { OnOk result (writer.new.flushed ≡ true) }
 {
@@ -30,9 +30,9 @@ pub fn say<W: Write>(writer: &mut TrackedWriter<W>, bytes: &[u8]) -> io::Result<
     writer.flush()
 }
 
-/// Writes the parts, one after another. Where the writer fails, it holds a beginning of them.
+/// Writes the parts, one after another. Where the writer fails, it took a beginning of them.
 pub fn put_parts<W: Write>(writer: &mut TrackedWriter<W>, parts: &[&[u8]]) -> io::Result<()>
-    ensures wrote { Writes W.contents result writer.old writer.new (flat_map (λ part. part.now) parts.now) }
+    ensures wrote { Writes result writer.old writer.new (flat_map (λ part. part.now) parts.now) }
     ensures failed { FailsWith result writer.old.failed writer.new.failed }
 {
     for part in parts {

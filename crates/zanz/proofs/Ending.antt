@@ -14,6 +14,7 @@ use Rattle.sqlite.specs.Files.{over_files}
 use Rattle.rows.specs.Retained.{Retained}
 use Rattle.store.specs.History.{KeepsHistory, LeavesHistory}
 use Rattle.tracked_io.specs.Tracking.{TrackedReading, TrackedWriting}
+use Rattle.tracked_io.specs.Wrote.{Taken, nothing_taken}
 use Rattle.command_line.specs.Faults.{fault_status}
 use Rattle.command_line.specs.declared.fault.Fault.{Fault}
 use Rattle.command_line.specs.declared.fault.Fault.TheVariants.{CommandLine, Refused, CannotRead, CannotWrite, CannotListen}
@@ -58,24 +59,27 @@ module _ {A F : Type 0} (r : Result A F) where
 
 -- ---- the writer
 
-pub is_unbroken : {W : Type 0} (writer : TrackedWriting W) (output : W) → writer.inner ≡ output → writer.failed ≡ false → writer.flushed ≡ true → writer ≡ unbroken output
-is_unbroken {W} writer output inner failed flushed =
-    subst (λ (i : W). writer ≡ record { inner = i; failed = false; flushed = true }) inner (
-    subst (λ (f : Bool). writer ≡ record { inner = writer.inner; failed = f; flushed = true }) failed (
-    subst (λ (f : Bool). writer ≡ record { inner = writer.inner; failed = writer.failed; flushed = f }) flushed refl))
+pub is_unbroken : {W : Type 0} (known : Option (List ℕ)) (writer : TrackedWriting W) (output : W) → writer.inner ≡ output → writer.failed ≡ false → writer.flushed ≡ true
+    → writer.taken ≡ nothing_taken known → writer ≡ unbroken known output
+is_unbroken {W} known writer output inner failed flushed taken =
+    let none : Taken = nothing_taken known in
+    subst (λ (i : W). writer ≡ record { inner = i; failed = false; flushed = true; taken = none }) inner (
+    subst (λ (f : Bool). writer ≡ record { inner = writer.inner; failed = f; flushed = true; taken = none }) failed (
+    subst (λ (f : Bool). writer ≡ record { inner = writer.inner; failed = writer.failed; flushed = f; taken = none }) flushed (
+    subst (λ (t : Taken). writer ≡ record { inner = writer.inner; failed = writer.failed; flushed = writer.flushed; taken = t }) taken refl)))
 
-pub is_untouched : {W F : Type 0} (r : Result W F) (output : W) (writer : TrackedWriting W) → r ≡ Ok output → writer ≡ unbroken output → Some writer ≡ untouched r
-is_untouched {W} {F} r output writer is same = subst (λ (s : Result W F). Some writer ≡ untouched s) (sym is) (ap (λ (w : TrackedWriting W). Some w) same)
+pub is_untouched : {W F : Type 0} (contents : W → Option (List ℕ)) (r : Result W F) (output : W) (writer : TrackedWriting W) → r ≡ Ok output → writer ≡ unbroken (contents output) output → Some writer ≡ untouched contents r
+is_untouched {W} {F} contents r output writer is same = subst (λ (s : Result W F). Some writer ≡ untouched contents s) (sym is) (ap (λ (w : TrackedWriting W). Some w) same)
 
-pub untouched_as : {W F : Type 0} (r : Result W F) (e : F) → r ≡ Err e → untouched {W = W} {F = F} (Err e) ≡ untouched r
-untouched_as {W} {F} r e is = ap (λ (s : Result W F). untouched s) (sym is)
+pub untouched_as : {W F : Type 0} (contents : W → Option (List ℕ)) (r : Result W F) (e : F) → r ≡ Err e → untouched {W = W} {F = F} contents (Err e) ≡ untouched contents r
+untouched_as {W} {F} contents r e is = ap (λ (s : Result W F). untouched contents s) (sym is)
 
-module _ {R W D : Type 0} {g : disk.Ghosts D} (image : Image) (serves : Bool) (remaining : R → Option (List ℕ)) (contents : W → Option (List ℕ)) (reader : TrackedReading R) (writer start : TrackedWriting W) (new : TrackedReading R × TrackedWriting W) (left : Remains g) (is : writer ≡ start) where
-  pub obeyed_from : Obeyed image serves remaining contents (reader, writer) new left → Obeyed image serves remaining contents (reader, start) new left
-  obeyed_from h = subst (λ (w : TrackedWriting W). Obeyed image serves remaining contents (reader, w) new left) is h
+module _ {R W D : Type 0} {g : disk.Ghosts D} (image : Image) (serves : Bool) (remaining : R → Option (List ℕ)) (reader : TrackedReading R) (writer start : TrackedWriting W) (new : TrackedReading R × TrackedWriting W) (left : Remains g) (is : writer ≡ start) where
+  pub obeyed_from : Obeyed image serves remaining (reader, writer) new left → Obeyed image serves remaining (reader, start) new left
+  obeyed_from h = subst (λ (w : TrackedWriting W). Obeyed image serves remaining (reader, w) new left) is h
 
-  pub stopped_from : (tells : Fault → Type 0) (silence : Type 0) → Stopped image serves remaining contents (reader, writer) new left tells silence → Stopped image serves remaining contents (reader, start) new left tells silence
-  stopped_from tells silence h = subst (λ (w : TrackedWriting W). Stopped image serves remaining contents (reader, w) new left tells silence) is h
+  pub stopped_from : (tells : Fault → Type 0) (silence : Type 0) → Stopped image serves remaining (reader, writer) new left tells silence → Stopped image serves remaining (reader, start) new left tells silence
+  stopped_from tells silence h = subst (λ (w : TrackedWriting W). Stopped image serves remaining (reader, w) new left tells silence) is h
 
 -- ---- where nothing was begun
 
@@ -86,13 +90,13 @@ at_most_2 CannotRead status is = omega arith
 at_most_2 CannotWrite status is = omega arith
 at_most_2 CannotListen status is = omega arith
 
-module _ {R W E D F : Type 0} {g : disk.Ghosts D} (contents : E → Option (List ℕ)) (output : Result W F) (status : ℕ) (files : Result (Remnant g) (Remains g)) (writer : Option (TrackedWriting W)) (reader : TrackedReading R) (errors errors_after : TrackedWriting E) where
-  pub unbegun_for : (fault same : Fault) → fault ≡ same → status ≡ fault_status fault → files ≡ Err (Err None) → writer ≡ untouched output → Tells contents errors errors_after fault
+module _ {R W E D F : Type 0} {g : disk.Ghosts D} (contents : W → Option (List ℕ)) (output : Result W F) (status : ℕ) (files : Result (Remnant g) (Remains g)) (writer : Option (TrackedWriting W)) (reader : TrackedReading R) (errors errors_after : TrackedWriting E) where
+  pub unbegun_for : (fault same : Fault) → fault ≡ same → status ≡ fault_status fault → files ≡ Err (Err None) → writer ≡ untouched contents output → Tells errors errors_after fault
       → IsUnbegun contents same output status files writer reader reader errors errors_after
   unbegun_for fault same is ends none unwritten told = record {
     ends = ends ∙ ap (λ (f : Fault). fault_status f) is;
     unread = refl;
     no_files = none;
     unwritten = unwritten;
-    told = subst (λ (f : Fault). Tells contents errors errors_after f) is told;
+    told = subst (λ (f : Fault). Tells errors errors_after f) is told;
   }

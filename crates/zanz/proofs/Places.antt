@@ -56,16 +56,16 @@ unwritten_is_no_fault told fault is why other = cc
 
 -- ---- at each place
 
-module _ {R W D : Type 0} {g : disk.Ghosts D} (image : Image) (remaining : R → Option (List ℕ)) (contents : W → Option (List ℕ)) (reader reader_after : TrackedReading R) (writer writer_after : TrackedWriting W) where
+module _ {R W D : Type 0} {g : disk.Ghosts D} (image : Image) (remaining : R → Option (List ℕ)) (reader reader_after : TrackedReading R) (writer writer_after : TrackedWriting W) where
   abbrev Ran : Extent → Remains g → Place → Type 0
-  Ran extent left place = RanAt image extent place remaining contents (reader, writer) (reader_after, writer_after) left
+  Ran extent left place = RanAt image extent place remaining (reader, writer) (reader_after, writer_after) left
 
   pub ran_in_memory : (extent : Extent) (place : Place) (number : ℕ) (tables back : Retained) → place ≡ Memory number → tables ≡ empty_store number
-      → (input : List ℕ) × ReadBy extent remaining reader reader_after input × Ended listed tables input (AnsweredBy extent listed contents (reader, writer) input (reader_after, writer_after)) back → Ran extent (Err None) place
+      → (input : List ℕ) × ReadBy extent remaining reader reader_after input × Ended listed tables input (AnsweredBy extent listed (reader, writer) input (reader_after, writer_after)) back → Ran extent (Err None) place
   ran_in_memory extent place number tables back is empty h = subst (Ran extent (Err None)) (sym is) (record {
     input = h.0;
     read = h.1;
-    ended = (refl, back, subst (λ (t : Retained). Ended listed t h.0 (AnsweredBy extent listed contents (reader, writer) h.0 (reader_after, writer_after)) back) empty h.2);
+    ended = (refl, back, subst (λ (t : Retained). Ended listed t h.0 (AnsweredBy extent listed (reader, writer) h.0 (reader_after, writer_after)) back) empty h.2);
     began = tt;
     lasts = tt;
   })
@@ -73,7 +73,7 @@ module _ {R W D : Type 0} {g : disk.Ghosts D} (image : Image) (remaining : R →
   pub ran_in_new : (extent : Extent) (place : Place) (file : String Global) (number : ℕ) (told : Result (Unit {0}) Fault) (left : Remains g) → place ≡ New file number
       → Takes image (Some number) told left → ¬ (told ≡ Err (Refused StoreFault)) → IfOk left (λ conn. Lasts sound_device (device_below over_files conn))
       → (input : List ℕ) × ReadBy extent remaining reader reader_after input
-      × IsOkAnd left (EndedOver over_files (BeginsIn image (Some number)) input (AnsweredBy extent (over over_files) contents (reader, writer) input (reader_after, writer_after)))
+      × IsOkAnd left (EndedOver over_files (BeginsIn image (Some number)) input (AnsweredBy extent (over over_files) (reader, writer) input (reader_after, writer_after)))
       → Ran extent left place
   ran_in_new extent place file number told left is takes other lasts h =
       subst (Ran extent left) (sym is) (record { input = h.0; read = h.1; ended = h.2; began = began image (Some number) told left takes other; lasts = lasts })
@@ -81,7 +81,7 @@ module _ {R W D : Type 0} {g : disk.Ghosts D} (image : Image) (remaining : R →
   pub ran_in_there : (extent : Extent) (place : Place) (file : String Global) (told : Result (Unit {0}) Fault) (left : Remains g) → place ≡ There file
       → Takes image None told left → ¬ (told ≡ Err (Refused StoreFault)) → IfOk left (λ conn. Lasts sound_device (device_below over_files conn))
       → (input : List ℕ) × ReadBy extent remaining reader reader_after input
-      × IsOkAnd left (EndedOver over_files (BeginsIn image None) input (AnsweredBy extent (over over_files) contents (reader, writer) input (reader_after, writer_after)))
+      × IsOkAnd left (EndedOver over_files (BeginsIn image None) input (AnsweredBy extent (over over_files) (reader, writer) input (reader_after, writer_after)))
       → Ran extent left place
   ran_in_there extent place file told left is takes other lasts h =
       subst (Ran extent left) (sym is) (record { input = h.0; read = h.1; ended = h.2; began = began image None told left takes other; lasts = lasts })

@@ -17,34 +17,34 @@ use Rattle.zanz.specs.Listening.{Announced, StoppedServing}
 use Rattle.zanz.specs.Ran.{all_lines, whole_lines, first_lines, RanAt, RefusedAt, RunStopped, input_failed, output_failed, run_refused, DoneOf, StoppedOf}
 use Rattle.zanz.proofs.Results.{err_at}
 
-module _ {R W D : Type 0} {g : disk.Ghosts D} (image : Image) (remaining : R → Option (List ℕ)) (contents : W → Option (List ℕ)) (reader reader_after : TrackedReading R) (writer writer_after : TrackedWriting W) (left : Remains g) where
+module _ {R W D : Type 0} {g : disk.Ghosts D} (image : Image) (remaining : R → Option (List ℕ)) (reader reader_after : TrackedReading R) (writer writer_after : TrackedWriting W) (left : Remains g) where
   abbrev Done : Task → Type 0
-  Done task = DoneOf image task remaining contents (reader, writer) (reader_after, writer_after) left
+  Done task = DoneOf image task remaining (reader, writer) (reader_after, writer_after) left
 
   abbrev StoppedBy : Fault → Task → Type 0
-  StoppedBy fault task = StoppedOf image task fault remaining contents (reader, writer) (reader_after, writer_after) left
+  StoppedBy fault task = StoppedOf image task fault remaining (reader, writer) (reader_after, writer_after) left
 
   module _ (place : Place) where
-    pub done_service : (task : Task) (port : ℕ) (workers : Option ℕ) → task ≡ Serve place port workers → reader_after ≡ reader → Announced contents port writer writer_after → left ≡ Err None → Done task
+    pub done_service : (task : Task) (port : ℕ) (workers : Option ℕ) → task ≡ Serve place port workers → reader_after ≡ reader → Announced port writer writer_after → left ≡ Err None → Done task
     done_service task port workers is same announced none = subst Done (sym is) (same, announced, none)
 
-    pub service_stops : (task : Task) (port : ℕ) (workers : Option ℕ) (fault : Fault) → task ≡ Serve place port workers → reader_after ≡ reader → StoppedServing contents port fault writer writer_after → left ≡ Err None → StoppedBy fault task
+    pub service_stops : (task : Task) (port : ℕ) (workers : Option ℕ) (fault : Fault) → task ≡ Serve place port workers → reader_after ≡ reader → StoppedServing port fault writer writer_after → left ≡ Err None → StoppedBy fault task
     service_stops task port workers fault is same stopped none = subst (StoppedBy fault) (sym is) (same, stopped, none)
 
-    pub done_run : (task : Task) → task ≡ Run place → RanAt image all_lines place remaining contents (reader, writer) (reader_after, writer_after) left → Done task
+    pub done_run : (task : Task) → task ≡ Run place → RanAt image all_lines place remaining (reader, writer) (reader_after, writer_after) left → Done task
     done_run task is ran = subst Done (sym is) ran
 
     abbrev CannotReadOn : Fault → Type 0
-    CannotReadOn fault = fault ≡ CannotRead → RanAt image whole_lines place remaining contents (reader, writer) (reader_after, writer_after) left
+    CannotReadOn fault = fault ≡ CannotRead → RanAt image whole_lines place remaining (reader, writer) (reader_after, writer_after) left
 
     abbrev CannotWriteOn : Fault → Type 0
-    CannotWriteOn fault = fault ≡ CannotWrite → RanAt image first_lines place remaining contents (reader, writer) (reader_after, writer_after) left
+    CannotWriteOn fault = fault ≡ CannotWrite → RanAt image first_lines place remaining (reader, writer) (reader_after, writer_after) left
 
     abbrev IsRefused : Fault → Type 0
     IsRefused fault = (why : Refusal) → fault ≡ Refused why → (reader_after ≡ reader) × (writer_after ≡ writer) × RefusedAt image place fault left
 
     stopped_run : (A : Type 0) (fault : Fault) → IsRunFault fault → reader_after.failed ≡ is_read_fault {A = A} (Err fault) → writer_after.failed ≡ is_write_fault {A = A} (Err fault)
-        → CannotReadOn fault → CannotWriteOn fault → IsRefused fault → RunStopped image place fault remaining contents (reader, writer) (reader_after, writer_after) left
+        → CannotReadOn fault → CannotWriteOn fault → IsRefused fault → RunStopped image place fault remaining (reader, writer) (reader_after, writer_after) left
     stopped_run A CommandLine run unread unwritten paused cut refused = absurd run
     stopped_run A (Refused why) run unread unwritten paused cut refused = let k = refused why refl in run_refused why refl run k.0 k.1 k.2
     stopped_run A CannotRead run unread unwritten paused cut refused = input_failed refl unread unwritten (paused refl)

@@ -14,19 +14,20 @@ use Rattle.sqlite.specs.Files.{over_files}
 use Rattle.rows.specs.Retained.{Retained}
 use Rattle.store.specs.History.{KeepsHistory, LeavesHistory}
 use Rattle.tracked_io.specs.Tracking.{TrackedReading, TrackedWriting}
+use Rattle.tracked_io.specs.Wrote.{nothing_taken}
 use Rattle.command_line.specs.Faults.{fault_status}
 use Rattle.command_line.specs.declared.fault.Fault.{Fault}
 use Rattle.runs.specs.Files.{Remains, HoldsOneOf, HoldsAmong}
 use Rattle.zanz.specs.Telling.{Tells}
 
--- a writer that has not failed, and holds nothing back
-abbrev pub unbroken : {W : Type 0} → W → TrackedWriting W
-unbroken w = record { inner = w; failed = false; flushed = true }
+-- a writer that is known to hold this, has not failed, has taken nothing, and holds nothing back
+abbrev pub unbroken : {W : Type 0} → Option (List ℕ) → W → TrackedWriting W
+unbroken known w = record { inner = w; failed = false; flushed = true; taken = nothing_taken known }
 
 -- the writer, where there is one, with nothing written
-abbrev pub untouched : {W F : Type 0} → Result W F → Option (TrackedWriting W)
-untouched (Ok output) = Some (unbroken output)
-untouched (Err e) = None
+abbrev pub untouched : {W F : Type 0} → (W → Option (List ℕ)) → Result W F → Option (TrackedWriting W)
+untouched contents (Ok output) = Some (unbroken (contents output) output)
+untouched contents (Err e) = None
 
 -- what closing a connection left: the two files, or a store, where the log could not be copied
 abbrev pub Remnant : {D : Type 0} → disk.Ghosts D → Type 0
@@ -52,10 +53,10 @@ EndsWith zero (Err left) end = end ≡ Err (Err left)
 EndsWith (suc status) left end = end ≡ Err left
 
 -- For this fault, which was told, nothing was begun: nothing was read or written, and of files nothing is handed back.
-pub record IsUnbegun {R W E D F : Type 0} {g : disk.Ghosts D} (contents : E → Option (List ℕ)) (fault : Fault) (output : Result W F) (status : ℕ) (files : Result (Remnant g) (Remains g)) (writer : Option (TrackedWriting W))
+pub record IsUnbegun {R W E D F : Type 0} {g : disk.Ghosts D} (contents : W → Option (List ℕ)) (fault : Fault) (output : Result W F) (status : ℕ) (files : Result (Remnant g) (Remains g)) (writer : Option (TrackedWriting W))
     (reader reader_after : TrackedReading R) (errors errors_after : TrackedWriting E) : Type 0 where
   pub ends : status ≡ fault_status fault
   pub unread : reader_after ≡ reader
   pub no_files : files ≡ Err (Err None)
-  pub unwritten : writer ≡ untouched output
-  pub told : Tells contents errors errors_after fault
+  pub unwritten : writer ≡ untouched contents output
+  pub told : Tells errors errors_after fault

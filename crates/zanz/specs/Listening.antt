@@ -1,8 +1,7 @@
 -- What the program says where it listens.
-use Rattle.std.specs.Prelude.{ℕ, ◌≡◌, ◌≢◌, ◌⊎◌, true, false, ◌++◌, ◌∷◌, [], List, Option, codes, decimal}
-use Rattle.std.specs.Io.KnownBytes.{Appends}
+use Rattle.std.specs.Prelude.{ℕ, ◌≡◌, ◌≢◌, ◌⊎◌, true, false, ◌++◌, ◌∷◌, [], List, codes, decimal}
 use Rattle.tracked_io.specs.Tracking.{TrackedWriting}
-use Rattle.tracked_io.specs.Wrote.{WroteSome}
+use Rattle.tracked_io.specs.Wrote.{Took, WroteSome}
 use Rattle.names.specs.declared.refusal.Refusal.TheVariants.{Memory, NoSeat}
 use Rattle.tables.specs.Opening.{CannotOpen}
 use Rattle.command_line.specs.declared.fault.Fault.{Fault}
@@ -17,12 +16,12 @@ abbrev pub IsPortFor : ℕ → ℕ → Type 0
 IsPortFor asked port = (port ≢ 0) × ((asked ≡ 0) ⊎ (port ≡ asked))
 
 -- the line was written, for a port that was asked for
-abbrev pub Announced : {W : Type 0} → (W → Option (List ℕ)) → ℕ → TrackedWriting W → TrackedWriting W → Type 0
-Announced contents asked old new = (port : ℕ) × IsPortFor asked port × Appends (contents old.inner) (contents new.inner) (listening_line port)
+abbrev pub Announced : {W : Type 0} → ℕ → TrackedWriting W → TrackedWriting W → Type 0
+Announced asked old new = (port : ℕ) × IsPortFor asked port × Took old.taken new.taken (listening_line port)
 
 -- a beginning of it was
-abbrev pub BeganAnnounced : {W : Type 0} → (W → Option (List ℕ)) → ℕ → TrackedWriting W → TrackedWriting W → Type 0
-BeganAnnounced contents asked old new = (port : ℕ) × IsPortFor asked port × WroteSome (contents old.inner) (contents new.inner) (listening_line port)
+abbrev pub BeganAnnounced : {W : Type 0} → ℕ → TrackedWriting W → TrackedWriting W → Type 0
+BeganAnnounced asked old new = (port : ℕ) × IsPortFor asked port × WroteSome old.taken new.taken (listening_line port)
 
 -- the store cannot be opened, or memory is refused, or the port cannot be had
 abbrev pub IsStartFault : Fault → Type 0
@@ -37,9 +36,9 @@ IsWorkerFault (Refused Memory) = Unit {0}
 IsWorkerFault _ = ⊥
 
 -- For this fault it was not said: a beginning of it was, where the writer failed; or nothing was, for want of a store or a port.
-abbrev pub NotAnnounced : {W : Type 0} → (W → Option (List ℕ)) → ℕ → Fault → TrackedWriting W → TrackedWriting W → Type 0
-NotAnnounced contents asked fault old new = ((fault ≡ CannotWrite) × (new.failed ≡ true) × BeganAnnounced contents asked old new) ⊎ (IsStartFault fault × (new ≡ old))
+abbrev pub NotAnnounced : {W : Type 0} → ℕ → Fault → TrackedWriting W → TrackedWriting W → Type 0
+NotAnnounced asked fault old new = ((fault ≡ CannotWrite) × (new.failed ≡ true) × BeganAnnounced asked old new) ⊎ (IsStartFault fault × (new ≡ old))
 
 -- It was said and handed on, and no worker could be made; or it was not said.
-abbrev pub StoppedServing : {W : Type 0} → (W → Option (List ℕ)) → ℕ → Fault → TrackedWriting W → TrackedWriting W → Type 0
-StoppedServing contents asked fault old new = (IsWorkerFault fault × (new.failed ≡ false) × (new.flushed ≡ true) × Announced contents asked old new) ⊎ NotAnnounced contents asked fault old new
+abbrev pub StoppedServing : {W : Type 0} → ℕ → Fault → TrackedWriting W → TrackedWriting W → Type 0
+StoppedServing asked fault old new = (IsWorkerFault fault × (new.failed ≡ false) × (new.flushed ≡ true) × Announced asked old new) ⊎ NotAnnounced asked fault old new

@@ -1,8 +1,7 @@
 -- What standard error is told of a fault.
-use Rattle.std.specs.Prelude.{ℕ, ◌≡◌, ◌⊎◌, ◌++◌, true, false, List, [], ◌∷◌, Option, codes, decimal}
-use Rattle.std.specs.Io.KnownBytes.{Appends}
+use Rattle.std.specs.Prelude.{ℕ, ◌≡◌, ◌⊎◌, ◌++◌, true, false, List, [], ◌∷◌, codes, decimal}
 use Rattle.tracked_io.specs.Tracking.{TrackedWriting}
-use Rattle.tracked_io.specs.Wrote.{WroteSome}
+use Rattle.tracked_io.specs.Wrote.{Took, WroteSome}
 use Rattle.command_line.specs.Faults.{fault_text}
 use Rattle.command_line.specs.declared.fault.Fault.{Fault}
 
@@ -19,6 +18,6 @@ abbrev pub refusal_line : ℕ → List ℕ → List ℕ
 refusal_line number name = codes "zanz: refused " ++ cause_text number name
 
 -- The line was written and handed on; or a beginning of it was written, where that failed.
-abbrev pub Tells : {E : Type 0} → (E → Option (List ℕ)) → TrackedWriting E → TrackedWriting E → Fault → Type 0
-Tells contents old new fault = ((new.failed ≡ false) × (new.flushed ≡ true) × Appends (contents old.inner) (contents new.inner) (fault_line fault))
-    ⊎ ((new.failed ≡ true) × WroteSome (contents old.inner) (contents new.inner) (fault_line fault))
+abbrev pub Tells : {E : Type 0} → TrackedWriting E → TrackedWriting E → Fault → Type 0
+Tells old new fault = ((new.failed ≡ false) × (new.flushed ≡ true) × Took old.taken new.taken (fault_line fault))
+    ⊎ ((new.failed ≡ true) × WroteSome old.taken new.taken (fault_line fault))

@@ -39,14 +39,14 @@ fn report<F: Files, W: Write>(
     writer: &mut TrackedWriter<W>,
 ) -> Result<u8, Fault>
     requires unbroken_writer { writer.old.failed ≡ false }
-    ensures accepted { IfOk result (λ status. status ≡ 0 → Reported W.contents true writer.old writer.new) }
-    ensures refused { IfOk result (λ status. status ≡ 1 → Reported W.contents false writer.old writer.new) }
+    ensures accepted { IfOk result (λ status. status ≡ 0 → Reported true writer.old writer.new) }
+    ensures refused { IfOk result (λ status. status ≡ 1 → Reported false writer.old writer.new) }
     ensures whole { IfOk result (λ _. (writer.new.failed ≡ false) × (writer.new.flushed ≡ true)) }
     ensures status { IfOk result (λ status. status ≤ 1) }
     ensures line { IfErr result (λ fault. fault ≢ Fault.CommandLine) }
 
     // A beginning of it was written where the writer failed, and else nothing.
-    ensures failed { IfErr result (λ fault. StoppedReport W.contents fault writer.old writer.new) }
+    ensures failed { IfErr result (λ fault. StoppedReport fault writer.old writer.new) }
 {
     let bytes = read_file(alloc, files, path)?;
     let report = report_of(alloc, &bytes)?;
@@ -67,12 +67,12 @@ fn run_at<P: Start, H: Wait + Drop, R: Read, W: Write>(
 ) -> (Result<(), Fault>, Left<P>)
     requires unbroken_reader { reader.old.failed ≡ false }
     requires unbroken_writer { writer.old.failed ≡ false }
-    ensures ok { OnOk result.0 (RanAt (image_at P.Start) all_lines place.now R.remaining W.contents (reader.old, writer.old) (reader.new, writer.new) result.1) }
+    ensures ok { OnOk result.0 (RanAt (image_at P.Start) all_lines place.now R.remaining (reader.old, writer.old) (reader.new, writer.new) result.1) }
     ensures handed_on { OnOk result.0 (writer.new.flushed ≡ true) }
     ensures cannot_read { IfErr result.0 (λ fault. fault ≡ Fault.CannotRead
-        → RanAt (image_at P.Start) whole_lines place.now R.remaining W.contents (reader.old, writer.old) (reader.new, writer.new) result.1) }
+        → RanAt (image_at P.Start) whole_lines place.now R.remaining (reader.old, writer.old) (reader.new, writer.new) result.1) }
     ensures cannot_write { IfErr result.0 (λ fault. fault ≡ Fault.CannotWrite
-        → RanAt (image_at P.Start) first_lines place.now R.remaining W.contents (reader.old, writer.old) (reader.new, writer.new) result.1) }
+        → RanAt (image_at P.Start) first_lines place.now R.remaining (reader.old, writer.old) (reader.new, writer.new) result.1) }
     ensures read_failed { reader.new.failed ≡ is_read_fault result.0 }
     ensures write_failed { writer.new.failed ≡ is_write_fault result.0 }
     ensures flushed { writer.new.failed ≡ false → writer.old.flushed ≡ true → writer.new.flushed ≡ true }
@@ -118,10 +118,10 @@ fn serve_alone_at<
     writer: &mut TrackedWriter<W>,
 ) -> Result<(), Fault>
     requires unbroken_writer { writer.old.failed ≡ false }
-    ensures ok { OnOk result (Announced W.contents port writer.old writer.new) }
+    ensures ok { OnOk result (Announced port writer.old writer.new) }
     ensures whole { OnOk result ((writer.new.failed ≡ false) × (writer.new.flushed ≡ true)) }
     ensures line { IfErr result (λ fault. fault ≢ Fault.CommandLine) }
-    ensures failed { IfErr result (λ fault. NotAnnounced W.contents port fault writer.old writer.new) }
+    ensures failed { IfErr result (λ fault. NotAnnounced port fault writer.old writer.new) }
 {
     match place {
         Place::Memory { store } => {
@@ -171,10 +171,10 @@ fn share_in<
 ) -> Result<(), Fault>
     requires number { IfSome store (λ number. (1 ≤ number) × (number < 2 ^ 63)) }
     requires unbroken_writer { writer.old.failed ≡ false }
-    ensures ok { OnOk result (Announced W.contents port writer.old writer.new) }
+    ensures ok { OnOk result (Announced port writer.old writer.new) }
     ensures whole { OnOk result ((writer.new.failed ≡ false) × (writer.new.flushed ≡ true)) }
     ensures line { IfErr result (λ fault. fault ≢ Fault.CommandLine) }
-    ensures failed { IfErr result (λ fault. StoppedServing W.contents port fault writer.old writer.new) }
+    ensures failed { IfErr result (λ fault. StoppedServing port fault writer.old writer.new) }
 {
     match tables_in(rt, file, store, start) {
         Ok(tables) => share_over(rt.alloc(), net, wait, tables, port, workers, writer),
@@ -199,10 +199,10 @@ fn serve_shared_at<
     writer: &mut TrackedWriter<W>,
 ) -> Result<(), Fault>
     requires unbroken_writer { writer.old.failed ≡ false }
-    ensures ok { OnOk result (Announced W.contents port writer.old writer.new) }
+    ensures ok { OnOk result (Announced port writer.old writer.new) }
     ensures whole { OnOk result ((writer.new.failed ≡ false) × (writer.new.flushed ≡ true)) }
     ensures line { IfErr result (λ fault. fault ≢ Fault.CommandLine) }
-    ensures failed { IfErr result (λ fault. StoppedServing W.contents port fault writer.old writer.new) }
+    ensures failed { IfErr result (λ fault. StoppedServing port fault writer.old writer.new) }
 {
     match place {
         Place::Memory { store } => {
@@ -260,10 +260,10 @@ fn serve_at<
     writer: &mut TrackedWriter<W>,
 ) -> Result<(), Fault>
     requires unbroken_writer { writer.old.failed ≡ false }
-    ensures ok { OnOk result (Announced W.contents port writer.old writer.new) }
+    ensures ok { OnOk result (Announced port writer.old writer.new) }
     ensures whole { OnOk result ((writer.new.failed ≡ false) × (writer.new.flushed ≡ true)) }
     ensures line { IfErr result (λ fault. fault ≢ Fault.CommandLine) }
-    ensures failed { IfErr result (λ fault. StoppedServing W.contents port fault writer.old writer.new) }
+    ensures failed { IfErr result (λ fault. StoppedServing port fault writer.old writer.new) }
 {
     let workers = match workers {
         Some(workers) => workers,
@@ -301,13 +301,13 @@ pub fn obey<
 
     // A run is over the place that the task names.
     ensures done { IfOk result.0 (λ status. status ≡ 0
-        → DoneOf (image_at P.Start) task R.remaining W.contents (reader.old, writer.old) (reader.new, writer.new) result.1) }
+        → DoneOf (image_at P.Start) task R.remaining (reader.old, writer.old) (reader.new, writer.new) result.1) }
     ensures told { IfOk result.0 (λ status. status ≡ 1
-        → IsReport task × (reader.new ≡ reader.old) × Reported W.contents false writer.old writer.new × (result.1 ≡ Err None)) }
+        → IsReport task × (reader.new ≡ reader.old) × Reported false writer.old writer.new × (result.1 ≡ Err None)) }
     ensures whole { IfOk result.0 (λ _. AreWhole reader.new writer.new) }
     ensures status { IfOk result.0 (λ status. status ≤ 1) }
     ensures stopped { IfErr result.0 (λ fault.
-        StoppedOf (image_at P.Start) task fault R.remaining W.contents (reader.old, writer.old) (reader.new, writer.new) result.1) }
+        StoppedOf (image_at P.Start) task fault R.remaining (reader.old, writer.old) (reader.new, writer.new) result.1) }
 
     // However it ends, where no write failed, a writer that held nothing back before holds nothing back.
     ensures flushed { writer.new.failed ≡ false → writer.old.flushed ≡ true → writer.new.flushed ≡ true }
@@ -377,16 +377,16 @@ pub fn command<
 
     // A task was done; which one, the words say, and of that a contract knows whether it is to serve.
     ensures done { result.0 ≡ 0 → Obeyed (image_at P.Start) (asks_to_serve (map string_bytes (into_iter_items words)))
-        R.remaining W.contents (reader.old, writer.old) (reader.new, writer.new) result.1 }
+        R.remaining (reader.old, writer.old) (reader.new, writer.new) result.1 }
     ensures whole { result.0 ≡ 0 → AreWhole reader.new writer.new }
     ensures quiet { result.0 ≡ 0 → errors.new ≡ errors.old }
     ensures stopped { result.0 ≡ 1 → Stopped (image_at P.Start) (asks_to_serve (map string_bytes (into_iter_items words)))
-        R.remaining W.contents (reader.old, writer.old) (reader.new, writer.new) result.1
-        (Tells E.contents errors.old errors.new) (errors.new ≡ errors.old) }
+        R.remaining (reader.old, writer.old) (reader.new, writer.new) result.1
+        (Tells errors.old errors.new) (errors.new ≡ errors.old) }
 
     // Nothing was read or written, and of files nothing is handed back.
     ensures refused { result.0 ≡ 2 → (reader.new ≡ reader.old) × (writer.new ≡ writer.old) × (result.1 ≡ Err None)
-        × Tells E.contents errors.old errors.new Fault.CommandLine }
+        × Tells errors.old errors.new Fault.CommandLine }
     ensures status { result.0 ≤ 2 }
 
     // Whatever the status, where no write failed, a writer that held nothing back before holds nothing back.

@@ -1,6 +1,5 @@
 //! Listening for connections, and serving them.
 ghost use Rattle.std.specs.Prelude.{◌≡◌, ◌≢◌, ◌⊎◌, ◌↔◌, true, false, IsTrue, IfOk, IfErr, OnOk, string_bytes};
-ghost use Rattle.std.specs.Io.KnownBytes.{Appends};
 ghost use Rattle.http_api.specs.Routes.{table};
 ghost use Rattle.tracked_io.specs.Wrote.{WroteSome};
 ghost use Rattle.runs.specs.Connections.{StaysServing};
@@ -65,12 +64,12 @@ pub(crate) fn listen<N: Net<Listener = TcpListener, Stream = TcpStream>, W: Writ
     writer: &mut TrackedWriter<W>,
 ) -> Result<TcpListener, Fault>
     requires unbroken_writer { writer.old.failed ≡ false }
-    ensures ok { OnOk result (Announced W.contents port writer.old writer.new) }
+    ensures ok { OnOk result (Announced port writer.old writer.new) }
     ensures whole { OnOk result ((writer.new.failed ≡ false) × (writer.new.flushed ≡ true)) }
     ensures line { IfErr result (λ fault. fault ≢ Fault.CommandLine) }
 
     // A beginning of it was written where the writer failed, and else nothing.
-    ensures failed { IfErr result (λ fault. NotAnnounced W.contents port fault writer.old writer.new) }
+    ensures failed { IfErr result (λ fault. NotAnnounced port fault writer.old writer.new) }
 {
     let (listener, bound) = bind(net, port)?;
     let line = line_of(alloc, bound)?;
@@ -133,10 +132,10 @@ pub fn serve<
     writer: &mut TrackedWriter<W>,
 ) -> Result<(), Fault>
     requires unbroken_writer { writer.old.failed ≡ false }
-    ensures ok { OnOk result (Announced W.contents port writer.old writer.new) }
+    ensures ok { OnOk result (Announced port writer.old writer.new) }
     ensures whole { OnOk result ((writer.new.failed ≡ false) × (writer.new.flushed ≡ true)) }
     ensures line { IfErr result (λ fault. fault ≢ Fault.CommandLine) }
-    ensures failed { IfErr result (λ fault. NotAnnounced W.contents port fault writer.old writer.new) }
+    ensures failed { IfErr result (λ fault. NotAnnounced port fault writer.old writer.new) }
     ensures goes_on { StaysServing T.Tables answering.old answering.new }
 {
     let Ok(routes) = routes(rt.alloc()) else {

@@ -56,8 +56,8 @@ fn told_of(e: io::Error) -> Fault
 }
 
 // The writer, in which nothing is written yet.
-fn untouched<W>(output: io::Result<W>) -> Option<TrackedWriter<W>>
-    ensures { result ≡ untouched output }
+fn untouched<W: Write>(output: io::Result<W>) -> Option<TrackedWriter<W>>
+    ensures { result ≡ untouched W.contents output }
 {
     match output {
         Ok(output) => Some(TrackedWriter::new(output)),
@@ -66,7 +66,7 @@ fn untouched<W>(output: io::Result<W>) -> Option<TrackedWriter<W>>
 }
 
 // Tells of a fault for which nothing is begun.
-fn unbegun<P: Start, W, E: Write>(
+fn unbegun<P: Start, W: Write, E: Write>(
     errors: &mut TrackedWriter<E>,
     fault: Fault,
     output: io::Result<W>,
@@ -74,8 +74,8 @@ fn unbegun<P: Start, W, E: Write>(
     requires unbroken_errors { errors.old.failed ≡ false }
     ensures status { result.0 ≡ fault_status fault }
     ensures no_files { result.1 ≡ Err (Err None) }
-    ensures unwritten { result.2 ≡ untouched output }
-    ensures told { Tells E.contents errors.old errors.new fault }
+    ensures unwritten { result.2 ≡ untouched W.contents output }
+    ensures told { Tells errors.old errors.new fault }
 {
     tell(errors, &fault);
     (fault.status(), Err(Err(None)), untouched(output))
@@ -107,28 +107,28 @@ pub fn program<
     // A task was done, all that it wrote was handed on, its file was closed, and nothing was told.
     ensures done { result.0 ≡ 0 → IsOkAnd words (λ words. IsOkAnd output (λ output. IsSomeAnd result.2 (λ writer. (left : _)
         × Obeyed (image_at P.Start) (asks_to_serve (map string_bytes (into_iter_items words)))
-        R.remaining W.contents (reader.old, unbroken output) (reader.new, writer) left
+        R.remaining (reader.old, unbroken (W.contents output) output) (reader.new, writer) left
         × AreWhole reader.new writer × EndsWith 0 left result.1))) }
     ensures quiet { result.0 ≡ 0 → errors.new ≡ errors.old }
 
     // A task was stopped, and its file is as that left it.
     ensures stopped { result.0 ≡ 1 → IfOk words (λ words. IfOk output (λ output. IsSomeAnd result.2 (λ writer. (left : _)
         × Stopped (image_at P.Start) (asks_to_serve (map string_bytes (into_iter_items words)))
-        R.remaining W.contents (reader.old, unbroken output) (reader.new, writer) left
-        (Tells E.contents errors.old errors.new) (errors.new ≡ errors.old)
+        R.remaining (reader.old, unbroken (W.contents output) output) (reader.new, writer) left
+        (Tells errors.old errors.new) (errors.new ≡ errors.old)
         × EndsWith 1 left result.1))) }
 
     // The words were none of the program's. Nothing was begun.
     ensures refused { result.0 ≡ 2 → IfOk words (λ _. IfOk output (λ _.
-        IsUnbegun E.contents Fault.CommandLine output result.0 result.1 result.2 reader.old reader.new errors.old errors.new)) }
+        IsUnbegun W.contents Fault.CommandLine output result.0 result.1 result.2 reader.old reader.new errors.old errors.new)) }
 
     // There were no words, or there was no memory for the writer. Nothing was begun.
     ensures unread { IfErr words (λ e. error_kind e ≡ ErrorKind.OutOfMemory
-        → IsUnbegun E.contents (Refused Refusal.Memory) output result.0 result.1 result.2 reader.old reader.new errors.old errors.new) }
+        → IsUnbegun W.contents (Refused Refusal.Memory) output result.0 result.1 result.2 reader.old reader.new errors.old errors.new) }
     ensures no_text { IfErr words (λ e. error_kind e ≢ ErrorKind.OutOfMemory
-        → IsUnbegun E.contents Fault.CommandLine output result.0 result.1 result.2 reader.old reader.new errors.old errors.new) }
+        → IsUnbegun W.contents Fault.CommandLine output result.0 result.1 result.2 reader.old reader.new errors.old errors.new) }
     ensures no_writer { IfOk words (λ _. IfErr output (λ _.
-        IsUnbegun E.contents (Refused Refusal.Memory) output result.0 result.1 result.2 reader.old reader.new errors.old errors.new)) }
+        IsUnbegun W.contents (Refused Refusal.Memory) output result.0 result.1 result.2 reader.old reader.new errors.old errors.new)) }
     ensures status { result.0 ≤ 2 }
 
     // Whatever the status, all that was written was handed on, where no write failed.

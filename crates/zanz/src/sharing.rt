@@ -68,11 +68,11 @@ fn serve_by_many<
 ) -> Result<(), Fault>
     requires book { opened.book ≡ J.book }
     requires unbroken_writer { writer.old.failed ≡ false }
-    ensures ok { OnOk result (Announced W.contents port writer.old writer.new) }
+    ensures ok { OnOk result (Announced port writer.old writer.new) }
     ensures whole { OnOk result ((writer.new.failed ≡ false) × (writer.new.flushed ≡ true)) }
     ensures line { IfErr result (λ fault. fault ≢ Fault.CommandLine) }
 
-    ensures failed { IfErr result (λ fault. StoppedServing W.contents port fault writer.old writer.new) }
+    ensures failed { IfErr result (λ fault. StoppedServing port fault writer.old writer.new) }
 {
     let keeper = match Keeper::<T, J, H>::open(alloc, wait, opened, tables) {
         Ok(keeper) => keeper,
@@ -102,10 +102,10 @@ pub fn share<
     writer: &mut TrackedWriter<W>,
 ) -> Result<(), Fault>
     requires unbroken_writer { writer.old.failed ≡ false }
-    ensures ok { OnOk result (Announced W.contents port writer.old writer.new) }
+    ensures ok { OnOk result (Announced port writer.old writer.new) }
     ensures whole { OnOk result ((writer.new.failed ≡ false) × (writer.new.flushed ≡ true)) }
     ensures line { IfErr result (λ fault. fault ≢ Fault.CommandLine) }
-    ensures failed { IfErr result (λ fault. StoppedServing W.contents port fault writer.old writer.new) }
+    ensures failed { IfErr result (λ fault. StoppedServing port fault writer.old writer.new) }
 {
     let opened = Opened::new();
     let workers = workers as usize;
@@ -128,10 +128,10 @@ pub fn share_over<
     writer: &mut TrackedWriter<W>,
 ) -> Result<(), Fault>
     requires unbroken_writer { writer.old.failed ≡ false }
-    ensures ok { OnOk result (Announced W.contents port writer.old writer.new) }
+    ensures ok { OnOk result (Announced port writer.old writer.new) }
     ensures whole { OnOk result ((writer.new.failed ≡ false) × (writer.new.flushed ≡ true)) }
     ensures line { IfErr result (λ fault. fault ≢ Fault.CommandLine) }
-    ensures failed { IfErr result (λ fault. StoppedServing W.contents port fault writer.old writer.new) }
+    ensures failed { IfErr result (λ fault. StoppedServing port fault writer.old writer.new) }
 {
     share(alloc, net, wait, tables, port, workers, writer)
 }

@@ -12,14 +12,14 @@ use tracked_io::{TrackedWriter, put, put_parts};
 /// Tells of a fault by a line.
 pub fn tell<E: Write>(errors: &mut TrackedWriter<E>, fault: &Fault)
     requires unbroken { errors.old.failed ≡ false }
-    ensures { Tells E.contents errors.old errors.new fault.now }
+    ensures { Tells errors.old errors.new fault.now }
 {
     let _ = say_fault(errors, fault);
 }
 
 // Says the line of a fault, and hands it on.
 fn say_fault<E: Write>(errors: &mut TrackedWriter<E>, fault: &Fault) -> io::Result<()>
-    ensures wrote { Writes E.contents result errors.old errors.new (fault_line fault.now) }
+    ensures wrote { Writes result errors.old errors.new (fault_line fault.now) }
     ensures failed { FailsWith result errors.old.failed errors.new.failed }
     ensures flushed { OnOk result (errors.new.flushed ≡ true) }
 {
@@ -28,7 +28,7 @@ fn say_fault<E: Write>(errors: &mut TrackedWriter<E>, fault: &Fault) -> io::Resu
 }
 
 fn put_fault<E: Write>(errors: &mut TrackedWriter<E>, fault: &Fault) -> io::Result<()>
-    ensures wrote { Writes E.contents result errors.old errors.new (fault_line fault.now) }
+    ensures wrote { Writes result errors.old errors.new (fault_line fault.now) }
     ensures failed { FailsWith result errors.old.failed errors.new.failed }
 {
     match fault {
@@ -41,7 +41,7 @@ fn put_fault<E: Write>(errors: &mut TrackedWriter<E>, fault: &Fault) -> io::Resu
 }
 
 fn put_refusal<E: Write>(errors: &mut TrackedWriter<E>, number: u8, name: &[u8]) -> io::Result<()>
-    ensures wrote { Writes E.contents result errors.old errors.new (refusal_line number name.now) }
+    ensures wrote { Writes result errors.old errors.new (refusal_line number name.now) }
     ensures failed { FailsWith result errors.old.failed errors.new.failed }
 {
     match put(errors, b"zanz: refused ") {
@@ -51,7 +51,7 @@ fn put_refusal<E: Write>(errors: &mut TrackedWriter<E>, number: u8, name: &[u8])
 }
 
 fn put_cause<E: Write>(errors: &mut TrackedWriter<E>, number: u8, name: &[u8]) -> io::Result<()>
-    ensures wrote { Writes E.contents result errors.old errors.new (cause_text number name.now) }
+    ensures wrote { Writes result errors.old errors.new (cause_text number name.now) }
     ensures failed { FailsWith result errors.old.failed errors.new.failed }
 {
     let mut buffer = Buffer::new();

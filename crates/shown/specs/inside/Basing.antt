@@ -1,17 +1,24 @@
 -- The group index and the members of marked nodes that are kept.
-use Rattle.std.specs.Prelude.{◌≡◌, ◌≤◌, ◌↔◌, true, List, Option, Some, None}
+use Rattle.std.specs.Prelude.{ℕ, ◌≡◌, ◌≤◌, ◌↔◌, true, List, Option, Some, None, IfSome}
 use Rattle.names.specs.declared.node.Node.{Node}
-use Rattle.leopard.specs.Index.{Index, IsIndexOf}
+use Rattle.meaning.specs.Snap.{Snap}
+use Rattle.group_index.specs.Indices.{IsGroupIndexOf, base_of, cursor_of}
+use Rattle.group_index.specs.declared.index.GroupIndex.{GroupIndex}
 use Rattle.hot.specs.Kept.{IsHot, IsMarked}
 use Rattle.hot.specs.declared.hot.Hot.{Hot}
 use Rattle.rows.specs.Retained.{snap_at}
 use Rattle.shown.specs.Marks.{is_marked}
 use Rattle.shown.specs.Standing.{Standing, IsSteady}
 
--- if there is one, it is that of its revision, to which the cursor has come, as long as this is retained
-abbrev pub IsKeptIndex : Standing → Option Index → Type 0
-IsKeptIndex s None = Unit {0}
-IsKeptIndex s (Some x) = (x.rev ≤ s.index) × (s.kept.floor ≤ x.rev → IsIndexOf (snap_at s.kept x.rev) x)
+-- the index is that of the snapshots up to the cursor, from a base on that is not below the floor
+pub record IsIndexIn (snaps : ℕ → Snap) (floor cursor : ℕ) (index : GroupIndex) : Type 0 where
+  pub index_of : IsGroupIndexOf index snaps
+  pub retained : floor ≤ base_of index
+  pub come : cursor_of index ≡ cursor
+
+-- if there is an index, it is that of the retained revisions from its base to the index cursor
+abbrev pub IsKeptIndex : Standing → Option GroupIndex → Type 0
+IsKeptIndex s index = IfSome index (IsIndexIn (snap_at s.kept) s.kept.floor s.index)
 
 -- exactly these nodes are marked
 abbrev pub AreMarked : List Node → Hot → Type 0
@@ -22,7 +29,7 @@ abbrev pub AreKeptMembers : Standing → Option Hot → Type 0
 AreKeptMembers s None = Unit {0}
 AreKeptMembers s (Some hot) = IsHot hot (snap_at s.kept s.hot) × AreMarked s.marks hot
 
-pub record IsSound (s : Standing) (index : Option Index) (members : Option Hot) : Type 0 where
+pub record IsSound (s : Standing) (index : Option GroupIndex) (members : Option Hot) : Type 0 where
   pub steady : IsSteady s
   pub index_right : IsKeptIndex s index
   pub members_right : AreKeptMembers s members

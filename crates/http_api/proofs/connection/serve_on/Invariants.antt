@@ -7,7 +7,7 @@ use Rattle.http_api.proofs.connection.serve_on.Given as goal
 
 abbrev pub invariant-loop-heading : goal.invariant-loop-heading
 invariant-loop-heading g l =
-    Going g.A.Answers.step g.R.Read.remaining g.W.Write.contents (l.fn.answers, l.fn.reader, l.fn.writer) l.number (held l.inbox) (l.answers, l.reader, l.writer)
+    Going g.A.Answers.step g.R.Read.remaining (l.fn.answers, l.fn.reader, l.fn.writer) l.number (held l.inbox) (l.answers, l.reader, l.writer)
     × (l.number < 18446744073709551615)
     × (length (held l.inbox) ≤ max_head)
 

@@ -5,7 +5,7 @@ use Rattle.http_api.specs.inside.Receiving.{ReadOn, IsFewFor}
 use Rattle.http_api.proofs.receive.receive_body.Given as goal
 
 abbrev pub invariant-loop-reader : goal.invariant-loop-reader
-invariant-loop-reader g l = ReadOn g.R.Read.remaining g.W.Write.contents (held l.fn.inbox, l.fn.reader, l.fn.writer) (held l.inbox, l.reader, l.writer)
+invariant-loop-reader g l = ReadOn g.R.Read.remaining (held l.fn.inbox, l.fn.reader, l.fn.writer) (held l.inbox, l.reader, l.writer)
     × IsFewFor l.fn.heading (held l.inbox)
 
 abbrev pub decreases-loop-reader : goal.decreases-loop-reader

@@ -2,4 +2,4 @@ use Rattle.http_api.proofs.Settling.{wrote_flushed}
 use Rattle.http_api.proofs.settle.say_reply.Goals as goal
 
 pub returns-clause-wrote : goal.returns-clause-wrote
-returns-clause-wrote g c = wrote_flushed c.flush.result _ _ _ _ c.in_ok-put_reply.ensures.wrote c.flush.ensures.bytes
+returns-clause-wrote g c = wrote_flushed c.flush.result _ _ _ _ c.in_ok-put_reply.ensures.wrote c.flush.ensures.taken

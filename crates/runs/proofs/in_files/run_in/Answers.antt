@@ -14,7 +14,7 @@ returns-in-Ok-clause-ok g c = on_ok c.run_over-ended.result.0 (λ h. (
   h.0,
   h.1,
   ended_in (image_at g.P.Start) c.in-Ok.conn c.in-Ok.ensures.sees c.in-Ok.ensures.found c.args.store h.0
-      (ServedBy (over over_files) g.W.Write.contents (c.args.reader.now, c.args.writer.now) h.0 (c.run_over-ended.new.reader, c.run_over-ended.new.writer)) c.run_over-ended.result.1 h.2,
+      (ServedBy (over over_files) (c.args.reader.now, c.args.writer.now) h.0 (c.run_over-ended.new.reader, c.run_over-ended.new.writer)) c.run_over-ended.result.1 h.2,
 )) c.run_over-ended.ensures.ok
 
 pub returns-in-Ok-clause-cannot_read : goal.returns-in-Ok-clause-cannot_read
@@ -22,7 +22,7 @@ returns-in-Ok-clause-cannot_read g c = on_err c.run_over-ended.result.0 (λ e h 
   k.0,
   k.1,
   ended_in (image_at g.P.Start) c.in-Ok.conn c.in-Ok.ensures.sees c.in-Ok.ensures.found c.args.store k.0
-      (PausedBy (over over_files) g.W.Write.contents (c.args.reader.now, c.args.writer.now) k.0 (c.run_over-ended.new.reader, c.run_over-ended.new.writer)) c.run_over-ended.result.1 k.2,
+      (PausedBy (over over_files) (c.args.reader.now, c.args.writer.now) k.0 (c.run_over-ended.new.reader, c.run_over-ended.new.writer)) c.run_over-ended.result.1 k.2,
 )) c.run_over-ended.ensures.cannot_read
 
 pub returns-in-Ok-clause-cannot_write : goal.returns-in-Ok-clause-cannot_write
@@ -30,7 +30,7 @@ returns-in-Ok-clause-cannot_write g c = on_err c.run_over-ended.result.0 (λ e h
   k.0,
   k.1,
   ended_in (image_at g.P.Start) c.in-Ok.conn c.in-Ok.ensures.sees c.in-Ok.ensures.found c.args.store k.0
-      (CutBy (over over_files) g.W.Write.contents (c.args.reader.now, c.args.writer.now) k.0 (c.run_over-ended.new.reader, c.run_over-ended.new.writer)) c.run_over-ended.result.1 k.2,
+      (CutBy (over over_files) (c.args.reader.now, c.args.writer.now) k.0 (c.run_over-ended.new.reader, c.run_over-ended.new.writer)) c.run_over-ended.result.1 k.2,
 )) c.run_over-ended.ensures.cannot_write
 
 pub returns-in-Ok-clause-refused : goal.returns-in-Ok-clause-refused

@@ -17,7 +17,7 @@ returns-in-Ok-clause-ok g c = on_ok c.run-ended.result.0 (λ h. (
   h.0,
   h.1,
   ended_over g.S.Store c.in-Ok.tables c.run-ended.result.1 (Begins g.S.Store c.args.conn c.args.store) c.into_connection.result h.0
-      (ServedBy (over g.S.Store) g.W.Write.contents (c.args.reader.now, c.args.writer.now) h.0 (c.run-ended.new.reader, c.run-ended.new.writer)) c.into_connection.ensures.same
+      (ServedBy (over g.S.Store) (c.args.reader.now, c.args.writer.now) h.0 (c.run-ended.new.reader, c.run-ended.new.writer)) c.into_connection.ensures.same
       (λ loaded kept same. begins g.S.Store c.args.conn c.args.store (connection c.in-Ok.tables) c.in-Ok.ensures.ok (retained_of loaded) kept same) h.2,
 )) c.run-ended.ensures.ok
 
@@ -26,7 +26,7 @@ returns-in-Ok-clause-cannot_read g c = on_err c.run-ended.result.0 (λ e h is. l
   k.0,
   k.1,
   ended_over g.S.Store c.in-Ok.tables c.run-ended.result.1 (Begins g.S.Store c.args.conn c.args.store) c.into_connection.result k.0
-      (PausedBy (over g.S.Store) g.W.Write.contents (c.args.reader.now, c.args.writer.now) k.0 (c.run-ended.new.reader, c.run-ended.new.writer)) c.into_connection.ensures.same
+      (PausedBy (over g.S.Store) (c.args.reader.now, c.args.writer.now) k.0 (c.run-ended.new.reader, c.run-ended.new.writer)) c.into_connection.ensures.same
       (λ loaded kept same. begins g.S.Store c.args.conn c.args.store (connection c.in-Ok.tables) c.in-Ok.ensures.ok (retained_of loaded) kept same) k.2,
 )) c.run-ended.ensures.cannot_read
 
@@ -35,7 +35,7 @@ returns-in-Ok-clause-cannot_write g c = on_err c.run-ended.result.0 (λ e h is. 
   k.0,
   k.1,
   ended_over g.S.Store c.in-Ok.tables c.run-ended.result.1 (Begins g.S.Store c.args.conn c.args.store) c.into_connection.result k.0
-      (CutBy (over g.S.Store) g.W.Write.contents (c.args.reader.now, c.args.writer.now) k.0 (c.run-ended.new.reader, c.run-ended.new.writer)) c.into_connection.ensures.same
+      (CutBy (over g.S.Store) (c.args.reader.now, c.args.writer.now) k.0 (c.run-ended.new.reader, c.run-ended.new.writer)) c.into_connection.ensures.same
       (λ loaded kept same. begins g.S.Store c.args.conn c.args.store (connection c.in-Ok.tables) c.in-Ok.ensures.ok (retained_of loaded) kept same) k.2,
 )) c.run-ended.ensures.cannot_write
 

@@ -7,19 +7,19 @@ pub returns-in-Ok-clause-ok : goal.returns-in-Ok-clause-ok
 returns-in-Ok-clause-ok g c =
     let began = c.in-Ok.ensures.ok in
     let closed : Closed g.T.Tables c.serve-ended.new.answering c.close.result = record { given = c.close.ensures.same; agrees = c.close.ensures.agrees } in
-    on_ok c.serve-ended.result (λ h. (h.0, h.1, ended_served g.T.Tables g.met.T.Tables.weaker _ _ _ _ began closed g.W.Write.contents (c.args.reader.now, c.args.writer.now) (c.serve-ended.new.reader, c.serve-ended.new.writer) h.0 h.2)) c.serve-ended.ensures.ok
+    on_ok c.serve-ended.result (λ h. (h.0, h.1, ended_served g.T.Tables g.met.T.Tables.weaker _ _ _ _ began closed (c.args.reader.now, c.args.writer.now) (c.serve-ended.new.reader, c.serve-ended.new.writer) h.0 h.2)) c.serve-ended.ensures.ok
 
 pub returns-in-Ok-clause-cannot_read : goal.returns-in-Ok-clause-cannot_read
 returns-in-Ok-clause-cannot_read g c =
     let began = c.in-Ok.ensures.ok in
     let closed : Closed g.T.Tables c.serve-ended.new.answering c.close.result = record { given = c.close.ensures.same; agrees = c.close.ensures.agrees } in
-    on_err c.serve-ended.result (λ e h is. let k = h is in (k.0, k.1, ended_paused g.T.Tables g.met.T.Tables.weaker _ _ _ _ began closed g.W.Write.contents (c.args.reader.now, c.args.writer.now) (c.serve-ended.new.reader, c.serve-ended.new.writer) k.0 k.2)) c.serve-ended.ensures.cannot_read
+    on_err c.serve-ended.result (λ e h is. let k = h is in (k.0, k.1, ended_paused g.T.Tables g.met.T.Tables.weaker _ _ _ _ began closed (c.args.reader.now, c.args.writer.now) (c.serve-ended.new.reader, c.serve-ended.new.writer) k.0 k.2)) c.serve-ended.ensures.cannot_read
 
 pub returns-in-Ok-clause-cannot_write : goal.returns-in-Ok-clause-cannot_write
 returns-in-Ok-clause-cannot_write g c =
     let began = c.in-Ok.ensures.ok in
     let closed : Closed g.T.Tables c.serve-ended.new.answering c.close.result = record { given = c.close.ensures.same; agrees = c.close.ensures.agrees } in
-    on_err c.serve-ended.result (λ e h is. let k = h is in (k.0, k.1, ended_cut g.T.Tables g.met.T.Tables.weaker _ _ _ _ began closed g.W.Write.contents (c.args.reader.now, c.args.writer.now) (c.serve-ended.new.reader, c.serve-ended.new.writer) k.0 k.2)) c.serve-ended.ensures.cannot_write
+    on_err c.serve-ended.result (λ e h is. let k = h is in (k.0, k.1, ended_cut g.T.Tables g.met.T.Tables.weaker _ _ _ _ began closed (c.args.reader.now, c.args.writer.now) (c.serve-ended.new.reader, c.serve-ended.new.writer) k.0 k.2)) c.serve-ended.ensures.cannot_write
 
 pub returns-in-Ok-clause-refused : goal.returns-in-Ok-clause-refused
 returns-in-Ok-clause-refused g c =

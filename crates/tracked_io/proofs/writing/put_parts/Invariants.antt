@@ -5,4 +5,4 @@ use Rattle.tracked_io.proofs.Appending.{SoFar}
 use Rattle.tracked_io.proofs.writing.put_parts.Given as goal
 
 abbrev pub invariant-loop-part : goal.invariant-loop-part
-invariant-loop-part g l = SoFar (g.W.Write.contents l.initial.writer.inner) (g.W.Write.contents l.writer.inner) (flat_map (λ part. part.now) l.parts) (flat_map (λ part. part.now) (drop l.part-index l.parts)) × (l.writer.failed ≡ l.initial.writer.failed)
+invariant-loop-part g l = SoFar l.initial.writer.taken l.writer.taken (flat_map (λ part. part.now) l.parts) (flat_map (λ part. part.now) (drop l.part-index l.parts)) × (l.writer.failed ≡ l.initial.writer.failed)

@@ -30,5 +30,5 @@ returns-in-Err-clause-refused g c = λ two. (
   refl,
   refl,
   refl,
-  subst (λ (f : Fault). Tells g.E.Write.contents c.args.errors.now c.tell-in-Err.new.errors f) (is_bad_line c.in-Err.fault (sym c.status-in-Err.ensures ∙ two)) c.tell-in-Err.ensures,
+  subst (λ (f : Fault). Tells c.args.errors.now c.tell-in-Err.new.errors f) (is_bad_line c.in-Err.fault (sym c.status-in-Err.ensures ∙ two)) c.tell-in-Err.ensures,
 )

@@ -7,17 +7,17 @@ use Rattle.zanz.proofs.command.run_at.Goals as goal
 
 pub returns-in-Memory-clause-ok : goal.returns-in-Memory-clause-ok
 returns-in-Memory-clause-ok g c = ok_of c.run-ended.result.0 (λ a is h.
-    ran_in_memory (image_at g.P.Start) g.R.Read.remaining g.W.Write.contents c.args.reader.now c.run-ended.new.reader c.args.writer.now c.run-ended.new.writer all_lines c.args.place.now c.in-Memory.store c.new.result c.run-ended.result.1 c.in-Memory.is c.new.ensures h)
+    ran_in_memory (image_at g.P.Start) g.R.Read.remaining c.args.reader.now c.run-ended.new.reader c.args.writer.now c.run-ended.new.writer all_lines c.args.place.now c.in-Memory.store c.new.result c.run-ended.result.1 c.in-Memory.is c.new.ensures h)
     c.run-ended.ensures.ok
 
 pub returns-in-Memory-clause-cannot_read : goal.returns-in-Memory-clause-cannot_read
 returns-in-Memory-clause-cannot_read g c = err_of c.run-ended.result.0 (λ e is h unread.
-    ran_in_memory (image_at g.P.Start) g.R.Read.remaining g.W.Write.contents c.args.reader.now c.run-ended.new.reader c.args.writer.now c.run-ended.new.writer whole_lines c.args.place.now c.in-Memory.store c.new.result c.run-ended.result.1 c.in-Memory.is c.new.ensures (h unread))
+    ran_in_memory (image_at g.P.Start) g.R.Read.remaining c.args.reader.now c.run-ended.new.reader c.args.writer.now c.run-ended.new.writer whole_lines c.args.place.now c.in-Memory.store c.new.result c.run-ended.result.1 c.in-Memory.is c.new.ensures (h unread))
     c.run-ended.ensures.cannot_read
 
 pub returns-in-Memory-clause-cannot_write : goal.returns-in-Memory-clause-cannot_write
 returns-in-Memory-clause-cannot_write g c = err_of c.run-ended.result.0 (λ e is h unwritten.
-    ran_in_memory (image_at g.P.Start) g.R.Read.remaining g.W.Write.contents c.args.reader.now c.run-ended.new.reader c.args.writer.now c.run-ended.new.writer first_lines c.args.place.now c.in-Memory.store c.new.result c.run-ended.result.1 c.in-Memory.is c.new.ensures (h unwritten))
+    ran_in_memory (image_at g.P.Start) g.R.Read.remaining c.args.reader.now c.run-ended.new.reader c.args.writer.now c.run-ended.new.writer first_lines c.args.place.now c.in-Memory.store c.new.result c.run-ended.result.1 c.in-Memory.is c.new.ensures (h unwritten))
     c.run-ended.ensures.cannot_write
 
 pub returns-in-Memory-clause-refused : goal.returns-in-Memory-clause-refused
@@ -30,19 +30,19 @@ returns-then-not-is_number-clause-refused g c = λ why is. (refl, refl, refused_
 
 pub returns-else-not-is_number-clause-ok : goal.returns-else-not-is_number-clause-ok
 returns-else-not-is_number-clause-ok g c = ok_of c.run_in.result.0 (λ a is h.
-    ran_in_new (image_at g.P.Start) g.R.Read.remaining g.W.Write.contents c.args.reader.now c.run_in.new.reader c.args.writer.now c.run_in.new.writer all_lines c.args.place.now c.in-New.file c.in-New.store c.run_in.result.0 c.run_in.result.1 c.in-New.is
+    ran_in_new (image_at g.P.Start) g.R.Read.remaining c.args.reader.now c.run_in.new.reader c.args.writer.now c.run_in.new.writer all_lines c.args.place.now c.in-New.file c.in-New.store c.run_in.result.0 c.run_in.result.1 c.in-New.is
     c.run_in.ensures.taken (ok_is_no_fault c.run_in.result.0 a is) c.run_in.ensures.lasts h)
     c.run_in.ensures.ok
 
 pub returns-else-not-is_number-clause-cannot_read : goal.returns-else-not-is_number-clause-cannot_read
 returns-else-not-is_number-clause-cannot_read g c = err_of c.run_in.result.0 (λ e is h unread.
-    ran_in_new (image_at g.P.Start) g.R.Read.remaining g.W.Write.contents c.args.reader.now c.run_in.new.reader c.args.writer.now c.run_in.new.writer whole_lines c.args.place.now c.in-New.file c.in-New.store c.run_in.result.0 c.run_in.result.1 c.in-New.is
+    ran_in_new (image_at g.P.Start) g.R.Read.remaining c.args.reader.now c.run_in.new.reader c.args.writer.now c.run_in.new.writer whole_lines c.args.place.now c.in-New.file c.in-New.store c.run_in.result.0 c.run_in.result.1 c.in-New.is
     c.run_in.ensures.taken (unread_is_no_fault c.run_in.result.0 e is unread) c.run_in.ensures.lasts (h unread))
     c.run_in.ensures.cannot_read
 
 pub returns-else-not-is_number-clause-cannot_write : goal.returns-else-not-is_number-clause-cannot_write
 returns-else-not-is_number-clause-cannot_write g c = err_of c.run_in.result.0 (λ e is h unwritten.
-    ran_in_new (image_at g.P.Start) g.R.Read.remaining g.W.Write.contents c.args.reader.now c.run_in.new.reader c.args.writer.now c.run_in.new.writer first_lines c.args.place.now c.in-New.file c.in-New.store c.run_in.result.0 c.run_in.result.1 c.in-New.is
+    ran_in_new (image_at g.P.Start) g.R.Read.remaining c.args.reader.now c.run_in.new.reader c.args.writer.now c.run_in.new.writer first_lines c.args.place.now c.in-New.file c.in-New.store c.run_in.result.0 c.run_in.result.1 c.in-New.is
     c.run_in.ensures.taken (unwritten_is_no_fault c.run_in.result.0 e is unwritten) c.run_in.ensures.lasts (h unwritten))
     c.run_in.ensures.cannot_write
 
@@ -56,19 +56,19 @@ returns-in-Err-clause-refused g c = λ why is. (refl, refl, refused_for_there (i
 
 pub returns-in_default-clause-ok : goal.returns-in_default-clause-ok
 returns-in_default-clause-ok g c = ok_of c.run_in-in-There.result.0 (λ a is h.
-    ran_in_there (image_at g.P.Start) g.R.Read.remaining g.W.Write.contents c.args.reader.now c.run_in-in-There.new.reader c.args.writer.now c.run_in-in-There.new.writer all_lines c.args.place.now c.in-There.file c.run_in-in-There.result.0 c.run_in-in-There.result.1 c.in-There.is
+    ran_in_there (image_at g.P.Start) g.R.Read.remaining c.args.reader.now c.run_in-in-There.new.reader c.args.writer.now c.run_in-in-There.new.writer all_lines c.args.place.now c.in-There.file c.run_in-in-There.result.0 c.run_in-in-There.result.1 c.in-There.is
     c.run_in-in-There.ensures.taken (ok_is_no_fault c.run_in-in-There.result.0 a is) c.run_in-in-There.ensures.lasts h)
     c.run_in-in-There.ensures.ok
 
 pub returns-in_default-clause-cannot_read : goal.returns-in_default-clause-cannot_read
 returns-in_default-clause-cannot_read g c = err_of c.run_in-in-There.result.0 (λ e is h unread.
-    ran_in_there (image_at g.P.Start) g.R.Read.remaining g.W.Write.contents c.args.reader.now c.run_in-in-There.new.reader c.args.writer.now c.run_in-in-There.new.writer whole_lines c.args.place.now c.in-There.file c.run_in-in-There.result.0 c.run_in-in-There.result.1 c.in-There.is
+    ran_in_there (image_at g.P.Start) g.R.Read.remaining c.args.reader.now c.run_in-in-There.new.reader c.args.writer.now c.run_in-in-There.new.writer whole_lines c.args.place.now c.in-There.file c.run_in-in-There.result.0 c.run_in-in-There.result.1 c.in-There.is
     c.run_in-in-There.ensures.taken (unread_is_no_fault c.run_in-in-There.result.0 e is unread) c.run_in-in-There.ensures.lasts (h unread))
     c.run_in-in-There.ensures.cannot_read
 
 pub returns-in_default-clause-cannot_write : goal.returns-in_default-clause-cannot_write
 returns-in_default-clause-cannot_write g c = err_of c.run_in-in-There.result.0 (λ e is h unwritten.
-    ran_in_there (image_at g.P.Start) g.R.Read.remaining g.W.Write.contents c.args.reader.now c.run_in-in-There.new.reader c.args.writer.now c.run_in-in-There.new.writer first_lines c.args.place.now c.in-There.file c.run_in-in-There.result.0 c.run_in-in-There.result.1 c.in-There.is
+    ran_in_there (image_at g.P.Start) g.R.Read.remaining c.args.reader.now c.run_in-in-There.new.reader c.args.writer.now c.run_in-in-There.new.writer first_lines c.args.place.now c.in-There.file c.run_in-in-There.result.0 c.run_in-in-There.result.1 c.in-There.is
     c.run_in-in-There.ensures.taken (unwritten_is_no_fault c.run_in-in-There.result.0 e is unwritten) c.run_in-in-There.ensures.lasts (h unwritten))
     c.run_in-in-There.ensures.cannot_write
 

@@ -1,9 +1,11 @@
-use Rattle.std.proofs.Common.{◌∙◌}
-use Rattle.leopard.specs.Exprs.{query_of}
-use Rattle.shown.proofs.Basing.{answered}
+use Rattle.shown.proofs.Outcomes.{ok_then, if_ok, if_err}
 use Rattle.shown.proofs.shown.Shown.groups_at.Goals as goal
 
-pub returns-then-rev-clause-groups : goal.returns-then-rev-clause-groups
-returns-then-rev-clause-groups c =
-    answered (λ v. v.items) c.args.limit (query_of c.args.expr.now) c.args.rev _ c.args.self.now c.self.inside.built c.in-Some.built c.groups.result
-    c.self.view_is c.in-Some.is c.self.invariant.index_right (c.if-rev.true ∙ c.rev.ensures) c.requires.not_below c.groups.ensures.groups
+pub returns-in-Some-clause-ok : goal.returns-in-Some-clause-ok
+returns-in-Some-clause-ok c = ok_then _ c.first_groups.result (λ v h. h _ c.in-Some.ensures) c.first_groups.ensures.ok
+
+pub returns-in-Some-clause-groups : goal.returns-in-Some-clause-groups
+returns-in-Some-clause-groups c = if_ok _ _ c.first_groups.result (λ v h. h _ c.in-Some.ensures) c.first_groups.ensures.groups
+
+pub returns-in-Some-clause-err : goal.returns-in-Some-clause-err
+returns-in-Some-clause-err c = if_err _ _ c.first_groups.result (λ v h. h _ c.in-Some.ensures) c.first_groups.ensures.err

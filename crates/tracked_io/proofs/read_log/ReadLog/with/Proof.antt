@@ -1,10 +1,8 @@
 -- `with` makes the empty struct, with the reads that its clause names. Assumes `Logic`.
-use Rattle.std.proofs.Common.{[], ◌∷◌, refl, length, ◌<◌, ◌^◌}
-use Rattle.std.specs.declared.io.traits.Write as Write
+use Rattle.std.proofs.Common.{[], ◌∷◌, ◌++◌, refl, length, ◌<◌, ◌^◌}
 use seplogic.Ra.Ura.{Ura}
-use mir.Syntax.{Fn, Args as FnArgs, Dict, a_type, dcons, dnil, named}
+use mir.Syntax.{named}
 use mir.Val.{Val, vptr, vstruct, vnil}
-use mir.MapTy.{inst_fn}
 use base.Logic.{SProp, ent, via, fst∗}
 use base.Fml.{Fml}
 use prog.Memory.{Memory}
@@ -21,91 +19,73 @@ use types.Part.{agg}
 use types.ByLocal.{alloc_all, pass_all, free_all, look_at, sets}
 use denote.Builtin.{u8}
 use denote.Exit.{yes}
-use denote.Param.{param, bounded}
-use denote.RattleType.{RattleType, owns}
+use denote.RattleType.{owns}
 use denote.Ref.{shr_vals, shr_Tells}
 use denote.Slice.{slice_val, shr_slice_vals, shr_slice_Tells}
 use denote.Shadow.{pure_i}
 use denote.Signature.{plain, types_at}
-use denote.Triple.Clauses.{Ended}
 use denote.Triple.Entry.{on_entry, alive, Args}
 use denote.Triple.Spec.{Meets, triple_of}
 use denote.Triple.Table.{entered}
 use denote.Triple.Walked.{says, stay_none_ref, stay_none_slice, Stays, walk_of, Walks, ends_at, walked, Goes-none_ref, Goes-none_slice, walk_Meets}
 use Rattle.tracked_io.specs.Waiting.{with_read}
 use Rattle.tracked_io.specs.contracts.read_log.ReadLog as log
-use Rattle.tracked_io.specs.contracts.tracked_writer.TrackedWriter as writer
+use Rattle.tracked_io.specs.contracts.write_log.WriteLog as writes
 use Rattle.tracked_io.specs.contracts.read_log.ReadLog.with.Key.{name as key}
 use Rattle.tracked_io.specs.contracts.read_log.ReadLog.with as f
 use Rattle.tracked_io.proofs.read_log.ReadLog.with.Statement as stated
 use Rattle.tracked_io.proofs.read_log.ReadLog.with.Code as code
 
-module _ (W : RattleType) (g : Write.Ghosts W.Denot) (d : Dict) where
-  abbrev args : FnArgs
-  args = bounded (a_type ∷ []) (W, tt) (dcons d dnil)
+abbrev stayed : Stays (f.ended).signature.params (f.ended).kept
+stayed = (stay_none_ref (0 ∷ []) tt (plain (λ _. log.the_row)) yes, (stay_none_ref (1 ∷ []) tt (plain (λ _. writes.the_row)) yes, (stay_none_slice (2 ∷ []) tt (plain (λ _. u8)) yes, tt)))
 
-  abbrev function : Fn
-  function = inst_fn args code.function
+module _ {M : Type 1} {𝓤 : Ura M} (𝓛 : Logic 𝓤) (mem : Memory → SProp 𝓤) (run : Routine → Fun 𝓤) (C : Calls 𝓤 𝓛.H) (Λ : Loops 𝓤 𝓛.H) where
+  open 𝓛 use {H}
 
-  abbrev ended : Ended
-  ended = f.ended W g d
+  module _ (κs : Lfts 3) (qs : Shares 3) (bounds : AllOutlive 3 f.signature.outlives κs) (a : Args f.signature κs) where
+    abbrev before : Val
+    before = vptr a.0.ref_ptr.0 a.0.ref_ptr.1
 
-  abbrev stayed : Stays ended.signature.params ended.kept
-  stayed = (
-    stay_none_ref (0 ∷ []) tt (plain (λ _. log.the_row)) yes,
-    (stay_none_ref (1 ∷ []) tt (plain (λ _. writer.the_row (param 0 W))) yes, (stay_none_slice (2 ∷ []) tt (plain (λ _. u8)) yes, tt)),
-  )
+    abbrev lent : Val
+    lent = vptr a.1.0.ref_ptr.0 a.1.0.ref_ptr.1
 
-  module _ {M : Type 1} {𝓤 : Ura M} (𝓛 : Logic 𝓤) (mem : Memory → SProp 𝓤) (run : Routine → Fun 𝓤) (C : Calls 𝓤 𝓛.H) (Λ : Loops 𝓤 𝓛.H) where
-    open 𝓛 use {H}
+    abbrev bytes : Val
+    bytes = slice_val a.1.1.0.ref_ptr (length a.1.1.0.now)
 
-    module _ (κs : Lfts 4) (qs : Shares 4) (bounds : AllOutlive 4 ended.signature.outlives κs) (a : Args ended.signature κs) where
-      abbrev before : Val
-      before = vptr a.0.ref_ptr.0 a.0.ref_ptr.1
+    abbrev bound : (walk_of 𝓛 f.ended stayed (f.clauses 𝓛 mem run)).Ghost
+    bound = ((κs, qs, bounds, a, (before ∷ [], (lent ∷ [], (bytes ∷ [], tt)))), tt)
 
-      abbrev lent : Val
-      lent = vptr a.1.0.ref_ptr.0 a.1.0.ref_ptr.1
+    abbrev passed : Fml
+    passed = owns (types_at f.signature.params κs) a (before ∷ [], (lent ∷ [], (bytes ∷ [], tt)))
 
-      abbrev bytes : Val
-      bytes = slice_val a.1.1.0.ref_ptr (length a.1.1.0.now)
+    abbrev made : (log.the_row).Denot
+    made = record { reads = with_read a.0.now.reads a.1.0.now.taken a.1.1.0.now }
 
-      abbrev bound : (walk_of 𝓛 ended stayed (f.clauses W g d 𝓛 mem run)).Ghost
-      bound = ((κs, qs, bounds, a, (before ∷ [], (lent ∷ [], (bytes ∷ [], tt)))), tt)
+    walk : length a.1.1.0.now < 2 ^ 64 → ent 𝓤 (on_entry 𝓛 f.signature κs qs a (before ∷ [], (lent ∷ [], (bytes ∷ [], tt))))
+        (WpFn 𝓤 H C Λ code.function (before ∷ lent ∷ bytes ∷ []) ((walk_of 𝓛 f.ended stayed (f.clauses 𝓛 mem run)).post bound))
+    walk few =
+        qed 𝓛 (raw (alive 𝓛 f.signature κs qs) ∷ ‵ passed ∷ []) ∵ enter ! C Λ code.function (before ∷ lent ∷ bytes ∷ []) _ $
+        alloc_all ! (λ l. pass_all ! refl ((tt, tt), ((tt, tt), ((tt, (tt, (record { fits = few }, tt))), tt))) $ sets ! (agg ! (no_more !)) refl (tt, tt) $
+        returns ! (look_at ! 0 refl) $ free_all ! refl $
+        suffices ! _ (ends_at 𝓛 f.ended stayed (f.clauses 𝓛 mem run) bound (vstruct vnil) made (tt, (tt, (tt, tt))) (tt, (tt, (tt, tt)))) $
+        says ! refl $ pure_i ! (log.the_row.own_val made (vstruct vnil ∷ [])) ((λ vss. (tt, tt)), tt) ((tt, (refl, tt)), tt) $
+        move ! (1 ∷ 2 ∷ 0 ∷ []) $ done !)
 
-      abbrev passed : Fml
-      passed = owns (types_at ended.signature.params κs) a (before ∷ [], (lent ∷ [], (bytes ∷ [], tt)))
+  walks : Walks 𝓛 f.ended stayed (WpFn 𝓤 H C Λ code.function) (f.clauses 𝓛 mem run)
+  walks =
+      walked 𝓛 f.ended stayed (f.clauses 𝓛 mem run) (WpFn 𝓤 H C Λ code.function) (λ κs. (shr_vals, (shr_vals, (shr_slice_vals, tt))))
+      (λ κs. (shr_Tells (named 0) κs.0 log.the_row, (shr_Tells (named 1) κs.1.0 writes.the_row, (shr_slice_Tells (named 2) κs.1.1.0 u8, tt))))
+      (λ κs qs bounds a ghost are. via 𝓤 _ (fst∗ 𝓤 _ ((f.clauses 𝓛 mem run κs a).requires ghost)) (walk κs qs bounds a are.1.1.0.0.1.0))
 
-      abbrev made : (log.the_row).Denot
-      made = record { reads = with_read a.0.now.reads (g.contents a.1.0.now.inner) a.1.1.0.now }
-
-      walk : length a.1.1.0.now < 2 ^ 64 → ent 𝓤 (on_entry 𝓛 ended.signature κs qs a (before ∷ [], (lent ∷ [], (bytes ∷ [], tt))))
-          (WpFn 𝓤 H C Λ function (before ∷ lent ∷ bytes ∷ []) ((walk_of 𝓛 ended stayed (f.clauses W g d 𝓛 mem run)).post bound))
-      walk few =
-          qed 𝓛 (raw (alive 𝓛 ended.signature κs qs) ∷ ‵ passed ∷ []) ∵ enter ! C Λ function (before ∷ lent ∷ bytes ∷ []) _ $
-          alloc_all ! (λ l. pass_all ! refl ((tt, tt), ((tt, tt), ((tt, (tt, (record { fits = few }, tt))), tt))) $ sets ! (agg ! (no_more !)) refl (tt, tt) $
-          returns ! (look_at ! 0 refl) $ free_all ! refl $
-          suffices ! _ (ends_at 𝓛 ended stayed (f.clauses W g d 𝓛 mem run) bound (vstruct vnil) made (tt, (tt, (tt, tt))) (tt, (tt, (tt, tt)))) $
-          says ! refl $ pure_i ! (log.the_row.own_val made (vstruct vnil ∷ [])) ((λ vss. (tt, tt)), tt) ((tt, (refl, tt)), tt) $
-          move ! (1 ∷ 2 ∷ 0 ∷ []) $ done !)
-
-    walks : Walks 𝓛 ended stayed (WpFn 𝓤 H C Λ function) (f.clauses W g d 𝓛 mem run)
-    walks =
-        walked 𝓛 ended stayed (f.clauses W g d 𝓛 mem run) (WpFn 𝓤 H C Λ function) (λ κs. (shr_vals, (shr_vals, (shr_slice_vals, tt))))
-        (λ κs. (shr_Tells (named 0) κs.0 log.the_row, (shr_Tells (named 1) κs.1.0 (writer.the_row (param 0 W)), (shr_slice_Tells (named 2) κs.1.1.0 u8, tt))))
-        (λ κs qs bounds a ghost are. via 𝓤 _ (fst∗ 𝓤 _ ((f.clauses W g d 𝓛 mem run κs a).requires ghost)) (walk κs qs bounds a are.1.1.0.0.1.0))
-
-  meets : {M : Type 1} {𝓤 : Ura M} (𝓛 : Logic 𝓤) (mem : Memory → SProp 𝓤) (run : Routine → Fun 𝓤) (𝓣 : Tables 𝓤 𝓛.H)
-      → Meets 𝓛 ended.signature (WpFn 𝓤 𝓛.H 𝓣.C 𝓣.Λ function) (f.spec W g d 𝓛 mem run)
-  meets {𝓤 = 𝓤} 𝓛 mem run 𝓣 =
-      walk_Meets 𝓛 ended stayed (
-        Goes-none_ref 𝓛 4 (0 ∷ []) tt (plain (λ _. log.the_row)) yes,
-        (Goes-none_ref 𝓛 4 (1 ∷ []) tt (plain (λ _. writer.the_row (param 0 W))) yes, (Goes-none_slice 𝓛 4 (2 ∷ []) tt (plain (λ _. u8)) yes, tt)),
-      ) (f.clauses W g d 𝓛 mem run) (WpFn 𝓤 𝓛.H 𝓣.C 𝓣.Λ function)
-      (WpFn-mono 𝓤 𝓛.H 𝓛.laws 𝓣 function) (walks 𝓛 mem run 𝓣.C 𝓣.Λ)
+meets : {M : Type 1} {𝓤 : Ura M} (𝓛 : Logic 𝓤) (mem : Memory → SProp 𝓤) (run : Routine → Fun 𝓤) (𝓣 : Tables 𝓤 𝓛.H)
+    → Meets 𝓛 f.signature (WpFn 𝓤 𝓛.H 𝓣.C 𝓣.Λ code.function) (f.spec 𝓛 mem run)
+meets {𝓤 = 𝓤} 𝓛 mem run 𝓣 =
+    walk_Meets 𝓛 f.ended stayed (Goes-none_ref 𝓛 3 (0 ∷ []) tt (plain (λ _. log.the_row)) yes, (Goes-none_ref 𝓛 3 (1 ∷ []) tt (plain (λ _. writes.the_row)) yes, (Goes-none_slice 𝓛 3 (2 ∷ []) tt (plain (λ _. u8)) yes, tt))) (f.clauses 𝓛 mem run) (WpFn 𝓤 𝓛.H 𝓣.C 𝓣.Λ code.function)
+    (WpFn-mono 𝓤 𝓛.H 𝓛.laws 𝓣 code.function) (walks 𝓛 mem run 𝓣.C 𝓣.Λ)
 
 pub with_spec : {M : Type 1} → stated.statement M
 unfolding tables_of
-with_spec 𝓤 𝓛 𝓜 𝓡 wired W laws g d met =
-    entered 𝓤 𝓛.H (triple_of 𝓛 (f.signature W) (f.spec W g d 𝓛 𝓜.mem 𝓡.returns))
-    (tables 𝓤 𝓛.H 𝓜 𝓡 𝓡.env).C (tables 𝓤 𝓛.H 𝓜 𝓡 𝓡.env).Λ (key (args W g d)) (function W g d) (code.unfolded 𝓤 𝓛.H 𝓜 𝓡 wired (W, tt) d)
-    (meets W g d 𝓛 𝓜.mem 𝓡.returns (tables_of 𝓤 𝓛.H 𝓜 (tables 𝓤 𝓛.H 𝓜 𝓡 𝓡.env)))
+with_spec 𝓤 𝓛 𝓜 𝓡 wired =
+    entered 𝓤 𝓛.H (triple_of 𝓛 f.signature (f.spec 𝓛 𝓜.mem 𝓡.returns))
+    (tables 𝓤 𝓛.H 𝓜 𝓡 𝓡.env).C (tables 𝓤 𝓛.H 𝓜 𝓡 𝓡.env).Λ key code.function (code.unfolded 𝓤 𝓛.H 𝓜 𝓡 wired)
+    (meets 𝓛 𝓜.mem 𝓡.returns (tables_of 𝓤 𝓛.H 𝓜 (tables 𝓤 𝓛.H 𝓜 𝓡 𝓡.env)))
