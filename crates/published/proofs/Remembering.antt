@@ -1,5 +1,5 @@
 -- Answers that a session keeps stay right, and so does one more.
-use Rattle.std.proofs.Common.{◌≡◌, ℕ, ◌≤◌, Bool, ◌⊎◌, List, ap, sym, subst, ◌∙◌, arith, ⊎_elim}
+use Rattle.std.proofs.Common.{◌≡◌, ℕ, zero, suc, ◌≤◌, Bool, ◌⊎◌, List, [], ◌∷◌, All, ap, sym, subst, ◌∙◌, arith, ⊎_elim}
 use Rattle.std.specs.Prelude.{Contains, Result, Ok, Err, IfOk, MatchBool, true}
 use mathlib.Core.List.{IsPrefix}
 use Rattle.names.specs.declared.object.Object.{Object}
@@ -19,10 +19,6 @@ use Rattle.zookie.specs.declared.consistency.Consistency.{Consistency}
 use Rattle.published.specs.Judged.{AreJudged}
 use Rattle.published.specs.Rising.{Rises}
 use Rattle.published.proofs.Rising.{rise}
-
--- none is kept
-pub none_kept : (r : Retained) (kept : List (Question × Bool)) → kept ≡ [] → AreRetainedAnswers r kept
-none_kept r kept none q b has = absurd (subst (λ (l : List (Question × Bool)). Contains l (q, b)) none has)
 
 -- after later steps
 still_right : (r s : Retained) (q : Question) (b : Bool) → Rises r s → IsRetainedAnswer r q b → IsRetainedAnswer s q b
@@ -59,5 +55,10 @@ can_be_kept s consistency n u (Ok answer) is = (record { not_below = is.asked.fi
 can_be_kept s consistency n u (Err refused) is = tt
 
 -- in the branch that a test chose
-pub begun : {P Q : Type 0} (t : Bool) → t ≡ true → MatchBool t P Q → P
-begun {P = P} {Q = Q} t is known = subst (λ (b : Bool). MatchBool b P Q) is known
+pub begun : {P : Type 0} (Q : Type 0) (t : Bool) → t ≡ true → MatchBool t P Q → P
+begun {P = P} Q t is known = subst (λ (b : Bool). MatchBool b P Q) is known
+
+-- all of one
+pub all_one : {A : Type 0} (P : A → Type 0) (x : A) → P x → All P (x ∷ [])
+all_one P x this zero d below = this
+all_one P x this (suc k) d below = absurd (omega arith)
