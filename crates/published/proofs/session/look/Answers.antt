@@ -1,7 +1,6 @@
 use Rattle.std.proofs.Common.{sym, subst}
 use Rattle.shown.specs.KeptAnswers.{AreRetainedAnswers}
 use Rattle.shown.specs.Standing.{Standing}
-use Rattle.published.specs.declared.copy.ShownCopy.{ShownCopy}
 use Rattle.published.specs.Copies.{Stands}
 use Rattle.published.proofs.Rules.{enters}
 use Rattle.published.proofs.session.look.Goals as goal

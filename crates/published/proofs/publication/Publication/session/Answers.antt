@@ -1,4 +1,4 @@
-use Rattle.std.proofs.Common.{◌≡◌, ◌-◌, vec_len, take, All, List, sym, subst}
+use Rattle.std.proofs.Common.{◌≡◌, ◌-◌, vec_len, All, sym, subst}
 use Rattle.std.proofs.lemmas.List.Elements.{All-take}
 use Rattle.published.specs.declared.session.Session.{Session}
 use Rattle.published.proofs.publication.Publication.session.Goals as goal
