@@ -33,6 +33,7 @@ use Rattle.shown.specs.contracts.shown.Shown as Shown
 use Rattle.shown.specs.contracts.step.Step as Step
 use Rattle.published.proofs.book.StepPrefix.TheSendSync as StepPrefix
 use Rattle.published.proofs.book.Book.TheSendSync as Book
+use Rattle.published.proofs.remembered.Remembered.TheSendSync as Remembered
 use denote.RattleType.{RattleType}
 use Rattle.left_right.proofs.reader.Reader.TheSendSync as Reader
 use Rattle.published.specs.contracts.copy.ShownCopy as ShownCopy
@@ -134,7 +135,7 @@ pub ShownCopy-sync : IsSync ShownCopy.the_row
 ShownCopy-sync = search (Shown-sync, StepPrefix.the_sync, sendable) depth 40
 
 Session-inside-send : IsSend Session.TheInside.the_row
-Session-inside-send = search (Reader.the_field_send, ShownCopy-sync, StepPrefix.the_send, crosses, sendable) depth 40
+Session-inside-send = search (Reader.the_field_send, ShownCopy-sync, StepPrefix.the_send, Remembered.the_send, crosses, sendable) depth 40
 
 pub Session-send : IsSend Session.the_row
 Session-send = search (Session-inside-send, sendable) depth 10
