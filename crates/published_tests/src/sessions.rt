@@ -151,33 +151,39 @@ fn answered(session: &mut Session, at: &Consistency) -> Result<(u64, bool), Refu
     }
 }
 
-// Whether the session answers so, asked twice.
-fn answers(
-    session: &mut Session,
-    at: &Consistency,
-    rev: u64,
-    value: bool,
-) -> Result<bool, Refusal> {
-    let first = answered(session, at)?;
-    let again = answered(session, at)?;
-    Ok(first == (rev, value) && again == (rev, value))
+fn is_answered(session: &mut Session, at: &Consistency, rev: u64, value: bool) -> bool {
+    match answered(session, at) {
+        Ok(answer) => answer == (rev, value),
+        Err(_) => false,
+    }
 }
 
-// A session is asked before a commit that changes the answer, after it, and then at the revision before.
-fn asks_again<R: Wait + Drop>(handle: R, alloc: Global) -> Result<bool, Refusal> {
-    let mut desk = configure(alloc, open(handle, alloc)?, GROUPS)?;
-    desk.publication.publish();
-    let mut session = desk.publication.session()?;
-    let no = answers(&mut session, &Consistency::Latest, 1, false)?;
+// Whether the session answers so, asked twice.
+fn repeats(session: &mut Session, at: &Consistency, rev: u64, value: bool) -> bool {
+    is_answered(session, at, rev, value) && is_answered(session, at, rev, value)
+}
+
+// Whether the session answers as it should before a commit that changes the answer, after it, and then at the revision
+// before it.
+fn asks_again<R: Wait + Drop>(
+    alloc: Global,
+    desk: Desk<R>,
+    session: &mut Session,
+) -> Result<bool, Refusal> {
+    let no = repeats(session, &Consistency::Latest, 1, false);
     let mut desk = insert(alloc, desk, "group:a#member@user:ann")?;
-    desk.publication.publish();
-    let yes = answers(&mut session, &Consistency::Latest, 2, true)?;
+    let shown = desk.publication.publish();
+    let yes = repeats(session, &Consistency::Latest, 2, true);
     let before = Consistency::Exactly(Zookie { store: 7, rev: 1 });
-    let still_no = answers(&mut session, &before, 1, false)?;
-    Ok(no && yes && still_no)
+    Ok(no && shown && yes && repeats(session, &before, 1, false))
+}
+
+fn repeated<R: Wait + Drop>(handle: R, alloc: Global) -> Result<bool, Refusal> {
+    let (desk, mut session, first) = configured(handle, alloc)?;
+    Ok(first && asks_again(alloc, desk, &mut session)?)
 }
 
 #[test]
 fn a_repeated_check_is_answered_at_its_revision(rt: HostRuntime) {
-    assert!(rt; asks_again(&rt, rt.alloc()).unwrap_or(false));
+    assert!(rt; repeated(&rt, rt.alloc()).unwrap_or(false));
 }
