@@ -4,3 +4,4 @@ pub mod Growing
 pub mod Leading
 pub mod Named
 pub mod Noting
+pub mod Putting

@@ -6,9 +6,10 @@ use crate::closing::{led_to, named};
 use crate::earlier::{Earlier, led_at};
 use crate::leading::{above_events, above_tuples, changed_by};
 use crate::renewing::renew;
+use crate::roots::{put_each, take_each};
 use crate::telling::GroupFacts;
 use config::Config;
-use idsets::{IdSet, Ids, union};
+use idsets::{IdSet, Ids};
 use least_sets::groups_are_walks;
 use names::{Event, Node};
 use region::{Sets, refresh};
@@ -109,16 +110,24 @@ impl Layer {
         let turned = above_events(alloc, &self.config, &mut self.nodes, events)?;
         let changed = changed_by(alloc, &self.nodes, events)?;
         let turned = IdSet::of(turned);
-        let roots = union(alloc, &self.roots, &turned)?;
-        let rev = self.cursor + 1;
-        let (nodes, sets, earlier) = (&mut self.nodes, &mut self.sets, &mut self.earlier);
         let turned = turned.as_slice();
-        let asked = renew(
-            alloc, view, rev, nodes, sets, earlier, &roots, turned, &changed,
-        )?;
-        self.roots = roots;
-        self.cursor = rev;
-        Ok(asked)
+        let added = put_each(alloc, &mut self.roots, turned)?;
+        let rev = self.cursor + 1;
+        let (nodes, sets, roots) = (&mut self.nodes, &mut self.sets, &self.roots);
+        let earlier = &mut self.earlier;
+        let done = renew(
+            alloc, view, rev, nodes, sets, earlier, roots, turned, &changed,
+        );
+        match done {
+            Ok(asked) => {
+                self.cursor = rev;
+                Ok(asked)
+            }
+            Err(e) => {
+                take_each(&mut self.roots, &added);
+                Err(e)
+            }
+        }
     }
 
     /// The configuration.

@@ -10,6 +10,7 @@ mod earlier;
 mod layer;
 mod leading;
 mod renewing;
+mod roots;
 mod telling;
 
 pub use earlier::Earlier;

@@ -7,7 +7,7 @@ use Rattle.shown.specs.declared.step.Step.{Step}
 use Rattle.published.specs.declared.copy.ShownCopy.{ShownCopy}
 use Rattle.published.specs.declared.post.Post.{Post}
 use Rattle.published.specs.Known.{Known, next_of, Begins}
-use Rattle.published.specs.Judged.{AreJudged, WereJudged}
+use Rattle.published.specs.Judged.{AreJudged}
 use Rattle.published.specs.Copies.{absorbed, Stands, Chain}
 use Rattle.published.specs.Writing.{Writing}
 use Rattle.published.specs.Invariant.{Leads}

@@ -8,7 +8,7 @@ use Rattle.meaning.specs.Snap.{Snap}
 use Rattle.decide.specs.Answers.{IsAnswer}
 use Rattle.answer_cache.specs.declared.question.Question.{Question}
 use Rattle.answer_cache.specs.Questions.{question}
-use Rattle.rows.specs.Retained.{Retained, IsRetained, newest, snap_at}
+use Rattle.rows.specs.Retained.{Retained, IsRetained, snap_at}
 use Rattle.shown.specs.declared.answer.Answer.{Answer}
 use Rattle.shown.specs.declared.answer.Refused.{Refused}
 use Rattle.shown.specs.declared.step.Step.{Step}

@@ -1,5 +1,5 @@
 //! What a session remembers.
-ghost use Rattle.std.specs.Prelude.{◌≡◌, ◌⊎◌, IfOk, IfSome, IfNone, MatchBool};
+ghost use Rattle.std.specs.Prelude.{◌≡◌, ◌⊎◌, IfOk, IfSome, IfNone};
 ghost use Rattle.decide.specs.Answers.{IsAnswer};
 ghost use Rattle.rows.specs.Retained.{IsRetained, snap_at};
 ghost use Rattle.shown.specs.KeptAnswers.{AreRetainedAnswers};
@@ -13,6 +13,9 @@ use names::{Node, Object};
 use shown::{Answer, Refused};
 use std::alloc::{AllocError, Global};
 use std::marker::Model;
+
+/// What one copy tells: an answer, the number of its store, and the steps that it stands for.
+pub type Seen<A> = (A, u64, StepPrefix);
 
 /// The steps that a session knows, all of which were judged, and answers of its checks, which are right of what these steps
 /// retain. Contracts see it as the steps, with the name of their book.
@@ -57,14 +60,6 @@ impl Remembered {
         let _ = &self.known;
     }
 
-    /// Whether the steps are as many as are known or more. Then they begin with these.
-    pub(crate) fn begins(&self, steps: &StepPrefix) -> bool
-        requires { steps.now.book ≡ self.now.book }
-        ensures { MatchBool result (Begins self.now steps.now) (BeginsLonger steps.now self.now) }
-    {
-        self.known.begins(steps)
-    }
-
     /// The answers that are kept, for a check at the standing of these steps. Nothing where they do not begin with what is
     /// known: they may then lack a revision of which an answer is kept.
     pub(crate) fn answers_for(&self, steps: &StepPrefix) -> Option<&CachedAnswers>
@@ -87,6 +82,24 @@ impl Remembered {
         ensures { self.new ≡ steps }
     {
         self.known = steps;
+    }
+
+    /// What a copy told, with its number first, where its steps begin with what is known; then these are known. Nothing is told
+    /// by a copy of fewer steps. The answers stay.
+    pub(crate) fn follow<A: Drop>(&mut self, seen: Seen<A>) -> Option<(u64, A)>
+        requires book { seen.2.book ≡ self.old.book }
+        requires judged { AreJudged seen.2.steps }
+        ensures told { IfSome result (λ told. (told ≡ (seen.1, seen.0)) × (Begins self.old seen.2 × (self.new ≡ seen.2))) }
+        ensures none { IfNone result (BeginsLonger seen.2 self.old × (self.new ≡ self.old)) }
+        ensures later { Begins self.old self.new }
+    {
+        let (answer, number, steps) = seen;
+        if self.known.begins(&steps) {
+            self.advance(steps);
+            Some((number, answer))
+        } else {
+            None
+        }
     }
 
     /// From now on no less than these steps is known. The answers stay.

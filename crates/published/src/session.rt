@@ -17,7 +17,7 @@ ghost use Rattle.published.specs.Answering.{IsRefusedIn, IsWatchRefusedIn};
 
 use crate::book::StepPrefix;
 use crate::receipt::Receipt;
-use crate::remembered::Remembered;
+use crate::remembered::{Remembered, Seen};
 use crate::rule::{CopyReader, Seeing};
 use core::mem::replace_with;
 use expand::Tree;
@@ -164,12 +164,8 @@ impl Session {
             node,
             depth,
         };
-        let (found, number, prefix) = replace_with(&mut self.reader, question, look_at_tree)?;
-        if !self.known.begins(&prefix) {
-            return None;
-        }
-        self.known.advance(prefix);
-        Some((number, found))
+        let seen = replace_with(&mut self.reader, question, look_at_tree)?;
+        self.known.follow(seen)
     }
 
     /// The page of a tupleset, at the revision that the consistency chooses.
@@ -208,12 +204,8 @@ impl Session {
         ensures later { Begins self.old self.new }
     {
         let question = TuplesQuestion { consistency, asked };
-        let (tuples, number, prefix) = replace_with(&mut self.reader, question, look_at_tuples)?;
-        if !self.known.begins(&prefix) {
-            return None;
-        }
-        self.known.advance(prefix);
-        Some((number, tuples))
+        let seen = replace_with(&mut self.reader, question, look_at_tuples)?;
+        self.known.follow(seen)
     }
 
     /// The first so many groups that the expression means, at the revision that the consistency chooses.
@@ -259,12 +251,8 @@ impl Session {
             expr,
             limit,
         };
-        let (groups, number, prefix) = replace_with(&mut self.reader, question, look_at_groups)?;
-        if !self.known.begins(&prefix) {
-            return None;
-        }
-        self.known.advance(prefix);
-        Some((number, groups))
+        let seen = replace_with(&mut self.reader, question, look_at_groups)?;
+        self.known.follow(seen)
     }
 
     /// The events on tuples of the namespaces, of so many commits above the cursor's revision, or of as many as there are.
@@ -309,12 +297,8 @@ impl Session {
             namespaces,
             commits,
         };
-        let (page, number, prefix) = replace_with(&mut self.reader, question, look_at_page)?;
-        if !self.known.begins(&prefix) {
-            return None;
-        }
-        self.known.advance(prefix);
-        Some((number, page))
+        let seen = replace_with(&mut self.reader, question, look_at_page)?;
+        self.known.follow(seen)
     }
 
     /// Revisions, and how large the history is.
@@ -339,12 +323,8 @@ impl Session {
         ensures judged { AreJudged self.new.steps }
         ensures later { Begins self.old self.new }
     {
-        let (numbers, number, prefix) = replace_with(&mut self.reader, (), look_at_state)?;
-        if !self.known.begins(&prefix) {
-            return None;
-        }
-        self.known.advance(prefix);
-        Some((number, numbers))
+        let seen = replace_with(&mut self.reader, (), look_at_state)?;
+        self.known.follow(seen)
     }
 
     /// All that a session knows was judged, whether it has been asked yet or not.
@@ -432,10 +412,7 @@ fn no_publication() -> Refused
 fn look(
     reader: CopyReader,
     question: Question<'_>,
-) -> (
-    CopyReader,
-    Option<(Result<Answer<bool>, Refused>, u64, StepPrefix)>,
-)
+) -> (CopyReader, Option<Seen<Result<Answer<bool>, Refused>>>)
     requires book { (k : Known) × (view reader.place ≡ Some k) × (k.book ≡ question.known.now.book) }
     ensures book { (k : Known) × (view result.0.place ≡ Some k) × (k.book ≡ question.entry.known.now.book) }
     ensures later { IfSome result.1 (λ seen. Begins question.entry.known.now seen.2) }
@@ -466,10 +443,7 @@ fn look(
 fn look_at_tree(
     reader: CopyReader,
     question: TreeQuestion<'_>,
-) -> (
-    CopyReader,
-    Option<(Result<Answer<Tree>, Refused>, u64, StepPrefix)>,
-)
+) -> (CopyReader, Option<Seen<Result<Answer<Tree>, Refused>>>)
     requires opens { 1 ≤ question.depth }
     requires bounded { question.depth ≤ MAX_DEPTH }
     ensures seen { IfSome result.1 (λ seen.
@@ -501,7 +475,7 @@ fn look_at_tuples(
     question: TuplesQuestion<'_>,
 ) -> (
     CopyReader,
-    Option<(Result<Answer<Items<Tuple>>, Refused>, u64, StepPrefix)>,
+    Option<Seen<Result<Answer<Items<Tuple>>, Refused>>>,
 )
     ensures seen { IfSome result.1 (λ seen.
         KnowsNoMore (view reader.place) seen.2 × (view result.0.place ≡ Some seen.2)) }
@@ -530,7 +504,7 @@ fn look_at_groups(
     question: GroupsQuestion<'_>,
 ) -> (
     CopyReader,
-    Option<(Result<Answer<Items<Node>>, Refused>, u64, StepPrefix)>,
+    Option<Seen<Result<Answer<Items<Node>>, Refused>>>,
 )
     ensures seen { IfSome result.1 (λ seen.
         KnowsNoMore (view reader.place) seen.2 × (view result.0.place ≡ Some seen.2)) }
@@ -559,7 +533,7 @@ fn look_at_groups(
 fn look_at_page(
     reader: CopyReader,
     question: PageQuestion<'_>,
-) -> (CopyReader, Option<(Result<Page, Refusal>, u64, StepPrefix)>)
+) -> (CopyReader, Option<Seen<Result<Page, Refusal>>>)
     ensures seen { IfSome result.1 (λ seen.
         KnowsNoMore (view reader.place) seen.2 × (view result.0.place ≡ Some seen.2)) }
     ensures judged { IfSome result.1 (λ seen. AreJudged seen.2.steps) }
@@ -584,10 +558,7 @@ fn look_at_page(
     }
 }
 
-fn look_at_state(
-    reader: CopyReader,
-    _question: (),
-) -> (CopyReader, Option<(State, u64, StepPrefix)>)
+fn look_at_state(reader: CopyReader, _question: ()) -> (CopyReader, Option<Seen<State>>)
     ensures seen { IfSome result.1 (λ seen.
         KnowsNoMore (view reader.place) seen.2 × (view result.0.place ≡ Some seen.2)) }
     ensures judged { IfSome result.1 (λ seen. AreJudged seen.2.steps) }

@@ -1,14 +1,17 @@
 -- A turn of a round.
-use Rattle.std.proofs.Common.{ℕ, zero, suc, ◌≡◌, ◌<◌, ◌≤◌, ◌+◌, Bool, true, false, ◌||◌, nat_eq, List, [], ◌∷◌, ◌++◌, length, get_or, take, refl, sym, ◌∙◌, ap, subst, arith, ⊎_elim, inl, inr, ◌⊎◌}
+use Rattle.std.proofs.Common.{ℕ, zero, suc, ◌≡◌, ◌<◌, ◌≤◌, ◌+◌, Bool, true, false, not, ◌&&◌, ◌||◌, nat_eq, nat_lt, List, [], ◌∷◌, ◌++◌, length, get_or, take, refl, sym, ◌∙◌, ap, subst, arith, ⊎_elim, inl, inr, ◌⊎◌}
 use Rattle.std.specs.Prelude.{Some}
 use Rattle.std.specs.List.{slice_get}
-use Rattle.std.proofs.lemmas.Bool.{eqb-true, cases_Bool, or_cases, or_left, or_right, false≢true}
-use Rattle.std.proofs.lemmas.List.{take_more, take_all}
+use Rattle.std.specs.List.Sorted.{IsStrictlyIncreasing}
+use Rattle.std.proofs.lemmas.Bool.{eqb-true, ltb-true, cases_Bool, cases_lt, or_cases, or_left, or_right, and_parts, and_from, not_from_false, false≢true}
+use Rattle.std.proofs.lemmas.List.{take_more, take_all, get_or_default, get_or-take, length-take-le}
+use Rattle.idsets.proofs.Having.{has_at, place_in}
+use Rattle.idsets.proofs.Rising.{le_later}
 use Rattle.region.specs.declared.rule.Told.{Told}
 use Rattle.least_sets.specs.World.{Fact, has, arcs_of}
 use Rattle.region.specs.Rules.{fact_of, shape_of}
 use Rattle.least_sets.specs.Steps.{IsStepAt, StepsTo, none, then, given}
-use Rattle.region.specs.Steps.{is_told, Tells, IsSettled, IsSettledAt, IsWaiting, AreNamed, AreGrouped, IsLook, passed, gained, rooms}
+use Rattle.region.specs.Steps.{is_told, Tells, IsSettled, IsSettledAt, IsWaiting, AreNamed, AreGrouped, IsLook, is_to_come, passed, gained, rooms}
 use Rattle.region.proofs.Rooms.{rooms_lt, tells_at, told_at, same_told}
 use Rattle.least_sets.proofs.Gives.{gives_agree, plain_named, taken_named, has_here, has_cases}
 use Rattle.least_sets.proofs.StepLemmas.{step_grows, step_else}
@@ -54,10 +57,22 @@ last_cases places left i x lt e h =
     (λ a. ⊎_elim (λ q. inr (eqb-true i x q)) (λ q. absurd (false≢true q)) (or_cases (nat_eq i x) false a))
     (has_cases (take left places) (x ∷ []) i (ap (λ xs. has xs i) (sym front) ∙ h))
 
-pub round_more : (told : List Told) (level : ℕ) (places : List ℕ) (left x : ℕ) (back : ℕ → ℕ → Bool) (first now after : ℕ → ℕ → Bool) (next later : ℕ → Bool)
-    → x ≡ get_or places left x → AreNamed (length told) told back → RoundAt told level places (left + 1) first now next
-    → IsLook told x level back now next after later → RoundAt told level places left first after later
-round_more told level places left x back first now after next later e named so_far (passed p same_sets same_next) =
+-- what waits before the place that a round comes to is left
+pub left_of : (places : List ℕ) (left x : ℕ) → IsStrictlyIncreasing places → left < length places → x ≡ get_or places left x → (i : ℕ) → is_to_come places x i ≡ true → has (take left places) i ≡ true
+left_of places left x up lt e i come =
+    let parts = and_parts (nat_lt i x) (has places i) come in
+    let at = place_in places i parts.1 in
+    let below : i < x = ltb-true i x parts.0 in
+    let here : x ≡ get_or places left 0 = e ∙ get_or_default places left x 0 lt in
+    let before : at.0 < left = ⊎_elim (λ h. h)
+    (λ h. absurd (let over = le_later places left at.0 up h at.1 in let is = at.2 in omega (arith, over, is, here, below)))
+    (cases_lt at.0 left) in
+    has_at (take left places) at.0 i (let l = length-take-le left places (omega arith) in omega (arith, l, before)) (get_or-take left places at.0 0 before ∙ at.2)
+
+pub round_more : (told : List Told) (level : ℕ) (places : List ℕ) (left x : ℕ) (back : ℕ → ℕ → Bool) (to_come : ℕ → Bool) (first now after : ℕ → ℕ → Bool) (next later : ℕ → Bool)
+    → x ≡ get_or places left x → ((i : ℕ) → to_come i ≡ true → has (take left places) i ≡ true) → AreNamed (length told) told back → RoundAt told level places (left + 1) first now next
+    → IsLook told x level back to_come now next after later → RoundAt told level places left first after later
+round_more told level places left x back to_come first now after next later e come named so_far (passed p same_sets same_next) =
     subst (λ (s : ℕ → ℕ → Bool). RoundAt told level places left first s later) (sym same_sets)
     (subst (λ (v : ℕ → Bool). RoundAt told level places left first now v) (sym same_next) (record {
       steps = so_far.steps;
@@ -77,20 +92,20 @@ round_more told level places left x back first now after next later e named so_f
   where
     lt : left < length places
     lt = let w = so_far.within in omega arith
-round_more told level places left x back first now after next later e named so_far (gained d is_d turn later_is) = record {
+round_more told level places left x back to_come first now after next later e come named so_far (gained d is_d turn later_is) = record {
   steps = λ world tells.
       let f : world d.node ≡ fact_of d = tells_at world told tells x d is_d in
       then {middle = now} d.node (so_far.steps world tells) (told_at told x d is_d)
       (ap (λ (y : Fact). y.level) f ∙ turn.at) (subst (λ (y : Fact). IsStepAt y d.node now after) (sym f) turn.step);
   waits = λ i t is at. ⊎_elim
-      (λ h. inl (or_right (has (take left places) i) (later i) (later_is i ∙ or_right (next i) (back d.node i) (named i t (slice_lt told i t is) is d.node h))))
+      (λ h. inl (woken i (named i t (slice_lt told i t is) is d.node h)))
       (λ off. ⊎_elim
       (λ w. ⊎_elim
       (λ h. ⊎_elim
       (λ f. inl (or_left (has (take left places) i) (later i) f))
       (λ same. inr (own t off (same_told told x t d (subst (λ j. slice_get told j ≡ Some t) same is) is_d)))
       (last_cases places left i x lt e h))
-      (λ n. inl (or_right (has (take left places) i) (later i) (later_is i ∙ or_left (next i) (back d.node i) n)))
+      (λ n. inl (or_right (has (take left places) i) (later i) (later_is i ∙ or_left (next i) (back d.node i && not (to_come i)) n)))
       (or_cases (has (take (left + 1) places) i) (next i) w))
       (λ s. inr (λ user g. grows user t.node (s user (sym (given_stays t (fact_of d) d.node now after turn.step off user) ∙ g))))
       (so_far.waits i t is at))
@@ -105,6 +120,14 @@ round_more told level places left x back first now after next later e named so_f
   where
     lt : left < length places
     lt = let w = so_far.within in omega arith
+
+    -- a place that is named is still to come, or waits for the next round
+    woken : (i : ℕ) → back d.node i ≡ true → (has (take left places) i || later i) ≡ true
+    woken i h = ⊎_elim
+        (λ c. or_left (has (take left places) i) (later i) (come i c))
+        (λ c. or_right (has (take left places) i) (later i) (later_is i ∙ or_right (next i) (back d.node i && not (to_come i))
+        (and_from (back d.node i) (not (to_come i)) h (not_from_false (to_come i) c))))
+        (cases_Bool (to_come i))
 
     grows : (u m : ℕ) → now u m ≡ true → after u m ≡ true
     grows u m = step_grows (fact_of d) d.node now after turn.step u m

@@ -1,9 +1,10 @@
 -- A walk that asks.
-use Rattle.std.proofs.Common.{ℕ, ◌≡◌, ◌≤◌, ◌<◌, ◌+◌, Bool, true, false, cond, not, ◌&&◌, ◌||◌, take, length, nat_eq, List, [], ◌∷◌, ◌++◌, get_or, refl, sym, ◌∙◌, ap, subst, arith, ⊎_elim, ◌⊎◌, append_assoc, append-nil, zero, suc}
+use Rattle.std.proofs.Common.{ℕ, ◌≡◌, ◌≤◌, ◌<◌, ◌+◌, Bool, true, false, cond, not, ◌&&◌, ◌||◌, take, drop, length, nat_eq, List, [], ◌∷◌, ◌++◌, get_or, refl, sym, ◌∙◌, ap, subst, arith, ⊎_elim, ◌⊎◌, append_assoc, append-nil, zero, suc}
 use Rattle.std.specs.List.{IsDistinct, AllByRecursion}
 use Rattle.std.specs.Cmp.{nat_eq_equiv}
 use Rattle.std.proofs.lemmas.Map.Keys.{IsDistinct-push}
-use Rattle.std.proofs.lemmas.List.{take_more, take_all}
+use Rattle.std.proofs.Math.Bool.{or_comm}
+use Rattle.std.proofs.lemmas.List.{take_more, take_all, drop_more}
 use Rattle.std.proofs.lemmas.List.Folds.{list_any-append, list_any_more}
 use Rattle.std.proofs.lemmas.Bool.{or_cases, cases_Bool, or_left, or_right, and_parts, and_from, false≢true, eqb-true, eq-eqb, not_from_false, false_from_ne_true}
 use Rattle.least_sets.specs.World.{Fact, Own, has, arcs_of}
@@ -41,6 +42,19 @@ adds_picked xs i x b s first now next e lt is before after = record {
       ∙ or_join (has first u) (has (take i xs) u && s u) (nat_eq u x && b)
       ∙ ap (λ c. has first u || c) (pick (has (take i xs) u) (nat_eq u x) (s u) b (λ q. ap s (eqb-true u x q) ∙ sym is)
       ∙ ap (λ c. c && s u) (sym (list_any_more (nat_eq u) xs i x lt ∙ ap (λ y. has (take i xs) u || nat_eq u y) (sym e))));
+  distinct = after.distinct;
+  front = λ j le. after.front j (let l = before.longer in omega arith) ∙ before.front j le;
+  longer = let l = before.longer in let m = after.longer in omega arith;
+}
+
+-- the same of a list that is gone over from its end
+pub adds_picked_back : (xs : List ℕ) (i x : ℕ) (b : Bool) (s : ℕ → Bool) (first now next : List ℕ) → x ≡ get_or xs i x → i < length xs → b ≡ s x
+    → Adds first now (λ u. has (drop (i + 1) xs) u && s u) → Adds now next (λ u. nat_eq u x && b) → Adds first next (λ u. has (drop i xs) u && s u)
+adds_picked_back xs i x b s first now next e lt is before after = record {
+  members = λ u. after.members u ∙ ap (λ c. c || (nat_eq u x && b)) (before.members u)
+      ∙ or_join (has first u) (has (drop (i + 1) xs) u && s u) (nat_eq u x && b)
+      ∙ ap (λ c. has first u || c) (pick (has (drop (i + 1) xs) u) (nat_eq u x) (s u) b (λ q. ap s (eqb-true u x q) ∙ sym is)
+      ∙ ap (λ c. c && s u) (or_comm (has (drop (i + 1) xs) u) (nat_eq u x) ∙ ap (λ y. nat_eq u y || has (drop (i + 1) xs) u) e ∙ ap (λ ys. has ys u) (sym (drop_more xs i x lt))));
   distinct = after.distinct;
   front = λ j le. after.front j (let l = before.longer in omega arith) ∙ before.front j le;
   longer = let l = before.longer in let m = after.longer in omega arith;
@@ -136,8 +150,8 @@ pub record GatherAt (world : ℕ → Fact) (old : Rows) (touched roots turned fi
   pub askings : IsAskedOnce told first asked
 
 pub gather_none : (world : ℕ → Fact) (old : Rows) (touched roots turned first nothing half found : List ℕ) (told : List Told)
-    → nothing ≡ [] → Adds nothing half (λ u. has turned u && (has roots u && not (stays old touched u)))
-    → Adds half found (λ u. has touched u && (has roots u && not (stays old touched u))) → told ≡ []
+    → nothing ≡ [] → Adds nothing half (λ u. has touched u && (has roots u && not (stays old touched u)))
+    → Adds half found (λ u. has turned u && (has roots u && not (stays old touched u))) → told ≡ []
     → GatherAt world old touched roots turned first 0 found told first
 gather_none world old touched roots turned first nothing half found told e some others no_told = record {
   start = found;
@@ -145,11 +159,11 @@ gather_none world old touched roots turned first nothing half found told e some 
   start_all = λ n r t s.
       let fit : (has roots n && not (stays old touched n)) ≡ true = and_from (has roots n) (not (stays old touched n)) r (not_from_false (stays old touched n) s) in
       others.members n ∙ ⊎_elim
-      (λ h. or_left (has half n) (has touched n && (has roots n && not (stays old touched n)))
-      (some.members n ∙ or_right (has nothing n) (has turned n && (has roots n && not (stays old touched n)))
-      (and_from (has turned n) (has roots n && not (stays old touched n)) h fit)))
-      (λ h. or_right (has half n) (has touched n && (has roots n && not (stays old touched n)))
-      (and_from (has touched n) (has roots n && not (stays old touched n)) h fit))
+      (λ h. or_right (has half n) (has turned n && (has roots n && not (stays old touched n)))
+      (and_from (has turned n) (has roots n && not (stays old touched n)) h fit))
+      (λ h. or_left (has half n) (has turned n && (has roots n && not (stays old touched n)))
+      (some.members n ∙ or_right (has nothing n) (has touched n && (has roots n && not (stays old touched n)))
+      (and_from (has touched n) (has roots n && not (stays old touched n)) h fit)))
       (or_cases (has turned n) (has touched n) t);
   search = search_start (needed world old touched) found others.distinct;
   off = λ n h. not_stays (stays old touched n) (and_parts (has roots n) (not (stays old touched n)) (one_of n h)).1;
@@ -165,10 +179,10 @@ gather_none world old touched roots turned first nothing half found told e some 
     one_of n h = ⊎_elim
         (λ f. ⊎_elim
         (λ g. absurd (false≢true (ap (λ xs. has xs n) (sym e) ∙ g)))
-        (λ g. (and_parts (has turned n) (has roots n && not (stays old touched n)) g).1)
-        (or_cases (has nothing n) (has turned n && (has roots n && not (stays old touched n))) (sym (some.members n) ∙ f)))
-        (λ f. (and_parts (has touched n) (has roots n && not (stays old touched n)) f).1)
-        (or_cases (has half n) (has touched n && (has roots n && not (stays old touched n))) (sym (others.members n) ∙ h))
+        (λ g. (and_parts (has touched n) (has roots n && not (stays old touched n)) g).1)
+        (or_cases (has nothing n) (has touched n && (has roots n && not (stays old touched n))) (sym (some.members n) ∙ f)))
+        (λ f. (and_parts (has turned n) (has roots n && not (stays old touched n)) f).1)
+        (or_cases (has half n) (has turned n && (has roots n && not (stays old touched n))) (sym (others.members n) ∙ h))
 
 taken : (xs ys : List ℕ) (more : ℕ → Bool) (at node n : ℕ) → Adds xs ys more → at < length xs → node ≡ get_or xs at node
     → has (take (at + 1) ys) n ≡ (has (take at xs) n || nat_eq n node)
@@ -267,8 +281,8 @@ pub record WalkAt (tells : ℕ → Fact → Type 0) (old : Rows) (touched roots 
   pub each : (world : ℕ → Fact) → Tells world told → GatherAt world old touched roots turned first at found told asked
 
 pub walk_none : (tells : ℕ → Fact → Type 0) (old : Rows) (touched roots turned first nothing half found : List ℕ) (told : List Told)
-    → nothing ≡ [] → Adds nothing half (λ u. has turned u && (has roots u && not (stays old touched u)))
-    → Adds half found (λ u. has touched u && (has roots u && not (stays old touched u))) → told ≡ []
+    → nothing ≡ [] → Adds nothing half (λ u. has touched u && (has roots u && not (stays old touched u)))
+    → Adds half found (λ u. has turned u && (has roots u && not (stays old touched u))) → told ≡ []
     → WalkAt tells old touched roots turned first 0 found told first
 walk_none tells old touched roots turned first nothing half found told e some others no_told = record {
   are_told = subst (λ (xs : List Told). AreTold tells xs) (sym no_told) tt;

@@ -1,5 +1,5 @@
 -- Adding what is told of nodes, a node at a time, in any order.
-use Rattle.std.specs.Prelude.{◌⊎◌, ℕ, ◌+◌, ◌^◌, ◌≡◌, ◌<◌, Bool, true, false, ◌||◌, nat_eq, List, [], ◌∷◌, Some}
+use Rattle.std.specs.Prelude.{◌⊎◌, ℕ, ◌+◌, ◌^◌, ◌≡◌, ◌<◌, Bool, true, false, not, ◌&&◌, ◌||◌, nat_eq, nat_lt, List, [], ◌∷◌, Some}
 use Rattle.std.specs.List.{list_any, slice_get}
 use Rattle.least_sets.specs.World.{Fact, has, arcs_of}
 use Rattle.least_sets.specs.Steps.{given, IsStepAt, free}
@@ -61,7 +61,11 @@ AreNamed count told back = (i : ℕ) (t : Told) → i < count → slice_get told
 abbrev pub AreGrouped : ℕ → List Told → (ℕ → ℕ → Bool) → Type 0
 AreGrouped count told groups = (i : ℕ) (t : Told) → i < count → slice_get told i ≡ Some t → groups t.level i ≡ true
 
--- a look at a place, by which those that name its node wait if the node gained a user
-pub data IsLook (told : List Told) (i level : ℕ) (back : ℕ → ℕ → Bool) (before : ℕ → ℕ → Bool) (next : ℕ → Bool) (after : ℕ → ℕ → Bool) (later : ℕ → Bool) : Type 0 where
-  passed : ((t : Told) → slice_get told i ≡ Some t → t.level ≡ level → IsSettledAt t before) → after ≡ before → later ≡ next → IsLook told i level back before next after later
-  gained : (t : Told) → slice_get told i ≡ Some t → IsTurn t level before after → ((n : ℕ) → later n ≡ (next n || back t.node n)) → IsLook told i level back before next after later
+-- a place waits, and comes before another: places are looked at from the last on
+abbrev pub is_to_come : List ℕ → ℕ → ℕ → Bool
+is_to_come waiting place i = nat_lt i place && has waiting i
+
+-- a look at a place, by which those that name its node wait if the node gained a user, but for those that are still to come
+pub data IsLook (told : List Told) (i level : ℕ) (back : ℕ → ℕ → Bool) (to_come : ℕ → Bool) (before : ℕ → ℕ → Bool) (next : ℕ → Bool) (after : ℕ → ℕ → Bool) (later : ℕ → Bool) : Type 0 where
+  passed : ((t : Told) → slice_get told i ≡ Some t → t.level ≡ level → IsSettledAt t before) → after ≡ before → later ≡ next → IsLook told i level back to_come before next after later
+  gained : (t : Told) → slice_get told i ≡ Some t → IsTurn t level before after → ((n : ℕ) → later n ≡ (next n || (back t.node n && not (to_come n)))) → IsLook told i level back to_come before next after later

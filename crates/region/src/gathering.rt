@@ -130,6 +130,25 @@ fn add_roots(
     Ok(())
 }
 
+// The same of the touched nodes, the last ones first: those are the farthest from what changed, and lead to the others.
+fn add_touched_roots(
+    found: &mut Found,
+    old: &Sets,
+    touched: &Found,
+    roots: &IdSet,
+) -> Result<(), AllocError>
+    ensures { OnOk result (Adds found.old found.new (λ u. has touched.now u && (has roots.now u && not (stays old.now.rows touched.now u)))) }
+{
+    found.is_distinct();
+    let mut left = touched.len();
+    while left > 0 {
+        left -= 1;
+        let node = touched.get(left);
+        found.add_if(node, roots.contains(node) && !does_stay(old, touched, node))?;
+    }
+    Ok(())
+}
+
 // Walks from the new and the touched roots over what does not stay as it was, and asks for each node.
 fn walk<F: Facts>(
     alloc: Global,
@@ -145,8 +164,8 @@ fn walk<F: Facts>(
     ensures refused { OnErr result (InEachTold (F.tells facts.new) (λ world. IsAskedSomeOf world roots.now (stays old.now.rows touched.now) (F.asked facts.old) (F.asked facts.new))) }
 {
     let mut found = Found::new(alloc);
+    add_touched_roots(&mut found, old, touched, roots)?;
     add_roots(&mut found, old, touched, roots, turned)?;
-    add_roots(&mut found, old, touched, roots, touched.as_slice())?;
     let mut told = Vec::new(alloc);
     let mut at = 0;
     while at < found.len() {

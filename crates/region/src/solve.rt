@@ -1,6 +1,6 @@
 //! The least members of some nodes, over those that are kept of the others: level by level, and at a level in
 //! rounds over the nodes that wait. A node waits again when one that its rule names has gained a user.
-ghost use Rattle.std.specs.Prelude.{◌≡◌, ℕ, ◌<◌, ◌≤◌, ◌^◌, Bool, true, false, ◌||◌, ◌&&◌, ◌⊎◌, nat_eq, length, Some, IfOk, OnOk, IfSome, IfNone};
+ghost use Rattle.std.specs.Prelude.{◌≡◌, ℕ, ◌<◌, ◌≤◌, ◌^◌, Bool, true, false, not, ◌||◌, ◌&&◌, ◌⊎◌, nat_eq, length, Some, IfOk, OnOk, IfSome, IfNone};
 ghost use Rattle.std.specs.Bool.{MatchBool};
 ghost use Rattle.std.specs.List.{slice_get};
 ghost use Rattle.least_sets.specs.World.{Fact, has, arcs_of};
@@ -8,7 +8,7 @@ ghost use Rattle.least_sets.specs.Least.{IsLevelled, IsLeastIn};
 ghost use Rattle.least_sets.specs.Steps.{IsStepAt, StepsTo};
 ghost use Rattle.region.specs.Rules.{fact_of, shape_of};
 ghost use Rattle.region.specs.Tables.{holds, over, listed, list_at};
-ghost use Rattle.region.specs.Steps.{is_told, Tells, IsSettledAt, IsSettled, Gains, IsWaiting, AreNamed, AreGrouped, IsLook, rooms};
+ghost use Rattle.region.specs.Steps.{is_told, Tells, IsSettledAt, IsSettled, Gains, IsWaiting, AreNamed, AreGrouped, IsLook, is_to_come, rooms};
 
 use crate::eval::{members_at, missing, named, value};
 use crate::rule::Told;
@@ -124,28 +124,61 @@ fn by_level(alloc: Global, told: &[Told]) -> Result<BTreeMap<u64, IdSet>, AllocE
     Ok(groups)
 }
 
-// Adds the ids of the set at a number at the end.
-fn push_listed(ids: &mut Vec<u64>, table: &BTreeMap<u64, IdSet>, at: u64) -> Result<(), AllocError>
-    ensures { OnOk result ((u : ℕ) → has ids.new.items u ≡ (has ids.old.items u || listed table.now at u)) }
+// Adds some places at the end, but for those that wait and come before a place: they are still looked at.
+fn push_places(
+    next: &mut Vec<u64>,
+    places: &[u64],
+    waiting: &IdSet,
+    place: u64,
+) -> Result<(), AllocError>
+    ensures { OnOk result ((i : ℕ) → has next.new.items i ≡ (has next.old.items i || (has places.now i && not (is_to_come waiting.now place i)))) }
 {
-    if let Some(more) = table.get(&at) {
-        ids.extend_from_slice(more.as_slice())?;
+    for i in places {
+        push_place(next, *i, waiting, place)?;
     }
     Ok(())
 }
 
-// Looks at the node of a place, if it is of the level.
+fn push_place(next: &mut Vec<u64>, i: u64, waiting: &IdSet, place: u64) -> Result<(), AllocError>
+    ensures { OnOk result ((j : ℕ) → has next.new.items j ≡ (has next.old.items j || (nat_eq j i && not (is_to_come waiting.now place i)))) }
+{
+    if i < place && waiting.contains(i) {
+        return Ok(());
+    }
+    next.push(i)?;
+    Ok(())
+}
+
+// The same of the places at a node.
+fn push_listed(
+    next: &mut Vec<u64>,
+    back: &BTreeMap<u64, IdSet>,
+    node: u64,
+    waiting: &IdSet,
+    place: u64,
+) -> Result<(), AllocError>
+    ensures { OnOk result ((i : ℕ) → has next.new.items i ≡ (has next.old.items i || (listed back.now node i && not (is_to_come waiting.now place i)))) }
+{
+    match back.get(&node) {
+        Some(places) => push_places(next, places.as_slice(), waiting, place),
+        None => Ok(()),
+    }
+}
+
+// Looks at the node of a place, if it is of the level. Where that gained a user, those that name it wait, unless they wait
+// already and are still to come.
 fn look(
     alloc: Global,
     told: &[Told],
     place: u64,
     level: u64,
     back: &BTreeMap<u64, IdSet>,
+    waiting: &IdSet,
     fresh: &mut BTreeMap<u64, IdSet>,
     kept: &Sets,
     next: &mut Vec<u64>,
 ) -> Result<(), AllocError>
-    ensures { OnOk result (IsLook told.now place level (listed back.now) (over fresh.old kept.now.rows) (has next.old.items) (over fresh.new kept.now.rows) (has next.new.items)) }
+    ensures { OnOk result (IsLook told.now place level (listed back.now) (is_to_come waiting.now place) (over fresh.old kept.now.rows) (has next.old.items) (over fresh.new kept.now.rows) (has next.new.items)) }
 {
     let t = match told.get(place as usize) {
         Some(t) => t,
@@ -155,7 +188,7 @@ fn look(
         return Ok(());
     }
     if settle_node(alloc, t, fresh, kept)? {
-        push_listed(next, back, t.node)?;
+        push_listed(next, back, t.node, waiting, place)?;
     }
     Ok(())
 }
@@ -187,6 +220,7 @@ fn round(
             places[left],
             level,
             back,
+            waiting,
             fresh,
             kept,
             &mut next,

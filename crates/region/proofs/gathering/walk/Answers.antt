@@ -9,7 +9,7 @@ pub loop-at-init : goal.loop-at-init
 loop-at-init g c = record {
   later = g.met.F.Facts.stays c.args.facts.now;
   so_far = walk_none (g.F.Facts.tells c.args.facts.now) c.args.old.now.rows c.args.touched.now c.args.roots.now c.args.turned.now (g.F.Facts.asked c.args.facts.now)
-      c.new-found.result c.add_roots.new.found c.add_roots-2.new.found c.new-told.result.items c.new-found.ensures c.in_ok-add_roots.ensures (rw c.as_slice.ensures at c.in_ok-add_roots-2.ensures) c.new-told.ensures.items;
+      c.new-found.result c.add_touched_roots.new.found c.add_roots.new.found c.new-told.result.items c.new-found.ensures c.in_ok-add_touched_roots.ensures c.in_ok-add_roots.ensures c.new-told.ensures.items;
 }
 
 pub loop-at-preserved : goal.loop-at-preserved
@@ -47,12 +47,12 @@ returns-in_err-visit-clause-refused g c =
     c.loop-at.at c.loop-at.found c.loop-at.told.items (g.F.Facts.asked c.loop-at.facts) (g.F.Facts.asked c.visit.new.facts) c.get-node.result
     (λ n fact t. g.met.F.Facts.grows c.loop-at.facts c.visit.new.facts n fact c.in_err-visit.ensures.later t) c.loop-at.invariant.so_far lt c.get-node.ensures c.in_err-visit.ensures.refused)
 
-pub returns-in_err-add_roots-clause-refused : goal.returns-in_err-add_roots-clause-refused
-returns-in_err-add_roots-clause-refused g c = on_err_all c.from_residual.result
+pub returns-in_err-add_touched_roots-clause-refused : goal.returns-in_err-add_touched_roots-clause-refused
+returns-in_err-add_touched_roots-clause-refused g c = on_err_all c.from_residual.result
     (none_told (g.F.Facts.tells c.args.facts.now) (λ world. IsAskedSomeOf world c.args.roots.now (stays c.args.old.now.rows c.args.touched.now) (g.F.Facts.asked c.args.facts.now) (g.F.Facts.asked c.args.facts.now))
     (λ world. some_none world c.args.roots.now (stays c.args.old.now.rows c.args.touched.now) (g.F.Facts.asked c.args.facts.now)))
 
-pub returns-in_err-add_roots-2-clause-refused : goal.returns-in_err-add_roots-2-clause-refused
-returns-in_err-add_roots-2-clause-refused g c = on_err_all c.from_residual-in_err-add_roots-2.result
+pub returns-in_err-add_roots-clause-refused : goal.returns-in_err-add_roots-clause-refused
+returns-in_err-add_roots-clause-refused g c = on_err_all c.from_residual-in_err-add_roots.result
     (none_told (g.F.Facts.tells c.args.facts.now) (λ world. IsAskedSomeOf world c.args.roots.now (stays c.args.old.now.rows c.args.touched.now) (g.F.Facts.asked c.args.facts.now) (g.F.Facts.asked c.args.facts.now))
     (λ world. some_none world c.args.roots.now (stays c.args.old.now.rows c.args.touched.now) (g.F.Facts.asked c.args.facts.now)))

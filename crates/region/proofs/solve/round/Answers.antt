@@ -1,8 +1,10 @@
-use Rattle.std.proofs.Common.{◌≡◌, ◌<◌, ◌-◌, ◌+◌, length, ap, ◌∙◌, subst, arith}
+use Rattle.std.proofs.Common.{◌≡◌, ◌<◌, ◌-◌, ◌+◌, get_or, length, ap, ◌∙◌, subst, arith}
+use Rattle.std.specs.List.Sorted.{IsStrictlyIncreasing}
 use Rattle.least_sets.specs.World.{has}
+use Rattle.region.specs.Steps.{is_to_come}
 use Rattle.region.specs.Tables.{over, listed}
 use Rattle.region.proofs.Listing.{place_same}
-use Rattle.region.proofs.Round.{RoundAt, round_none, round_more, round_end, round_less, waiting_same}
+use Rattle.region.proofs.Round.{RoundAt, left_of, round_none, round_more, round_end, round_less, waiting_same}
 use Rattle.region.proofs.solve.round.Goals as goal
 
 pub loop-left-init : goal.loop-left-init
@@ -16,11 +18,13 @@ loop-left-preserved c =
     let lt : c.loop-left.left - 1 < length c.args.waiting.now = omega (arith, le) in
     let len : length c.as_slice-places.result.now ≡ length c.args.waiting.now = ap length c.as_slice-places.ensures.ids in
     let lt_slice : c.loop-left.left - 1 < length c.as_slice-places.result.now = omega (arith, lt, len) in
-    round_more c.args.told.now c.args.level c.args.waiting.now (c.loop-left.left - 1) _ (listed c.args.back.now)
+    let up : IsStrictlyIncreasing c.args.waiting.now = subst IsStrictlyIncreasing c.as_slice-places.ensures.ids c.as_slice-places.ensures.ascending in
+    let place = get_or c.as_slice-places.result.now (c.loop-left.left - 1) 0 in
+    let here = place_same c.as_slice-places.result.now c.args.waiting.now (c.loop-left.left - 1) 0 c.as_slice-places.ensures.ids lt_slice in
+    round_more c.args.told.now c.args.level c.args.waiting.now (c.loop-left.left - 1) place (listed c.args.back.now) (is_to_come c.args.waiting.now place)
     (over c.args.fresh.now c.args.kept.now.rows) (over c.loop-left.fresh c.args.kept.now.rows) (over c.look.new.fresh c.args.kept.now.rows)
     (has c.loop-left.next.items) (has c.look.new.next.items)
-    (place_same c.as_slice-places.result.now c.args.waiting.now (c.loop-left.left - 1) _ c.as_slice-places.ensures.ids lt_slice)
-    c.requires.named
+    here (left_of c.args.waiting.now (c.loop-left.left - 1) place up lt here) c.requires.named
     (subst (λ k. RoundAt c.args.told.now c.args.level c.args.waiting.now k (over c.args.fresh.now c.args.kept.now.rows) (over c.loop-left.fresh c.args.kept.now.rows) (has c.loop-left.next.items)) one c.loop-left.invariant)
     c.in_ok-look.ensures
 
