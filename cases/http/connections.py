@@ -1,7 +1,7 @@
 """The cases of `zanz serve`: what it must write on a connection for what it is sent. cases/run runs them.
 
 Each case is a function of CASES, named for what it shows. It is given the program and an empty folder to run it in, and raises
-AssertionError where something is not as it should be. Every socket is on 127.0.0.1, each wait is bounded, and each server is
+AssertionError where something is not as it should be. Every socket is on the loopback, each wait is bounded, and each server is
 started on a port that is free and killed at the end.
 """
 import itertools
@@ -436,6 +436,17 @@ def a_port_that_is_given_is_listened_on(program, folder):
         same("port", port, server.port)
 
 
+def it_listens_on_one_address_alone(program, folder):
+    """A port that is bound on each address of a machine is bound on 127.0.0.2 too."""
+    with Server(program, folder) as server:
+        server.connect().close()
+        try:
+            socket.create_connection(("127.0.0.2", server.port), timeout=LIMIT).close()
+        except ConnectionRefusedError:
+            return
+        raise AssertionError(f"port {server.port} is open on 127.0.0.2 too\n")
+
+
 def insert(name):
     return json.dumps({"ops": [{"op": "insert", "tuple": f"group:a#member@user:{name}"}]}, separators=(",", ":"))
 
@@ -629,6 +640,7 @@ CASES = [
     the_most_workers_are_thirty,
     a_port_in_use_is_told,
     a_port_that_is_given_is_listened_on,
+    it_listens_on_one_address_alone,
     what_is_written_is_read_by_the_parts,
     one_worker_alone_leaves_the_parts_to_its_callers,
     one_worker_alone_keeps_a_file,

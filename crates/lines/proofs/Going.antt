@@ -1,5 +1,5 @@
 -- How what was served goes on.
-use Rattle.std.proofs.Common.{◌≡◌, ◌≢◌, ℕ, ◌+◌, ◌<◌, ◌≤◌, ◌++◌, ◌==◌, Bool, true, false, List, [], ◌∷◌, length, take, drop, refl, sym, ap, subst, ◌∙◌, arith, append_assoc, nat_le, get_or, not, ◌&&◌, true≢false}
+use Rattle.std.proofs.Common.{◌≡◌, ◌≢◌, ℕ, ◌+◌, ◌<◌, ◌≤◌, ◌++◌, ◌==◌, Bool, true, false, List, [], ◌∷◌, length, take, drop, refl, sym, ap, subst, ◌∙◌, arith, append_assoc, nat_le, get_or, not, ◌&&◌, true≢false, inl, inr}
 use Rattle.std.specs.Prelude.{Option, Some, None, Result, Ok, Err, MatchResult, is_err}
 use Rattle.std.specs.List.{flat_map}
 use Rattle.std.specs.Io.KnownBytes.{Consumes}
@@ -14,7 +14,8 @@ use Rattle.answers.specs.Machine.{Step}
 use Rattle.lines.specs.Machine.{IsAnswer, Answers, Run, Fed}
 use Rattle.tracked_io.specs.Wrote.{Taken, Took, Wrote, WroteSome}
 use Rattle.lines.specs.Served.{Served, Cut}
-use Rattle.lines.specs.Going.{AnswersPending, Going, CutShort}
+use Rattle.lines.specs.Going.{AnswersPending, Going, CutShort, CutAtEnd}
+use Rattle.tracked_io.specs.Waiting.{OneRead, with_read}
 use Rattle.lines.proofs.Keeping.{pending_more, fits_pending, whole_when_fits, call_pending, empty_from_pending}
 use Rattle.lines.proofs.Feeding.{run_more, fed_none, fed_byte, fed_line, lines_of_fed, lines_of_rest}
 use Rattle.tracked_io.proofs.Appending.{took_none, took_both, took_kept, some_after}
@@ -102,11 +103,22 @@ pub going_all : {S : Type 0} (step : Step S) (s : S) (held : Taken) (input bytes
     → Going step s held (input ++ take i bytes) line t holds → Going step s held (input ++ bytes) line t holds
 going_all step s held input bytes i line t holds h g = let P : List ℕ → Type 0 = λ z. Going step s held z line t holds in subst P (ap (λ z. input ++ z) (take_all i bytes h)) g
 
-pub cut_from_short : {S : Type 0} (step : Step S) (s : S) (held : Taken) (input : List ℕ) (t : S) (holds : Taken)
-    → CutShort step s held input t holds → Cut step s held input t holds
-cut_from_short step s held input t holds c =
+pub cut_from_short : {S : Type 0} (step : Step S) (s : S) (held : Taken) (input : List ℕ) (t : S) (holds : Taken) (reads : List OneRead) → CutShort step s held input t holds → Cut step s held reads input t holds
+cut_from_short step s held input t holds reads c =
     let first : take (length c.lines) (lines_of input) ≡ c.lines = rw (c.split, lines_of_fed c.lines c.more c.whole) (take-append_seam {A = List ℕ} c.lines (lines_of c.more)) in
-    record { count = length c.lines; text = c.text; run = rw first c.run; wrote = c.wrote }
+    record {
+      count = length c.lines;
+      text = c.text;
+      run = rw first c.run;
+      wrote = c.wrote;
+      whole = inl (c.more, c.split ∙ ap (λ (ls : List (List ℕ)). flat_map ended ls ++ c.more) (sym first));
+    }
+
+-- the read before the end gave nothing
+pub cut_from_end : {S : Type 0} (step : Step S) (s : S) (held : Taken) (input : List ℕ) (t : S) (holds : Taken) (before reads : List OneRead) (at : Taken) (gave : List ℕ)
+    → reads ≡ with_read before at gave → gave ≡ [] → CutAtEnd step s held input t holds → Cut step s held reads input t holds
+cut_from_end step s held input t holds before reads at gave is none c =
+    record { count = c.count; text = c.text; run = c.run; wrote = c.wrote; whole = inr (before, record { held = at; gave = gave }, is, none) }
 
 lines_of_input : {S : Type 0} (step : Step S) (s : S) (input rest text : List ℕ) (t : S) (f : Fed step s input rest text t) → lines_of input ≡ f.lines ++ lines_of rest
 lines_of_input step s input rest text t f = rw f.split (lines_of_fed f.lines rest f.whole)
@@ -127,7 +139,7 @@ last_line (x ∷ rest) h e = lines_of_rest x rest h
 
 ended_by : {S E : Type 0} (step : Step S) (r : Result (Unit {0}) E) (s : S) (held : Taken) (input : List ℕ) (lines : List (List ℕ)) (text : List ℕ) (holds after : Taken) (more : List ℕ) (u : S)
     → lines_of input ≡ lines → Run step s lines (text ++ more) u → Took held holds text → Wrote r holds after more
-    → MatchResult r (λ _. Served step s held input u after) (λ _. Cut step s held input u after)
+    → MatchResult r (λ _. Served step s held input u after) (λ _. CutAtEnd step s held input u after)
 ended_by step (Ok x) s held input lines text holds after more u e ran a w = record { text = text ++ more; run = rw e ran; wrote = took_both held holds after text more a w }
 ended_by step (Err x) s held input lines text holds after more u e ran a w =
     record { count = length lines; text = text ++ more; run = rw (e, take_all (length lines) lines (omega arith)) ran; wrote = some_after held holds after text more a w }
@@ -136,7 +148,7 @@ ended_by step (Err x) s held input lines text holds after more u e ran a w =
 pub served_last : {S E : Type 0} (step : Step S) (r : Result (Unit {0}) E) (s : S) (held : Taken) (input : List ℕ) (line : PendingLine) (t : S) (holds after : Taken) (text : List ℕ) (u : S)
     → Going step s held input line t holds → (not line.spaced && length line.word == 0) ≡ false
     → AnswersPending step t line text u → Wrote r holds after text
-    → MatchResult r (λ _. Served step s held input u after) (λ _. Cut step s held input u after)
+    → MatchResult r (λ _. Served step s held input u after) (λ _. CutAtEnd step s held input u after)
 served_last {S} {E} step r s held input line t holds after text u g e h w =
     let P : PendingLine → Type 0 = λ k. (not k.spaced && length k.word == 0) ≡ false in
     let Q : PendingLine → Type 0 = λ k. AnswersPending step t k text u in
@@ -184,7 +196,7 @@ all_written : (held holds after : Taken) (text : List ℕ) → Took held holds t
 all_written held holds after text a k = record { written = text; missing = []; parts = sym (append-nil text); took = took_kept held holds after text a k }
 
 pub cut_from_served : {S : Type 0} (step : Step S) (s : S) (held : Taken) (input : List ℕ) (t : S) (holds after : Taken)
-    → Served step s held input t holds → after ≡ holds → Cut step s held input t after
+    → Served step s held input t holds → after ≡ holds → CutAtEnd step s held input t after
 cut_from_served step s held input t holds after v k = record {
   count = length (lines_of input);
   text = v.text;
@@ -192,13 +204,13 @@ cut_from_served step s held input t holds after v k = record {
   wrote = all_written held holds after v.text v.wrote k;
 }
 
-pub cut_from_going : {S : Type 0} (step : Step S) (s : S) (held : Taken) (input : List ℕ) (line : PendingLine) (t : S) (holds after : Taken)
-    → Going step s held input line t holds → after ≡ holds → Cut step s held input t after
-cut_from_going step s held input line t holds after g k =
-    cut_from_short step s held input t after (short_from_fed step s held input g.paused.rest g.paused.text t after g.paused.fed (all_written held holds after g.paused.text g.paused.wrote k))
+pub cut_from_going : {S : Type 0} (step : Step S) (s : S) (held : Taken) (input : List ℕ) (line : PendingLine) (t : S) (holds after : Taken) (reads : List OneRead)
+    → Going step s held input line t holds → after ≡ holds → Cut step s held reads input t after
+cut_from_going step s held input line t holds after reads g k =
+    cut_from_short step s held input t after reads (short_from_fed step s held input g.paused.rest g.paused.text t after g.paused.fed (all_written held holds after g.paused.text g.paused.wrote k))
 
 pub served_flushed : {S E : Type 0} (step : Step S) (r : Result (Unit {0}) E) (s : S) (held : Taken) (input : List ℕ) (t : S) (holds after : Taken)
-    → Served step s held input t holds → after ≡ holds → MatchResult r (λ _. Served step s held input t after) (λ _. Cut step s held input t after)
+    → Served step s held input t holds → after ≡ holds → MatchResult r (λ _. Served step s held input t after) (λ _. CutAtEnd step s held input t after)
 served_flushed step (Ok x) s held input t holds after v k = served_keeps step s held input t holds after v k
 served_flushed step (Err e) s held input t holds after v k = cut_from_served step s held input t holds after v k
 

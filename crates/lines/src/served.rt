@@ -34,9 +34,10 @@ pub fn lines<R: Read, W: Write, A: Answers>(
     ensures read_fault { result ≡ End.ReadFault → (input : List ℕ) × Reads R.remaining reader.old reader.new input
         × Paused A.step answers.old writer.old.taken input answers.new writer.new.taken }
 
-    // Some first lines of what was read were answered, and a beginning of the answers was written.
+    // Some first lines of what was read were answered, and a beginning of the answers was written. A line without an LF is one
+    // of them only where the last read said that there is no more.
     ensures write_fault { result ≡ End.WriteFault → (input : List ℕ) × Reads R.remaining reader.old reader.new input
-        × Cut A.step answers.old writer.old.taken input answers.new writer.new.taken }
+        × Cut A.step answers.old writer.old.taken reader.new.reads input answers.new writer.new.taken }
 
     // At each read, also of one that failed, each whole line of what was read before was answered, and the answers
     // handed on.

@@ -78,7 +78,7 @@ pub record PausedBy {T R W : Type 0} (g : Ghosts T) (old : TrackedReading R × T
 
 -- the same of some first lines, of whose answers a beginning was written
 pub record CutBy {T R W : Type 0} (g : Ghosts T) (old : TrackedReading R × TrackedWriting W) (input : List ℕ) (new : TrackedReading R × TrackedWriting W) (first last : Posts T) : Type 0 where
-  pub cut : Cut (DeskStep g) first old.1.taken input last new.1.taken
+  pub cut : Cut (DeskStep g) first old.1.taken new.0.reads input last new.1.taken
   pub each_read : PausedAtEachRead (DeskStep g) first old.1.taken old.0 new.0
 
 -- ---- what is left

@@ -1,5 +1,6 @@
 //! One connection over TCP.
 ghost use Rattle.std.specs.Prelude.{◌≡◌, ◌≤◌, ◌*◌, ◌⊎◌, [], false, true, IfSome};
+ghost use Rattle.std.specs.Io.Buffered.{writer_buffer};
 ghost use Rattle.http_api.specs.Routes.{table};
 ghost use Rattle.server.specs.Attending.{Attended};
 
@@ -35,6 +36,7 @@ pub fn sides_of(alloc: Global, stream: &TcpStream) -> Option<Sides<'_>>
     ensures writer { IfSome result (λ sides. sides.1.failed ≡ false) }
     ensures flushed { IfSome result (λ sides. sides.1.flushed ≡ true) }
     ensures unwritten { IfSome result (λ sides. sides.1.taken.bytes ≡ []) }
+    ensures empty { IfSome result (λ sides. writer_buffer sides.1.inner ≡ []) }
 {
     let _ = stream.set_nodelay(true);
     let Ok(out) = BufWriter::new(alloc, stream) else {
