@@ -3,7 +3,7 @@ use Rattle.std.specs.Prelude.{◌≡◌, ℕ, ◌<◌, length, slice_index_or}
 use Rattle.names.specs.declared.relation.RelationName.{RelationName}
 use Rattle.meaning.specs.Config.{Configured, Defined, Defines}
 
--- the relation stands at this place, and at no other
+-- the relation stands at this place, and each definition of it is the one there
 pub record StandsAt (config : Configured) (r : RelationName) (i : ℕ) : Type 0 where
   pub defined : Defined
   pub within : i < length config.relations

@@ -6,8 +6,8 @@ ghost use Rattle.expand.specs.inside.Rising.{is_below, is_rising};
 use config_text::Relation;
 use rows::View;
 
-/// Whether the view's relations are in order, each once. Those of each configuration are, but no contract of it
-/// says so.
+/// Whether the view's relations are in order, each once. Those of each configuration are, as reading one promises; a view
+/// does not say it of its own.
 pub(crate) fn is_valid(view: &View) -> bool
     ensures { result ≡ true → IsValid view.now }
 {

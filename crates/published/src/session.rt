@@ -95,8 +95,7 @@ impl Session {
         node: &Node,
         user: &Object,
     ) -> Option<(u64, Result<Answer<bool>, Refused>)>
-        ensures number { IfSome result (λ asked.
-            asked.0 ≡ (standing self.new.steps).kept.number) }
+        ensures number { IfSome result (λ asked. asked.0 ≡ (standing self.new.steps).kept.number) }
         ensures ok { IfSome result (λ asked. IfOk asked.1
             (IsAnswer (standing self.new.steps) consistency.now node.now user.now)) }
         ensures err { IfSome result (λ asked. IfErr asked.1
@@ -149,8 +148,7 @@ impl Session {
     ) -> Option<(u64, Result<Answer<Tree>, Refused>)>
         requires opens { 1 ≤ depth }
         requires bounded { depth ≤ MAX_DEPTH }
-        ensures number { IfSome result (λ asked.
-            asked.0 ≡ (standing self.new.steps).kept.number) }
+        ensures number { IfSome result (λ asked. asked.0 ≡ (standing self.new.steps).kept.number) }
         ensures ok { IfSome result (λ asked. IfOk asked.1
             (IsTree (standing self.new.steps) consistency.now node.now depth)) }
         ensures err { IfSome result (λ asked. IfErr asked.1
@@ -193,8 +191,7 @@ impl Session {
         consistency: &Consistency,
         asked: &Tupleset,
     ) -> Option<(u64, Result<Answer<Items<Tuple>>, Refused>)>
-        ensures number { IfSome result (λ told.
-            told.0 ≡ (standing self.new.steps).kept.number) }
+        ensures number { IfSome result (λ told. told.0 ≡ (standing self.new.steps).kept.number) }
         ensures ok { IfSome result (λ told. IfOk told.1
             (IsPage (standing self.new.steps) consistency.now asked.now)) }
         ensures err { IfSome result (λ told. IfErr told.1
@@ -236,8 +233,7 @@ impl Session {
         expr: &Expr,
         limit: u32,
     ) -> Option<(u64, Result<Answer<Items<Node>>, Refused>)>
-        ensures number { IfSome result (λ told.
-            told.0 ≡ (standing self.new.steps).kept.number) }
+        ensures number { IfSome result (λ told. told.0 ≡ (standing self.new.steps).kept.number) }
         ensures ok { IfSome result (λ told. IfOk told.1
             (AreGroups (standing self.new.steps) consistency.now (query_of expr.now) limit)) }
         ensures err { IfSome result (λ told. IfErr told.1
@@ -282,8 +278,7 @@ impl Session {
         namespaces: &Namespaces,
         commits: u32,
     ) -> Option<(u64, Result<Page, Refusal>)>
-        ensures number { IfSome result (λ asked.
-            asked.0 ≡ (standing self.new.steps).kept.number) }
+        ensures number { IfSome result (λ asked. asked.0 ≡ (standing self.new.steps).kept.number) }
         ensures ok { IfSome result (λ asked. IfOk asked.1
             (IsWatched (standing self.new.steps) cursor.now namespaces.now commits)) }
         ensures err { IfSome result (λ asked. IfErr asked.1
@@ -316,8 +311,7 @@ impl Session {
 
     /// The same, beside the number of the store. There is none where the publication is gone.
     pub fn state_in_store(&mut self) -> Option<(u64, State)>
-        ensures number { IfSome result (λ told.
-            told.0 ≡ (standing self.new.steps).kept.number) }
+        ensures number { IfSome result (λ told. told.0 ≡ (standing self.new.steps).kept.number) }
         ensures state { IfSome result (λ told. told.1 ≡ state_of (standing self.new.steps)) }
         ensures none { IfNone result (self.new ≡ self.old) }
         ensures judged { AreJudged self.new.steps }

@@ -28,8 +28,8 @@ pub record IsUnansweredAt (s : Standing) (consistency : Consistency) (asked : Qu
   pub asked_at : IsAskedAt s consistency rev
   pub cause : AskCause (snap_at s.kept rev).config asked limit why
 
--- The expression or the limit is larger than allowed; else the first cause of the zookie; else a relation is not there, or is not indexed; or there
--- was no memory.
+-- The expression or the limit is larger than allowed, or a union or an intersection has no part; else the first cause of the zookie; else a
+-- relation is not there, or is not indexed; or there was no memory.
 abbrev pub GroupsRefused : Standing → Consistency → Query → (limit : ℕ) → Refusal → Option ℕ → Type 0
 GroupsRefused s consistency asked limit Malformed at = (is_allowed asked limit ≡ false) × (at ≡ None)
 GroupsRefused s consistency asked limit UnknownRelation at = IsUnansweredAt s consistency asked limit UnknownRelation at

@@ -485,9 +485,9 @@ impl Shown {
     }
 
     /// The first so many groups that the expression means, in the order of nodes, at the revision that the consistency
-    /// chooses. It is `Malformed` where the expression or the limit is larger than allowed, which is looked at first, and
-    /// `UnknownRelation` or `NotIndexed` where the closure of a group is asked for whose relation is not there, or is not
-    /// indexed.
+    /// chooses. It is `Malformed` where the expression or the limit is larger than allowed or a union or an intersection has no
+    /// part, which is looked at first, and `UnknownRelation` or `NotIndexed` where the closure of a group is asked for whose
+    /// relation is not there, or is not indexed.
     pub fn groups(
         &self,
         consistency: &Consistency,
