@@ -20,7 +20,8 @@ use Rattle.facts.specs.Numbers.{node_at}
 use Rattle.facts.specs.Telling.{MayTell, IsLater}
 use Rattle.facts.specs.inside.Growing.{may_more}
 use Rattle.hot.proofs.Looking.{HasLevel, told_level, told_plain, told_taken}
-use Rattle.hot.specs.Kept.{AreKept}
+use Rattle.hot.specs.Kept.{AreKept, AreOfWorld, Remembered}
+use Rattle.hot.specs.inside.Remembering.{IsRemembered}
 
 told_at : (tells : ℕ → Fact → Type 0) (world : ℕ → Fact) (told : List Told) (n : ℕ) → AreTold tells told → Tells world told → is_told told n ≡ true → tells n (world n)
 told_at tells world [] n a t h = absurd (false≢true h)
@@ -129,3 +130,16 @@ module _ (S T : Snap) (nodes nodes' : List Node) (users users' : List Object) (o
     held = r.held before world first levels (tells_agree world r.some.0 r.told at_told r.some.1) held turns same;
     told = told_of;
   }
+
+  -- what is remembered then is of that world
+  pub after_of_world : (was is : Remembered) (dropped : List ℕ) → AreOfWorld before old was
+      → ((n : ℕ) → kept old n ≡ true → has dropped n ≡ false → (kept new n ≡ true) × (is_told r.told n ≡ false))
+      → IsRemembered r.told dropped was is → AreOfWorld after.world new is
+  unfolding after
+  after_of_world was is dropped of_world stay remembered n t at = ⊎_elim
+      (λ fresh. ((r.few n fresh.0).0, sym (at_told n fresh.0 ∙ fresh.1 r.some.0 r.some.1)))
+      (λ still.
+      let there = of_world n t still.0 in
+      let left = stay n there.0 still.1 in
+      (left.0, there.1 ∙ sym (at_old n left.1 there.0)))
+      (remembered n t at)

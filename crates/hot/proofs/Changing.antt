@@ -1,4 +1,4 @@
--- What may be told of a node may be told of it after a commit that has no event on it, nor on what it names.
+-- What may be told of a node may be told of it after a commit that has no event on it, nor on what it names of the same object: its tuplesets.
 use Rattle.std.proofs.Common.{ℕ, ◌≡◌, true, false, not, ◌&&◌, ◌||◌, List, [], ◌∷◌, refl, sym, ◌∙◌, ap, subst, ⊎_elim, inl, inr}
 use Rattle.std.specs.Prelude.{◌↔◌, Contains, Some}
 use Rattle.std.specs.List.{slice_get}
@@ -60,7 +60,7 @@ abbrev pub IsQuietAt : List Node → List Event → ℕ → Type 0
 IsQuietAt nodes events j = (e : Event) → Contains events e → slice_get nodes j ≡ Some e.tuple.node → ⊥
 
 pub may_after : (S T : Snap) (events : List Event) (nodes : List Node) (users : List Object) (i : ℕ) (fact : Fact) → S.config ≡ T.config → T.tuples ≡ replay S.tuples events
-    → IsQuietAt nodes events i → ((j : ℕ) → has (arcs_of fact.shape) j ≡ true → IsQuietAt nodes events j)
+    → IsQuietAt nodes events i → ((j : ℕ) → has (arcs_of fact.shape) j ≡ true → (node_at nodes j).object ≡ (node_at nodes i).object → IsQuietAt nodes events j)
     → MayTell S nodes users i fact → MayTell T nodes users i fact
 may_after S T events nodes users i fact config tuples quiet named may = record {
   named = may.named;
@@ -93,4 +93,4 @@ may_after S T events nodes users i fact config tuples quiet named may = record {
     here s = tuple_same n S T events tuples (λ e c is. quiet e c (at ∙ ap (λ x. Some x) (sym is))) s
 
     there : (m : ℕ) → has (arcs_of fact.shape) m ≡ true → (t : List ℕ) → node_at nodes m ≡ record { object = n.object; relation = t } → IsQuiet (record { object = n.object; relation = t }) events
-    there m h t is e c tuple = named m h e c (node_got nodes m (may.within m h) ∙ ap (λ x. Some x) (is ∙ sym tuple))
+    there m h t is e c tuple = named m h (ap (λ (x : Node). x.object) is) e c (node_got nodes m (may.within m h) ∙ ap (λ x. Some x) (is ∙ sym tuple))

@@ -11,3 +11,4 @@ mod Renewed
 mod Outcomes
 mod Answering
 mod Lists
+mod Remembered

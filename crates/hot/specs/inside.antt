@@ -1,3 +1,4 @@
 -- What no promise rests on, which a reader of the promises can pass over.
 pub mod Named
 pub mod Events
+pub mod Remembering
