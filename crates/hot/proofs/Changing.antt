@@ -46,7 +46,7 @@ module _ (n : Node) where
   replay_same (e ∷ es) q s is quiet =
       replay_same es q (after_event s e) is (λ x c. quiet x (contains_there e x es c)) ∙ event_same e.kind e.tuple q s is (quiet e (contains_here e es))
 
-  tuple_same : (S T : Snap) (events : List Event) → T.tuples ≡ replay S.tuples events → IsQuiet events → (s : Subject)
+  pub tuple_same : (S T : Snap) (events : List Event) → T.tuples ≡ replay S.tuples events → IsQuiet events → (s : Subject)
       → Contains (set.items S.tuples) (record { node = n; subject = s }) ↔ Contains (set.items T.tuples) (record { node = n; subject = s })
   tuple_same S T events is quiet s =
       let q : Tuple = record { node = n; subject = s } in
@@ -69,7 +69,7 @@ may_after S T events nodes users i fact config tuples quiet named may = record {
         d.0,
         subst (λ (c : Configured). Defines c (rel_of n) d.0) config d.1,
         subst (λ (c : Configured). IsAt c n fact.level) config d.2,
-        shape_same S T (node_at nodes) (node_at nodes) (user_at users) (user_at users) n fact.own config
+        shape_same S T (node_at nodes) (node_at nodes) (user_at users) (user_at users) n fact.own fact.own config
             (λ u both. let same = here (one (user_at users u)) in (λ h. same.0 (both.0 h), λ h. both.1 (same.1 h)))
             (λ m. here (set_of m)) d.0.form fact.shape (λ m h. refl)
             (λ m h t e p. tuple_same (record { object = n.object; relation = t }) S T events tuples (there m h t e) (one p)) d.3,

@@ -12,3 +12,4 @@ mod Outcomes
 mod Answering
 mod Lists
 mod Remembered
+mod Followed

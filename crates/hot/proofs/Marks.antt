@@ -16,24 +16,26 @@ use Rattle.meaning.specs.Snap.{Snap}
 use Rattle.meaning.specs.History.{after_commit}
 use Rattle.meaning.specs.Reads.{IsValid}
 use Rattle.idsets.specs.Naming.{AreDistinct}
-use Rattle.least_sets.specs.World.{Fact, AnyOf, has}
+use Rattle.least_sets.specs.World.{Fact, AnyOf, has, arcs_of}
 use Rattle.least_sets.specs.Least.{IsLevelled, IsLeastIn}
 use Rattle.least_sets.specs.Walks.{IsTouched, here, on}
 use Rattle.region.specs.declared.rule.Told.{Told}
 use Rattle.region.specs.declared.sets.Row.{Row}
+use Rattle.region.specs.Rules.{fact_of}
 use Rattle.region.specs.Steps.{AreTold}
-use Rattle.region.specs.Tables.{Rows, row_of, kept, arc_in, holds, arcs_or_none, members_or_none, Lists, IsBacked, listed}
+use Rattle.region.specs.Tables.{Rows, row_of, kept, arc_in, holds, arcs_or_none, members_or_none, Lists, IsBacked}
 use Rattle.region.specs.Sets.{IsHeld}
 use Rattle.region.specs.Gathered.{IsTurned, stays}
 use Rattle.region.specs.Refreshed.{IsRefreshed}
 use Rattle.facts.specs.Numbers.{Grew}
 use Rattle.facts.specs.Telling.{MayTell, IsLater}
-use Rattle.facts.specs.inside.Tables.{grew_get, node_is}
+use Rattle.facts.specs.inside.Tables.{grew_get}
 use Rattle.facts.specs.inside.Growing.{may_more}
 use Rattle.hot.proofs.Changing.{may_after}
 use Rattle.hot.specs.Kept.{AreKept, AreOfWorld, Remembered, told_of}
-use Rattle.hot.specs.inside.Remembering.{AreApart, MayRecall, IsRenewed}
+use Rattle.hot.specs.inside.Remembering.{MayRecall, IsRenewed}
 use Rattle.hot.specs.inside.Events.{AreOfEvents}
+use Rattle.hot.specs.inside.Following.{AreTellable}
 use Rattle.hot.proofs.After.{after, after_of_world}
 
 abbrev nobody : Fact
@@ -151,7 +153,7 @@ pub marked_of_world : (S : Snap) (nodes nodes' : List Node) (users users' : List
 unfolding kept_marked
 marked_of_world S nodes nodes' users users' marks marks' turned a b asked asked' valid later turns k before after r of =
     after_of_world S S nodes nodes' users users' a b marks marks' turned [] asked asked' k.world refl valid valid k.held k.told later (λ n h off. k.told n h) turns r.refreshed
-    before after r.dropped of r.stays r.remembered
+    before after r.dropped (λ n t at. let there = of n t at in (there.0, λ off. there.1)) r.stays r.remembered
 
 pub turned_one : (marks marks' : List ℕ) (id : ℕ) → ((o : ℕ) → has marks' o ≡ (nat_eq o id || has marks o)) → IsTurned marks marks' (id ∷ [])
 turned_one marks marks' id e n off = e n ∙ first (nat_eq n id) (has marks n) off
@@ -180,30 +182,28 @@ kept_after S T events nodes nodes' users users' marks changed a b asked asked' v
 pub commit_of_world : (S T : Snap) (events : List Event) (nodes nodes' : List Node) (users users' : List Object) (marks changed : List ℕ) (a b : Rows) (asked asked' : List ℕ)
     (valid : IsValid S) (valid' : IsValid T) (is : T ≡ after_commit S (Tuples events)) (are : AreOfEvents nodes events changed) (later : IsLater nodes nodes' users users') (k : AreKept S nodes users marks a)
     (before after : Remembered) (r : IsRenewed (MayTell T nodes' users') a b marks [] changed asked asked' before after)
-    → AreOfWorld k.world a before → AreOfWorld (kept_after S T events nodes nodes' users users' marks changed a b asked asked' valid valid' is are later k r.refreshed).world b after
+    → ((n : ℕ) (t : Told) → told_of before n ≡ Some t → (kept a n ≡ true) × (has changed n ≡ false → fact_of t ≡ k.world n))
+    → AreOfWorld (kept_after S T events nodes nodes' users users' marks changed a b asked asked' valid valid' is are later k r.refreshed).world b after
 unfolding kept_after
 commit_of_world S T events nodes nodes' users users' marks changed a b asked asked' valid valid' is are later k before after r of =
     after_of_world S T nodes nodes' users users' a b marks marks [] changed asked asked' k.world (sym (ap (λ (x : Snap). x.config) is)) valid valid' k.held k.told later
     (stays_after S T events nodes users marks changed a is are k) (λ n h. refl) r.refreshed
-    before after r.dropped of r.stays r.remembered
+    before after r.dropped (λ n t at. let there = of n t at in (there.0, λ off. there.1 (r.stays n there.0 off).2)) r.stays r.remembered
 
--- what is remembered of nodes that did not change, and that name none of the same object that did, may be told after the commit
-pub recall_after : (S T : Snap) (events : List Event) (nodes nodes' : List Node) (users users' : List Object) (marks changed : List ℕ) (rows : Rows) (back : Lists) (memory less : Remembered)
-    → T ≡ after_commit S (Tuples events) → AreOfEvents nodes events changed → IsLater nodes nodes' users users' → (k : AreKept S nodes users marks rows) → AreOfWorld k.world rows memory → IsBacked rows back
-    → ((n : ℕ) (t : Told) → told_of less n ≡ Some t → (told_of memory n ≡ Some t) × (has changed n ≡ false) × ((m : ℕ) → has changed m ≡ true → listed back m n ≡ true → AreApart nodes m n))
-    → (n : ℕ) (fact : Fact) → MayRecall T less nodes' users' n fact → MayTell T nodes' users' n fact
-recall_after S T events nodes nodes' users users' marks changed rows back memory less is are later k of backed forgot n fact (inl told) = told
-recall_after S T events nodes nodes' users users' marks changed rows back memory less is are later k of backed forgot n fact (inr recalled) =
-    let left = forgot n recalled.0 recalled.1 in
-    let there = of n recalled.0 left.0 in
-    may_more T nodes nodes' users users' n fact later (subst (λ (f : Fact). MayTell T nodes users n f) (sym (recalled.2 ∙ there.1))
-    (may_after S T events nodes users n (k.world n) (sym (ap (λ (x : Snap). x.config) is)) (ap (λ (x : Snap). x.tuples) is)
-    (λ e c at. false≢true (sym left.1 ∙ are.complete e n c at))
-    (λ j arc same e c at.
-    let named = (k.told n there.0).named in
-    left.2 j (are.complete e j c at) (backed n j (k.held.arcs n j there.0 ∙ arc)) e.tuple.node named.0 at named.1
-    (ap (λ (x : Node). x.object) (sym (node_is nodes j e.tuple.node at)) ∙ same ∙ ap (λ (x : Node). x.object) (node_is nodes n named.0 named.1)))
-    (k.told n there.0)))
+-- what is remembered may be told
+pub are_tellable : (S : Snap) (nodes : List Node) (users : List Object) (marks : List ℕ) (rows : Rows) (back : Lists) (memory : Remembered) (k : AreKept S nodes users marks rows)
+    → AreOfWorld k.world rows memory → IsBacked rows back → AreTellable S nodes users back memory
+are_tellable S nodes users marks rows back memory k of backed n t at =
+    let there = of n t at in (
+      subst (λ (f : Fact). MayTell S nodes users n f) (sym there.1) (k.told n there.0),
+      λ m arc. backed n m (k.held.arcs n m there.0 ∙ subst (λ (f : Fact). has (arcs_of f.shape) m ≡ true) there.1 arc),
+    )
+
+pub recall_after : (T : Snap) (nodes nodes' : List Node) (users users' : List Object) (back : Lists) (memory : Remembered) → AreTellable T nodes users back memory
+    → IsLater nodes nodes' users users' → (n : ℕ) (fact : Fact) → MayRecall T memory nodes' users' n fact → MayTell T nodes' users' n fact
+recall_after T nodes nodes' users users' back memory are later n fact (inl told) = told
+recall_after T nodes nodes' users users' back memory are later n fact (inr recalled) =
+    may_more T nodes nodes' users users' n fact later (subst (λ (f : Fact). MayTell T nodes users n f) (sym recalled.2) (are n recalled.0 recalled.1).0)
 
 -- anew
 pub kept_anew : (T : Snap) (nodes nodes' : List Node) (users users' : List Object) (marks : List ℕ) (a b : Rows) (asked asked' : List ℕ)
@@ -220,7 +220,7 @@ unfolding kept_anew
 anew_of_world T nodes nodes' users users' marks a b asked asked' valid e later before after r none =
     let k = kept_none T nodes users a e in
     after_of_world T T nodes nodes' users users' a b [] marks marks [] asked asked' k.world refl valid valid k.held k.told later (λ n h off. k.told n h) (λ n h. h) r.refreshed
-    before after r.dropped (nothing_of_world k.world a before none) r.stays r.remembered
+    before after r.dropped (λ n t at. absurd (none-some t (sym (none n) ∙ at))) r.stays r.remembered
 
 -- each mark has its node
 pub marks_there : (S : Snap) (nodes : List Node) (users : List Object) (marks : List ℕ) (rows : Rows) → AreKept S nodes users marks rows → (i : ℕ) → has marks i ≡ true → (n : Node) × (slice_get nodes i ≡ Some n)

@@ -47,6 +47,6 @@ module _ (tells : ℕ → Fact → Type 0) (old new : Rows) (roots turned change
     stays = λ n there off.
         let got = gathered agree.0 agree.1 in
         let left = and_from (kept old n) (not (has dropped n)) there (ap not off) in
-        (nodes n ∙ or_left (stays old dropped n) (is_told told n) left, got.apart n left);
+        (nodes n ∙ or_left (stays old dropped n) (is_told told n) left, got.apart n left, (got.untouched n left).1);
     remembered = remembered;
   }

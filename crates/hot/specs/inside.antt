@@ -2,3 +2,4 @@
 pub mod Named
 pub mod Events
 pub mod Remembering
+pub mod Following

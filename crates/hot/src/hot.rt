@@ -5,8 +5,9 @@ ghost use Rattle.names.specs.declared.limits.TheConstants.{MAX_MARKS};
 ghost use Rattle.region.specs.Sets.{IsWhole};
 
 use crate::changed::changed_by;
+use crate::following::follow;
 use crate::numbering::numbered;
-use crate::remembering::{forget, forget_each};
+use crate::remembering::forget_each;
 use crate::renewing::renew;
 use facts::{Numbers, each_view_is_valid};
 use idsets::IdSet;
@@ -120,9 +121,15 @@ impl Hot {
     {
         let changed = changed_by(alloc, &self.numbers.nodes, events)?;
         each_view_is_valid(view);
-        forget(&mut self.told, &self.numbers.nodes, &self.sets, &changed);
+        follow(&mut self.told, &mut self.numbers, &self.sets, events);
         let (numbers, sets, told) = (&mut self.numbers, &mut self.sets, &mut self.told);
-        renew(alloc, view, numbers, sets, told, &self.marks, &[], &changed)
+        match renew(alloc, view, numbers, sets, told, &self.marks, &[], &changed) {
+            Ok(asked) => Ok(asked),
+            Err(e) => {
+                forget_each(&mut self.told, &changed);
+                Err(e)
+            }
+        }
     }
 
     /// Begins anew with a view, as after a commit of a configuration, and gives the numbers of the nodes that the view was

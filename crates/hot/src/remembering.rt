@@ -21,26 +21,32 @@ pub(crate) fn forget_each(told: &mut BTreeMap<u64, Told>, nodes: &[u64])
     }
 }
 
-/// Forgets what was told of some nodes that changed, and of those that name them and are of the same object: what is told of
-/// a node stands on its own tuples, and on those of its tuplesets, which are relations of its object. It takes no memory.
-pub(crate) fn forget(
-    told: &mut BTreeMap<u64, Told>,
-    nodes: &Ids<Node>,
-    sets: &Sets,
-    changed: &[u64],
-)
-    ensures { (n : ℕ) (t : TheTold) → told_of told.new n ≡ Some t
-        → (told_of told.old n ≡ Some t) × (has changed.now n ≡ false)
-        × ((m : ℕ) → has changed.now m ≡ true → listed sets.now.back m n ≡ true → AreApart nodes.now m n) }
+/// Forgets what was told of a node. It takes no memory.
+pub(crate) fn forget_one(told: &mut BTreeMap<u64, Told>, node: u64)
+    ensures { (n : ℕ) (t : TheTold) → told_of told.new n ≡ Some t → (told_of told.old n ≡ Some t) × (n ≡ node → ⊥) }
 {
-    forget_each(told, changed);
-    for node in changed {
-        forget_namers(told, nodes, sets, *node);
+    told.remove(&node);
+}
+
+/// Remembers what is told of a node, if there is memory.
+pub(crate) fn put_at(told: &mut BTreeMap<u64, Told>, node: u64, one: Told)
+    ensures { (n : ℕ) (t : TheTold) → told_of told.new n ≡ Some t
+        → ((n ≡ node) × (t ≡ one)) ⊎ (told_of told.old n ≡ Some t) }
+{
+    match told.insert(node, one) {
+        Ok(_) => (),
+        Err(_) => (),
     }
 }
 
-// Forgets what was told of those that name a node and are of its object.
-fn forget_namers(told: &mut BTreeMap<u64, Told>, nodes: &Ids<Node>, sets: &Sets, node: u64)
+/// Forgets what was told of those that name a node and are of the same object: what is told of a node stands on its own tuples,
+/// and on those of its tuplesets, which are relations of its object. It takes no memory.
+pub(crate) fn forget_namers(
+    told: &mut BTreeMap<u64, Told>,
+    nodes: &Ids<Node>,
+    sets: &Sets,
+    node: u64,
+)
     ensures { (n : ℕ) (t : TheTold) → told_of told.new n ≡ Some t
         → (told_of told.old n ≡ Some t) × (listed sets.now.back node n ≡ true → AreApart nodes.now node n) }
 {
@@ -98,16 +104,6 @@ fn put_each(told: &mut BTreeMap<u64, Told>, mut fresh: Vec<Told>)
         → IsFresh fresh.items n t ⊎ (told_of told.old n ≡ Some t) }
 {
     while let Some(one) = fresh.pop() {
-        put(told, one);
-    }
-}
-
-fn put(told: &mut BTreeMap<u64, Told>, one: Told)
-    ensures { (n : ℕ) (t : TheTold) → told_of told.new n ≡ Some t
-        → ((n ≡ one.node) × (t ≡ one)) ⊎ (told_of told.old n ≡ Some t) }
-{
-    match told.insert(one.node, one) {
-        Ok(_) => (),
-        Err(_) => (),
+        put_at(told, one.node, one);
     }
 }

@@ -51,5 +51,5 @@ IsRemembered told dropped before after = (n : ℕ) (t : Told) → told_of after 
 pub record IsRenewed (tells : ℕ → Fact → Type 0) (old new : Rows) (roots turned changed asked asked' : List ℕ) (before after : Remembered) : Type 0 where
   pub refreshed : IsRefreshed tells old new roots turned changed asked asked'
   pub dropped : List ℕ
-  pub stays : (n : ℕ) → kept old n ≡ true → has dropped n ≡ false → (kept new n ≡ true) × (is_told refreshed.told n ≡ false)
+  pub stays : (n : ℕ) → kept old n ≡ true → has dropped n ≡ false → (kept new n ≡ true) × (is_told refreshed.told n ≡ false) × (has changed n ≡ false)
   pub remembered : IsRemembered refreshed.told dropped before after
