@@ -139,10 +139,12 @@ module _ (S T : Snap) (nodes nodes' : List Node) (users users' : List Object) (o
       → ((n : ℕ) → kept old n ≡ true → has dropped n ≡ false → (kept new n ≡ true) × (is_told r.told n ≡ false) × (has changed n ≡ false))
       → IsRemembered r.told dropped was is → AreOfWorld after.world new is
   unfolding after
-  after_of_world was is dropped of_world stay remembered n t at = ⊎_elim
-      (λ fresh. ((r.few n fresh.0).0, sym (at_told n fresh.0 ∙ fresh.1 r.some.0 r.some.1)))
-      (λ still.
-      let there = of_world n t still.0 in
-      let left = stay n there.0 still.1 in
-      (left.0, there.1 still.1 ∙ sym (at_old n left.1 there.0)))
-      (remembered n t at)
+  after_of_world was is dropped of_world stay remembered = record {
+    each = λ n t at. ⊎_elim
+        (λ fresh. ((r.few n fresh.0).0, sym (at_told n fresh.0 ∙ fresh.1 r.some.0 r.some.1)))
+        (λ still.
+        let there = of_world n t still.0 in
+        let left = stay n there.0 still.1 in
+        (left.0, there.1 still.1 ∙ sym (at_old n left.1 there.0)))
+        (remembered n t at);
+  }

@@ -90,23 +90,23 @@ pub told_none : (memory : Remembered) → memory.entries ≡ [] → (n : ℕ) �
 told_none memory e n = ap (λ (entries : List (ℕ × Told)). lookup (is_at (nat_cmp n)) entries) e
 
 pub nothing_of_world : (world : ℕ → Fact) (rows : Rows) (memory : Remembered) → ((n : ℕ) → told_of memory n ≡ None) → AreOfWorld world rows memory
-nothing_of_world world rows memory none n t at = absurd (none-some t (sym (none n) ∙ at))
+nothing_of_world world rows memory none = record { each = λ n t at. absurd (none-some t (sym (none n) ∙ at)) }
 
 -- no more is remembered, of the same rows
 pub same_of_world : (S : Snap) (nodes nodes' : List Node) (users users' : List Object) (marks : List ℕ) (a b : Rows) (e : (n : ℕ) → row_of b n ≡ row_of a n) (later : IsLater nodes nodes' users users')
     (k : AreKept S nodes users marks a) (memory less : Remembered) → ((n : ℕ) (t : Told) → told_of less n ≡ Some t → told_of memory n ≡ Some t)
     → AreOfWorld k.world a memory → AreOfWorld (kept_same S nodes nodes' users users' marks a b e later k).world b less
 unfolding kept_same
-same_of_world S nodes nodes' users users' marks a b e later k memory less fewer of n t at =
-    let there = of n t (fewer n t at) in
-    (ap (λ (r : Option Row). is_some r) (e n) ∙ there.0, there.1)
+same_of_world S nodes nodes' users users' marks a b e later k memory less fewer of = record {
+  each = λ n t at. let there = of.each n t (fewer n t at) in (ap (λ (r : Option Row). is_some r) (e n) ∙ there.0, there.1);
+}
 
 -- what may be told where nothing changed: what is remembered may be told
 pub recall_same : (S : Snap) (nodes nodes' : List Node) (users users' : List Object) (marks : List ℕ) (rows : Rows) (memory : Remembered) (k : AreKept S nodes users marks rows)
     → AreOfWorld k.world rows memory → IsLater nodes nodes' users users' → (n : ℕ) (fact : Fact) → MayRecall S memory nodes' users' n fact → MayTell S nodes' users' n fact
 recall_same S nodes nodes' users users' marks rows memory k of later n fact (inl told) = told
 recall_same S nodes nodes' users users' marks rows memory k of later n fact (inr recalled) =
-    let there = of n recalled.0 recalled.1 in
+    let there = of.each n recalled.0 recalled.1 in
     may_more S nodes nodes' users users' n fact later (subst (λ (f : Fact). MayTell S nodes users n f) (sym (recalled.2 ∙ there.1)) (k.told n there.0))
 
 -- where nothing is remembered
@@ -153,7 +153,7 @@ pub marked_of_world : (S : Snap) (nodes nodes' : List Node) (users users' : List
 unfolding kept_marked
 marked_of_world S nodes nodes' users users' marks marks' turned a b asked asked' valid later turns k before after r of =
     after_of_world S S nodes nodes' users users' a b marks marks' turned [] asked asked' k.world refl valid valid k.held k.told later (λ n h off. k.told n h) turns r.refreshed
-    before after r.dropped (λ n t at. let there = of n t at in (there.0, λ off. there.1)) r.stays r.remembered
+    before after r.dropped (λ n t at. let there = of.each n t at in (there.0, λ off. there.1)) r.stays r.remembered
 
 pub turned_one : (marks marks' : List ℕ) (id : ℕ) → ((o : ℕ) → has marks' o ≡ (nat_eq o id || has marks o)) → IsTurned marks marks' (id ∷ [])
 turned_one marks marks' id e n off = e n ∙ first (nat_eq n id) (has marks n) off
@@ -194,7 +194,7 @@ commit_of_world S T events nodes nodes' users users' marks changed a b asked ask
 pub are_tellable : (S : Snap) (nodes : List Node) (users : List Object) (marks : List ℕ) (rows : Rows) (back : Lists) (memory : Remembered) (k : AreKept S nodes users marks rows)
     → AreOfWorld k.world rows memory → IsBacked rows back → AreTellable S nodes users back memory
 are_tellable S nodes users marks rows back memory k of backed n t at =
-    let there = of n t at in (
+    let there = of.each n t at in (
       subst (λ (f : Fact). MayTell S nodes users n f) (sym there.1) (k.told n there.0),
       λ m arc. backed n m (k.held.arcs n m there.0 ∙ subst (λ (f : Fact). has (arcs_of f.shape) m ≡ true) there.1 arc),
     )
@@ -280,10 +280,12 @@ pub swept_of_world : (S : Snap) (nodes : List Node) (users : List Object) (marks
     → ((n : ℕ) (t : Told) → told_of less n ≡ Some t → (told_of memory n ≡ Some t) × (has gone n ≡ false))
     → AreOfWorld k.world a memory → AreOfWorld (kept_swept S nodes users marks marks' id a b e same held k).world b less
 unfolding kept_swept
-swept_of_world S nodes users marks marks' id a b e same held k gone memory less stay fewer of n t at =
-    let left = fewer n t at in
-    let there = of n t left.0 in
-    (stay n ∙ and_from (kept a n) (not (has gone n)) there.0 (ap not left.1), there.1)
+swept_of_world S nodes users marks marks' id a b e same held k gone memory less stay fewer of = record {
+  each = λ n t at.
+      let left = fewer n t at in
+      let there = of.each n t left.0 in
+      (stay n ∙ and_from (kept a n) (not (has gone n)) there.0 (ap not left.1), there.1);
+}
 
 -- the marks with one less
 pub marked_less : (nodes : List Node) (marks marks' : List ℕ) (id : ℕ) (m : Node) → AreDistinct nodes → slice_get nodes id ≡ Some m

@@ -37,14 +37,18 @@ abbrev pub told_of : Remembered → ℕ → Option Told
 told_of memory n = get nat_cmp memory n
 
 -- what is remembered is of nodes that are kept, and is what the world has of them
-abbrev pub AreOfWorld : (world : ℕ → Fact) → Rows → Remembered → Type 0
-AreOfWorld world rows memory = (n : ℕ) (t : Told) → told_of memory n ≡ Some t → (kept rows n ≡ true) × (fact_of t ≡ world n)
+pub record AreOfWorld (world : ℕ → Fact) (rows : Rows) (memory : Remembered) : Type 0 where
+  pub each : (n : ℕ) (t : Told) → told_of memory n ≡ Some t → (kept rows n ≡ true) × (fact_of t ≡ world n)
+
+-- both of one world
+pub record AreKeptAll (S : Snap) (nodes : List Node) (users : List Object) (marks : List ℕ) (rows : Rows) (memory : Remembered) : Type 0 where
+  pub kept : AreKept S nodes users marks rows
+  pub remembered : AreOfWorld kept.world rows memory
 
 -- what is kept is that of the snapshot: it is what the cursor's revision holds
 pub record IsHot (hot : Hot) (S : Snap) : Type 0 where
   pub valid : IsValid S
-  pub kept : AreKept S hot.numbers.nodes hot.numbers.users hot.marks hot.sets.rows
-  pub remembered : AreOfWorld kept.world hot.sets.rows hot.told
+  pub all : AreKeptAll S hot.numbers.nodes hot.numbers.users hot.marks hot.sets.rows hot.told
   pub distinct : AreDistinct hot.numbers.nodes
 
 -- the number stands for the node

@@ -15,9 +15,3 @@ pub returns-in_ok-ok-in-Unmark-clause-marked : goal.returns-in_ok-ok-in-Unmark-c
 returns-in_ok-ok-in-Unmark-clause-marked c before once are =
     subst (λ (m : Marking). AreMarked (after_marking before m) c.unmark.new.self) (sym c.in-Unmark.is)
     (are_without before c.args.hot c.unmark.new.self are _ once (done c.unmark.result c.in_ok-ok-in-Unmark.field-0 c.in_ok-ok-in-Unmark.ensures.value c.unmark.ensures.ok))
-
-pub returns-in_ok-ok-in-Mark-clause-hot : goal.returns-in_ok-ok-in-Mark-clause-hot
-returns-in_ok-ok-in-Mark-clause-hot c = c.mark.ensures.hot c.requires
-
-pub returns-in_ok-ok-in-Unmark-clause-hot : goal.returns-in_ok-ok-in-Unmark-clause-hot
-returns-in_ok-ok-in-Unmark-clause-hot c = c.unmark.ensures.hot c.args.view.now c.requires

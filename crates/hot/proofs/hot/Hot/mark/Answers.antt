@@ -19,8 +19,10 @@ returns-in_err-id-clause-hot c = λ is.
     let now = c.numbered.new.numbers in
     record {
       valid = is.valid;
-      kept = kept_same c.args.view.now hot.numbers.nodes now.nodes hot.numbers.users now.users hot.marks hot.sets.rows hot.sets.rows (λ n. refl) c.numbered.ensures.later is.kept;
-      remembered = same_of_world c.args.view.now hot.numbers.nodes now.nodes hot.numbers.users now.users hot.marks hot.sets.rows hot.sets.rows (λ n. refl) c.numbered.ensures.later is.kept hot.told hot.told (λ n t at. at) is.remembered;
+      all = record {
+        kept = kept_same c.args.view.now hot.numbers.nodes now.nodes hot.numbers.users now.users hot.marks hot.sets.rows hot.sets.rows (λ n. refl) c.numbered.ensures.later is.all.kept;
+        remembered = same_of_world c.args.view.now hot.numbers.nodes now.nodes hot.numbers.users now.users hot.marks hot.sets.rows hot.sets.rows (λ n. refl) c.numbered.ensures.later is.all.kept hot.told hot.told (λ n t at. at) is.all.remembered;
+      };
       distinct = c.numbered.ensures.distinct;
     }
 
@@ -29,7 +31,7 @@ returns-in_err-id-clause-err c = on_err_all c.from_residual.result (λ is.
     let hot = c.args.self.now in
     record {
       nodes = λ n. marked_same hot.numbers.nodes c.numbered.new.numbers.nodes hot.marks c.numbered.ensures.later.nodes_grew
-          (marks_there c.args.view.now hot.numbers.nodes hot.numbers.users hot.marks hot.sets.rows is.kept) n;
+          (marks_there c.args.view.now hot.numbers.nodes hot.numbers.users hot.marks hot.sets.rows is.all.kept) n;
       count = refl;
     })
 
@@ -39,8 +41,10 @@ returns-then-contains-clause-hot c = λ is.
     let now = c.numbered.new.numbers in
     record {
       valid = is.valid;
-      kept = kept_same c.args.view.now hot.numbers.nodes now.nodes hot.numbers.users now.users hot.marks hot.sets.rows hot.sets.rows (λ n. refl) c.in_ok-id.ensures.later is.kept;
-      remembered = same_of_world c.args.view.now hot.numbers.nodes now.nodes hot.numbers.users now.users hot.marks hot.sets.rows hot.sets.rows (λ n. refl) c.in_ok-id.ensures.later is.kept hot.told hot.told (λ n t at. at) is.remembered;
+      all = record {
+        kept = kept_same c.args.view.now hot.numbers.nodes now.nodes hot.numbers.users now.users hot.marks hot.sets.rows hot.sets.rows (λ n. refl) c.in_ok-id.ensures.later is.all.kept;
+        remembered = same_of_world c.args.view.now hot.numbers.nodes now.nodes hot.numbers.users now.users hot.marks hot.sets.rows hot.sets.rows (λ n. refl) c.in_ok-id.ensures.later is.all.kept hot.told hot.told (λ n t at. at) is.all.remembered;
+      };
       distinct = c.in_ok-id.ensures.distinct;
     }
 
@@ -48,7 +52,7 @@ pub returns-then-contains-clause-ok : goal.returns-then-contains-clause-ok
 returns-then-contains-clause-ok c = λ is.
     let hot = c.args.self.now in
     let now = c.numbered.new.numbers in
-    let there = marks_there c.args.view.now hot.numbers.nodes hot.numbers.users hot.marks hot.sets.rows is.kept in
+    let there = marks_there c.args.view.now hot.numbers.nodes hot.numbers.users hot.marks hot.sets.rows is.all.kept in
     let marked : has hot.marks c.in_ok-id.id ≡ true = sym c.contains.ensures ∙ c.if-contains.true in
     record {
       nodes = λ n. marked_again hot.numbers.nodes now.nodes hot.marks c.in_ok-id.id c.args.node.now c.in_ok-id.ensures.later.nodes_grew c.in_ok-id.ensures.id marked there n;
@@ -63,7 +67,7 @@ returns-then-contains-clause-asked c = λ is.
     let now = c.numbered.new.numbers in
     record {
       once = distinct_none c.new.result.items c.new.ensures.items;
-      exactly = none_new c.args.view.now hot.numbers.nodes now.nodes hot.numbers.users now.users hot.marks hot.sets.rows is.kept c.in_ok-id.ensures.later c.new.result.items c.new.ensures.items;
+      exactly = none_new c.args.view.now hot.numbers.nodes now.nodes hot.numbers.users now.users hot.marks hot.sets.rows is.all.kept c.in_ok-id.ensures.later c.new.result.items c.new.ensures.items;
     }
 
 pub returns-then-is_full-clause-hot : goal.returns-then-is_full-clause-hot
@@ -72,8 +76,10 @@ returns-then-is_full-clause-hot c = λ is.
     let now = c.numbered.new.numbers in
     record {
       valid = is.valid;
-      kept = kept_same c.args.view.now hot.numbers.nodes now.nodes hot.numbers.users now.users hot.marks hot.sets.rows hot.sets.rows (λ n. refl) c.in_ok-id.ensures.later is.kept;
-      remembered = same_of_world c.args.view.now hot.numbers.nodes now.nodes hot.numbers.users now.users hot.marks hot.sets.rows hot.sets.rows (λ n. refl) c.in_ok-id.ensures.later is.kept hot.told hot.told (λ n t at. at) is.remembered;
+      all = record {
+        kept = kept_same c.args.view.now hot.numbers.nodes now.nodes hot.numbers.users now.users hot.marks hot.sets.rows hot.sets.rows (λ n. refl) c.in_ok-id.ensures.later is.all.kept;
+        remembered = same_of_world c.args.view.now hot.numbers.nodes now.nodes hot.numbers.users now.users hot.marks hot.sets.rows hot.sets.rows (λ n. refl) c.in_ok-id.ensures.later is.all.kept hot.told hot.told (λ n t at. at) is.all.remembered;
+      };
       distinct = c.in_ok-id.ensures.distinct;
     }
 
@@ -82,7 +88,7 @@ returns-then-is_full-clause-err c = λ is.
     let hot = c.args.self.now in
     record {
       nodes = λ n. marked_same hot.numbers.nodes c.numbered.new.numbers.nodes hot.marks c.in_ok-id.ensures.later.nodes_grew
-          (marks_there c.args.view.now hot.numbers.nodes hot.numbers.users hot.marks hot.sets.rows is.kept) n;
+          (marks_there c.args.view.now hot.numbers.nodes hot.numbers.users hot.marks hot.sets.rows is.all.kept) n;
       count = refl;
     }
 
@@ -100,8 +106,10 @@ returns-in_err-marks-clause-hot c = λ is.
     let now = c.numbered.new.numbers in
     record {
       valid = is.valid;
-      kept = kept_same c.args.view.now hot.numbers.nodes now.nodes hot.numbers.users now.users hot.marks hot.sets.rows hot.sets.rows (λ n. refl) c.in_ok-id.ensures.later is.kept;
-      remembered = same_of_world c.args.view.now hot.numbers.nodes now.nodes hot.numbers.users now.users hot.marks hot.sets.rows hot.sets.rows (λ n. refl) c.in_ok-id.ensures.later is.kept hot.told hot.told (λ n t at. at) is.remembered;
+      all = record {
+        kept = kept_same c.args.view.now hot.numbers.nodes now.nodes hot.numbers.users now.users hot.marks hot.sets.rows hot.sets.rows (λ n. refl) c.in_ok-id.ensures.later is.all.kept;
+        remembered = same_of_world c.args.view.now hot.numbers.nodes now.nodes hot.numbers.users now.users hot.marks hot.sets.rows hot.sets.rows (λ n. refl) c.in_ok-id.ensures.later is.all.kept hot.told hot.told (λ n t at. at) is.all.remembered;
+      };
       distinct = c.in_ok-id.ensures.distinct;
     }
 
@@ -110,7 +118,7 @@ returns-in_err-marks-clause-err c = on_err_all c.from_residual-in_err-marks.resu
     let hot = c.args.self.now in
     record {
       nodes = λ n. marked_same hot.numbers.nodes c.numbered.new.numbers.nodes hot.marks c.in_ok-id.ensures.later.nodes_grew
-          (marks_there c.args.view.now hot.numbers.nodes hot.numbers.users hot.marks hot.sets.rows is.kept) n;
+          (marks_there c.args.view.now hot.numbers.nodes hot.numbers.users hot.marks hot.sets.rows is.all.kept) n;
       count = refl;
     })
 
@@ -120,8 +128,10 @@ returns-in_err-insert-clause-hot c = λ is.
     let now = c.numbered.new.numbers in
     record {
       valid = is.valid;
-      kept = kept_same c.args.view.now hot.numbers.nodes now.nodes hot.numbers.users now.users hot.marks hot.sets.rows hot.sets.rows (λ n. refl) c.in_ok-id.ensures.later is.kept;
-      remembered = same_of_world c.args.view.now hot.numbers.nodes now.nodes hot.numbers.users now.users hot.marks hot.sets.rows hot.sets.rows (λ n. refl) c.in_ok-id.ensures.later is.kept hot.told hot.told (λ n t at. at) is.remembered;
+      all = record {
+        kept = kept_same c.args.view.now hot.numbers.nodes now.nodes hot.numbers.users now.users hot.marks hot.sets.rows hot.sets.rows (λ n. refl) c.in_ok-id.ensures.later is.all.kept;
+        remembered = same_of_world c.args.view.now hot.numbers.nodes now.nodes hot.numbers.users now.users hot.marks hot.sets.rows hot.sets.rows (λ n. refl) c.in_ok-id.ensures.later is.all.kept hot.told hot.told (λ n t at. at) is.all.remembered;
+      };
       distinct = c.in_ok-id.ensures.distinct;
     }
 
@@ -130,7 +140,7 @@ returns-in_err-insert-clause-err c = on_err_all c.from_residual-in_err-insert.re
     let hot = c.args.self.now in
     record {
       nodes = λ n. marked_same hot.numbers.nodes c.numbered.new.numbers.nodes hot.marks c.in_ok-id.ensures.later.nodes_grew
-          (marks_there c.args.view.now hot.numbers.nodes hot.numbers.users hot.marks hot.sets.rows is.kept) n;
+          (marks_there c.args.view.now hot.numbers.nodes hot.numbers.users hot.marks hot.sets.rows is.all.kept) n;
       count = refl;
     })
 
@@ -141,11 +151,13 @@ returns-in_err-asked-clause-hot c = λ is.
     let end = c.renew.new.numbers in
     record {
       valid = is.valid;
-      kept = kept_same c.args.view.now hot.numbers.nodes end.nodes hot.numbers.users end.users hot.marks hot.sets.rows c.renew.new.sets.rows c.in_err-asked.ensures.err
-          (later_further hot.numbers.nodes now.nodes end.nodes hot.numbers.users now.users end.users c.in_ok-id.ensures.later c.renew.ensures.later) is.kept;
-      remembered = same_of_world c.args.view.now hot.numbers.nodes end.nodes hot.numbers.users end.users hot.marks hot.sets.rows c.renew.new.sets.rows c.in_err-asked.ensures.err
-          (later_further hot.numbers.nodes now.nodes end.nodes hot.numbers.users now.users end.users c.in_ok-id.ensures.later c.renew.ensures.later) is.kept hot.told c.renew.new.told
-          (λ n t at. subst (λ (m : Remembered). told_of m n ≡ Some t) c.in_err-asked.ensures.err_told at) is.remembered;
+      all = record {
+        kept = kept_same c.args.view.now hot.numbers.nodes end.nodes hot.numbers.users end.users hot.marks hot.sets.rows c.renew.new.sets.rows c.in_err-asked.ensures.err
+            (later_further hot.numbers.nodes now.nodes end.nodes hot.numbers.users now.users end.users c.in_ok-id.ensures.later c.renew.ensures.later) is.all.kept;
+        remembered = same_of_world c.args.view.now hot.numbers.nodes end.nodes hot.numbers.users end.users hot.marks hot.sets.rows c.renew.new.sets.rows c.in_err-asked.ensures.err
+            (later_further hot.numbers.nodes now.nodes end.nodes hot.numbers.users now.users end.users c.in_ok-id.ensures.later c.renew.ensures.later) is.all.kept hot.told c.renew.new.told
+            (λ n t at. subst (λ (m : Remembered). told_of m n ≡ Some t) c.in_err-asked.ensures.err_told at) is.all.remembered;
+      };
       distinct = c.renew.ensures.later.nodes_distinct c.in_ok-id.ensures.distinct;
     }
 
@@ -157,7 +169,7 @@ returns-in_err-asked-clause-err c = on_err_all c.from_residual-in_err-asked.resu
     let later = later_further hot.numbers.nodes now.nodes end.nodes hot.numbers.users now.users end.users c.in_ok-id.ensures.later c.renew.ensures.later in
     record {
       nodes = λ n. marked_same hot.numbers.nodes end.nodes hot.marks later.nodes_grew
-          (marks_there c.args.view.now hot.numbers.nodes hot.numbers.users hot.marks hot.sets.rows is.kept) n;
+          (marks_there c.args.view.now hot.numbers.nodes hot.numbers.users hot.marks hot.sets.rows is.all.kept) n;
       count = refl;
     })
 
@@ -177,13 +189,15 @@ returns-clause-hot c = λ is.
     c.in_ok-id.ensures.later c.renew.ensures.later in
     let p = renewed_by (MayRecall c.args.view.now hot.told end.nodes end.users) (MayTell c.args.view.now end.nodes end.users) hot.sets.rows c.renew.new.sets.rows c.insert.new.self _ [] [] c.in_ok-asked.asked.items
     hot.told c.renew.new.told
-    (recall_same c.args.view.now hot.numbers.nodes end.nodes hot.numbers.users end.users hot.marks hot.sets.rows hot.told is.kept is.remembered last) c.in_ok-asked.ensures.renewed in
+    (recall_same c.args.view.now hot.numbers.nodes end.nodes hot.numbers.users end.users hot.marks hot.sets.rows hot.told is.all.kept is.all.remembered last) c.in_ok-asked.ensures.renewed in
     record {
       valid = is.valid;
-      kept = kept_marked c.args.view.now hot.numbers.nodes end.nodes hot.numbers.users end.users hot.marks c.insert.new.self _ hot.sets.rows c.renew.new.sets.rows _ _
-          is.valid last (turned_one hot.marks c.insert.new.self c.in_ok-id.id (put_in c.args.self.now.marks c.in_ok-marks.marks c.insert.new.self c.in_ok-id.id c.in_ok-marks.ensures c.in_ok-insert.ensures.members)) is.kept p.refreshed;
-      remembered = marked_of_world c.args.view.now hot.numbers.nodes end.nodes hot.numbers.users end.users hot.marks c.insert.new.self _ hot.sets.rows c.renew.new.sets.rows _ _
-          is.valid last (turned_one hot.marks c.insert.new.self c.in_ok-id.id (put_in c.args.self.now.marks c.in_ok-marks.marks c.insert.new.self c.in_ok-id.id c.in_ok-marks.ensures c.in_ok-insert.ensures.members)) is.kept hot.told c.renew.new.told p is.remembered;
+      all = record {
+        kept = kept_marked c.args.view.now hot.numbers.nodes end.nodes hot.numbers.users end.users hot.marks c.insert.new.self _ hot.sets.rows c.renew.new.sets.rows _ _
+            is.valid last (turned_one hot.marks c.insert.new.self c.in_ok-id.id (put_in c.args.self.now.marks c.in_ok-marks.marks c.insert.new.self c.in_ok-id.id c.in_ok-marks.ensures c.in_ok-insert.ensures.members)) is.all.kept p.refreshed;
+        remembered = marked_of_world c.args.view.now hot.numbers.nodes end.nodes hot.numbers.users end.users hot.marks c.insert.new.self _ hot.sets.rows c.renew.new.sets.rows _ _
+            is.valid last (turned_one hot.marks c.insert.new.self c.in_ok-id.id (put_in c.args.self.now.marks c.in_ok-marks.marks c.insert.new.self c.in_ok-id.id c.in_ok-marks.ensures c.in_ok-insert.ensures.members)) is.all.kept hot.told c.renew.new.told p is.all.remembered;
+      };
       distinct = c.renew.ensures.later.nodes_distinct c.in_ok-id.ensures.distinct;
     }
 
@@ -196,7 +210,7 @@ returns-clause-ok c = λ is.
     let at = grew_get c.numbered.new.numbers.nodes end.nodes c.in_ok-id.id c.args.node.now c.renew.ensures.later.nodes_grew c.in_ok-id.ensures.id in
     record {
       nodes = λ n. marked_more hot.numbers.nodes end.nodes hot.marks c.insert.new.self c.in_ok-id.id c.args.node.now last.nodes_grew at (put_in c.args.self.now.marks c.in_ok-marks.marks c.insert.new.self c.in_ok-id.id c.in_ok-marks.ensures c.in_ok-insert.ensures.members)
-          (marks_there c.args.view.now hot.numbers.nodes hot.numbers.users hot.marks hot.sets.rows is.kept) n;
+          (marks_there c.args.view.now hot.numbers.nodes hot.numbers.users hot.marks hot.sets.rows is.all.kept) n;
       again = λ was. absurd (not_marked hot.numbers.nodes c.numbered.new.numbers.nodes hot.marks c.in_ok-id.id c.args.node.now c.in_ok-id.ensures.later.nodes_grew c.in_ok-id.ensures.distinct
           c.in_ok-id.ensures.id (sym c.contains.ensures ∙ c.if-contains.false) was);
       more = λ _. count_more c.args.self.now.marks c.insert.new.self c.in_ok-id.id c.args.self.now.rising c.insert.ensures.ascending (sym c.contains.ensures ∙ c.if-contains.false)
@@ -210,14 +224,14 @@ returns-clause-asked c = λ is.
     let last = later_further hot.numbers.nodes c.numbered.new.numbers.nodes end.nodes hot.numbers.users c.numbered.new.numbers.users end.users c.in_ok-id.ensures.later c.renew.ensures.later in
     let p = renewed_by (MayRecall c.args.view.now hot.told end.nodes end.users) (MayTell c.args.view.now end.nodes end.users) hot.sets.rows c.renew.new.sets.rows c.insert.new.self _ [] [] c.in_ok-asked.asked.items
     hot.told c.renew.new.told
-    (recall_same c.args.view.now hot.numbers.nodes end.nodes hot.numbers.users end.users hot.marks hot.sets.rows hot.told is.kept is.remembered last) c.in_ok-asked.ensures.renewed in
+    (recall_same c.args.view.now hot.numbers.nodes end.nodes hot.numbers.users end.users hot.marks hot.sets.rows hot.told is.all.kept is.all.remembered last) c.in_ok-asked.ensures.renewed in
     let distinct = c.renew.ensures.later.nodes_distinct c.in_ok-id.ensures.distinct in
     let now : AreKept c.args.view.now end.nodes end.users c.insert.new.self c.renew.new.sets.rows =
     kept_marked c.args.view.now hot.numbers.nodes end.nodes hot.numbers.users end.users hot.marks c.insert.new.self _ hot.sets.rows c.renew.new.sets.rows _ _
-    is.valid last (turned_one hot.marks c.insert.new.self c.in_ok-id.id (put_in hot.marks c.in_ok-marks.marks c.insert.new.self c.in_ok-id.id c.in_ok-marks.ensures c.in_ok-insert.ensures.members)) is.kept p.refreshed in
+    is.valid last (turned_one hot.marks c.insert.new.self c.in_ok-id.id (put_in hot.marks c.in_ok-marks.marks c.insert.new.self c.in_ok-id.id c.in_ok-marks.ensures c.in_ok-insert.ensures.members)) is.all.kept p.refreshed in
     record {
       once = asked_once c.args.view.now c.args.view.now hot.numbers.nodes end.nodes hot.numbers.users end.users hot.marks c.insert.new.self _ _ _ hot.sets.rows c.renew.new.sets.rows c.in_ok-asked.asked.items
-          is.kept distinct last now p.refreshed;
+          is.all.kept distinct last now p.refreshed;
       exactly = asked_exactly c.args.view.now c.args.view.now hot.numbers.nodes end.nodes hot.numbers.users end.users hot.marks c.insert.new.self _ _ _ hot.sets.rows c.renew.new.sets.rows c.in_ok-asked.asked.items
-          is.kept distinct last now p.refreshed (λ n. ⊥) (λ n i at there. none_touched hot.sets.rows i);
+          is.all.kept distinct last now p.refreshed (λ n. ⊥) (λ n i at there. none_touched hot.sets.rows i);
     }

@@ -12,8 +12,10 @@ returns-in_err-asked-clause-err c = on_err_all c.from_residual.result (λ S is.
     let now = c.renew.new.numbers in
     record {
       valid = is.valid;
-      kept = kept_same S hot.numbers.nodes now.nodes hot.numbers.users now.users hot.marks hot.sets.rows hot.sets.rows (λ n. refl) c.renew.ensures.later is.kept;
-      remembered = same_of_world S hot.numbers.nodes now.nodes hot.numbers.users now.users hot.marks hot.sets.rows hot.sets.rows (λ n. refl) c.renew.ensures.later is.kept hot.told hot.told (λ n t at. at) is.remembered;
+      all = record {
+        kept = kept_same S hot.numbers.nodes now.nodes hot.numbers.users now.users hot.marks hot.sets.rows hot.sets.rows (λ n. refl) c.renew.ensures.later is.all.kept;
+        remembered = same_of_world S hot.numbers.nodes now.nodes hot.numbers.users now.users hot.marks hot.sets.rows hot.sets.rows (λ n. refl) c.renew.ensures.later is.all.kept hot.told hot.told (λ n t at. at) is.all.remembered;
+      };
       distinct = c.renew.ensures.later.nodes_distinct is.distinct;
     })
 
@@ -22,7 +24,7 @@ returns-in_err-asked-clause-marked c = λ S is.
     let hot = c.args.self.now in
     record {
       nodes = λ n. marked_same hot.numbers.nodes c.renew.new.numbers.nodes hot.marks c.renew.ensures.later.nodes_grew
-          (marks_there S hot.numbers.nodes hot.numbers.users hot.marks hot.sets.rows is.kept) n;
+          (marks_there S hot.numbers.nodes hot.numbers.users hot.marks hot.sets.rows is.all.kept) n;
       count = refl;
     }
 
@@ -36,10 +38,12 @@ returns-clause-hot c = λ S is.
     c.new-fresh.result c.renew.new.told (recall_none c.args.view.now now.nodes now.users c.new-fresh.result (told_none c.new-fresh.result c.new-fresh.ensures.empty)) r in
     record {
       valid = c.each_view_is_valid.ensures;
-      kept = kept_anew c.args.view.now hot.numbers.nodes now.nodes hot.numbers.users now.users hot.marks c.new-kept.result.rows c.renew.new.sets.rows _ _
-          c.each_view_is_valid.ensures c.new-kept.ensures.none later p.refreshed;
-      remembered = anew_of_world c.args.view.now hot.numbers.nodes now.nodes hot.numbers.users now.users hot.marks c.new-kept.result.rows c.renew.new.sets.rows _ _
-          c.each_view_is_valid.ensures c.new-kept.ensures.none later c.new-fresh.result c.renew.new.told p (told_none c.new-fresh.result c.new-fresh.ensures.empty);
+      all = record {
+        kept = kept_anew c.args.view.now hot.numbers.nodes now.nodes hot.numbers.users now.users hot.marks c.new-kept.result.rows c.renew.new.sets.rows _ _
+            c.each_view_is_valid.ensures c.new-kept.ensures.none later p.refreshed;
+        remembered = anew_of_world c.args.view.now hot.numbers.nodes now.nodes hot.numbers.users now.users hot.marks c.new-kept.result.rows c.renew.new.sets.rows _ _
+            c.each_view_is_valid.ensures c.new-kept.ensures.none later c.new-fresh.result c.renew.new.told p (told_none c.new-fresh.result c.new-fresh.ensures.empty);
+      };
       distinct = later.nodes_distinct is.distinct;
     }
 
@@ -63,6 +67,6 @@ returns-clause-marked c = λ S is.
     let hot = c.args.self.now in
     record {
       nodes = λ n. marked_same hot.numbers.nodes c.renew.new.numbers.nodes hot.marks c.renew.ensures.later.nodes_grew
-          (marks_there S hot.numbers.nodes hot.numbers.users hot.marks hot.sets.rows is.kept) n;
+          (marks_there S hot.numbers.nodes hot.numbers.users hot.marks hot.sets.rows is.all.kept) n;
       count = refl;
     }

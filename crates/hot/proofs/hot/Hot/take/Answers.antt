@@ -17,7 +17,7 @@ use Rattle.hot.proofs.hot.Hot.take.Goals as goal
 
 pub returns-in_err-changed-clause-err : goal.returns-in_err-changed-clause-err
 returns-in_err-changed-clause-err c =
-    on_err_all c.from_residual.result (λ S is. record { valid = is.valid; kept = is.kept; remembered = is.remembered; distinct = is.distinct })
+    on_err_all c.from_residual.result (λ S is. record { valid = is.valid; all = is.all; distinct = is.distinct })
 
 pub returns-in-Ok-clause-hot : goal.returns-in-Ok-clause-hot
 returns-in-Ok-clause-hot c = λ S is view.
@@ -30,20 +30,22 @@ returns-in-Ok-clause-hot c = λ S is view.
     c.follow.new.told c.renew.new.told
     (recall_after c.args.view.now hot.numbers.nodes now.nodes follow.users now.users hot.sets.back c.follow.new.told
     (subst (λ (x : Snap). AreTellable x hot.numbers.nodes follow.users hot.sets.back c.follow.new.told) (sym view)
-    (c.follow.ensures.tells S (are_tellable S hot.numbers.nodes hot.numbers.users hot.marks hot.sets.rows hot.sets.back hot.told is.kept is.remembered hot.whole.backed)))
+    (c.follow.ensures.tells S (are_tellable S hot.numbers.nodes hot.numbers.users hot.marks hot.sets.rows hot.sets.back hot.told is.all.kept is.all.remembered hot.whole.backed)))
     (subst (λ (ns : List Node). IsLater ns now.nodes follow.users now.users) c.follow.ensures.nodes c.renew.ensures.later))
     c.in-Ok.ensures.renewed in
     record {
       valid = c.each_view_is_valid.ensures;
-      kept = kept_after S c.args.view.now c.args.events.now hot.numbers.nodes now.nodes hot.numbers.users now.users hot.marks _ hot.sets.rows c.renew.new.sets.rows _ _
-          is.valid c.each_view_is_valid.ensures view are last is.kept p.refreshed;
-      remembered = commit_of_world S c.args.view.now c.args.events.now hot.numbers.nodes now.nodes hot.numbers.users now.users hot.marks _ hot.sets.rows c.renew.new.sets.rows _ _
-          is.valid c.each_view_is_valid.ensures view are last is.kept c.follow.new.told c.renew.new.told p
-          (λ n t at.
-          let key = c.follow.ensures.keys n t at in (
-            (is.remembered n key.0 key.1).0,
-            λ off. (is.remembered n t (c.follow.ensures.same n t at (λ e there g. false≢true (sym off ∙ are.complete e n there g)))).1,
-          ));
+      all = record {
+        kept = kept_after S c.args.view.now c.args.events.now hot.numbers.nodes now.nodes hot.numbers.users now.users hot.marks _ hot.sets.rows c.renew.new.sets.rows _ _
+            is.valid c.each_view_is_valid.ensures view are last is.all.kept p.refreshed;
+        remembered = commit_of_world S c.args.view.now c.args.events.now hot.numbers.nodes now.nodes hot.numbers.users now.users hot.marks _ hot.sets.rows c.renew.new.sets.rows _ _
+            is.valid c.each_view_is_valid.ensures view are last is.all.kept c.follow.new.told c.renew.new.told p
+            (λ n t at.
+            let key = c.follow.ensures.keys n t at in (
+              (is.all.remembered.each n key.0 key.1).0,
+              λ off. (is.all.remembered.each n t (c.follow.ensures.same n t at (λ e there g. false≢true (sym off ∙ are.complete e n there g)))).1,
+            ));
+      };
       distinct = last.nodes_distinct is.distinct;
     }
 
@@ -58,19 +60,19 @@ returns-in-Ok-clause-asked c = λ S is view.
     c.follow.new.told c.renew.new.told
     (recall_after c.args.view.now hot.numbers.nodes now.nodes follow.users now.users hot.sets.back c.follow.new.told
     (subst (λ (x : Snap). AreTellable x hot.numbers.nodes follow.users hot.sets.back c.follow.new.told) (sym view)
-    (c.follow.ensures.tells S (are_tellable S hot.numbers.nodes hot.numbers.users hot.marks hot.sets.rows hot.sets.back hot.told is.kept is.remembered hot.whole.backed)))
+    (c.follow.ensures.tells S (are_tellable S hot.numbers.nodes hot.numbers.users hot.marks hot.sets.rows hot.sets.back hot.told is.all.kept is.all.remembered hot.whole.backed)))
     (subst (λ (ns : List Node). IsLater ns now.nodes follow.users now.users) c.follow.ensures.nodes c.renew.ensures.later))
     c.in-Ok.ensures.renewed in
     let kept : AreKept c.args.view.now now.nodes now.users hot.marks c.renew.new.sets.rows =
     kept_after S c.args.view.now c.args.events.now hot.numbers.nodes now.nodes hot.numbers.users now.users hot.marks _ hot.sets.rows c.renew.new.sets.rows _ _
-    is.valid c.each_view_is_valid.ensures view are last is.kept p.refreshed in
+    is.valid c.each_view_is_valid.ensures view are last is.all.kept p.refreshed in
     let distinct = last.nodes_distinct is.distinct in
     record {
       once = asked_once S c.args.view.now hot.numbers.nodes now.nodes hot.numbers.users now.users hot.marks hot.marks hot.marks _ _ hot.sets.rows c.renew.new.sets.rows c.in-Ok.asked.items
-          is.kept distinct last kept p.refreshed;
+          is.all.kept distinct last kept p.refreshed;
       exactly = asked_exactly S c.args.view.now hot.numbers.nodes now.nodes hot.numbers.users now.users hot.marks hot.marks hot.marks _ _ hot.sets.rows c.renew.new.sets.rows c.in-Ok.asked.items
-          is.kept distinct last kept p.refreshed (λ n. IsTouchedBy S c.args.events.now n)
-          (touched_exactly S c.args.events.now hot.numbers.nodes hot.numbers.users hot.marks _ hot.sets.rows is.valid are is.kept);
+          is.all.kept distinct last kept p.refreshed (λ n. IsTouchedBy S c.args.events.now n)
+          (touched_exactly S c.args.events.now hot.numbers.nodes hot.numbers.users hot.marks _ hot.sets.rows is.valid are is.all.kept);
     }
 
 pub returns-clause-err : goal.returns-clause-err
@@ -82,12 +84,14 @@ returns-clause-err c = λ S is.
     let are = subst (λ xs. AreOfEvents hot.numbers.nodes c.args.events.now xs) (sym c.deref-in-Err.ensures.value) c.in_ok-changed.ensures in
     record {
       valid = is.valid;
-      kept = kept_same S hot.numbers.nodes now.nodes hot.numbers.users now.users hot.marks hot.sets.rows c.renew.new.sets.rows c.in-Err.ensures.err last is.kept;
-      remembered = same_of_world S hot.numbers.nodes now.nodes hot.numbers.users now.users hot.marks hot.sets.rows c.renew.new.sets.rows c.in-Err.ensures.err last is.kept hot.told c.forget_each.new.told
-          (λ n t at.
-          let left = c.forget_each.ensures n t at in
-          c.follow.ensures.same n t (subst (λ (m : Remembered). told_of m n ≡ Some t) c.in-Err.ensures.err_told left.0) (λ e there g. false≢true (sym left.1 ∙ are.complete e n there g)))
-          is.remembered;
+      all = record {
+        kept = kept_same S hot.numbers.nodes now.nodes hot.numbers.users now.users hot.marks hot.sets.rows c.renew.new.sets.rows c.in-Err.ensures.err last is.all.kept;
+        remembered = same_of_world S hot.numbers.nodes now.nodes hot.numbers.users now.users hot.marks hot.sets.rows c.renew.new.sets.rows c.in-Err.ensures.err last is.all.kept hot.told c.forget_each.new.told
+            (λ n t at.
+            let left = c.forget_each.ensures n t at in
+            c.follow.ensures.same n t (subst (λ (m : Remembered). told_of m n ≡ Some t) c.in-Err.ensures.err_told left.0) (λ e there g. false≢true (sym left.1 ∙ are.complete e n there g)))
+            is.all.remembered;
+      };
       distinct = last.nodes_distinct is.distinct;
     }
 
@@ -98,7 +102,7 @@ returns-in-Ok-clause-marked c = λ S is.
     let follow = c.follow.new.numbers in
     let last = later_further hot.numbers.nodes follow.nodes now.nodes hot.numbers.users follow.users now.users c.follow.ensures.later c.renew.ensures.later in
     record {
-      nodes = λ n. marked_same hot.numbers.nodes now.nodes hot.marks last.nodes_grew (marks_there S hot.numbers.nodes hot.numbers.users hot.marks hot.sets.rows is.kept) n;
+      nodes = λ n. marked_same hot.numbers.nodes now.nodes hot.marks last.nodes_grew (marks_there S hot.numbers.nodes hot.numbers.users hot.marks hot.sets.rows is.all.kept) n;
       count = refl;
     }
 
@@ -109,6 +113,6 @@ returns-clause-marked c = λ S is.
     let follow = c.follow.new.numbers in
     let last = later_further hot.numbers.nodes follow.nodes now.nodes hot.numbers.users follow.users now.users c.follow.ensures.later c.renew.ensures.later in
     record {
-      nodes = λ n. marked_same hot.numbers.nodes now.nodes hot.marks last.nodes_grew (marks_there S hot.numbers.nodes hot.numbers.users hot.marks hot.sets.rows is.kept) n;
+      nodes = λ n. marked_same hot.numbers.nodes now.nodes hot.marks last.nodes_grew (marks_there S hot.numbers.nodes hot.numbers.users hot.marks hot.sets.rows is.all.kept) n;
       count = refl;
     }

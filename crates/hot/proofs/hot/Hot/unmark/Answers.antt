@@ -9,10 +9,12 @@ returns-in_err-gone-clause-hot c = λ S is.
     let hot = c.args.self.now in
     record {
       valid = is.valid;
-      kept = kept_same S hot.numbers.nodes hot.numbers.nodes hot.numbers.users hot.numbers.users hot.marks hot.sets.rows c.sweep.new.sets.rows
-          c.in_err-gone.ensures.err (later_stays hot.numbers.nodes hot.numbers.users) is.kept;
-      remembered = same_of_world S hot.numbers.nodes hot.numbers.nodes hot.numbers.users hot.numbers.users hot.marks hot.sets.rows c.sweep.new.sets.rows
-          c.in_err-gone.ensures.err (later_stays hot.numbers.nodes hot.numbers.users) is.kept hot.told hot.told (λ n t at. at) is.remembered;
+      all = record {
+        kept = kept_same S hot.numbers.nodes hot.numbers.nodes hot.numbers.users hot.numbers.users hot.marks hot.sets.rows c.sweep.new.sets.rows
+            c.in_err-gone.ensures.err (later_stays hot.numbers.nodes hot.numbers.users) is.all.kept;
+        remembered = same_of_world S hot.numbers.nodes hot.numbers.nodes hot.numbers.users hot.numbers.users hot.marks hot.sets.rows c.sweep.new.sets.rows
+            c.in_err-gone.ensures.err (later_stays hot.numbers.nodes hot.numbers.users) is.all.kept hot.told hot.told (λ n t at. at) is.all.remembered;
+      };
       distinct = is.distinct;
     }
 
@@ -31,11 +33,13 @@ returns-clause-hot c = λ S is.
     let hot = c.args.self.now in
     record {
       valid = is.valid;
-      kept = kept_swept S hot.numbers.nodes hot.numbers.users hot.marks c.remove.new.self c.in-Some.id hot.sets.rows c.sweep.new.sets.rows
-          (taken_out c.args.self.now.marks c.in_ok-marks.marks c.remove.new.self c.in-Some.id c.in_ok-marks.ensures c.remove.ensures.members) c.in_ok-gone.ensures.same c.in_ok-gone.ensures.held is.kept;
-      remembered = swept_of_world S hot.numbers.nodes hot.numbers.users hot.marks c.remove.new.self c.in-Some.id hot.sets.rows c.sweep.new.sets.rows
-          (taken_out c.args.self.now.marks c.in_ok-marks.marks c.remove.new.self c.in-Some.id c.in_ok-marks.ensures c.remove.ensures.members) c.in_ok-gone.ensures.same c.in_ok-gone.ensures.held is.kept
-          c.in_ok-gone.gone.items hot.told c.forget_each.new.told c.in_ok-gone.ensures.gone (rw c.deref.ensures.value at c.forget_each.ensures) is.remembered;
+      all = record {
+        kept = kept_swept S hot.numbers.nodes hot.numbers.users hot.marks c.remove.new.self c.in-Some.id hot.sets.rows c.sweep.new.sets.rows
+            (taken_out c.args.self.now.marks c.in_ok-marks.marks c.remove.new.self c.in-Some.id c.in_ok-marks.ensures c.remove.ensures.members) c.in_ok-gone.ensures.same c.in_ok-gone.ensures.held is.all.kept;
+        remembered = swept_of_world S hot.numbers.nodes hot.numbers.users hot.marks c.remove.new.self c.in-Some.id hot.sets.rows c.sweep.new.sets.rows
+            (taken_out c.args.self.now.marks c.in_ok-marks.marks c.remove.new.self c.in-Some.id c.in_ok-marks.ensures c.remove.ensures.members) c.in_ok-gone.ensures.same c.in_ok-gone.ensures.held is.all.kept
+            c.in_ok-gone.gone.items hot.told c.forget_each.new.told c.in_ok-gone.ensures.gone (rw c.deref.ensures.value at c.forget_each.ensures) is.all.remembered;
+      };
       distinct = is.distinct;
     }
 
