@@ -1,7 +1,7 @@
 -- A gathering and a filling are a refresh.
-use Rattle.std.proofs.Common.{ℕ, ◌≡◌, List, sym, ◌∙◌, ⊎_elim, inl, inr}
-use Rattle.std.proofs.lemmas.Bool.{or_right, or_cases}
-use Rattle.least_sets.specs.World.{Fact}
+use Rattle.std.proofs.Common.{ℕ, ◌≡◌, List, not, sym, ◌∙◌, ap, ⊎_elim, inl, inr}
+use Rattle.std.proofs.lemmas.Bool.{or_left, or_right, or_cases, and_from}
+use Rattle.least_sets.specs.World.{Fact, has}
 use Rattle.least_sets.specs.Least.{IsLevelled}
 use Rattle.region.specs.declared.rule.Told.{Told}
 use Rattle.region.specs.Steps.{is_told, Tells, AreTold}
@@ -10,6 +10,8 @@ use Rattle.region.specs.Sets.{IsHeld}
 use Rattle.region.specs.Gathered.{stays, in_region, IsGathered, IsAskedOnce, IsTurned, IsSameElsewhere}
 use Rattle.region.specs.Refreshed.{IsRefreshed}
 use Rattle.region.proofs.Walked.{untouched}
+use Rattle.hot.specs.Kept.{Remembered}
+use Rattle.hot.specs.inside.Remembering.{IsRemembered, IsRenewed}
 
 module _ (tells : ℕ → Fact → Type 0) (old new : Rows) (roots turned changed before after asked : List ℕ) (told : List Told) (dropped : List ℕ)
     (are_told : AreTold tells told) (agree : (world : ℕ → Fact) × Tells world told)
@@ -36,3 +38,15 @@ module _ (tells : ℕ → Fact → Type 0) (old new : Rows) (roots turned change
         reached = λ world t. (gathered world t).reached;
         held = λ was world first levels t is turns elsewhere. held was world first roots turned changed levels is turns (gathered world t) elsewhere;
       }
+
+  pub renewed : (was is : Remembered) → IsRemembered told dropped was is → IsRenewed tells old new roots turned changed before asked was is
+  unfolding refreshed
+  renewed was is remembered = record {
+    refreshed = refreshed;
+    dropped = dropped;
+    stays = λ n there off.
+        let got = gathered agree.0 agree.1 in
+        let left = and_from (kept old n) (not (has dropped n)) there (ap not off) in
+        (nodes n ∙ or_left (stays old dropped n) (is_told told n) left, got.apart n left, (got.untouched n left).1);
+    remembered = remembered;
+  }

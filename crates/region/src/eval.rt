@@ -8,7 +8,7 @@ ghost use Rattle.region.specs.Tables.{over, ids_or_none};
 
 use crate::rule::Rule;
 use crate::sets::Sets;
-use idsets::{Galloping, IdSet, exclude, intersect, union};
+use idsets::{Galloping, IdSet, exclude, first_missing, intersect, union};
 use std::alloc::{AllocError, Global};
 use std::collections::BTreeMap;
 
@@ -41,6 +41,21 @@ fn push_members(
     Ok(())
 }
 
+// A copy of the members of a node.
+fn members_of(
+    alloc: Global,
+    fresh: &BTreeMap<u64, IdSet>,
+    kept: &Sets,
+    node: u64,
+) -> Result<IdSet, AllocError>
+    ensures { IfOk result (λ r. (u : ℕ) → has r u ≡ over fresh.now kept.now.rows u node) }
+{
+    match members_at(fresh, kept, node) {
+        Some(ids) => ids.again(),
+        None => Ok(IdSet::new(alloc)),
+    }
+}
+
 // The members of any of the nodes.
 fn members_of_any(
     alloc: Global,
@@ -50,11 +65,14 @@ fn members_of_any(
 ) -> Result<IdSet, AllocError>
     ensures { IfOk result (λ r. (u : ℕ) → has r u ≡ list_any (over fresh.now kept.now.rows u) nodes.now) }
 {
+    if nodes.len() == 1 {
+        return members_of(alloc, fresh, kept, nodes[0]);
+    }
     let mut ids = Vec::new(alloc);
     for node in nodes {
         push_members(&mut ids, fresh, kept, *node)?;
     }
-    Ok(IdSet::of(ids))
+    IdSet::of_runs(ids)
 }
 
 // What both have. The larger one is searched.
@@ -135,14 +153,10 @@ pub(crate) fn named(alloc: Global, rule: &Rule) -> Result<IdSet, AllocError>
 }
 
 /// An id of the first that the second lacks.
-pub(crate) fn missing(ids: &[u64], others: &IdSet) -> Option<u64>
+pub(crate) fn missing(ids: &IdSet, others: &IdSet) -> Option<u64>
     ensures found { IfSome result (λ u. (u < 2 ^ 64) × (has ids.now u ≡ true) × (has others.now u ≡ false)) }
     ensures none { IfNone result ((u : ℕ) → has ids.now u ≡ true → has others.now u ≡ true) }
 {
-    for id in ids {
-        if !others.contains(*id) {
-            return Some(*id);
-        }
-    }
-    None
+    let mut others = Galloping::new(others);
+    first_missing(ids, &mut others)
 }

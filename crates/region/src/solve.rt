@@ -43,7 +43,7 @@ fn missing_at(found: &IdSet, fresh: &BTreeMap<u64, IdSet>, kept: &Sets, node: u6
 {
     match members_at(fresh, kept, node) {
         None => found.as_slice().first().copied(),
-        Some(before) => missing(found.as_slice(), before),
+        Some(before) => missing(found, before),
     }
 }
 
