@@ -25,7 +25,7 @@ use Rattle.hot.proofs.Looking.{HasLevel, told_level, told_plain, told_taken}
 use Rattle.hot.specs.Kept.{AreKept, AreOfWorld, Remembered, told_of}
 use Rattle.hot.specs.inside.Remembering.{IsRemembered}
 
-told_at : (tells : ℕ → Fact → Type 0) (world : ℕ → Fact) (told : List Told) (n : ℕ) → AreTold tells told → Tells world told → is_told told n ≡ true → tells n (world n)
+pub told_at : (tells : ℕ → Fact → Type 0) (world : ℕ → Fact) (told : List Told) (n : ℕ) → AreTold tells told → Tells world told → is_told told n ≡ true → tells n (world n)
 told_at tells world [] n a t h = absurd (false≢true h)
 told_at tells world (x ∷ xs) n a t h = ⊎_elim
     (λ q. subst (λ m. tells m (world m)) (sym (eqb-true n x.node q)) (subst (λ f. tells x.node f) (sym t.0) a.0))

@@ -104,14 +104,14 @@ same_of_world S nodes nodes' users users' marks a b e later k memory less fewer 
 -- what may be told where nothing changed: what is remembered may be told
 pub recall_same : (S : Snap) (nodes nodes' : List Node) (users users' : List Object) (marks : List ℕ) (rows : Rows) (memory : Remembered) (k : AreKept S nodes users marks rows)
     → AreOfWorld k.world rows memory → IsLater nodes nodes' users users' → (n : ℕ) (fact : Fact) → MayRecall S memory nodes' users' n fact → MayTell S nodes' users' n fact
-recall_same S nodes nodes' users users' marks rows memory k of later n fact (inl told) = told
+recall_same S nodes nodes' users users' marks rows memory k of later n fact (inl told) = told.1
 recall_same S nodes nodes' users users' marks rows memory k of later n fact (inr recalled) =
     let there = of.each n recalled.0 recalled.1 in
     may_more S nodes nodes' users users' n fact later (subst (λ (f : Fact). MayTell S nodes users n f) (sym (recalled.2 ∙ there.1)) (k.told n there.0))
 
 -- where nothing is remembered
 pub recall_none : (S : Snap) (nodes : List Node) (users : List Object) (memory : Remembered) → ((n : ℕ) → told_of memory n ≡ None) → (n : ℕ) (fact : Fact) → MayRecall S memory nodes users n fact → MayTell S nodes users n fact
-recall_none S nodes users memory none n fact (inl told) = told
+recall_none S nodes users memory none n fact (inl told) = told.1
 recall_none S nodes users memory none n fact (inr recalled) = absurd (none-some recalled.0 (sym (none n) ∙ recalled.1))
 
 -- the same refresh, by what is told
@@ -201,7 +201,7 @@ are_tellable S nodes users marks rows back memory k of backed n t at =
 
 pub recall_after : (T : Snap) (nodes nodes' : List Node) (users users' : List Object) (back : Lists) (memory : Remembered) → AreTellable T nodes users back memory
     → IsLater nodes nodes' users users' → (n : ℕ) (fact : Fact) → MayRecall T memory nodes' users' n fact → MayTell T nodes' users' n fact
-recall_after T nodes nodes' users users' back memory are later n fact (inl told) = told
+recall_after T nodes nodes' users users' back memory are later n fact (inl told) = told.1
 recall_after T nodes nodes' users users' back memory are later n fact (inr recalled) =
     may_more T nodes nodes' users users' n fact later (subst (λ (f : Fact). MayTell T nodes users n f) (sym recalled.2) (are n recalled.0 recalled.1).0)
 

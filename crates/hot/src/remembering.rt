@@ -2,9 +2,9 @@
 ghost use Rattle.std.specs.Prelude.{◌≡◌, ◌≢◌, ℕ, true, false, ◌⊎◌, Some};
 ghost use Rattle.least_sets.specs.World.{has};
 ghost use Rattle.region.specs.declared.rule.Told.{Told as TheTold};
-ghost use Rattle.region.specs.Tables.{listed};
+ghost use Rattle.region.specs.Tables.{kept, listed};
 ghost use Rattle.hot.specs.Kept.{told_of};
-ghost use Rattle.hot.specs.inside.Remembering.{AreApart, IsFresh, IsOfAnother, IsRemembered};
+ghost use Rattle.hot.specs.inside.Remembering.{AreApart, IsFresh, IsOfAnother};
 
 use idsets::Ids;
 use names::{Node, Object};
@@ -87,16 +87,38 @@ fn is_of(nodes: &Ids<Node>, object: &Object, id: u64) -> bool
     }
 }
 
-/// Remembers what was gathered, in the place of what is dropped. Where there is no memory for it less is remembered.
-pub(crate) fn remember(told: &mut BTreeMap<u64, Told>, region: Region)
-    ensures { IsRemembered region.told.items region.dropped.items told.old told.new }
+/// Remembers what was gathered, and forgets what is dropped and not kept any more. What was remembered of a node that was told
+/// of is what was told: it stays. Where there is no memory for it less is remembered.
+pub(crate) fn remember(told: &mut BTreeMap<u64, Told>, sets: &Sets, region: Region)
+    ensures { (n : ℕ) (t : TheTold) → told_of told.new n ≡ Some t
+        → IsFresh region.told.items n t
+        ⊎ ((told_of told.old n ≡ Some t) × (has region.dropped.items n ≡ true → kept sets.now.rows n ≡ true)) }
 {
     let Region {
         told: fresh,
         dropped,
     } = region;
-    forget_each(told, &dropped);
+    forget_lost(told, sets, &dropped);
     put_each(told, fresh);
+}
+
+// Forgets what was told of those that are not kept.
+fn forget_lost(told: &mut BTreeMap<u64, Told>, sets: &Sets, nodes: &[u64])
+    ensures { (n : ℕ) (t : TheTold) → told_of told.new n ≡ Some t
+        → (told_of told.old n ≡ Some t) × (has nodes.now n ≡ true → kept sets.now.rows n ≡ true) }
+{
+    for node in nodes {
+        forget_if_lost(told, sets, *node);
+    }
+}
+
+fn forget_if_lost(told: &mut BTreeMap<u64, Told>, sets: &Sets, node: u64)
+    ensures { (n : ℕ) (t : TheTold) → told_of told.new n ≡ Some t
+        → (told_of told.old n ≡ Some t) × (n ≡ node → kept sets.now.rows n ≡ true) }
+{
+    if !sets.is_kept(node) {
+        told.remove(&node);
+    }
 }
 
 fn put_each(told: &mut BTreeMap<u64, Told>, mut fresh: Vec<Told>)
@@ -104,6 +126,16 @@ fn put_each(told: &mut BTreeMap<u64, Told>, mut fresh: Vec<Told>)
         → IsFresh fresh.items n t ⊎ (told_of told.old n ≡ Some t) }
 {
     while let Some(one) = fresh.pop() {
+        put_new(told, one);
+    }
+}
+
+// Remembers what is told of a node, if nothing is yet.
+fn put_new(told: &mut BTreeMap<u64, Told>, one: Told)
+    ensures { (n : ℕ) (t : TheTold) → told_of told.new n ≡ Some t
+        → ((n ≡ one.node) × (t ≡ one)) ⊎ (told_of told.old n ≡ Some t) }
+{
+    if !told.contains_key(&one.node) {
         put_at(told, one.node, one);
     }
 }

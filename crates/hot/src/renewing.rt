@@ -62,6 +62,6 @@ fn renew_by(
     let region = gather(alloc, sets, roots, turned, changed, facts)?;
     let asked = facts.asked.clone()?;
     fill(alloc, sets, &region)?;
-    remember(&mut facts.told, region);
+    remember(&mut facts.told, sets, region);
     Ok(asked)
 }

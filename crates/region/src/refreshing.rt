@@ -36,7 +36,7 @@ pub fn fill(alloc: Global, sets: &mut Sets, region: &Region) -> Result<(), Alloc
         → IsHeld world roots sets.new.rows) }
 {
     let fresh = solve(alloc, &region.told, sets)?;
-    let ready = ready_for(alloc, &region.told, &fresh, sets)?;
+    let ready = ready_for(alloc, &region.told, fresh, sets)?;
     add_back_all(alloc, &mut sets.back, &ready, &region.told)?;
     take_places(&mut sets.rows, &region.told)?;
     drop_rows(&mut sets.rows, &region.dropped);

@@ -1,6 +1,6 @@
 -- What was told of nodes, and is remembered.
-use Rattle.std.specs.Prelude.{ℕ, ◌≡◌, true, false, ◌⊎◌, List, Some}
-use Rattle.std.proofs.Common.{sym, subst, inl, inr}
+use Rattle.std.specs.Prelude.{ℕ, ◌≡◌, true, false, ◌⊎◌, List, Some, None}
+use Rattle.std.proofs.Common.{sym, ◌∙◌, ap, subst, inl, inr}
 use Rattle.std.specs.List.{slice_get}
 use Rattle.names.specs.declared.object.Object.{Object}
 use Rattle.names.specs.declared.node.Node.{Node}
@@ -19,14 +19,14 @@ use Rattle.hot.specs.Kept.{Remembered, told_of}
 abbrev pub Recalls : Remembered → ℕ → Fact → Type 0
 Recalls memory n fact = (t : Told) × (told_of memory n ≡ Some t) × (fact ≡ fact_of t)
 
--- what may be told of a node: what the snapshot's graph has, or what is remembered
+-- what may be told of a node: what is remembered, or else what the snapshot's graph has
 abbrev pub MayRecall : Snap → Remembered → List Node → List Object → ℕ → Fact → Type 0
-MayRecall S memory nodes users n fact = MayTell S nodes users n fact ⊎ Recalls memory n fact
+MayRecall S memory nodes users n fact = ((told_of memory n ≡ None) × MayTell S nodes users n fact) ⊎ Recalls memory n fact
 
 pub recall_more : (S T : Snap) (memory memory' : Remembered) (nodes nodes' : List Node) (users users' : List Object) (n : ℕ) (fact : Fact)
     → T ≡ S → memory' ≡ memory → IsLater nodes nodes' users users' → MayRecall S memory nodes users n fact → MayRecall T memory' nodes' users' n fact
 recall_more S T memory memory' nodes nodes' users users' n fact is same later (inl told) =
-    inl (may_more T nodes nodes' users users' n fact later (subst (λ (x : Snap). MayTell x nodes users n fact) (sym is) told))
+    inl (ap (λ m. told_of m n) same ∙ told.0, may_more T nodes nodes' users users' n fact later (subst (λ (x : Snap). MayTell x nodes users n fact) (sym is) told.1))
 recall_more S T memory memory' nodes nodes' users users' n fact is same later (inr recalled) =
     inr (subst (λ (x : Remembered). Recalls x n fact) (sym same) recalled)
 

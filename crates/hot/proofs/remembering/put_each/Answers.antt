@@ -10,6 +10,6 @@ loop-one-preserved c =
       all = λ n t at. ⊎_elim
           (λ new. inl (fresh_in c.args.fresh.items c.pop.new.self.items c.in-Some.one rest.0 n t all new.0 new.1))
           (λ old. c.loop-one.invariant.all n t old)
-          (c.put_at.ensures n t at);
+          (c.put_new.ensures n t at);
       rest = (c.in-Some.one ∷ rest.0, all);
     }

@@ -3,7 +3,7 @@ use Rattle.std.proofs.lemmas.List.Elements.{same_from_all_zip}
 use Rattle.region.specs.Steps.{AreTold}
 use Rattle.hot.specs.Kept.{Remembered}
 use Rattle.hot.specs.inside.Remembering.{MayRecall, IsRemembered}
-use Rattle.hot.proofs.Renewed.{renewed}
+use Rattle.hot.proofs.Renewed.{renewed, remembered_after}
 use Rattle.hot.proofs.renewing.renew_by.Goals as goal
 
 pub fill-requires-clause-gathered : goal.fill-requires-clause-gathered
@@ -22,4 +22,7 @@ returns-clause-renewed c =
     (subst (λ (memory : Remembered). AreTold (MayRecall now.facts.snap memory now.facts.nodes now.facts.users) told) same c.in_ok-region.ensures.told)
     c.in_ok-region.ensures.agree c.in_ok-region.ensures.gathered c.in_ok-region.ensures.asked
     (same_from_all_zip _ _ _ c.in_ok-asked.ensures.cases.0 (λ x y e. e)) c.in_ok-fill.ensures.nodes c.in_ok-fill.ensures.held
-    c.args.facts.now.told c.remember.new.told (subst (λ (memory : Remembered). IsRemembered told dropped memory c.remember.new.told) same c.remember.ensures)
+    c.args.facts.now.told c.remember.new.told
+    (subst (λ (memory : Remembered). IsRemembered told dropped memory c.remember.new.told) same
+    (remembered_after now.facts.snap now.told c.remember.new.told now.facts.nodes now.facts.users c.args.sets.now.rows c.fill.new.sets.rows told dropped
+    c.in_ok-region.ensures.told c.in_ok-fill.ensures.nodes c.remember.ensures))
