@@ -80,7 +80,7 @@ fn renew_by<'a>(
     let mut before = noted(alloc, rev, sets, touched.as_slice())?;
     let count = earlier.len();
     earlier.append(&mut before)?;
-    match fill(alloc, sets, region) {
+    match fill(alloc, sets, &region) {
         Ok(()) => Ok(asked),
         Err(e) => {
             earlier.truncate(count);

@@ -1,11 +1,12 @@
 -- What may be sent to another thread, or shared with one. Rattle finds this by itself for types that do not reach a rewrite,
--- which holds rewrites; so it is said here for those that do.
+-- which holds rewrites, or a rule, which holds rules; so it is said here for those that do.
 use denote.Param.Send.{IsSend, IsSync, sendable, recorded_send, recorded_sync, struct_send, struct_sync, enum_send, enum_sync}
 use denote.Struct.Struct.{Struct}
 use denote.Enum.Enum.{Enum}
 use denote.Struct.Declared as S
 use denote.Enum.Declared as E
-use Rattle.std.proofs.Crossing.{crosses, Vec-send, Vec-sync}
+use Rattle.std.proofs.Crossing.{crosses, send, sync, Vec-send, Vec-sync}
+use Rattle.std_collections.proofs.Crosses.{BTreeMap-send, BTreeMap-sync}
 use Rattle.config_text.proofs.rewrite.Rewrite.TheLaws.TheKnot.{crosses as rewrites_cross}
 use Rattle.names.proofs.name.Name.TheSendSync as Name
 use Rattle.names.proofs.node.Node.TheSendSync as Node
@@ -19,8 +20,12 @@ use Rattle.config.specs.contracts.config.Config as Config
 use Rattle.idsets.proofs.ids.Ids.TheSendSync as Ids
 use Rattle.idsets.proofs.set.IdSet.TheSendSync as IdSet
 use Rattle.names.proofs.object.Object.TheSendSync as Object
-use Rattle.hot.proofs.hot.Hot.TheSendSync as Hot
+use Rattle.hot.specs.contracts.hot.Hot as Hot
+use Rattle.region.proofs.rule.Rule.TheLaws.TheKnot.{crosses as rules_cross}
+use Rattle.region.specs.contracts.rule.Rule as Rule
+use Rattle.region.specs.contracts.rule.Told as Told
 use Rattle.region.proofs.sets.Sets.TheSendSync as Sets
+use Rattle.facts.proofs.numbers.Numbers.TheSendSync as Numbers
 use Rattle.delta.proofs.earlier.Earlier.TheSendSync as Earlier
 use Rattle.delta.specs.contracts.layer.Layer as Layer
 use Rattle.direct.proofs.memberships.Memberships.TheSendSync as Memberships
@@ -98,11 +103,41 @@ GroupIndex-send = let T = GroupIndex.the_type in recorded_send _ _ T.to T.to_one
 pub GroupIndex-sync : IsSync GroupIndex.the_row
 GroupIndex-sync = let T = GroupIndex.the_type in recorded_sync _ _ T.to T.to_one GroupIndex-field-sync
 
+Rule-field-send : IsSend (Enum (E.shape Rule.the_type))
+Rule-field-send = search (rules_cross, crosses, sendable) depth 40
+
+Rule-field-sync : IsSync (Enum (E.shape Rule.the_type))
+Rule-field-sync = search (rules_cross, crosses, sendable) depth 40
+
+Told-field-send : IsSend (Struct (S.shape Told.the_type))
+Told-field-send = struct_send (S.shape Told.the_type) (search sendable, (search sendable, (Rule-field-send, (IdSet.the_send, tt))))
+
+Told-field-sync : IsSync (Struct (S.shape Told.the_type))
+Told-field-sync = struct_sync (S.shape Told.the_type) (search sendable, (search sendable, (Rule-field-sync, (IdSet.the_sync, tt))))
+
+Told-send : IsSend Told.the_row
+Told-send = let T = Told.the_type in recorded_send _ _ T.to T.to_one Told-field-send
+
+Told-sync : IsSync Told.the_row
+Told-sync = let T = Told.the_type in recorded_sync _ _ T.to T.to_one Told-field-sync
+
+Hot-field-send : IsSend (Struct (S.shape Hot.the_type))
+Hot-field-send = struct_send (S.shape Hot.the_type) (Numbers.the_field_send, (IdSet.the_send, (Sets.the_field_send, (search (BTreeMap-send, Told-send, send, crosses, sendable) depth 40, tt))))
+
+Hot-field-sync : IsSync (Struct (S.shape Hot.the_type))
+Hot-field-sync = struct_sync (S.shape Hot.the_type) (Numbers.the_field_sync, (IdSet.the_sync, (Sets.the_field_sync, (search (BTreeMap-sync, Told-sync, sync, crosses, sendable) depth 40, tt))))
+
+Hot-send : IsSend Hot.the_row
+Hot-send = let T = Hot.the_type in recorded_send _ _ T.to T.to_one Hot-field-send
+
+Hot-sync : IsSync Hot.the_row
+Hot-sync = let T = Hot.the_type in recorded_sync _ _ T.to T.to_one Hot-field-sync
+
 pub Shown-send : IsSend Shown.the_row
-Shown-send = search (Config-send, KeptCommit-send, GroupIndex-send, Hot.the_send, VersionMap.the_send, Node.the_send, crosses, sendable) depth 40
+Shown-send = search (Config-send, KeptCommit-send, GroupIndex-send, Hot-send, VersionMap.the_send, Node.the_send, crosses, sendable) depth 40
 
 pub Shown-sync : IsSync Shown.the_row
-Shown-sync = search (Config-sync, KeptCommit-sync, GroupIndex-sync, Hot.the_sync, VersionMap.the_sync, Node.the_sync, crosses, sendable) depth 40
+Shown-sync = search (Config-sync, KeptCommit-sync, GroupIndex-sync, Hot-sync, VersionMap.the_sync, Node.the_sync, crosses, sendable) depth 40
 
 pub Loaded-send : IsSend Loaded.the_row
 Loaded-send = search (Config-send, KeptCommit-send, Tuple.the_send, crosses, sendable) depth 40

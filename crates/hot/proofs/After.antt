@@ -1,5 +1,6 @@
 -- What is kept after a refresh.
 use Rattle.std.proofs.Common.{ℕ, ◌≡◌, ◌≤◌, ◌<◌, true, false, cond, nat_eq, List, [], ◌∷◌, refl, sym, ◌∙◌, ap, subst, ⊎_elim, ◌⊎◌, inl, inr}
+use Rattle.std.specs.Prelude.{Some}
 use Rattle.std.proofs.lemmas.Bool.{or_cases, or_left, or_right, cases_Bool, false≢true, eqb-true, eq-eqb}
 use Rattle.names.specs.declared.object.Object.{Object}
 use Rattle.names.specs.declared.node.Node.{Node}
@@ -11,6 +12,7 @@ use Rattle.least_sets.specs.Least.{IsLevelled}
 use Rattle.least_sets.specs.Walks.{IsTouched}
 use Rattle.least_sets.proofs.Gives.{plain_named, taken_named}
 use Rattle.region.specs.declared.rule.Told.{Told}
+use Rattle.region.specs.Rules.{fact_of}
 use Rattle.region.specs.Steps.{is_told, Tells, AreTold}
 use Rattle.region.specs.Tables.{Rows, kept, arc_in}
 use Rattle.region.specs.Gathered.{IsTurned, IsSameElsewhere}
@@ -20,9 +22,10 @@ use Rattle.facts.specs.Numbers.{node_at}
 use Rattle.facts.specs.Telling.{MayTell, IsLater}
 use Rattle.facts.specs.inside.Growing.{may_more}
 use Rattle.hot.proofs.Looking.{HasLevel, told_level, told_plain, told_taken}
-use Rattle.hot.specs.Kept.{AreKept}
+use Rattle.hot.specs.Kept.{AreKept, AreOfWorld, Remembered, told_of}
+use Rattle.hot.specs.inside.Remembering.{IsRemembered}
 
-told_at : (tells : ℕ → Fact → Type 0) (world : ℕ → Fact) (told : List Told) (n : ℕ) → AreTold tells told → Tells world told → is_told told n ≡ true → tells n (world n)
+pub told_at : (tells : ℕ → Fact → Type 0) (world : ℕ → Fact) (told : List Told) (n : ℕ) → AreTold tells told → Tells world told → is_told told n ≡ true → tells n (world n)
 told_at tells world [] n a t h = absurd (false≢true h)
 told_at tells world (x ∷ xs) n a t h = ⊎_elim
     (λ q. subst (λ m. tells m (world m)) (sym (eqb-true n x.node q)) (subst (λ f. tells x.node f) (sym t.0) a.0))
@@ -69,8 +72,8 @@ module _ (S T : Snap) (nodes nodes' : List Node) (users users' : List Object) (o
   old_one : (n : ℕ) → is_told r.told n ≡ false → kept old n ≡ true → MayTell S nodes' users' n (world n)
   old_one n h k = subst (λ f. MayTell S nodes' users' n f) (sym (at_old n h k)) (may_more S nodes nodes' users users' n (before n) later (was n k))
 
-  told_of : (n : ℕ) → kept new n ≡ true → MayTell T nodes' users' n (world n)
-  told_of n h = ⊎_elim
+  tells_of : (n : ℕ) → kept new n ≡ true → MayTell T nodes' users' n (world n)
+  tells_of n h = ⊎_elim
       (λ t. told_one n t)
       (λ k. ⊎_elim
       (λ t. told_one n t)
@@ -127,5 +130,21 @@ module _ (S T : Snap) (nodes nodes' : List Node) (users users' : List Object) (o
     world = world;
     levelled = levels;
     held = r.held before world first levels (tells_agree world r.some.0 r.told at_told r.some.1) held turns same;
-    told = told_of;
+    told = tells_of;
+  }
+
+  -- what is remembered then is of that world
+  pub after_of_world : (was is : Remembered) (dropped : List ℕ)
+      → ((n : ℕ) (t : Told) → told_of was n ≡ Some t → (kept old n ≡ true) × (has dropped n ≡ false → fact_of t ≡ before n))
+      → ((n : ℕ) → kept old n ≡ true → has dropped n ≡ false → (kept new n ≡ true) × (is_told r.told n ≡ false) × (has changed n ≡ false))
+      → IsRemembered r.told dropped was is → AreOfWorld after.world new is
+  unfolding after
+  after_of_world was is dropped of_world stay remembered = record {
+    each = λ n t at. ⊎_elim
+        (λ fresh. ((r.few n fresh.0).0, sym (at_told n fresh.0 ∙ fresh.1 r.some.0 r.some.1)))
+        (λ still.
+        let there = of_world n t still.0 in
+        let left = stay n there.0 still.1 in
+        (left.0, there.1 still.1 ∙ sym (at_old n left.1 there.0)))
+        (remembered n t at);
   }

@@ -32,19 +32,19 @@ module _ (hot : Hot) (S : Snap) (is : IsHot hot S) where
   -- a node with a number is kept where it is under a mark
   pub kept_exactly : (id : ℕ) (n : Node) → slice_get hot.numbers.nodes id ≡ Some n → (kept hot.sets.rows id ≡ true) ↔ IsUnderMark hot S n
   kept_exactly id n at = (
-    λ h. kept_led S hot.numbers.nodes hot.numbers.users hot.marks hot.sets.rows is.valid is.kept n id at h,
-    λ u. (let found = led_kept S hot.numbers.nodes hot.numbers.users hot.marks hot.sets.rows is.valid is.kept u.0 n u.1.0 u.1.1 u.1.2 u.2 in
+    λ h. kept_led S hot.numbers.nodes hot.numbers.users hot.marks hot.sets.rows is.valid is.all.kept n id at h,
+    λ u. (let found = led_kept S hot.numbers.nodes hot.numbers.users hot.marks hot.sets.rows is.valid is.all.kept u.0 n u.1.0 u.1.1 u.1.2 u.2 in
         subst (λ i. kept hot.sets.rows i ≡ true) (is.distinct found.0 id n found.1 at) found.2),
   )
 
   -- one without a number is under none
   pub none_under : (n : Node) → ((id : ℕ) → slice_get hot.numbers.nodes id ≡ Some n → ⊥) → IsUnderMark hot S n → ⊥
-  none_under n missing u = let found = led_kept S hot.numbers.nodes hot.numbers.users hot.marks hot.sets.rows is.valid is.kept u.0 n u.1.0 u.1.1 u.1.2 u.2 in missing found.0 found.1
+  none_under n missing u = let found = led_kept S hot.numbers.nodes hot.numbers.users hot.marks hot.sets.rows is.valid is.all.kept u.0 n u.1.0 u.1.1 u.1.2 u.2 in missing found.0 found.1
 
   pub member_at : (id number : ℕ) (n : Node) (u : Object) → slice_get hot.numbers.nodes id ≡ Some n → slice_get hot.numbers.users number ≡ Some u → kept hot.sets.rows id ≡ true
       → holds hot.sets.rows number id ≡ true ↔ IsMember S u n
   member_at id number n u at_node at_user h =
-      let both = member_of S hot.numbers.nodes hot.numbers.users hot.marks hot.sets.rows is.valid is.kept id number h in
+      let both = member_of S hot.numbers.nodes hot.numbers.users hot.marks hot.sets.rows is.valid is.all.kept id number h in
       let node = node_is hot.numbers.nodes id n at_node in
       let user = user_is hot.numbers.users number u at_user in (
         λ q. subst (λ x. IsMember S x n) user (subst (λ x. IsMember S (user_at hot.numbers.users number) x) node (both.0 q)),
@@ -53,7 +53,7 @@ module _ (hot : Hot) (S : Snap) (is : IsHot hot S) where
 
   pub stranger_at : (id : ℕ) (n : Node) (u : Object) → slice_get hot.numbers.nodes id ≡ Some n → ((j : ℕ) → slice_get hot.numbers.users j ≡ Some u → ⊥) → kept hot.sets.rows id ≡ true → IsMember S u n → ⊥
   stranger_at id n u at absent h q =
-      stranger S hot.numbers.nodes hot.numbers.users hot.marks hot.sets.rows is.valid is.kept u absent id h (subst (λ x. IsMember S u x) (sym (node_is hot.numbers.nodes id n at)) q)
+      stranger S hot.numbers.nodes hot.numbers.users hot.marks hot.sets.rows is.valid is.all.kept u absent id h (subst (λ x. IsMember S u x) (sym (node_is hot.numbers.nodes id n at)) q)
 
   -- the users with the numbers that are kept are the members
   pub members_are : (id : ℕ) (n : Node) (ids : List ℕ) (found : List Object) → slice_get hot.numbers.nodes id ≡ Some n → Some ids ≡ option_map (λ (row : Row). row.members) (row_of hot.sets.rows id)

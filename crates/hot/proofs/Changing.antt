@@ -1,4 +1,4 @@
--- What may be told of a node may be told of it after a commit that has no event on it, nor on what it names.
+-- What may be told of a node may be told of it after a commit that has no event on it, nor on what it names of the same object: its tuplesets.
 use Rattle.std.proofs.Common.{ℕ, ◌≡◌, true, false, not, ◌&&◌, ◌||◌, List, [], ◌∷◌, refl, sym, ◌∙◌, ap, subst, ⊎_elim, inl, inr}
 use Rattle.std.specs.Prelude.{◌↔◌, Contains, Some}
 use Rattle.std.specs.List.{slice_get}
@@ -46,7 +46,7 @@ module _ (n : Node) where
   replay_same (e ∷ es) q s is quiet =
       replay_same es q (after_event s e) is (λ x c. quiet x (contains_there e x es c)) ∙ event_same e.kind e.tuple q s is (quiet e (contains_here e es))
 
-  tuple_same : (S T : Snap) (events : List Event) → T.tuples ≡ replay S.tuples events → IsQuiet events → (s : Subject)
+  pub tuple_same : (S T : Snap) (events : List Event) → T.tuples ≡ replay S.tuples events → IsQuiet events → (s : Subject)
       → Contains (set.items S.tuples) (record { node = n; subject = s }) ↔ Contains (set.items T.tuples) (record { node = n; subject = s })
   tuple_same S T events is quiet s =
       let q : Tuple = record { node = n; subject = s } in
@@ -60,7 +60,7 @@ abbrev pub IsQuietAt : List Node → List Event → ℕ → Type 0
 IsQuietAt nodes events j = (e : Event) → Contains events e → slice_get nodes j ≡ Some e.tuple.node → ⊥
 
 pub may_after : (S T : Snap) (events : List Event) (nodes : List Node) (users : List Object) (i : ℕ) (fact : Fact) → S.config ≡ T.config → T.tuples ≡ replay S.tuples events
-    → IsQuietAt nodes events i → ((j : ℕ) → has (arcs_of fact.shape) j ≡ true → IsQuietAt nodes events j)
+    → IsQuietAt nodes events i → ((j : ℕ) → has (arcs_of fact.shape) j ≡ true → (node_at nodes j).object ≡ (node_at nodes i).object → IsQuietAt nodes events j)
     → MayTell S nodes users i fact → MayTell T nodes users i fact
 may_after S T events nodes users i fact config tuples quiet named may = record {
   named = may.named;
@@ -69,7 +69,7 @@ may_after S T events nodes users i fact config tuples quiet named may = record {
         d.0,
         subst (λ (c : Configured). Defines c (rel_of n) d.0) config d.1,
         subst (λ (c : Configured). IsAt c n fact.level) config d.2,
-        shape_same S T (node_at nodes) (node_at nodes) (user_at users) (user_at users) n fact.own config
+        shape_same S T (node_at nodes) (node_at nodes) (user_at users) (user_at users) n fact.own fact.own config
             (λ u both. let same = here (one (user_at users u)) in (λ h. same.0 (both.0 h), λ h. both.1 (same.1 h)))
             (λ m. here (set_of m)) d.0.form fact.shape (λ m h. refl)
             (λ m h t e p. tuple_same (record { object = n.object; relation = t }) S T events tuples (there m h t e) (one p)) d.3,
@@ -93,4 +93,4 @@ may_after S T events nodes users i fact config tuples quiet named may = record {
     here s = tuple_same n S T events tuples (λ e c is. quiet e c (at ∙ ap (λ x. Some x) (sym is))) s
 
     there : (m : ℕ) → has (arcs_of fact.shape) m ≡ true → (t : List ℕ) → node_at nodes m ≡ record { object = n.object; relation = t } → IsQuiet (record { object = n.object; relation = t }) events
-    there m h t is e c tuple = named m h e c (node_got nodes m (may.within m h) ∙ ap (λ x. Some x) (is ∙ sym tuple))
+    there m h t is e c tuple = named m h (ap (λ (x : Node). x.object) is) e c (node_got nodes m (may.within m h) ∙ ap (λ x. Some x) (is ∙ sym tuple))

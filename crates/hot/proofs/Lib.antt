@@ -11,3 +11,5 @@ mod Renewed
 mod Outcomes
 mod Answering
 mod Lists
+mod Remembered
+mod Followed

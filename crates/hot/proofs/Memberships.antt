@@ -105,7 +105,7 @@ module _ (S : Snap) (nodes : List Node) (users : List Object) (marks : List ℕ)
           d.0,
           d.1,
           d.2,
-          shape_same S S (node_at nodes) (node_at nodes) (user_at users) others (node_at nodes n) (k.world n).own refl (λ i both. ones n i h both)
+          shape_same S S (node_at nodes) (node_at nodes) (user_at users) others (node_at nodes n) (k.world n).own (k.world n).own refl (λ i both. ones n i h both)
               (λ m. (λ q. q, λ q. q)) d.0.form (k.world n).shape (λ m q. refl) (λ m q t e p. (λ o. o, λ o. o)) d.3,
         ))
         (λ d. inr d)

@@ -16,3 +16,7 @@ err_then (Err e) f p = f p
 pub if_some : {T : Type 0} (P Q : T → Type 0) (o : Option T) → ((x : T) → P x → Q x) → IfSome o P → IfSome o Q
 if_some P Q None f p = tt
 if_some P Q (Some x) f p = f x p
+
+pub err_both : {T E P Q R : Type 0} (r : Result T E) → (P → Q → R) → OnErr r P → OnErr r Q → OnErr r R
+err_both (Ok x) f p q = tt
+err_both (Err e) f p q = f p q

@@ -1,6 +1,8 @@
 -- What is kept of marked nodes, for a snapshot.
-use Rattle.std.specs.Prelude.{ℕ, ◌+◌, ◌≡◌, ◌≤◌, ◌⊎◌, ◌↔◌, true, List, Some, length, nat_eq}
+use Rattle.std.specs.Prelude.{ℕ, ◌+◌, ◌≡◌, ◌≤◌, ◌⊎◌, ◌↔◌, true, List, Option, Some, length, nat_eq}
 use Rattle.std.specs.List.{slice_get, IsDistinct}
+use Rattle.std.specs.Ordering.{nat_cmp}
+use Rattle.std.specs.BTreeMap.{BTreeMap, get}
 use Rattle.names.specs.declared.limits.TheConstants.{MAX_MARKS}
 use Rattle.names.specs.declared.object.Object.{Object}
 use Rattle.names.specs.declared.node.Node.{Node}
@@ -12,6 +14,8 @@ use Rattle.meaning.specs.Reads.{IsValid}
 use Rattle.idsets.specs.Naming.{AreDistinct}
 use Rattle.least_sets.specs.World.{Fact, has}
 use Rattle.least_sets.specs.Least.{IsLevelled}
+use Rattle.region.specs.declared.rule.Told.{Told}
+use Rattle.region.specs.Rules.{fact_of}
 use Rattle.region.specs.Tables.{Rows, kept}
 use Rattle.region.specs.Sets.{IsHeld}
 use Rattle.facts.specs.Telling.{MayTell}
@@ -25,10 +29,26 @@ pub record AreKept (S : Snap) (nodes : List Node) (users : List Object) (marks :
   pub held : IsHeld world marks rows
   pub told : (n : ℕ) → kept rows n ≡ true → MayTell S nodes users n (world n)
 
+-- what was told of nodes by their numbers, as far as it is remembered
+abbrev pub Remembered : Type 0
+Remembered = BTreeMap ℕ Told
+
+abbrev pub told_of : Remembered → ℕ → Option Told
+told_of memory n = get nat_cmp memory n
+
+-- what is remembered is of nodes that are kept, and is what the world has of them
+pub record AreOfWorld (world : ℕ → Fact) (rows : Rows) (memory : Remembered) : Type 0 where
+  pub each : (n : ℕ) (t : Told) → told_of memory n ≡ Some t → (kept rows n ≡ true) × (fact_of t ≡ world n)
+
+-- both of one world
+pub record AreKeptAll (S : Snap) (nodes : List Node) (users : List Object) (marks : List ℕ) (rows : Rows) (memory : Remembered) : Type 0 where
+  pub kept : AreKept S nodes users marks rows
+  pub remembered : AreOfWorld kept.world rows memory
+
 -- what is kept is that of the snapshot: it is what the cursor's revision holds
 pub record IsHot (hot : Hot) (S : Snap) : Type 0 where
   pub valid : IsValid S
-  pub kept : AreKept S hot.numbers.nodes hot.numbers.users hot.marks hot.sets.rows
+  pub all : AreKeptAll S hot.numbers.nodes hot.numbers.users hot.marks hot.sets.rows hot.told
   pub distinct : AreDistinct hot.numbers.nodes
 
 -- the number stands for the node

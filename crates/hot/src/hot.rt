@@ -5,22 +5,27 @@ ghost use Rattle.names.specs.declared.limits.TheConstants.{MAX_MARKS};
 ghost use Rattle.region.specs.Sets.{IsWhole};
 
 use crate::changed::changed_by;
+use crate::following::follow;
 use crate::numbering::numbered;
+use crate::remembering::forget_each;
 use crate::renewing::renew;
 use facts::{Numbers, each_view_is_valid};
 use idsets::IdSet;
 use names::limits::MAX_MARKS;
 use names::{Event, Node, Refusal};
-use region::{Sets, sweep};
+use region::{Sets, Told, sweep};
 use rows::View;
 use std::alloc::{AllocError, Global};
+use std::collections::BTreeMap;
 
-/// The marked nodes, and who is a member of them and of all that they depend on, at one revision: the cursor.
+/// The marked nodes, and who is a member of them and of all that they depend on, at one revision: the cursor. What was told of
+/// these nodes is remembered, as far as there was memory.
 #[derive(Drop)]
 pub struct Hot {
     pub(crate) numbers: Numbers,
     pub(crate) marks: IdSet,
     pub(crate) sets: Sets,
+    pub(crate) told: BTreeMap<u64, Told>,
     ghost whole: { IsWhole sets },
     ghost few: { length marks ≤ MAX_MARKS },
     ghost rising: { IsStrictlyIncreasing marks },
@@ -45,6 +50,7 @@ impl Hot {
             numbers: Numbers::new(alloc),
             marks: IdSet::new(alloc),
             sets: Sets::new(alloc),
+            told: BTreeMap::new(alloc),
         }
     }
 
@@ -91,8 +97,8 @@ impl Hot {
         }
         let mut marks = self.marks.again()?;
         marks.insert(id)?;
-        let (numbers, sets) = (&mut self.numbers, &mut self.sets);
-        let asked = renew(alloc, view, numbers, sets, &marks, &[id], &[])?;
+        let (numbers, sets, told) = (&mut self.numbers, &mut self.sets, &mut self.told);
+        let asked = renew(alloc, view, numbers, sets, told, &marks, &[id], &[])?;
         self.marks = marks;
         Ok(asked)
     }
@@ -115,8 +121,15 @@ impl Hot {
     {
         let changed = changed_by(alloc, &self.numbers.nodes, events)?;
         each_view_is_valid(view);
-        let (numbers, sets) = (&mut self.numbers, &mut self.sets);
-        renew(alloc, view, numbers, sets, &self.marks, &[], &changed)
+        follow(&mut self.told, &mut self.numbers, &self.sets, events);
+        let (numbers, sets, told) = (&mut self.numbers, &mut self.sets, &mut self.told);
+        match renew(alloc, view, numbers, sets, told, &self.marks, &[], &changed) {
+            Ok(asked) => Ok(asked),
+            Err(e) => {
+                forget_each(&mut self.told, &changed);
+                Err(e)
+            }
+        }
     }
 
     /// Begins anew with a view, as after a commit of a configuration, and gives the numbers of the nodes that the view was
@@ -129,10 +142,13 @@ impl Hot {
         ensures marked { (S : Snap) → IsHot self.old S → HasSameMarks self.old self.new }
     {
         each_view_is_valid(view);
-        let mut sets = Sets::new(alloc);
+        let mut kept = Sets::new(alloc);
+        let mut fresh = BTreeMap::new(alloc);
+        let (sets, told) = (&mut kept, &mut fresh);
         let (numbers, marks) = (&mut self.numbers, self.marks.as_slice());
-        let asked = renew(alloc, view, numbers, &mut sets, &self.marks, marks, &[])?;
-        self.sets = sets;
+        let asked = renew(alloc, view, numbers, sets, told, &self.marks, marks, &[])?;
+        self.sets = kept;
+        self.told = fresh;
         Ok(asked)
     }
 
@@ -151,7 +167,8 @@ impl Hot {
         }
         let mut marks = self.marks.again()?;
         marks.remove(id);
-        sweep(alloc, &mut self.sets, &marks, &[id])?;
+        let gone = sweep(alloc, &mut self.sets, &marks, &[id])?;
+        forget_each(&mut self.told, &gone);
         self.marks = marks;
         Ok(())
     }

@@ -1,5 +1,5 @@
 //! What two sets of ids give.
-ghost use Rattle.std.specs.Prelude.{◌≡◌, ◌≤◌, ◌+◌, ◌&&◌, ◌||◌, ℕ, length, not, IfOk};
+ghost use Rattle.std.specs.Prelude.{◌≡◌, ◌≤◌, ◌+◌, ◌&&◌, ◌||◌, ℕ, true, false, length, not, IfOk, IfSome, IfNone};
 ghost use Rattle.std.specs.List.Sorted.{IsStrictlyIncreasing};
 ghost use Rattle.idsets.specs.Sets.{has, SetsAreOne};
 
@@ -13,7 +13,8 @@ pub fn union(alloc: Global, a: &IdSet, b: &IdSet) -> Result<IdSet, AllocError>
 {
     let left = a.as_slice();
     let right = b.as_slice();
-    let mut merged = Vec::new(alloc);
+    let most = left.len().saturating_add(right.len());
+    let mut merged = Vec::with_capacity(alloc, most)?;
     let mut i = 0;
     let mut j = 0;
     'walk: while i < left.len() && j < right.len() {
@@ -74,6 +75,22 @@ pub fn intersect<S: Seek>(alloc: Global, few: &IdSet, many: &mut S) -> Result<Id
         }
     }
     Ok(IdSet::of_ascending(both))
+}
+
+/// An id of a set that is not in the other, if there is one. That one is searched at most as often as the set has ids.
+pub fn first_missing<S: Seek>(few: &IdSet, many: &mut S) -> Option<u64>
+    ensures found { IfSome result (λ id. (has few.now id ≡ true) × (has (S.ids many.old) id ≡ false)) }
+    ensures none { IfNone result ((id : ℕ) → has few.now id ≡ true → has (S.ids many.old) id ≡ true) }
+    ensures same { S.ids many.new ≡ S.ids many.old }
+    ensures seeks { S.seeks many.new ≤ S.seeks many.old + length few.now }
+{
+    let ids = few.as_slice();
+    for id in ids {
+        if !is_in(many, *id) {
+            return Some(*id);
+        }
+    }
+    None
 }
 
 /// The law that a set is told by the ids that it has.

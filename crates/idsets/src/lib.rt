@@ -7,7 +7,7 @@ mod place;
 mod seek;
 mod set;
 
-pub use algebra::{exclude, intersect, sets_of_the_same_ids_are_one, union};
+pub use algebra::{exclude, first_missing, intersect, sets_of_the_same_ids_are_one, union};
 pub use ids::{Ids, Named};
 pub use seek::{Galloping, Seek};
 pub use set::IdSet;

@@ -44,6 +44,16 @@ impl IdSet {
         IdSet { ids }
     }
 
+    /// The ids of a list, each once, where the list is of few runs in ascending order, one behind the other: these are merged.
+    pub fn of_runs(mut ids: Vec<u64>) -> Result<IdSet, AllocError>
+        ensures members { IfOk result (λ set. (id : ℕ) → has set id ≡ has ids.items id) }
+        ensures ascending { IfOk result (λ set. IsStrictlyIncreasing set) }
+    {
+        ids.sort()?;
+        ids.dedup();
+        Ok(IdSet { ids })
+    }
+
     /// The ids of a list that is in ascending order.
     pub(crate) fn of_ascending(ids: Vec<u64>) -> IdSet
         requires { IsStrictlyIncreasing ids.items }

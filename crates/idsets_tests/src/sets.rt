@@ -1,5 +1,5 @@
 //! Sets of a few ids, and few ids sought among many.
-use idsets::{Galloping, IdSet, Seek, exclude, intersect, union};
+use idsets::{Galloping, IdSet, Seek, exclude, first_missing, intersect, union};
 use std::alloc::{AllocError, Global};
 use std::test::Fail;
 
@@ -25,6 +25,13 @@ fn ids_are_put_in_order_once(rt: HostRuntime) -> Result<(), Fail> {
 }
 
 #[test]
+fn runs_are_merged(rt: HostRuntime) -> Result<(), Fail> {
+    let set = IdSet::of_runs(vec![in rt.alloc(); 1, 5, 9, 0, 5, 7]?)?;
+    assert_eq!(rt; set.as_slice(), [0, 1, 5, 7, 9].as_slice());
+    Ok(())
+}
+
+#[test]
 fn two_sets_are_put_together(rt: HostRuntime) -> Result<(), Fail> {
     let alloc = rt.alloc();
     let a = IdSet::of(vec![in alloc; 1, 3, 5, 7, 9]?);
@@ -38,6 +45,8 @@ fn two_sets_are_put_together(rt: HostRuntime) -> Result<(), Fail> {
         intersect(alloc, &a, &mut Galloping::new(&b))?.as_slice(),
         [3, 9].as_slice()
     );
+    assert_eq!(rt; first_missing(&a, &mut Galloping::new(&b)), Some(1));
+    assert_eq!(rt; first_missing(&a, &mut Galloping::new(&a)), None);
     Ok(())
 }
 

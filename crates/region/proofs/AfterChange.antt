@@ -32,32 +32,70 @@ some_cond true row (Some r) = refl
 some_cond false row None = refl
 some_cond false row (Some r) = refl
 
-pub ready_nodes : (told : List Told) (i : ℕ) (t : Told) (before after : BTreeMap ℕ Row) (row : Row) → t ≡ get_or told i t → i < length told
-    → ((q : ℕ) → get nat_cmp after q ≡ cond (is_eq (nat_cmp t.node q)) (Some row) (get nat_cmp before q))
+some_none : (b : Bool) (row : Row) (o : Option Row) → is_some (cond b (Some row) o) ≡ false → (b ≡ false) × (is_some o ≡ false)
+some_none true row o h = absurd (false≢true (sym h))
+some_none false row o h = (refl, h)
+
+or_false : (a b : Bool) → b ≡ false → (a || b) ≡ a
+or_false true b h = refl
+or_false false b h = h
+
+ready_nodes : (told : List Told) (i : ℕ) (t : Told) (before after : BTreeMap ℕ Row) (row : Row) → t ≡ get_or told i t → i < length told
+    → ((q : ℕ) → get nat_cmp after q ≡ cond (nat_eq q t.node) (Some row) (get nat_cmp before q))
     → ((n : ℕ) → is_some (get nat_cmp before n) ≡ is_told (take i told) n) → (n : ℕ) → is_some (get nat_cmp after n) ≡ is_told (take (i + 1) told) n
 ready_nodes told i t before after row e lt up nodes n =
-    ap is_some (up n ∙ ap (λ b. cond b (Some row) (get nat_cmp before n)) (eq_is t.node n ∙ turn_eq t.node n))
+    ap is_some (up n)
     ∙ some_cond (nat_eq n t.node) row (get nat_cmp before n) ∙ ap (λ b. b || nat_eq n t.node) (nodes n) ∙ sym (told_more told i t n e lt)
 
 row_eq : {x y : Row} → Some x ≡ Some y → x ≡ y
 row_eq e = cc
 
-pub ready_rows : (told : List Told) (i : ℕ) (t : Told) (before after : BTreeMap ℕ Row) (row : Row) (sets : ℕ → ℕ → Bool) → t ≡ get_or told i t → i < length told
-    → ((q : ℕ) → get nat_cmp after q ≡ cond (is_eq (nat_cmp t.node q)) (Some row) (get nat_cmp before q))
+ready_rows : (told : List Told) (i : ℕ) (t : Told) (before after : BTreeMap ℕ Row) (row : Row) (sets : ℕ → ℕ → Bool) → t ≡ get_or told i t → i < length told
+    → ((q : ℕ) → get nat_cmp after q ≡ cond (nat_eq q t.node) (Some row) (get nat_cmp before q))
     → ((m : ℕ) → has row.arcs m ≡ has (arcs_of (shape_of t.rule)) m) → ((user : ℕ) → has row.members user ≡ sets user t.node)
     → (world : ℕ → Fact) → Tells world told → AreReady world sets before → AreReady world sets after
 ready_rows told i t before after row sets e lt up arcs members world tells so_far n r at = ⊎_elim
     (λ q.
-    let node : t.node ≡ n = eqb-true t.node n q in
-    let one : row ≡ r = row_eq (sym (up n ∙ ap (λ b. cond b (Some row) (get nat_cmp before n)) (eq_is t.node n ∙ q)) ∙ at) in (
+    let node : t.node ≡ n = sym (eqb-true n t.node q) in
+    let one : row ≡ r = row_eq (sym (up n ∙ ap (λ b. cond b (Some row) (get nat_cmp before n)) q) ∙ at) in (
       λ m. ap (λ (x : Row). has x.arcs m) (sym one) ∙ arcs m ∙ ap (λ (f : Fact). has (arcs_of f.shape) m) (sym fact) ∙ ap (λ k. arc_of world k m) node,
       λ user. ap (λ (x : Row). has x.members user) (sym one) ∙ members user ∙ ap (λ k. sets user k) node,
     ))
-    (λ q. so_far n r (sym (up n ∙ ap (λ b. cond b (Some row) (get nat_cmp before n)) (eq_is t.node n ∙ q)) ∙ at))
-    (cases_Bool (nat_eq t.node n))
+    (λ q. so_far n r (sym (up n ∙ ap (λ b. cond b (Some row) (get nat_cmp before n)) q) ∙ at))
+    (cases_Bool (nat_eq n t.node))
   where
     fact : world t.node ≡ fact_of t
     fact = tells_at world told tells i t (slice_at told i t lt e)
+
+-- rows are ready of so many of those told of, and the members of the others are where they were
+pub record IsReadyTo (told : List Told) (i : ℕ) (sets now : ℕ → ℕ → Bool) (ready : BTreeMap ℕ Row) : Type 0 where
+  pub nodes : (n : ℕ) → is_some (get nat_cmp ready n) ≡ is_told (take i told) n
+  pub rows : (world : ℕ → Fact) → Tells world told → AreReady world sets ready
+  pub left : (user n : ℕ) → is_some (get nat_cmp ready n) ≡ false → now user n ≡ sets user n
+
+pub ready_put : (told : List Told) (i : ℕ) (t : Told) (before after : BTreeMap ℕ Row) (row : Row) (sets now next : ℕ → ℕ → Bool) → t ≡ get_or told i t → i < length told
+    → ((q : ℕ) → get nat_cmp after q ≡ cond (nat_eq q t.node) (Some row) (get nat_cmp before q))
+    → ((m : ℕ) → has row.arcs m ≡ has (arcs_of (shape_of t.rule)) m) → ((user : ℕ) → has row.members user ≡ now user t.node)
+    → ((user n : ℕ) → nat_eq t.node n ≡ false → next user n ≡ now user n)
+    → is_some (get nat_cmp before t.node) ≡ false → IsReadyTo told i sets now before → IsReadyTo told (i + 1) sets next after
+ready_put told i t before after row sets now next e lt up arcs members others off was = record {
+  nodes = ready_nodes told i t before after row e lt up was.nodes;
+  rows = λ world tells. ready_rows told i t before after row sets e lt up arcs (λ user. members user ∙ was.left user t.node off) world tells (was.rows world tells);
+  left = λ user n none.
+      let parts = some_none (nat_eq n t.node) row (get nat_cmp before n) (sym (ap is_some (up n)) ∙ none) in
+      others user n (turn_eq t.node n ∙ parts.0) ∙ was.left user n parts.1;
+}
+
+pub ready_skip : (told : List Told) (i : ℕ) (t : Told) (ready : BTreeMap ℕ Row) (sets now : ℕ → ℕ → Bool) → t ≡ get_or told i t → i < length told
+    → is_some (get nat_cmp ready t.node) ≡ true → IsReadyTo told i sets now ready → IsReadyTo told (i + 1) sets now ready
+ready_skip told i t ready sets now e lt there was = record {
+  nodes = λ n. ⊎_elim
+      (λ q. ap (λ k. is_some (get nat_cmp ready k)) (eqb-true n t.node q) ∙ there ∙ sym (or_right (is_told (take i told) n) (nat_eq n t.node) q) ∙ sym (told_more told i t n e lt))
+      (λ q. was.nodes n ∙ sym (or_false (is_told (take i told) n) (nat_eq n t.node) q) ∙ sym (told_more told i t n e lt))
+      (cases_Bool (nat_eq n t.node));
+  rows = was.rows;
+  left = was.left;
+}
 
 pub put_one : (before after : BTreeMap ℕ Row) (rows next : Rows) (node : ℕ) (row : Row)
     → get nat_cmp before node ≡ Some row

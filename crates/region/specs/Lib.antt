@@ -2,6 +2,7 @@ pub mod Rules
 pub mod Nodes
 pub mod Tables
 pub mod Steps
+pub mod Members
 pub mod Sets
 pub mod Gathered
 pub mod Refreshed

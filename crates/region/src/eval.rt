@@ -5,10 +5,12 @@ ghost use Rattle.std.specs.Option.{option_map};
 ghost use Rattle.least_sets.specs.World.{has, gives, arcs_of};
 ghost use Rattle.region.specs.Rules.{shape_of};
 ghost use Rattle.region.specs.Tables.{over, ids_or_none};
+ghost use Rattle.region.specs.Members.{ids_of};
 
+use crate::members::{Members, either};
 use crate::rule::Rule;
 use crate::sets::Sets;
-use idsets::{Galloping, IdSet, exclude, intersect, union};
+use idsets::{Galloping, IdSet, exclude, first_missing, intersect};
 use std::alloc::{AllocError, Global};
 use std::collections::BTreeMap;
 
@@ -41,20 +43,38 @@ fn push_members(
     Ok(())
 }
 
-// The members of any of the nodes.
-fn members_of_any(
+// The members of a node, as they are kept.
+fn members_of<'a>(
     alloc: Global,
-    fresh: &BTreeMap<u64, IdSet>,
-    kept: &Sets,
-    nodes: &[u64],
-) -> Result<IdSet, AllocError>
-    ensures { IfOk result (λ r. (u : ℕ) → has r u ≡ list_any (over fresh.now kept.now.rows u) nodes.now) }
+    fresh: &'a BTreeMap<u64, IdSet>,
+    kept: &'a Sets,
+    node: u64,
+) -> Members<'a>
+    ensures { (u : ℕ) → has (ids_of result) u ≡ over fresh.now kept.now.rows u node }
 {
+    match members_at(fresh, kept, node) {
+        Some(ids) => Members::Lent(ids),
+        None => Members::none(alloc),
+    }
+}
+
+// The members of any of the nodes.
+fn members_of_any<'a>(
+    alloc: Global,
+    fresh: &'a BTreeMap<u64, IdSet>,
+    kept: &'a Sets,
+    nodes: &[u64],
+) -> Result<Members<'a>, AllocError>
+    ensures { IfOk result (λ r. (u : ℕ) → has (ids_of r) u ≡ list_any (over fresh.now kept.now.rows u) nodes.now) }
+{
+    if nodes.len() == 1 {
+        return Ok(members_of(alloc, fresh, kept, nodes[0]));
+    }
     let mut ids = Vec::new(alloc);
     for node in nodes {
         push_members(&mut ids, fresh, kept, *node)?;
     }
-    Ok(IdSet::of(ids))
+    Ok(Members::Made(IdSet::of_runs(ids)?))
 }
 
 // What both have. The larger one is searched.
@@ -71,33 +91,33 @@ fn in_both(alloc: Global, a: &IdSet, b: &IdSet) -> Result<IdSet, AllocError>
 }
 
 /// Whom the rule gives.
-pub(crate) fn value(
+pub(crate) fn value<'a>(
     alloc: Global,
-    own: &IdSet,
-    fresh: &BTreeMap<u64, IdSet>,
-    kept: &Sets,
+    own: &'a IdSet,
+    fresh: &'a BTreeMap<u64, IdSet>,
+    kept: &'a Sets,
     rule: &Rule,
-) -> Result<IdSet, AllocError>
-    ensures { IfOk result (λ r. (u : ℕ) → has r u ≡ gives (has own.now u) (over fresh.now kept.now.rows u) (over fresh.now kept.now.rows u) (shape_of rule.now)) }
+) -> Result<Members<'a>, AllocError>
+    ensures { IfOk result (λ r. (u : ℕ) → has (ids_of r) u ≡ gives (has own.now u) (over fresh.now kept.now.rows u) (over fresh.now kept.now.rows u) (shape_of rule.now)) }
 {
     match rule {
-        Rule::Own => own.again(),
+        Rule::Own => Ok(Members::Lent(own)),
         Rule::AnyOf(nodes) => members_of_any(alloc, fresh, kept, nodes),
-        Rule::Reads(_) => Ok(IdSet::new(alloc)),
+        Rule::Reads(_) => Ok(Members::none(alloc)),
         Rule::Either(a, b) => {
             let first = value(alloc, own, fresh, kept, a)?;
             let second = value(alloc, own, fresh, kept, b)?;
-            union(alloc, &first, &second)
+            either(alloc, first, second)
         }
         Rule::Both(a, b) => {
             let first = value(alloc, own, fresh, kept, a)?;
             let second = value(alloc, own, fresh, kept, b)?;
-            in_both(alloc, &first, &second)
+            Ok(Members::Made(in_both(alloc, first.set(), second.set())?))
         }
         Rule::Except(a, b) => {
             let first = value(alloc, own, fresh, kept, a)?;
             let second = value(alloc, own, fresh, kept, b)?;
-            exclude(alloc, &first, &second)
+            Ok(Members::Made(exclude(alloc, first.set(), second.set())?))
         }
     }
 }
@@ -135,14 +155,10 @@ pub(crate) fn named(alloc: Global, rule: &Rule) -> Result<IdSet, AllocError>
 }
 
 /// An id of the first that the second lacks.
-pub(crate) fn missing(ids: &[u64], others: &IdSet) -> Option<u64>
+pub(crate) fn missing(ids: &IdSet, others: &IdSet) -> Option<u64>
     ensures found { IfSome result (λ u. (u < 2 ^ 64) × (has ids.now u ≡ true) × (has others.now u ≡ false)) }
     ensures none { IfNone result ((u : ℕ) → has ids.now u ≡ true → has others.now u ≡ true) }
 {
-    for id in ids {
-        if !others.contains(*id) {
-            return Some(*id);
-        }
-    }
-    None
+    let mut others = Galloping::new(others);
+    first_missing(ids, &mut others)
 }

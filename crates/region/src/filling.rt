@@ -4,49 +4,69 @@ ghost use Rattle.std.specs.Ordering.{nat_cmp};
 ghost use Rattle.std.specs.BTreeMap.{get};
 ghost use Rattle.least_sets.specs.World.{Fact, has, arcs_of};
 ghost use Rattle.region.specs.Rules.{shape_of};
-ghost use Rattle.region.specs.Tables.{row_of, over, listed};
+ghost use Rattle.region.specs.Tables.{row_of, holds, over, listed};
 ghost use Rattle.region.specs.Steps.{is_told, Tells};
 ghost use Rattle.region.specs.Filled.{AreReady, names_in, row_or};
 
-use crate::eval::{members_at, named};
+use crate::eval::named;
 use crate::rule::Told;
 use crate::sets::{Row, Sets};
 use idsets::IdSet;
 use std::alloc::{AllocError, Global};
 use std::collections::BTreeMap;
 
-// What is to be kept of a node.
+// What is to be kept of a node: its members are taken, not copied.
 fn row_for(
     alloc: Global,
     told: &Told,
-    fresh: &BTreeMap<u64, IdSet>,
+    fresh: &mut BTreeMap<u64, IdSet>,
     kept: &Sets,
 ) -> Result<Row, AllocError>
     ensures arcs { IfOk result (λ row. (m : ℕ) → has row.arcs m ≡ has (arcs_of (shape_of told.now.rule)) m) }
-    ensures members { IfOk result (λ row. (user : ℕ) → has row.members user ≡ over fresh.now kept.now.rows user told.now.node) }
+    ensures members { IfOk result (λ row. (user : ℕ) → has row.members user ≡ over fresh.old kept.now.rows user told.now.node) }
+    ensures others { (user n : ℕ) → nat_eq told.now.node n ≡ false → over fresh.new kept.now.rows user n ≡ over fresh.old kept.now.rows user n }
 {
     let arcs = named(alloc, &told.rule)?;
-    let members = match members_at(fresh, kept, told.node) {
-        Some(ids) => ids.again()?,
-        None => IdSet::new(alloc),
+    let members = match fresh.remove(&told.node) {
+        Some(ids) => ids,
+        None => again_of(alloc, kept, told.node)?,
     };
     Ok(Row { arcs, members })
+}
+
+// A copy of what is kept of a node's members.
+fn again_of(alloc: Global, kept: &Sets, node: u64) -> Result<IdSet, AllocError>
+    ensures { IfOk result (λ ids. (user : ℕ) → has ids user ≡ holds kept.now.rows user node) }
+{
+    match kept.members(node) {
+        Some(ids) => ids.again(),
+        None => Ok(IdSet::new(alloc)),
+    }
+}
+
+fn put_ready(ready: &mut BTreeMap<u64, Row>, node: u64, row: Row) -> Result<(), AllocError>
+    ensures { OnOk result ((n : ℕ) → get nat_cmp ready.new n ≡ cond (nat_eq n node) (Some row) (get nat_cmp ready.old n)) }
+{
+    ready.insert(node, row)?;
+    Ok(())
 }
 
 /// What is to be kept of the nodes told of.
 pub(crate) fn ready_for(
     alloc: Global,
     told: &[Told],
-    fresh: &BTreeMap<u64, IdSet>,
+    mut fresh: BTreeMap<u64, IdSet>,
     kept: &Sets,
 ) -> Result<BTreeMap<u64, Row>, AllocError>
     ensures nodes { IfOk result (λ ready. (n : ℕ) → is_some (get nat_cmp ready n) ≡ is_told told.now n) }
-    ensures rows { IfOk result (λ ready. (world : ℕ → Fact) → Tells world told.now → AreReady world (over fresh.now kept.now.rows) ready) }
+    ensures rows { IfOk result (λ ready. (world : ℕ → Fact) → Tells world told.now → AreReady world (over fresh kept.now.rows) ready) }
 {
     let mut ready = BTreeMap::new(alloc);
     for t in told {
-        let row = row_for(alloc, t, fresh, kept)?;
-        ready.insert(t.node, row)?;
+        if !ready.contains_key(&t.node) {
+            let row = row_for(alloc, t, &mut fresh, kept)?;
+            put_ready(&mut ready, t.node, row)?;
+        }
     }
     Ok(ready)
 }

@@ -6,6 +6,7 @@ mod eval;
 mod filling;
 mod found;
 mod gathering;
+mod members;
 mod refreshing;
 mod rule;
 mod sets;

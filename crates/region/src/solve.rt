@@ -7,7 +7,8 @@ ghost use Rattle.least_sets.specs.World.{Fact, has, arcs_of};
 ghost use Rattle.least_sets.specs.Least.{IsLevelled, IsLeastIn};
 ghost use Rattle.least_sets.specs.Steps.{IsStepAt, StepsTo};
 ghost use Rattle.region.specs.Rules.{fact_of, shape_of};
-ghost use Rattle.region.specs.Tables.{holds, over, listed, list_at};
+ghost use Rattle.region.specs.Tables.{holds, over, listed, list_at, ids_or_none};
+ghost use Rattle.std.specs.Option.{option_map};
 ghost use Rattle.region.specs.Steps.{is_told, Tells, IsSettledAt, IsSettled, Gains, IsWaiting, AreNamed, AreGrouped, IsLook, is_to_come, rooms};
 
 use crate::eval::{members_at, missing, named, value};
@@ -17,21 +18,31 @@ use idsets::{IdSet, union};
 use std::alloc::{AllocError, Global};
 use std::collections::BTreeMap;
 
+// What is held with what is added to it.
+fn joined(alloc: Global, held: Option<&IdSet>, more: IdSet) -> Result<IdSet, AllocError>
+    ensures { IfOk result (λ all. (user : ℕ) → has all user ≡ (has (ids_or_none (option_map (λ ids. ids.now) held.entry)) user || has more user)) }
+{
+    let Some(held) = held else {
+        return Ok(more);
+    };
+    if held.is_empty() {
+        return Ok(more);
+    }
+    union(alloc, held, &more)
+}
+
 // Adds members to a node.
 fn add_members(
     alloc: Global,
     fresh: &mut BTreeMap<u64, IdSet>,
     kept: &Sets,
     node: u64,
-    more: &IdSet,
+    more: IdSet,
 ) -> Result<(), AllocError>
     ensures same { OnOk result ((user m : ℕ) → nat_eq node m ≡ false → over fresh.new kept.now.rows user m ≡ over fresh.old kept.now.rows user m) }
-    ensures more { OnOk result ((user : ℕ) → over fresh.new kept.now.rows user node ≡ (over fresh.old kept.now.rows user node || has more.now user)) }
+    ensures more { OnOk result ((user : ℕ) → over fresh.new kept.now.rows user node ≡ (over fresh.old kept.now.rows user node || has more user)) }
 {
-    let all = match members_at(fresh, kept, node) {
-        Some(before) => union(alloc, before, more)?,
-        None => more.again()?,
-    };
+    let all = joined(alloc, members_at(fresh, kept, node), more)?;
     fresh.insert(node, all)?;
     Ok(())
 }
@@ -43,7 +54,7 @@ fn missing_at(found: &IdSet, fresh: &BTreeMap<u64, IdSet>, kept: &Sets, node: u6
 {
     match members_at(fresh, kept, node) {
         None => found.as_slice().first().copied(),
-        Some(before) => missing(found.as_slice(), before),
+        Some(before) => missing(found, before),
     }
 }
 
@@ -58,10 +69,11 @@ fn settle_node(
     ensures more { IfOk result (λ changed. MatchBool changed (Gains told.now.node (over fresh.old kept.now.rows) (over fresh.new kept.now.rows)) (IsSettledAt told.now (over fresh.old kept.now.rows) × (fresh.new ≡ fresh.old))) }
 {
     let found = value(alloc, &told.own, fresh, kept, &told.rule)?;
-    match missing_at(&found, fresh, kept, told.node) {
+    match missing_at(found.set(), fresh, kept, told.node) {
         None => Ok(false),
         Some(_user) => {
-            add_members(alloc, fresh, kept, told.node, &found)?;
+            let more = found.into_set()?;
+            add_members(alloc, fresh, kept, told.node, more)?;
             Ok(true)
         }
     }
@@ -77,10 +89,11 @@ fn push_at(
     ensures same { OnOk result ((a b : ℕ) → nat_eq at a ≡ false → listed table.new a b ≡ listed table.old a b) }
     ensures more { OnOk result ((b : ℕ) → listed table.new at b ≡ (nat_eq b id || listed table.old at b)) }
 {
-    let mut ids = match table.remove(&at) {
-        Some(ids) => ids,
-        None => IdSet::new(alloc),
-    };
+    if let Some(ids) = table.get_mut(&at) {
+        ids.insert(id)?;
+        return Ok(());
+    }
+    let mut ids = IdSet::new(alloc);
     ids.insert(id)?;
     table.insert(at, ids)?;
     Ok(())

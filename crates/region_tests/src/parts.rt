@@ -65,7 +65,7 @@ fn a_refresh_is_a_gathering_and_a_filling(rt: HostRuntime) -> Result<(), Fail> {
     let mut table = ring(alloc)?;
     let region = gather_by(alloc, &sets, &roots, &[49], &[], &mut table)?;
     assert!(rt; region.told.len() == 50 && region.dropped.is_empty() && !sets.is_kept(49));
-    fill(alloc, &mut sets, region)?;
+    fill(alloc, &mut sets, &region)?;
     assert!(rt; has(&sets, 49, USER) && !sets.is_kept(0) && !sets.is_kept(100));
     Ok(())
 }

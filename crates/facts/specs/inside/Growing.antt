@@ -43,7 +43,7 @@ may_more S nodes nodes' users users' i fact later may = record {
         subst (λ n. Defines S.config (rel_of n) d.0) here d.1,
         subst (λ n. IsAt S.config n fact.level) here d.2,
         subst (λ n. IsShapeOf S (user_at users') (node_at nodes') n fact.own d.0.form fact.shape) here
-            (shape_same S S (node_at nodes) (node_at nodes') (user_at users) (user_at users') (node_at nodes i) fact.own refl
+            (shape_same S S (node_at nodes) (node_at nodes') (user_at users) (user_at users') (node_at nodes i) fact.own fact.own refl
             (own_more S users users' (node_at nodes i) (node_at nodes i) fact.own distinct gu refl may.seen)
             (λ m. (λ h. h, λ h. h)) d.0.form fact.shape
             (λ m h. node_same nodes nodes' m gn (may.within m h))
@@ -72,7 +72,7 @@ may_more S nodes nodes' users users' i fact later may = record {
 
 pub shape_more : (S : Snap) (nodes nodes' : List Node) (n : Node) (w : Form) (shape : Shape) → Grew nodes nodes' → IsShapeIn S nodes n w shape → IsShapeIn S nodes' n w shape
 shape_more S nodes nodes' n w shape g is = record {
-  is = λ users own are. shape_same S S (node_at nodes) (node_at nodes') users users n own refl (λ u both. both) (λ m. (λ h. h, λ h. h)) w shape
+  is = λ users own are. shape_same S S (node_at nodes) (node_at nodes') users users n own own refl (λ u both. both) (λ m. (λ h. h, λ h. h)) w shape
       (λ m h. node_same nodes nodes' m g (is.within m h)) (λ m h t e p. (λ o. o, λ o. o)) (is.is users own are);
   within = λ m h. let l = grew_longer nodes nodes' g in let lt = is.within m h in omega (arith, l, lt);
 }

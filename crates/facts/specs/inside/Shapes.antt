@@ -19,9 +19,9 @@ ids_same f g ids P Q same both are = record {
   complete = λ m q. let s = are.complete m ((both m).1 q) in (s.0, s.1, sym (same s.0 s.1) ∙ s.2);
 }
 
-module _ (S T : Snap) (f g : ℕ → Node) (users others : ℕ → Object) (n : Node) (own : List ℕ)
+module _ (S T : Snap) (f g : ℕ → Node) (users others : ℕ → Object) (n : Node) (own own' : List ℕ)
     (config : S.config ≡ T.config)
-    (ones : (u : ℕ) → (has own u ≡ true ↔ HasOne S n (users u)) → has own u ≡ true ↔ HasOne T n (others u))
+    (ones : (u : ℕ) → (has own u ≡ true ↔ HasOne S n (users u)) → has own' u ≡ true ↔ HasOne T n (others u))
     (sets : (m : Node) → HasSet S n m ↔ HasSet T n m) where
   -- the numbers that a shape names
   abbrev SameAt : Shape → Type 0
@@ -52,7 +52,7 @@ module _ (S T : Snap) (f g : ℕ → Node) (users others : ℕ → Object) (n : 
   of_part x shape left same i h = same i (left i h)
 
   mutual
-    pub shape_same : (w : Form) (shape : Shape) → SameAt shape → SameOf shape → IsShapeOf S users f n own w shape → IsShapeOf T others g n own w shape
+    pub shape_same : (w : Form) (shape : Shape) → SameAt shape → SameOf shape → IsShapeOf S users f n own w shape → IsShapeOf T others g n own' w shape
     shape_same form.This shape at of is =
         let e = is.1 in
         let at_ids : (i : ℕ) → has is.0 i ≡ true → f i ≡ g i = λ i h. at i (subst (λ (s : Shape). has (arcs_of s) i ≡ true) (sym e) h) in
@@ -90,7 +90,7 @@ module _ (S T : Snap) (f g : ℕ → Node) (users others : ℕ → Object) (n : 
         let right : Left y shape = λ i h. subst (λ (s : Shape). has (arcs_of s) i ≡ true) (sym e) (has_right (arcs_of x) (arcs_of y) i h) in
         (x, y, e, shape_same a x (at_part x shape left at) (of_part x shape left of) is.3, shape_same b y (at_part y shape right at) (of_part y shape right of) is.4)
 
-    any_same : (ws : Forms) (shape : Shape) → SameAt shape → SameOf shape → IsAnyOf S users f n own ws shape → IsAnyOf T others g n own ws shape
+    any_same : (ws : Forms) (shape : Shape) → SameAt shape → SameOf shape → IsAnyOf S users f n own ws shape → IsAnyOf T others g n own' ws shape
     any_same none shape at of is = is
     any_same (more w ws) shape at of is =
         let x = is.0 in
@@ -100,7 +100,7 @@ module _ (S T : Snap) (f g : ℕ → Node) (users others : ℕ → Object) (n : 
         let right : Left y shape = λ i h. subst (λ (s : Shape). has (arcs_of s) i ≡ true) (sym e) (has_right (arcs_of x) (arcs_of y) i h) in
         (x, y, e, shape_same w x (at_part x shape left at) (of_part x shape left of) is.3, any_same ws y (at_part y shape right at) (of_part y shape right of) is.4)
 
-    each_same : (ws : Forms) (shape : Shape) → SameAt shape → SameOf shape → IsEachOf S users f n own ws shape → IsEachOf T others g n own ws shape
+    each_same : (ws : Forms) (shape : Shape) → SameAt shape → SameOf shape → IsEachOf S users f n own ws shape → IsEachOf T others g n own' ws shape
     each_same none shape at of is = is
     each_same (more w ws) shape at of (inl is) = inl (is.0, shape_same w shape at of is.1)
     each_same (more w ws) shape at of (inr is) =

@@ -1,11 +1,14 @@
-use Rattle.std.proofs.Common.{◌≡◌, true, false, refl, sym, ◌∙◌, arith}
+use Rattle.std.proofs.Common.{◌≡◌, true, false, [], refl, sym, ◌∙◌, subst, arith}
+use Rattle.std.specs.Prelude.{Some}
+use Rattle.facts.specs.Telling.{MayTell}
 use Rattle.facts.specs.inside.Growing.{later_further}
-use Rattle.hot.specs.Kept.{AreKept}
+use Rattle.hot.specs.Kept.{AreKept, Remembered, told_of}
+use Rattle.hot.specs.inside.Remembering.{MayRecall}
 use Rattle.facts.specs.inside.Tables.{grew_get}
 use Rattle.least_sets.specs.World.{has}
 use Rattle.least_sets.proofs.Found.{distinct_none}
 use Rattle.region.proofs.Listing.{on_err_all}
-use Rattle.hot.proofs.Marks.{kept_same, kept_marked, turned_one, marked_same, marked_more, marked_again, marks_there, not_marked, put_in}
+use Rattle.hot.proofs.Marks.{kept_same, same_of_world, kept_marked, marked_of_world, recall_same, renewed_by, turned_one, marked_same, marked_more, marked_again, marks_there, not_marked, put_in}
 use Rattle.hot.proofs.Counting.{count_more}
 use Rattle.hot.proofs.Asked.{asked_once, asked_exactly, none_new, none_touched}
 use Rattle.hot.proofs.hot.Hot.mark.Goals as goal
@@ -16,7 +19,10 @@ returns-in_err-id-clause-hot c = λ is.
     let now = c.numbered.new.numbers in
     record {
       valid = is.valid;
-      kept = kept_same c.args.view.now hot.numbers.nodes now.nodes hot.numbers.users now.users hot.marks hot.sets.rows hot.sets.rows (λ n. refl) c.numbered.ensures.later is.kept;
+      all = record {
+        kept = kept_same c.args.view.now hot.numbers.nodes now.nodes hot.numbers.users now.users hot.marks hot.sets.rows hot.sets.rows (λ n. refl) c.numbered.ensures.later is.all.kept;
+        remembered = same_of_world c.args.view.now hot.numbers.nodes now.nodes hot.numbers.users now.users hot.marks hot.sets.rows hot.sets.rows (λ n. refl) c.numbered.ensures.later is.all.kept hot.told hot.told (λ n t at. at) is.all.remembered;
+      };
       distinct = c.numbered.ensures.distinct;
     }
 
@@ -25,7 +31,7 @@ returns-in_err-id-clause-err c = on_err_all c.from_residual.result (λ is.
     let hot = c.args.self.now in
     record {
       nodes = λ n. marked_same hot.numbers.nodes c.numbered.new.numbers.nodes hot.marks c.numbered.ensures.later.nodes_grew
-          (marks_there c.args.view.now hot.numbers.nodes hot.numbers.users hot.marks hot.sets.rows is.kept) n;
+          (marks_there c.args.view.now hot.numbers.nodes hot.numbers.users hot.marks hot.sets.rows is.all.kept) n;
       count = refl;
     })
 
@@ -35,7 +41,10 @@ returns-then-contains-clause-hot c = λ is.
     let now = c.numbered.new.numbers in
     record {
       valid = is.valid;
-      kept = kept_same c.args.view.now hot.numbers.nodes now.nodes hot.numbers.users now.users hot.marks hot.sets.rows hot.sets.rows (λ n. refl) c.in_ok-id.ensures.later is.kept;
+      all = record {
+        kept = kept_same c.args.view.now hot.numbers.nodes now.nodes hot.numbers.users now.users hot.marks hot.sets.rows hot.sets.rows (λ n. refl) c.in_ok-id.ensures.later is.all.kept;
+        remembered = same_of_world c.args.view.now hot.numbers.nodes now.nodes hot.numbers.users now.users hot.marks hot.sets.rows hot.sets.rows (λ n. refl) c.in_ok-id.ensures.later is.all.kept hot.told hot.told (λ n t at. at) is.all.remembered;
+      };
       distinct = c.in_ok-id.ensures.distinct;
     }
 
@@ -43,7 +52,7 @@ pub returns-then-contains-clause-ok : goal.returns-then-contains-clause-ok
 returns-then-contains-clause-ok c = λ is.
     let hot = c.args.self.now in
     let now = c.numbered.new.numbers in
-    let there = marks_there c.args.view.now hot.numbers.nodes hot.numbers.users hot.marks hot.sets.rows is.kept in
+    let there = marks_there c.args.view.now hot.numbers.nodes hot.numbers.users hot.marks hot.sets.rows is.all.kept in
     let marked : has hot.marks c.in_ok-id.id ≡ true = sym c.contains.ensures ∙ c.if-contains.true in
     record {
       nodes = λ n. marked_again hot.numbers.nodes now.nodes hot.marks c.in_ok-id.id c.args.node.now c.in_ok-id.ensures.later.nodes_grew c.in_ok-id.ensures.id marked there n;
@@ -58,7 +67,7 @@ returns-then-contains-clause-asked c = λ is.
     let now = c.numbered.new.numbers in
     record {
       once = distinct_none c.new.result.items c.new.ensures.items;
-      exactly = none_new c.args.view.now hot.numbers.nodes now.nodes hot.numbers.users now.users hot.marks hot.sets.rows is.kept c.in_ok-id.ensures.later c.new.result.items c.new.ensures.items;
+      exactly = none_new c.args.view.now hot.numbers.nodes now.nodes hot.numbers.users now.users hot.marks hot.sets.rows is.all.kept c.in_ok-id.ensures.later c.new.result.items c.new.ensures.items;
     }
 
 pub returns-then-is_full-clause-hot : goal.returns-then-is_full-clause-hot
@@ -67,7 +76,10 @@ returns-then-is_full-clause-hot c = λ is.
     let now = c.numbered.new.numbers in
     record {
       valid = is.valid;
-      kept = kept_same c.args.view.now hot.numbers.nodes now.nodes hot.numbers.users now.users hot.marks hot.sets.rows hot.sets.rows (λ n. refl) c.in_ok-id.ensures.later is.kept;
+      all = record {
+        kept = kept_same c.args.view.now hot.numbers.nodes now.nodes hot.numbers.users now.users hot.marks hot.sets.rows hot.sets.rows (λ n. refl) c.in_ok-id.ensures.later is.all.kept;
+        remembered = same_of_world c.args.view.now hot.numbers.nodes now.nodes hot.numbers.users now.users hot.marks hot.sets.rows hot.sets.rows (λ n. refl) c.in_ok-id.ensures.later is.all.kept hot.told hot.told (λ n t at. at) is.all.remembered;
+      };
       distinct = c.in_ok-id.ensures.distinct;
     }
 
@@ -76,7 +88,7 @@ returns-then-is_full-clause-err c = λ is.
     let hot = c.args.self.now in
     record {
       nodes = λ n. marked_same hot.numbers.nodes c.numbered.new.numbers.nodes hot.marks c.in_ok-id.ensures.later.nodes_grew
-          (marks_there c.args.view.now hot.numbers.nodes hot.numbers.users hot.marks hot.sets.rows is.kept) n;
+          (marks_there c.args.view.now hot.numbers.nodes hot.numbers.users hot.marks hot.sets.rows is.all.kept) n;
       count = refl;
     }
 
@@ -94,7 +106,10 @@ returns-in_err-marks-clause-hot c = λ is.
     let now = c.numbered.new.numbers in
     record {
       valid = is.valid;
-      kept = kept_same c.args.view.now hot.numbers.nodes now.nodes hot.numbers.users now.users hot.marks hot.sets.rows hot.sets.rows (λ n. refl) c.in_ok-id.ensures.later is.kept;
+      all = record {
+        kept = kept_same c.args.view.now hot.numbers.nodes now.nodes hot.numbers.users now.users hot.marks hot.sets.rows hot.sets.rows (λ n. refl) c.in_ok-id.ensures.later is.all.kept;
+        remembered = same_of_world c.args.view.now hot.numbers.nodes now.nodes hot.numbers.users now.users hot.marks hot.sets.rows hot.sets.rows (λ n. refl) c.in_ok-id.ensures.later is.all.kept hot.told hot.told (λ n t at. at) is.all.remembered;
+      };
       distinct = c.in_ok-id.ensures.distinct;
     }
 
@@ -103,7 +118,7 @@ returns-in_err-marks-clause-err c = on_err_all c.from_residual-in_err-marks.resu
     let hot = c.args.self.now in
     record {
       nodes = λ n. marked_same hot.numbers.nodes c.numbered.new.numbers.nodes hot.marks c.in_ok-id.ensures.later.nodes_grew
-          (marks_there c.args.view.now hot.numbers.nodes hot.numbers.users hot.marks hot.sets.rows is.kept) n;
+          (marks_there c.args.view.now hot.numbers.nodes hot.numbers.users hot.marks hot.sets.rows is.all.kept) n;
       count = refl;
     })
 
@@ -113,7 +128,10 @@ returns-in_err-insert-clause-hot c = λ is.
     let now = c.numbered.new.numbers in
     record {
       valid = is.valid;
-      kept = kept_same c.args.view.now hot.numbers.nodes now.nodes hot.numbers.users now.users hot.marks hot.sets.rows hot.sets.rows (λ n. refl) c.in_ok-id.ensures.later is.kept;
+      all = record {
+        kept = kept_same c.args.view.now hot.numbers.nodes now.nodes hot.numbers.users now.users hot.marks hot.sets.rows hot.sets.rows (λ n. refl) c.in_ok-id.ensures.later is.all.kept;
+        remembered = same_of_world c.args.view.now hot.numbers.nodes now.nodes hot.numbers.users now.users hot.marks hot.sets.rows hot.sets.rows (λ n. refl) c.in_ok-id.ensures.later is.all.kept hot.told hot.told (λ n t at. at) is.all.remembered;
+      };
       distinct = c.in_ok-id.ensures.distinct;
     }
 
@@ -122,7 +140,7 @@ returns-in_err-insert-clause-err c = on_err_all c.from_residual-in_err-insert.re
     let hot = c.args.self.now in
     record {
       nodes = λ n. marked_same hot.numbers.nodes c.numbered.new.numbers.nodes hot.marks c.in_ok-id.ensures.later.nodes_grew
-          (marks_there c.args.view.now hot.numbers.nodes hot.numbers.users hot.marks hot.sets.rows is.kept) n;
+          (marks_there c.args.view.now hot.numbers.nodes hot.numbers.users hot.marks hot.sets.rows is.all.kept) n;
       count = refl;
     })
 
@@ -133,8 +151,13 @@ returns-in_err-asked-clause-hot c = λ is.
     let end = c.renew.new.numbers in
     record {
       valid = is.valid;
-      kept = kept_same c.args.view.now hot.numbers.nodes end.nodes hot.numbers.users end.users hot.marks hot.sets.rows c.renew.new.sets.rows c.in_err-asked.ensures.err
-          (later_further hot.numbers.nodes now.nodes end.nodes hot.numbers.users now.users end.users c.in_ok-id.ensures.later c.renew.ensures.later) is.kept;
+      all = record {
+        kept = kept_same c.args.view.now hot.numbers.nodes end.nodes hot.numbers.users end.users hot.marks hot.sets.rows c.renew.new.sets.rows c.in_err-asked.ensures.err
+            (later_further hot.numbers.nodes now.nodes end.nodes hot.numbers.users now.users end.users c.in_ok-id.ensures.later c.renew.ensures.later) is.all.kept;
+        remembered = same_of_world c.args.view.now hot.numbers.nodes end.nodes hot.numbers.users end.users hot.marks hot.sets.rows c.renew.new.sets.rows c.in_err-asked.ensures.err
+            (later_further hot.numbers.nodes now.nodes end.nodes hot.numbers.users now.users end.users c.in_ok-id.ensures.later c.renew.ensures.later) is.all.kept hot.told c.renew.new.told
+            (λ n t at. subst (λ (m : Remembered). told_of m n ≡ Some t) c.in_err-asked.ensures.err_told at) is.all.remembered;
+      };
       distinct = c.renew.ensures.later.nodes_distinct c.in_ok-id.ensures.distinct;
     }
 
@@ -146,7 +169,7 @@ returns-in_err-asked-clause-err c = on_err_all c.from_residual-in_err-asked.resu
     let later = later_further hot.numbers.nodes now.nodes end.nodes hot.numbers.users now.users end.users c.in_ok-id.ensures.later c.renew.ensures.later in
     record {
       nodes = λ n. marked_same hot.numbers.nodes end.nodes hot.marks later.nodes_grew
-          (marks_there c.args.view.now hot.numbers.nodes hot.numbers.users hot.marks hot.sets.rows is.kept) n;
+          (marks_there c.args.view.now hot.numbers.nodes hot.numbers.users hot.marks hot.sets.rows is.all.kept) n;
       count = refl;
     })
 
@@ -164,10 +187,17 @@ returns-clause-hot c = λ is.
     let end = c.renew.new.numbers in
     let last = later_further c.args.self.now.numbers.nodes c.numbered.new.numbers.nodes c.renew.new.numbers.nodes c.args.self.now.numbers.users c.numbered.new.numbers.users c.renew.new.numbers.users
     c.in_ok-id.ensures.later c.renew.ensures.later in
+    let p = renewed_by (MayRecall c.args.view.now hot.told end.nodes end.users) (MayTell c.args.view.now end.nodes end.users) hot.sets.rows c.renew.new.sets.rows c.insert.new.self _ [] [] c.in_ok-asked.asked.items
+    hot.told c.renew.new.told
+    (recall_same c.args.view.now hot.numbers.nodes end.nodes hot.numbers.users end.users hot.marks hot.sets.rows hot.told is.all.kept is.all.remembered last) c.in_ok-asked.ensures.renewed in
     record {
       valid = is.valid;
-      kept = kept_marked c.args.view.now hot.numbers.nodes end.nodes hot.numbers.users end.users hot.marks c.insert.new.self _ hot.sets.rows c.renew.new.sets.rows _ _
-          is.valid last (turned_one hot.marks c.insert.new.self c.in_ok-id.id (put_in c.args.self.now.marks c.in_ok-marks.marks c.insert.new.self c.in_ok-id.id c.in_ok-marks.ensures c.in_ok-insert.ensures.members)) is.kept c.in_ok-asked.ensures.refreshed;
+      all = record {
+        kept = kept_marked c.args.view.now hot.numbers.nodes end.nodes hot.numbers.users end.users hot.marks c.insert.new.self _ hot.sets.rows c.renew.new.sets.rows _ _
+            is.valid last (turned_one hot.marks c.insert.new.self c.in_ok-id.id (put_in c.args.self.now.marks c.in_ok-marks.marks c.insert.new.self c.in_ok-id.id c.in_ok-marks.ensures c.in_ok-insert.ensures.members)) is.all.kept p.refreshed;
+        remembered = marked_of_world c.args.view.now hot.numbers.nodes end.nodes hot.numbers.users end.users hot.marks c.insert.new.self _ hot.sets.rows c.renew.new.sets.rows _ _
+            is.valid last (turned_one hot.marks c.insert.new.self c.in_ok-id.id (put_in c.args.self.now.marks c.in_ok-marks.marks c.insert.new.self c.in_ok-id.id c.in_ok-marks.ensures c.in_ok-insert.ensures.members)) is.all.kept hot.told c.renew.new.told p is.all.remembered;
+      };
       distinct = c.renew.ensures.later.nodes_distinct c.in_ok-id.ensures.distinct;
     }
 
@@ -180,7 +210,7 @@ returns-clause-ok c = λ is.
     let at = grew_get c.numbered.new.numbers.nodes end.nodes c.in_ok-id.id c.args.node.now c.renew.ensures.later.nodes_grew c.in_ok-id.ensures.id in
     record {
       nodes = λ n. marked_more hot.numbers.nodes end.nodes hot.marks c.insert.new.self c.in_ok-id.id c.args.node.now last.nodes_grew at (put_in c.args.self.now.marks c.in_ok-marks.marks c.insert.new.self c.in_ok-id.id c.in_ok-marks.ensures c.in_ok-insert.ensures.members)
-          (marks_there c.args.view.now hot.numbers.nodes hot.numbers.users hot.marks hot.sets.rows is.kept) n;
+          (marks_there c.args.view.now hot.numbers.nodes hot.numbers.users hot.marks hot.sets.rows is.all.kept) n;
       again = λ was. absurd (not_marked hot.numbers.nodes c.numbered.new.numbers.nodes hot.marks c.in_ok-id.id c.args.node.now c.in_ok-id.ensures.later.nodes_grew c.in_ok-id.ensures.distinct
           c.in_ok-id.ensures.id (sym c.contains.ensures ∙ c.if-contains.false) was);
       more = λ _. count_more c.args.self.now.marks c.insert.new.self c.in_ok-id.id c.args.self.now.rising c.insert.ensures.ascending (sym c.contains.ensures ∙ c.if-contains.false)
@@ -192,13 +222,16 @@ returns-clause-asked c = λ is.
     let hot = c.args.self.now in
     let end = c.renew.new.numbers in
     let last = later_further hot.numbers.nodes c.numbered.new.numbers.nodes end.nodes hot.numbers.users c.numbered.new.numbers.users end.users c.in_ok-id.ensures.later c.renew.ensures.later in
+    let p = renewed_by (MayRecall c.args.view.now hot.told end.nodes end.users) (MayTell c.args.view.now end.nodes end.users) hot.sets.rows c.renew.new.sets.rows c.insert.new.self _ [] [] c.in_ok-asked.asked.items
+    hot.told c.renew.new.told
+    (recall_same c.args.view.now hot.numbers.nodes end.nodes hot.numbers.users end.users hot.marks hot.sets.rows hot.told is.all.kept is.all.remembered last) c.in_ok-asked.ensures.renewed in
     let distinct = c.renew.ensures.later.nodes_distinct c.in_ok-id.ensures.distinct in
     let now : AreKept c.args.view.now end.nodes end.users c.insert.new.self c.renew.new.sets.rows =
     kept_marked c.args.view.now hot.numbers.nodes end.nodes hot.numbers.users end.users hot.marks c.insert.new.self _ hot.sets.rows c.renew.new.sets.rows _ _
-    is.valid last (turned_one hot.marks c.insert.new.self c.in_ok-id.id (put_in hot.marks c.in_ok-marks.marks c.insert.new.self c.in_ok-id.id c.in_ok-marks.ensures c.in_ok-insert.ensures.members)) is.kept c.in_ok-asked.ensures.refreshed in
+    is.valid last (turned_one hot.marks c.insert.new.self c.in_ok-id.id (put_in hot.marks c.in_ok-marks.marks c.insert.new.self c.in_ok-id.id c.in_ok-marks.ensures c.in_ok-insert.ensures.members)) is.all.kept p.refreshed in
     record {
       once = asked_once c.args.view.now c.args.view.now hot.numbers.nodes end.nodes hot.numbers.users end.users hot.marks c.insert.new.self _ _ _ hot.sets.rows c.renew.new.sets.rows c.in_ok-asked.asked.items
-          is.kept distinct last now c.in_ok-asked.ensures.refreshed;
+          is.all.kept distinct last now p.refreshed;
       exactly = asked_exactly c.args.view.now c.args.view.now hot.numbers.nodes end.nodes hot.numbers.users end.users hot.marks c.insert.new.self _ _ _ hot.sets.rows c.renew.new.sets.rows c.in_ok-asked.asked.items
-          is.kept distinct last now c.in_ok-asked.ensures.refreshed (λ n. ⊥) (λ n i at there. none_touched hot.sets.rows i);
+          is.all.kept distinct last now p.refreshed (λ n. ⊥) (λ n i at there. none_touched hot.sets.rows i);
     }

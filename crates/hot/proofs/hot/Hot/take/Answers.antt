@@ -1,64 +1,118 @@
-use Rattle.std.proofs.Common.{sym, refl, subst}
+use Rattle.std.proofs.Common.{◌≡◌, List, [], refl, sym, ◌∙◌, subst}
+use Rattle.std.specs.Prelude.{Some}
+use Rattle.std.proofs.lemmas.Bool.{false≢true}
+use Rattle.names.specs.declared.node.Node.{Node}
+use Rattle.meaning.specs.Snap.{Snap}
+use Rattle.region.proofs.Listing.{on_err_all}
+use Rattle.facts.specs.Telling.{MayTell, IsLater}
+use Rattle.facts.specs.inside.Growing.{later_further}
 use Rattle.hot.specs.inside.Events.{AreOfEvents}
+use Rattle.hot.specs.inside.Remembering.{MayRecall}
+use Rattle.hot.specs.inside.Following.{AreTellable}
 use Rattle.hot.specs.Depending.{IsTouchedBy}
-use Rattle.hot.specs.Kept.{AreKept}
-use Rattle.hot.proofs.Outcomes.{ok_then, if_ok, err_then}
-use Rattle.hot.proofs.Marks.{kept_after, kept_same, marked_same, marks_there}
+use Rattle.hot.specs.Kept.{AreKept, Remembered, told_of}
+use Rattle.hot.proofs.Marks.{kept_after, commit_of_world, kept_same, same_of_world, are_tellable, recall_after, renewed_by, marked_same, marks_there}
 use Rattle.hot.proofs.Asked.{asked_once, asked_exactly, touched_exactly}
 use Rattle.hot.proofs.hot.Hot.take.Goals as goal
 
-pub returns-clause-hot : goal.returns-clause-hot
-returns-clause-hot c = ok_then _ c.renew.result
-    (λ asked r S is view.
+pub returns-in_err-changed-clause-err : goal.returns-in_err-changed-clause-err
+returns-in_err-changed-clause-err c =
+    on_err_all c.from_residual.result (λ S is. record { valid = is.valid; all = is.all; distinct = is.distinct })
+
+pub returns-in-Ok-clause-hot : goal.returns-in-Ok-clause-hot
+returns-in-Ok-clause-hot c = λ S is view.
     let hot = c.args.self.now in
     let now = c.renew.new.numbers in
-    let later = c.renew.ensures.later in
+    let follow = c.follow.new.numbers in
+    let last = later_further hot.numbers.nodes follow.nodes now.nodes hot.numbers.users follow.users now.users c.follow.ensures.later c.renew.ensures.later in
     let are = subst (λ xs. AreOfEvents hot.numbers.nodes c.args.events.now xs) (sym c.deref.ensures.value) c.in_ok-changed.ensures in
+    let p = renewed_by (MayRecall c.args.view.now c.follow.new.told now.nodes now.users) (MayTell c.args.view.now now.nodes now.users) hot.sets.rows c.renew.new.sets.rows hot.marks [] _ [] c.in-Ok.asked.items
+    c.follow.new.told c.renew.new.told
+    (recall_after c.args.view.now hot.numbers.nodes now.nodes follow.users now.users hot.sets.back c.follow.new.told
+    (subst (λ (x : Snap). AreTellable x hot.numbers.nodes follow.users hot.sets.back c.follow.new.told) (sym view)
+    (c.follow.ensures.tells S (are_tellable S hot.numbers.nodes hot.numbers.users hot.marks hot.sets.rows hot.sets.back hot.told is.all.kept is.all.remembered hot.whole.backed)))
+    (subst (λ (ns : List Node). IsLater ns now.nodes follow.users now.users) c.follow.ensures.nodes c.renew.ensures.later))
+    c.in-Ok.ensures.renewed in
     record {
       valid = c.each_view_is_valid.ensures;
-      kept = kept_after S c.args.view.now c.args.events.now hot.numbers.nodes now.nodes hot.numbers.users now.users hot.marks _ hot.sets.rows c.renew.new.sets.rows _ _
-          is.valid c.each_view_is_valid.ensures view are later is.kept r;
-      distinct = later.nodes_distinct is.distinct;
-    })
-    c.renew.ensures.refreshed
+      all = record {
+        kept = kept_after S c.args.view.now c.args.events.now hot.numbers.nodes now.nodes hot.numbers.users now.users hot.marks _ hot.sets.rows c.renew.new.sets.rows _ _
+            is.valid c.each_view_is_valid.ensures view are last is.all.kept p.refreshed;
+        remembered = commit_of_world S c.args.view.now c.args.events.now hot.numbers.nodes now.nodes hot.numbers.users now.users hot.marks _ hot.sets.rows c.renew.new.sets.rows _ _
+            is.valid c.each_view_is_valid.ensures view are last is.all.kept c.follow.new.told c.renew.new.told p
+            (λ n t at.
+            let key = c.follow.ensures.keys n t at in (
+              (is.all.remembered.each n key.0 key.1).0,
+              λ off. (is.all.remembered.each n t (c.follow.ensures.same n t at (λ e there g. false≢true (sym off ∙ are.complete e n there g)))).1,
+            ));
+      };
+      distinct = last.nodes_distinct is.distinct;
+    }
 
-pub returns-clause-asked : goal.returns-clause-asked
-returns-clause-asked c = if_ok _ _ c.renew.result
-    (λ asked r S is view.
+pub returns-in-Ok-clause-asked : goal.returns-in-Ok-clause-asked
+returns-in-Ok-clause-asked c = λ S is view.
     let hot = c.args.self.now in
     let now = c.renew.new.numbers in
-    let later = c.renew.ensures.later in
+    let follow = c.follow.new.numbers in
+    let last = later_further hot.numbers.nodes follow.nodes now.nodes hot.numbers.users follow.users now.users c.follow.ensures.later c.renew.ensures.later in
     let are = subst (λ xs. AreOfEvents hot.numbers.nodes c.args.events.now xs) (sym c.deref.ensures.value) c.in_ok-changed.ensures in
+    let p = renewed_by (MayRecall c.args.view.now c.follow.new.told now.nodes now.users) (MayTell c.args.view.now now.nodes now.users) hot.sets.rows c.renew.new.sets.rows hot.marks [] _ [] c.in-Ok.asked.items
+    c.follow.new.told c.renew.new.told
+    (recall_after c.args.view.now hot.numbers.nodes now.nodes follow.users now.users hot.sets.back c.follow.new.told
+    (subst (λ (x : Snap). AreTellable x hot.numbers.nodes follow.users hot.sets.back c.follow.new.told) (sym view)
+    (c.follow.ensures.tells S (are_tellable S hot.numbers.nodes hot.numbers.users hot.marks hot.sets.rows hot.sets.back hot.told is.all.kept is.all.remembered hot.whole.backed)))
+    (subst (λ (ns : List Node). IsLater ns now.nodes follow.users now.users) c.follow.ensures.nodes c.renew.ensures.later))
+    c.in-Ok.ensures.renewed in
     let kept : AreKept c.args.view.now now.nodes now.users hot.marks c.renew.new.sets.rows =
     kept_after S c.args.view.now c.args.events.now hot.numbers.nodes now.nodes hot.numbers.users now.users hot.marks _ hot.sets.rows c.renew.new.sets.rows _ _
-    is.valid c.each_view_is_valid.ensures view are later is.kept r in
-    let distinct = later.nodes_distinct is.distinct in
+    is.valid c.each_view_is_valid.ensures view are last is.all.kept p.refreshed in
+    let distinct = last.nodes_distinct is.distinct in
     record {
-      once = asked_once S c.args.view.now hot.numbers.nodes now.nodes hot.numbers.users now.users hot.marks hot.marks hot.marks _ _ hot.sets.rows c.renew.new.sets.rows asked.items
-          is.kept distinct later kept r;
-      exactly = asked_exactly S c.args.view.now hot.numbers.nodes now.nodes hot.numbers.users now.users hot.marks hot.marks hot.marks _ _ hot.sets.rows c.renew.new.sets.rows asked.items
-          is.kept distinct later kept r (λ n. IsTouchedBy S c.args.events.now n)
-          (touched_exactly S c.args.events.now hot.numbers.nodes hot.numbers.users hot.marks _ hot.sets.rows is.valid are is.kept);
-    })
-    c.renew.ensures.refreshed
+      once = asked_once S c.args.view.now hot.numbers.nodes now.nodes hot.numbers.users now.users hot.marks hot.marks hot.marks _ _ hot.sets.rows c.renew.new.sets.rows c.in-Ok.asked.items
+          is.all.kept distinct last kept p.refreshed;
+      exactly = asked_exactly S c.args.view.now hot.numbers.nodes now.nodes hot.numbers.users now.users hot.marks hot.marks hot.marks _ _ hot.sets.rows c.renew.new.sets.rows c.in-Ok.asked.items
+          is.all.kept distinct last kept p.refreshed (λ n. IsTouchedBy S c.args.events.now n)
+          (touched_exactly S c.args.events.now hot.numbers.nodes hot.numbers.users hot.marks _ hot.sets.rows is.valid are is.all.kept);
+    }
 
 pub returns-clause-err : goal.returns-clause-err
-returns-clause-err c = err_then c.renew.result
-    (λ same S is.
+returns-clause-err c = λ S is.
     let hot = c.args.self.now in
     let now = c.renew.new.numbers in
+    let follow = c.follow.new.numbers in
+    let last = later_further hot.numbers.nodes follow.nodes now.nodes hot.numbers.users follow.users now.users c.follow.ensures.later c.renew.ensures.later in
+    let are = subst (λ xs. AreOfEvents hot.numbers.nodes c.args.events.now xs) (sym c.deref-in-Err.ensures.value) c.in_ok-changed.ensures in
     record {
       valid = is.valid;
-      kept = kept_same S hot.numbers.nodes now.nodes hot.numbers.users now.users hot.marks hot.sets.rows c.renew.new.sets.rows same c.renew.ensures.later is.kept;
-      distinct = c.renew.ensures.later.nodes_distinct is.distinct;
-    })
-    c.renew.ensures.err
+      all = record {
+        kept = kept_same S hot.numbers.nodes now.nodes hot.numbers.users now.users hot.marks hot.sets.rows c.renew.new.sets.rows c.in-Err.ensures.err last is.all.kept;
+        remembered = same_of_world S hot.numbers.nodes now.nodes hot.numbers.users now.users hot.marks hot.sets.rows c.renew.new.sets.rows c.in-Err.ensures.err last is.all.kept hot.told c.forget_each.new.told
+            (λ n t at.
+            let left = c.forget_each.ensures n t at in
+            c.follow.ensures.same n t (subst (λ (m : Remembered). told_of m n ≡ Some t) c.in-Err.ensures.err_told left.0) (λ e there g. false≢true (sym left.1 ∙ are.complete e n there g)))
+            is.all.remembered;
+      };
+      distinct = last.nodes_distinct is.distinct;
+    }
+
+pub returns-in-Ok-clause-marked : goal.returns-in-Ok-clause-marked
+returns-in-Ok-clause-marked c = λ S is.
+    let hot = c.args.self.now in
+    let now = c.renew.new.numbers in
+    let follow = c.follow.new.numbers in
+    let last = later_further hot.numbers.nodes follow.nodes now.nodes hot.numbers.users follow.users now.users c.follow.ensures.later c.renew.ensures.later in
+    record {
+      nodes = λ n. marked_same hot.numbers.nodes now.nodes hot.marks last.nodes_grew (marks_there S hot.numbers.nodes hot.numbers.users hot.marks hot.sets.rows is.all.kept) n;
+      count = refl;
+    }
 
 pub returns-clause-marked : goal.returns-clause-marked
 returns-clause-marked c = λ S is.
     let hot = c.args.self.now in
+    let now = c.renew.new.numbers in
+    let follow = c.follow.new.numbers in
+    let last = later_further hot.numbers.nodes follow.nodes now.nodes hot.numbers.users follow.users now.users c.follow.ensures.later c.renew.ensures.later in
     record {
-      nodes = λ n. marked_same hot.numbers.nodes c.renew.new.numbers.nodes hot.marks c.renew.ensures.later.nodes_grew
-          (marks_there S hot.numbers.nodes hot.numbers.users hot.marks hot.sets.rows is.kept) n;
+      nodes = λ n. marked_same hot.numbers.nodes now.nodes hot.marks last.nodes_grew (marks_there S hot.numbers.nodes hot.numbers.users hot.marks hot.sets.rows is.all.kept) n;
       count = refl;
     }
