@@ -9,17 +9,25 @@ import sys
 import typing
 
 sys.dont_write_bytecode = True
+from reach import Files, Reach, lines_of
 from sources import read, rt, rtlib, source_of, text_of
 
 HERE = os.path.dirname(os.path.realpath(__file__))
 HEAD = """\
 # Written by .ci/wrong_bodies.py: each wrong body that was seen refused, with a checksum of the logic, its crate and the
-# definitions below, one of the code below and of how it was judged, and the kit. Lines of comment stay as they are.
+# definitions that it reaches, one of all below and of how it was judged, the kit, and how many gates there had been then.
+# Lines of comment stay as they are.
 """
 # The files of proofs/ that belong to one function. The others may be cited by any other, and by the crates above.
 OF_A_FUNCTION = re.compile(r"proofs/.+/(Answers|Invariants|Proof)\.antt")
+# Lines of specs/ that say which modules there are, and not what they mean.
+MODULES = re.compile(r"(?m)^(pub )?mod \w+$\n?")
 # A landing tries one of so many parts of all wrong bodies, whatever their standing.
-PARTS = 4
+PARTS = 8
+# A verdict is believed at so many gates after it was seen.
+BELIEVED = 16
+# A line of .ci/refused.txt.
+ROW = re.compile(r"(\S+/\S+) ([0-9a-f]{16}) ([0-9a-f]{16}) (\S+) (\d+)")
 
 
 def sum_of(what):
@@ -33,9 +41,9 @@ def sum_of(what):
 class Key(typing.NamedTuple):
     """All that the verdict on a wrong body rests on."""
 
-    # a checksum of the logic, the edit, its crate but for the bodies and proofs of other functions, and the definitions below
+    # a checksum of the logic, the edit, its crate but for the bodies and proofs of other functions, and the definitions that it reaches
     must: str
-    # one of all else that the proofs of its crate may read of the crates below, and of how it is judged
+    # one of all that the proofs of its crate may read of the crates below, and of how it is judged
     rest: str
     # the kit's name
     kit: str
@@ -46,9 +54,7 @@ def sum_of_text(path, text):
     """Returns a checksum of what others may read of a file: no comment of its own line, and of src/ no body that only its own proof reads."""
     if path.endswith(".rt"):
         return sum_of(source_of(path, text).outline(lambda it: it.is_open) or text)
-    # (a line may stand inside a longer comment)
-    lines = text.split("\n") if "{-" not in text else []
-    return sum_of([it for it in lines if it.strip() and not it.lstrip().startswith("--")] or text)
+    return sum_of(lines_of(text) or text)
 
 
 def compiled_files(crate):
@@ -73,7 +79,9 @@ class Parts:
         self.functions = {it: of for of in sources for it in of.functions}
         self.proofs = {path: sum_of_text(path, text) for path, text in texts.items() if OF_A_FUNCTION.fullmatch(path)}
         seen = [[path, sum_of_text(path, text)] for path, text in texts.items() if path not in self.proofs]
+        self.files = Files(texts)
         self.definitions = [it for it in seen if it[0].startswith("specs/")]
+        self.modules = {path: sum_of_text(path, MODULES.sub("", text)) for path, text in texts.items() if path.startswith("specs/")}
         # (the crates that it stands on, its contracts and its lemmas)
         self.rest = [crate.said, [it for it in seen if not it[0].startswith("specs/")]]
 
@@ -97,7 +105,7 @@ class Basis:
         named = re.fullmatch(r"(\S+) logic (\S+)", identity)
         self.kit, self.logic = (named[1], named[2]) if named else (sum_of(identity), identity)
         self.judges = [text_of(f"{HERE}/{it}.py") for it in ("sources", "trials")]
-        self.parts = {}
+        self.parts, self.reach = {}, Reach(lambda it: self.of(it).files)
 
     def of(self, crate):
         if crate.name not in self.parts:
@@ -113,8 +121,9 @@ class Basis:
             mine = [[os.path.relpath(it, crate.folder), text_of(it)] for it in rtlib.files_of(crate.folder)]
         else:
             mine = [own.definitions, own.rest, *own.proof_of(edit.bodies)]
-        definitions = [[it.name, self.of(it).definitions] for it in below]
-        code = [[it.name, self.of(it).rest] for it in below]
+        reached = self.reach.reached(crate, edit.text)
+        definitions = [[it.name, *module] for it in below for module in self.of(it).modules.items() if (it.name, module[0]) in reached]
+        code = [[it.name, self.of(it).rest, self.of(it).definitions] for it in below]
         return Key(sum_of([self.logic, crate.name, crate.said, edit.label, edit.text, mine, definitions]), sum_of([self.judges, code]), self.kit)
 
 
@@ -126,7 +135,7 @@ class Standing(enum.IntEnum):
 
     # it was not seen refused as it stands now
     MUST = 0
-    # it was, and of what that rests on only code below its crate, how it is judged or the kit has changed
+    # it was, and of what that rests on only code below its crate, definitions that it does not reach, how it is judged or the kit has changed
     DUE = 1
     # it was, and nothing has changed
     HELD = 2
@@ -138,11 +147,15 @@ class Known:
     def __init__(self, text=""):
         rows = text.splitlines()
         self.comments = [it for it in rows if it.startswith("#")] or HEAD.splitlines()
-        found = (re.fullmatch(r"(\S+/\S+) ([0-9a-f]{16}) ([0-9a-f]{16}) (\S+)", it) for it in rows)
-        self.keys = {it[1]: Key(it[2], it[3], it[4]) for it in found if it}
+        found = [it for it in map(ROW.fullmatch, rows) if it]
+        self.keys = {it[1]: Key(it[2], it[3], it[4]) for it in found}
+        # how many gates there had been when each was seen refused, and how many there were
+        self.seen = {it[1]: int(it[5]) for it in found}
+        self.gates = max([0, *self.seen.values(), *(int(it[6:]) for it in rows if re.fullmatch(r"gates \d+", it))])
 
     def text(self):
-        return "".join(f"{it}\n" for it in [*self.comments, *(" ".join([label, *key]) for label, key in sorted(self.keys.items()))])
+        rows = (" ".join([label, *key, str(self.seen[label])]) for label, key in sorted(self.keys.items()))
+        return "".join(f"{it}\n" for it in [*self.comments, f"gates {self.gates}", *rows])
 
     def keep(self, labels):
         """Forgets all others."""
@@ -151,7 +164,7 @@ class Known:
     def standing(self, label, key):
         """Returns the standing of a wrong body whose key is now this one, or None where it could not be read."""
         seen = self.keys.get(label)
-        if not seen or not key or seen.must != key.must:
+        if not seen or not key or seen.must != key.must or self.gates - self.seen[label] > BELIEVED:
             return Standing.MUST
         return Standing.HELD if seen == key else Standing.DUE
 
@@ -159,7 +172,7 @@ class Known:
         """Notes the key under which a wrong body was refused, or None for one that was not."""
         self.keys.pop(label, None)
         if key:
-            self.keys[label] = key
+            self.keys[label], self.seen[label] = key, self.gates
 
 
 def drawn(lot, numbers):

@@ -1,29 +1,43 @@
 #!/usr/bin/env python3
-"""What makes a wrong body one that must be tried, or that is due, on two small crates of which nothing is proved; and which crates are drawn."""
+"""What makes a wrong body one that must be tried, or that is due, on two small crates of which nothing is proved; which crates are drawn; and how
+many processors a check may take."""
 import os
 import sys
 import tempfile
 import unittest
 
 sys.dont_write_bytecode = True
-from known import PARTS, Basis, Key, Known, Standing, drawn
+from known import BELIEVED, PARTS, Basis, Key, Known, Standing, drawn
 from sources import rtlib
 from trials import Wrong
+from wrong_bodies import BUILD, FIRST, LATER, Lanes
 
 MUST, DUE, HELD = Standing
 KIT = "kit-1 logic a"
 FILES = {
     "crates.txt": "low:\nhigh: low\n",
     "crates/low/src/lib.rt": "// low\npub const MOST: u8 = 3;\npub fn one() -> u8\nensures it { result == 1 }\n{\n    1\n}\n",
-    "crates/low/specs/Lib.antt": "-- a word\nword : ℕ\nword = 1\n",
+    "crates/low/src/kept.rt": "ghost use Rattle.low.specs.Kept.{kept};\npub struct Kept {\n    pub at: Place,\n}\n",
+    "crates/low/src/place.rt": "ghost use Rattle.low.specs.Place.{place};\npub struct Place {\n    pub at: u8,\n}\n",
+    "crates/low/src/found.rt": "ghost use Rattle.low.specs.inside.Found.{found};\npub struct Found {\n    pub at: u8,\n}\n",
+    "crates/low/src/lost.rt": "ghost use Rattle.low.specs.Lost.{lost};\npub struct Lost {\n    pub at: u8,\n}\n",
+    "crates/low/specs/Lib.antt": "pub mod Word\npub mod Deep\npub mod Kept\npub mod Place\npub mod Proved\npub mod Lost\npub mod inside\n",
+    "crates/low/specs/Word.antt": "-- a word\nuse Rattle.low.specs.Deep.{deep}\nword : ℕ\nword = 1\n",
+    "crates/low/specs/Deep.antt": "deep : ℕ\ndeep = 1\n",
+    "crates/low/specs/Kept.antt": "kept : ℕ\nkept = 1\n",
+    "crates/low/specs/Place.antt": "place : ℕ\nplace = 1\n",
+    "crates/low/specs/Proved.antt": "proved : ℕ\nproved = 1\n",
+    "crates/low/specs/Lost.antt": "lost : ℕ\nlost = 1\n",
+    "crates/low/specs/inside.antt": "pub mod Found\n",
+    "crates/low/specs/inside/Found.antt": "found : ℕ\nfound = 1\n",
     "crates/low/proofs/Lemmas.antt": "lemma : ℕ\nlemma = 1\n",
     "crates/low/proofs/one/Answers.antt": "answer = 1\n",
-    "crates/high/src/lib.rt": "pub const LAST: u8 = 9;\npub fn two() -> u8 {\n    // as it is\n    one() + 1\n}\npub fn three() -> u8 {\n    3\n}\n"
+    "crates/high/src/lib.rt": "ghost use Rattle.low.specs.Word.{word};\nuse low::Kept;\npub const LAST: u8 = 9;\npub fn two() -> u8 {\n    // as it is\n    one() + 1\n}\npub fn three() -> u8 {\n    3\n}\n"
     "#[cycle(turns)]\nfn there() -> u8 {\n    back() + 5\n}\n#[cycle(turns)]\nfn back() -> u8 {\n    there() + 6\n}\n",
-    "crates/high/specs/Lib.antt": "two : ℕ\ntwo = 2\n",
+    "crates/high/specs/Lib.antt": "use Rattle.low.specs.declared.found.Found.{Found}\ntwo : ℕ\ntwo = 2\n",
     "crates/high/proofs/Lemmas.antt": "-- a lemma\nlemma : ℕ\nlemma = 2\n",
     "crates/high/proofs/two/Answers.antt": "answer = 2\n",
-    "crates/high/proofs/three/Answers.antt": "answer = 3\n",
+    "crates/high/proofs/three/Answers.antt": "use Rattle.low.specs.Proved.{proved}\nanswer = 3\n",
     "crates/high/proofs/+turns/Answers.antt": "answer = 4\n",
     "crates/high/wrong/one_more.edit": "file: src/lib.rt\nold: one() + 1\nnew: one() + 2\n",
     "crates/high/wrong/turned.edit": "file: src/lib.rt\nold: back() + 5\nnew: back() + 6\n",
@@ -53,10 +67,19 @@ class Keys(unittest.TestCase):
     def standings(self, found):
         return [self.known.standing(it, found.get(it)) for it in (BODY, CYCLE, CONSTANT)]
 
-    def changed(self, path, old, new):
+    def changed(self, path, old, new, files=FILES):
         """The standings of the three after a change of one file."""
-        self.assertEqual(FILES[path].count(old), 1)
-        return self.standings(keys({**FILES, path: FILES[path].replace(old, new)}))
+        self.assertEqual(files[path].count(old), 1)
+        return self.standings(keys({**files, path: files[path].replace(old, new)}))
+
+    def changed_beside(self, path, old, new):
+        """The standings of the three after a change of a definition, where another file has this text."""
+        files = {**FILES, path: FILES[path].replace(old, new)}
+        self.assertNotEqual(files, FILES)
+        self.known = Known()
+        for label, key in keys(files).items():
+            self.known.note(label, key)
+        return self.changed("crates/low/specs/Lost.antt", "= 1", "= 2", files)
 
     def test_in_the_crate(self):
         code = "crates/high/src/lib.rt"
@@ -75,14 +98,34 @@ class Keys(unittest.TestCase):
         self.assertEqual(self.changed("crates.txt", "high: low", "high: low base64"), [MUST, MUST, MUST])
 
     def test_below_it(self):
-        self.assertEqual(self.changed("crates/low/specs/Lib.antt", "= 1", "= 2"), [MUST] * 3)
-        self.assertEqual(self.changed("crates/low/specs/Lib.antt", "-- a", "-- one"), [HELD] * 3)
         self.assertEqual(self.changed("crates/low/src/lib.rt", "result == 1", "result == 2"), [DUE] * 3)
         self.assertEqual(self.changed("crates/low/src/lib.rt", "MOST: u8 = 3", "MOST: u8 = 4"), [DUE] * 3)
         self.assertEqual(self.changed("crates/low/src/lib.rt", "\n    1\n", "\n    2\n"), [HELD] * 3)
         self.assertEqual(self.changed("crates/low/src/lib.rt", "// low", "// lower"), [HELD] * 3)
         self.assertEqual(self.changed("crates/low/proofs/Lemmas.antt", "= 1", "= 2"), [DUE] * 3)
         self.assertEqual(self.changed("crates/low/proofs/one/Answers.antt", "1", "2"), [HELD] * 3)
+
+    def test_definitions_below_it(self):
+        reached = ["Word", "Deep", "Kept", "Place", "Proved", "inside/Found"]
+        self.assertEqual([self.changed(f"crates/low/specs/{it}.antt", "= 1", "= 2") for it in reached], [[MUST] * 3] * len(reached))
+        self.assertEqual(self.changed("crates/low/specs/Lost.antt", "= 1", "= 2"), [DUE] * 3)
+        self.assertEqual(self.changed("crates/low/specs/Word.antt", "-- a", "-- one"), [HELD] * 3)
+        self.assertEqual(self.changed("crates/low/specs/Word.antt", "low.specs.Deep", "low.specs.Lost"), [MUST] * 3)
+        self.assertEqual(self.changed("crates/low/specs/Lib.antt", "pub mod Lost", "pub mod Lost\npub mod New"), [DUE] * 3)
+        self.assertEqual(self.changed("crates/low/specs/inside.antt", "pub mod Found", "pub mod Found\nfound = 1"), [MUST] * 3)
+
+    def test_what_names_a_definition(self):
+        for path in ("Nowhere.{it}", "{Lost}", "contracts.one.{it}"):
+            self.assertEqual(self.changed_beside("crates/high/specs/Lib.antt", "two :", f"use Rattle.low.specs.{path}\ntwo :"), [MUST] * 3)
+        self.assertEqual(self.changed_beside("crates/high/specs/Lib.antt", "two :", "use Rattle.low as low\ntwo :"), [MUST] * 3)
+        self.assertEqual(self.changed_beside("crates/high/specs/Lib.antt", "two :", "use Rattle.{low}\ntwo :"), [MUST] * 3)
+        self.assertEqual(self.changed_beside("crates/high/proofs/two/Answers.antt", "= 2", "= Rattle.low.specs.Lost.lost"), [MUST] * 3)
+        self.assertEqual(self.changed_beside("crates/low/src/lib.rt", "// low", "pub use lost::Lost as Kept;"), [MUST] * 3)
+        self.assertEqual(self.changed_beside("crates/high/src/lib.rt", "\n    3", "\n    Lost::three()"), [MUST] * 3)
+        self.assertEqual(self.changed_beside("crates/high/src/lib.rt", "// as it is", "// as Lost is"), [DUE] * 3)
+        self.assertEqual(self.changed_beside("crates/high/proofs/Lemmas.antt", "-- a", "-- Rattle has a"), [DUE] * 3)
+        self.assertEqual(self.changed_beside("crates/low/src/lib.rt", "\n    1\n", "\n    Lost::one()\n"), [DUE] * 3)
+        self.assertEqual(self.changed_beside("crates/high/wrong/one_more.edit", "+ 2", "+ Lost::two()"), [MUST, DUE, DUE])
 
     def test_under_another_kit(self):
         self.assertEqual(self.standings(keys(FILES, "kit-1 logic a")), [HELD] * 3)
@@ -109,6 +152,19 @@ class Refused(unittest.TestCase):
         self.assertEqual(known.standing("a/x", key), MUST)
 
 
+    def test_it_is_believed_at_so_many_gates(self):
+        known, key = Known(), Key("1" * 16, "2" * 16, "kit-1")
+        known.gates = 3
+        known.note("a/x", key)
+        known.gates += BELIEVED
+        self.assertEqual(known.standing("a/x", key), HELD)
+        known = Known(known.text())
+        known.gates += 1
+        self.assertEqual(known.standing("a/x", key), MUST)
+        known.note("a/x", key)
+        self.assertEqual(Known(known.text()).standing("a/x", key), HELD)
+
+
 class Drawn(unittest.TestCase):
     def test_a_part_is_drawn_and_each_crate_by_some_lot(self):
         numbers = {f"crate_{it}": 5 for it in range(32)}
@@ -117,6 +173,19 @@ class Drawn(unittest.TestCase):
         self.assertEqual(set().union(*each), {*numbers})
         self.assertEqual(drawn("lot 1", numbers), each[1])
         self.assertEqual(drawn("lot 1", {}), set())
+
+
+class Shares(unittest.TestCase):
+    def test_a_trial_takes_one_processor_unless_few_are_left(self):
+        lanes = Lanes(False, float("inf"))
+        lanes.number, lanes.waiting, lanes.room = 4, [None], lambda: 1e12
+        shares = lambda: [lanes.share(it, 1e9, 4) for it in (BUILD, FIRST, LATER)]
+        lanes.trials = 4
+        self.assertEqual(shares(), [4, 1, 1])
+        lanes.trials = 3
+        self.assertEqual(shares(), [4, 4, 4])
+        lanes.is_beside = True
+        self.assertEqual(shares(), [2, 1, 1])
 
 
 if __name__ == "__main__":

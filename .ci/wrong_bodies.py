@@ -15,14 +15,15 @@ lines 'old: TEXT' and 'new: TEXT', where each old TEXT stands in that file exact
 Which are tried. .ci/refused.txt has a line for each that was seen refused, with what that rests on (known.py):
 
   must   it has no such line, or one of these has changed since: the logic, the edit, its crate but for the bodies and
-         proofs of other functions, the definitions (specs/) of a crate below. It is tried first
-  due    only the code, contracts or lemmas of crates below have changed, how edits are judged, or the kit. It is tried
-         with --due
+         proofs of other functions, the definitions (specs/) below that its crate reaches (reach.py). Or more than sixteen
+         gates have passed since: each run with --follow counts, once its refused.txt is committed. It is tried first
+  due    only the code, contracts or lemmas of crates below have changed, definitions there that its crate does not reach,
+         how edits are judged, or the kit. It is tried with --due
   held   nothing has changed. It is tried with --all alone, and read and applied always
 
-With --minutes, as in the gate, no check begins after so many: one that must be tried and was not fails. Beside these, all
-edits of so many crates are tried as have a quarter of all. A checksum of all that the verdicts rest on draws them: another
-quarter at each landing, and nobody chooses. An edit that is refused gets its line, and one that is not loses it.
+With --minutes, as in the gate, no check begins after so many, or fifteen more for what must be tried: one of these that was not fails. Beside these, all
+edits of so many crates are tried as have an eighth of all. A checksum of all that the verdicts rest on draws them: another
+eighth at each landing, and nobody chooses. An edit that is refused gets its line, and one that is not loses it.
 
 How they are tried. What the proof of another function reads of a function is its contract, not its body. So the edits
 of a crate stand side by side in one copy of it, at most one for each function (or for each cycle of calls, which has
@@ -44,7 +45,7 @@ stand only if rt ci proves the crate itself, and its files have not been written
 
 How many at a time. Each check takes processors from one pool, and waits for memory: first what must be tried, and of that
 first those of the crate with the most to do. While rt ci runs, the pool has half of them, at a lower priority than its own;
-then it has all.
+then it has all. A check of edits takes one, and more only then, and where fewer crates are left to try than processors.
 
 --show prints what the check said of each edit. The last line is 'N passed, M failed': how many edits were refused, now or
 with nothing changed since, and how many were not, or are other faults of a folder wrong/. Those left due are in neither: the
@@ -79,6 +80,8 @@ OF_A_CRATE = re.compile(rb"rt: (\w+) (proved|is kept: .*|NOT PROVED.*)\n?")
 RESERVE, FILLING = 4_000_000_000, 60
 # In which order checks begin: those of a library that is built by hand, of edits that must be tried, and of others.
 BUILD, FIRST, LATER = range(3)
+# For how many minutes more than the others a check of what must be tried may begin.
+MORE = 15
 
 
 class Voice:
@@ -182,6 +185,8 @@ class Lanes:
         self.is_beside, self.changed, self.counted = is_beside_rt_ci, threading.Condition(), itertools.count()
         # the time from which no check begins
         self.until = until
+        # how many crates are still tried, each by one check after the other
+        self.trials = 0
         # a check is its turn, its work turned round, its number and its memory; one that runs has its processors and its beginning
         self.waiting, self.running = [], {}
 
@@ -194,7 +199,7 @@ class Lanes:
             while self.first() != mine and not self.is_late(turn):
                 # (nothing tells when others free memory)
                 self.changed.wait(5)
-            jobs = 0 if self.is_late(turn) else self.share(need, most)
+            jobs = 0 if self.is_late(turn) else self.share(turn, need, most)
             self.waiting.remove(mine)
             if not jobs:
                 self.changed.notify_all()
@@ -209,7 +214,8 @@ class Lanes:
                 self.changed.notify_all()
 
     def is_late(self, turn=FIRST):
-        return turn >= FIRST and time.monotonic() >= self.until
+        # (what must be tried may begin later than the rest)
+        return turn >= FIRST and time.monotonic() >= self.until + (60 * MORE if turn == FIRST else 0)
 
     def take_all(self):
         """Lends all processors from now on, and not half of them."""
@@ -233,8 +239,16 @@ class Lanes:
         room = self.room() if self.running or self.is_beside else float("inf")
         return next((it for it in sorted(self.waiting) if it[-1] <= room), None)
 
-    def share(self, need, most):
+    def end_trial(self):
+        with self.changed:
+            self.trials -= 1
+            self.changed.notify_all()
+
+    def share(self, turn, need, most):
         """Returns how many processors a check may take: those that no other waits for, where their memory is free."""
+        if turn >= FIRST and (self.is_beside or self.trials >= self.number):
+            # (a second job costs 28 to 60 % more of their time, and ends it no sooner)
+            return 1
         return max(1, min(most, self.idle() // len(self.waiting), 1 + int((self.room() / need - 1) / 0.6)))
 
 
@@ -350,9 +364,10 @@ class Run:
             with contextlib.suppress(Stopped):
                 if not lacking:
                     trial.run(self.since is not None)
+        self.lanes.end_trial()
         why = f"the library {lacking[0]} is not proved" if lacking else self.is_unfit(crate)
         for it in edits:
-            if why or not it.verdict and not self.lanes.is_late():
+            if why or not it.verdict and not self.lanes.is_late(it.turn):
                 it.judge("BAD EDIT", why or "no check judged it")
         now = Wrong(crate, edits_of(crate)[0])
         self.refused.note_each(edits, keys_of([now]))
@@ -374,10 +389,11 @@ class Run:
         return "" if is_untouched(crate, self.since) else "the crate was changed while it was tried"
 
     def take_stock(self, given, every):
-        """Reads all edits, and gives each its standing, and a turn where it is to be tried."""
+        """Reads all edits, and gives each its standing, and a turn where it is to be tried. Beside rt ci it counts one gate more."""
         wrongs = [Wrong(it, edits_of(it)[0]) for it in every]
         keys = keys_of(wrongs)
         self.refused.keep(keys)
+        self.refused.gates += given.follow
         numbers = {it.crate.name: len(it.edits) for it in wrongs if it.edits}
         chosen = drawn(sum_of(keys), numbers) if given.minutes is not None else set()
         most = Standing.HELD if given.all else Standing.DUE if given.due else Standing.MUST
@@ -401,6 +417,7 @@ class Run:
         tried = [(wrong, [it for it in wrong.edits if it.turn is not None]) for wrong in wrongs]
         tried = [it for it in tried if it[1]]
         below = {it.name: it for wrong, _ in tried for it in wrong.crate.below()} if self.since is None else {}
+        self.lanes.trials = len(tried)
         built = [Aside(self.build, it) for it in sorted(below.values(), key=lambda it: len(it.below()))]
         for it in [*built, *[Aside(self.try_crate, *it) for it in tried]]:
             it.result()
@@ -474,7 +491,7 @@ def main():
     parser.add_argument("--follow", action="store_true", help="try them beside rt ci, whose output is the input")
     parser.add_argument("--due", action="store_true", help="try also what is due")
     parser.add_argument("--all", action="store_true", help="try every one")
-    parser.add_argument("--minutes", type=float, metavar="M", help="begin no check after M minutes; beside what must be tried, try a quarter of all")
+    parser.add_argument("--minutes", type=float, metavar="M", help="begin no check after M minutes; beside what must be tried, try an eighth of all")
     parser.add_argument("--show", action="store_true", help="print what the check said of each edit")
     parser.add_argument("crates", nargs="*", metavar="CRATE")
     given = parser.parse_args()
