@@ -113,7 +113,7 @@ def bodies_missing():
             head, colon, names = group.partition(": ")
             crates, names = (NAME.findall(head), names) if colon else (crates, group)
             for name in NAME.findall(names):
-                if crates and not os.path.exists(f"{ROOT}/{name}") and not any(has_body(crate, name) for crate in crates):
+                if crates and not os.path.exists(f"{ROOT}/{name}") and not any(has_body(crate, name) or has_case(crate, name) for crate in crates):
                     yield f"{', '.join(crates)} has no wrong body or test `{name}`"
 
 

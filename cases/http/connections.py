@@ -389,14 +389,26 @@ def a_connection_that_breaks_off_leaves_those_beside_it(program, folder):
                 same(f"after {cut} bytes", (400, NO_RELATION), ask(stream, "check", CHECK))
 
 
+def ask_until(stream, event, told):
+    """Asks until then and for twenty times more, without a pause, in which it could be given up for those who wait."""
+    more = 20
+    while more:
+        told.append(ask(stream, "check", CHECK))
+        more -= event.is_set()
+
+
 def many_silent_connections_wait_beside_one_that_is_served(program, folder):
     # Here and in the program, which is given the same limit.
     resource.setrlimit(resource.RLIMIT_NOFILE, (4096, max(4096, resource.getrlimit(resource.RLIMIT_NOFILE)[1])))
     with Server(program, folder, "--workers", "4") as server, server.connect() as served:
-        same("before", (400, NO_RELATION), ask(served, "check", CHECK))
+        told, all_wait = [], threading.Event()
+        asking = threading.Thread(target=ask_until, args=(served, all_wait, told))
+        asking.start()
         silent = [server.connect() for _ in range(1000)]
-        for _ in range(20):
-            same("beside 1,000", (400, NO_RELATION), ask(served, "check", CHECK))
+        all_wait.set()
+        asking.join(LIMIT)
+        same("beside up to 1,000", [(400, NO_RELATION)] * len(told), told)
+        assert len(told) > 20, f"it was answered {len(told)} times\n"
         for stream in silent:
             stream.close()
         with server.connect() as stream:
@@ -416,8 +428,14 @@ def a_port_in_use_is_told(program, folder):
         same("a port in use", (1, b"zanz: cannot listen\n"), refused(program, folder, "--port", port))
         missing = refused(program, folder, "--db", "missing.db", "--port", port)
         same("a file that is not there comes first", (1, b"zanz: refused 22 StoreFault\n"), missing)
-        same("a new file is made first", (1, b"zanz: cannot listen\n"), refused(program, folder, "--db", "new.db", "--store", "7", "--port", port))
-    assert answered(program, folder, [("state", "")], "--db", "new.db")[0][0] == 200
+        answered(program, folder, [], "--db", "there.db", "--store", "7")
+        for workers in ("1", "4"):
+            words = ("--workers", workers, "--store", "7", "--port", port)
+            same("a store that is there comes first", (1, b"zanz: refused 22 StoreFault\n"), refused(program, folder, "--db", "there.db", *words))
+            same("a new store", (1, b"zanz: cannot listen\n"), refused(program, folder, "--db", "new.db", *words))
+    # No tables are left behind, so that the corrected command works as it stands.
+    with Server(program, folder, "--db", "new.db", "--store", "7") as server, server.connect() as stream:
+        same("the corrected command", 200, ask(stream, "state")[0])
 
 
 def the_most_workers_are_thirty(program, folder):

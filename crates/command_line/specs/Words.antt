@@ -1,5 +1,5 @@
 -- What the words of a command line ask for.
-use Rattle.std.specs.Prelude.{ℕ, ◌≤◌, Bool, false, List, [], ◌∷◌, IfSome, bytes_eq, codes, ⊤}
+use Rattle.std.specs.Prelude.{ℕ, ◌≤◌, Bool, false, List, [], ◌∷◌, bytes_eq, codes, ⊤}
 use Rattle.command_line.specs.declared.words.TheConstants.{MAX_STORE, MAX_WORKERS}
 use Rattle.command_line.specs.declared.words.Place.{Place}
 use Rattle.command_line.specs.declared.words.Place.TheVariants.{Memory, New, There}
@@ -22,11 +22,11 @@ OnServe (Config file) P = ⊤
 abbrev pub AreWorkers : ℕ → Type 0
 AreWorkers workers = (1 ≤ workers) × (workers ≤ MAX_WORKERS)
 
--- where connections are to be served, the number of workers that is named is one of these
-abbrev pub NamesWorkers : Task → Type 0
-NamesWorkers (Serve place port workers) = IfSome workers AreWorkers
-NamesWorkers (Run place) = ⊤
-NamesWorkers (Config file) = ⊤
+-- where connections are to be served, it is by such a number of workers
+abbrev pub HasWorkers : Task → Type 0
+HasWorkers (Serve place port workers) = AreWorkers workers
+HasWorkers (Run place) = ⊤
+HasWorkers (Config file) = ⊤
 
 -- a number that a store can have
 abbrev pub IsStore : ℕ → Type 0

@@ -1,7 +1,7 @@
 //! The command line.
 ghost use Rattle.std.specs.Prelude.{◌≡◌, IsTrue, IfOk, IfErr, IfSome, map, string_bytes};
 ghost use Rattle.command_line.specs.Faults.{IsLineFault};
-ghost use Rattle.command_line.specs.Words.{asks_to_serve, AreWorkers, IsStore, IsPlace, NamesStore, NamesWorkers, OnServe};
+ghost use Rattle.command_line.specs.Words.{asks_to_serve, AreWorkers, HasWorkers, IsStore, IsPlace, NamesStore, OnServe};
 
 use crate::fault::Fault;
 use clap::error::ErrorKind;
@@ -11,6 +11,9 @@ use std::alloc::{AllocError, Global};
 
 /// The most workers that connections are served by. Beside their sessions a desk has two left.
 pub const MAX_WORKERS: u64 = 30;
+
+/// How many workers connections are served by where none are named.
+const SOME_WORKERS: u64 = 4;
 
 /// The greatest number of a store; the least is 1.
 pub const MAX_STORE: u64 = i64::MAX as u64;
@@ -22,12 +25,11 @@ pub enum Task {
     Run {
         place: Place,
     },
-    /// Connections are served from the store there, on this port; with 0 on one that is free. Where no number of workers
-    /// is named, it is by as many as the machine has processors.
+    /// Connections are served from the store there, on this port; with 0 on one that is free.
     Serve {
         place: Place,
         port: u16,
-        workers: Option<u64>,
+        workers: u64,
     },
     /// The configuration of a file is reported.
     Config {
@@ -49,7 +51,7 @@ pub enum Place {
 /// What the words of a command line ask for, of which the first is the program's.
 pub fn task_of(alloc: Global, words: &[String]) -> Result<Task, Fault>
     ensures serves { IfOk result (λ task. OnServe task (IsTrue (asks_to_serve (map string_bytes words.now)))) }
-    ensures workers { IfOk result NamesWorkers }
+    ensures workers { IfOk result HasWorkers }
     ensures store { IfOk result NamesStore }
     ensures err { IfErr result IsLineFault }
 {
@@ -115,7 +117,7 @@ fn asks_to_serve(words: &[String]) -> bool
 
 fn task_in(alloc: Global, words: &[String], matches: &ArgMatches) -> Result<Task, Fault>
     ensures serves { IfOk result (λ task. OnServe task (IsTrue (asks_to_serve (map string_bytes words.now)))) }
-    ensures workers { IfOk result NamesWorkers }
+    ensures workers { IfOk result HasWorkers }
     ensures store { IfOk result NamesStore }
     ensures err { IfErr result IsLineFault }
 {
@@ -144,16 +146,16 @@ fn port_of(matches: &ArgMatches) -> Result<u16, Fault>
     }
 }
 
-// How many workers are named.
-fn workers_of(matches: &ArgMatches) -> Result<Option<u64>, Fault>
-    ensures named { IfOk result (λ workers. IfSome workers AreWorkers) }
+// How many workers are named, or else as many as are taken then.
+fn workers_of(matches: &ArgMatches) -> Result<u64, Fault>
+    ensures workers { IfOk result AreWorkers }
     ensures err { IfErr result IsLineFault }
 {
     if !matches.contains_id("workers") {
-        return Ok(None);
+        return Ok(SOME_WORKERS);
     }
     match matches.get_one::<u64>("workers") {
-        Some(workers) if 1 <= workers && workers <= MAX_WORKERS => Ok(Some(workers)),
+        Some(workers) if 1 <= workers && workers <= MAX_WORKERS => Ok(workers),
         _ => Err(Fault::CommandLine),
     }
 }

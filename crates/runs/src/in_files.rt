@@ -8,6 +8,7 @@ ghost use Rattle.tables.specs.Device.{Lasts, sound_device};
 ghost use Rattle.command_line.specs.declared.fault.Fault.TheVariants.{Refused};
 ghost use Rattle.command_line.specs.Faults.{IsRunFault};
 ghost use Rattle.tracked_io.specs.Tracking.{Reads, ReadsAll};
+ghost use Rattle.sqlite_tables.specs.Leaves.{IsBlank};
 ghost use Rattle.store.specs.History.{device_below};
 ghost use Rattle.store.specs.StoreParts.{connection};
 ghost use Rattle.runs.specs.Files.{FindsHistories, IsFoundIn, IsUnopened, IsRefusedFor};
@@ -20,6 +21,7 @@ use command_line::Fault;
 use keeper::Answering;
 use names::Refusal;
 use sqlite::{Connection, Error, ErrorCode, FileFrom, FileStore, Leftover, Start};
+use sqlite_tables::is_blank;
 use std::io::{Read, Write};
 use std::sync::Wait;
 use store::Store;
@@ -150,6 +152,29 @@ pub fn tables_in<P: Start>(
             Ok(tables) => Ok(tables),
             Err((why, conn)) => Err((fault_of(why), Ok(conn))),
         },
+        Err((fault, left)) => Err((fault, Err(left))),
+    }
+}
+
+/// Opens the files at a path, of which `start` says what they hold, and sees that the tables of a new store can be made in
+/// them. None are made.
+pub fn find_blank<P: Start>(
+    rt: &HostRuntime,
+    path: &str,
+    start: P,
+) -> Result<Connection<FileStore<FileFrom<P>>>, (Fault, Left<P>)>
+    ensures blank { IfOk result (IsBlank over_files) }
+    ensures sees { IfOk result (λ conn. HasCleanDisk (file_state conn) → IsFoundIn (image_at P.Start) (file_state conn)) }
+    ensures refused { IfErr result (λ e. (why : Refusal) × (e.0 ≡ Refused why)) }
+
+    // Files that were opened are refused where there is a table, an index or a view.
+    ensures taken { IfErr result (λ e. IfOk e.1 (λ conn. (e.0 ≡ Refused StoreFault) × (¬ (IsBlank over_files conn))
+        × (HasCleanDisk (file_state conn) → IsFoundIn (image_at P.Start) (file_state conn)))) }
+    ensures cause { IfErr result (λ e. IsRunFault e.0) }
+{
+    match connect(rt, path, start) {
+        Ok(conn) if is_blank(&conn) => Ok(conn),
+        Ok(conn) => Err((Fault::Refused(Refusal::StoreFault), Ok(conn))),
         Err((fault, left)) => Err((fault, Err(left))),
     }
 }

@@ -10,7 +10,7 @@ mod running;
 mod talking;
 
 pub use files::{Left, close, find, leave};
-pub use in_files::{open_in, run_in, tables_in};
+pub use in_files::{find_blank, open_in, run_in, tables_in};
 pub use law::next_run_goes_on;
 pub use over::{open_over, run_over};
 pub use running::run;

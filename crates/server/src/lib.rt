@@ -6,13 +6,18 @@
 
 mod indexer;
 mod law;
+mod peer;
 mod pool;
 mod serving;
 mod stream;
 mod turn;
+mod waited;
+mod waiting;
 mod worker;
 
 pub use law::connections_never_go_back;
+pub use peer::Peer;
 pub use serving::run;
 pub use stream::{serve_stream, sides_of, take_leave};
 pub use turn::{TURN_COMMITS, Turn, take_turn};
+pub use waiting::{Arrivals, Patience};

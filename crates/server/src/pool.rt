@@ -4,6 +4,7 @@ ghost use Rattle.answers.specs.declared.end.End.{End};
 ghost use Rattle.server.specs.Attending.{ServesEach};
 
 use crate::stream::take_leave;
+use crate::waiting::{Patience, Queued};
 use answers::End;
 use crossbeam_channel::{Receiver, Sender};
 use front::Gate;
@@ -22,7 +23,7 @@ pub(crate) trait Serves {
     /// A connection that ended so took it from the first state to the second.
     ghost served: { Self → End → Self → Type 0 };
 
-    fn serve(&mut self, alloc: Global, stream: &TcpStream) -> End
+    fn serve<P: Patience>(&mut self, alloc: Global, stream: &TcpStream, patience: &P) -> End
         ensures { served self.old result self.new };
 }
 
@@ -33,18 +34,20 @@ pub(crate) trait Follows {
 }
 
 /// Serves each connection that the queue gives, one after another, until it gives no more. However one of them ends, the
-/// next is served.
-pub(crate) fn serve_each<Q: Iterator<Item = TcpStream>, S: Serves>(
+/// next is served. One of which nothing comes is given up once another waits.
+pub(crate) fn serve_each<Q: Iterator<Item = TcpStream>, S: Serves, C: Clock>(
     alloc: Global,
     queue: Q,
+    waiting: &Queued<'_, C>,
     server: &mut S,
 )
     requires { Q.can_next queue × IsFinite (Q.remaining queue) }
     ensures { ServesEach Q.next_gives S.served queue server.old server.new }
 {
     for stream in queue {
-        let end = server.serve(alloc, &stream);
-        take_leave(&stream, end);
+        waiting.count();
+        let end = server.serve(alloc, &stream, waiting);
+        take_leave(&stream, end, waiting);
     }
 }
 
@@ -84,13 +87,14 @@ fn serve_by_threads<R: Threads + Wait + Clock + Sync, S: Serves + Send + Drop, G
     gate: &G,
 ) -> bool {
     let (to, from) = queue;
-    let waiting = &from;
+    let queue = &from;
+    let waiting = &Queued::new(rt, queue);
     thread::scope(thread::scope_env(), rt, |scope| {
         let mut made = false;
         for server in servers {
             let mut server = server;
             if scope
-                .spawn(move || serve_each(alloc, waiting.iter(rt), &mut server))
+                .spawn(move || serve_each(alloc, queue.iter(rt), waiting, &mut server))
                 .is_ok()
             {
                 made = true;

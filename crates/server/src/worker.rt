@@ -4,6 +4,7 @@ ghost use Rattle.http_api.specs.Routes.{table};
 
 use crate::pool::Serves;
 use crate::stream::serve_stream;
+use crate::waiting::Patience;
 use answers::{Answers, End};
 use matchit::Router;
 use names::Call;
@@ -32,7 +33,7 @@ impl<'a, A: Answers> Serves for Worker<'a, A> {
 
     ghost served = { λ s end t. Attended A.step s.answers end t.answers };
 
-    fn serve(&mut self, alloc: Global, stream: &TcpStream) -> End {
-        serve_stream(alloc, self.routes, stream, &mut self.answers)
+    fn serve<P: Patience>(&mut self, alloc: Global, stream: &TcpStream, patience: &P) -> End {
+        serve_stream(alloc, self.routes, stream, patience, &mut self.answers)
     }
 }

@@ -1,20 +1,19 @@
 //! The transactions: a store is created, written, configured or trimmed whole or not at all.
-ghost use Rattle.std.specs.Prelude.{◌≡◌, ◌^◌, ◌<◌, ◌≤◌, ◌*◌, ◌≢◌, length, false, IsTrue, OnOk, OnErr, Err};
+ghost use Rattle.std.specs.Prelude.{◌≡◌, ◌^◌, ◌<◌, ◌≤◌, ◌*◌, length, false, IsTrue, OnOk, OnErr, Err};
 ghost use Rattle.sqlite.specs.declared.error.Error.TheVariants.{SqliteFailure};
 ghost use Rattle.sqlite.specs.declared.error.ErrorCode.TheVariants.{NameTaken};
-ghost use Rattle.sqlite_tables.specs.Format.{no_schema};
 ghost use Rattle.sqlite_tables.specs.Numbered.{span_rowid};
 ghost use Rattle.sqlite_tables.specs.Steps.{Changes, Makes, RunsOpen, IsQuiet, Stores, Undoes, LeavesAtMost, HasNone, HasNew, after_event, after_events, after_write, after_configure, after_drop, after_trim};
 ghost use Rattle.sqlite_tables.specs.Leaves.{HoldsNew, IsBlank, MayLeaveNew, LeavesAtMostNew};
 ghost use Rattle.sqlite_tables.specs.Caused.{IsCaused, IsCausedInside, CanApply, CanTake, CanConfigure, CanDrop};
 
+use crate::format::is_blank;
 use crate::statement::{
     close_span, delete_configs, delete_spans, init_state, insert_config, insert_span, make_config,
     make_row, make_state, set_value,
 };
 use crate::stored::{SpanChange, StoredEvent};
 use sqlite::{Alter, Connection, Error, ErrorCode, Transaction};
-use sqlite_schema::schema::Schema;
 
 // Does the event at this place of its commit.
 fn apply_event<S: Alter>(
@@ -172,14 +171,6 @@ fn make_store<S: Alter>(conn: &mut Connection<S>, number: u64) -> Result<(), Err
     Ok(())
 }
 
-// Whether there is no table, index or view.
-fn is_blank(schema: &Schema) -> bool
-    ensures yes { IsTrue result → schema.now ≡ no_schema }
-    ensures no { result ≡ false → schema.now ≢ no_schema }
-{
-    schema.tables.len() == 0 && schema.indexes.len() == 0 && schema.views.len() == 0
-}
-
 /// Makes the tables of a store that has this number and no commit. Where there is a table, an index or a view
 /// already it is refused as [`ErrorCode::NameTaken`].
 pub fn create<S: Alter>(conn: &mut Connection<S>, number: u64) -> Result<(), Error>
@@ -193,7 +184,7 @@ pub fn create<S: Alter>(conn: &mut Connection<S>, number: u64) -> Result<(), Err
     ensures crash { LeavesAtMostNew S.Store conn.old conn.new number }
     ensures caused { IsCaused S.Store conn.old conn.new result HasNone }
 {
-    if !is_blank(conn.schema()) {
+    if !is_blank(conn) {
         return Err(Error::SqliteFailure(ErrorCode::NameTaken));
     }
     make_store(conn, number)

@@ -10,6 +10,7 @@ ghost use Rattle.sqlite.specs.State.{IsLive};
 ghost use Rattle.sqlite.specs.Held.{state};
 ghost use Rattle.sqlite_value.specs.Keys.{plain};
 ghost use Rattle.sqlite_tables.specs.Format.{IsBare, HasKey, HasRowidKey, index_of, required, schema, row_table, config_table, state_table, row_index, state_index};
+ghost use Rattle.sqlite_tables.specs.Leaves.{IsBlank};
 ghost use Rattle.sqlite_tables.specs.Reading.{HasFormat};
 
 use sqlite::{Alter, Connection};
@@ -358,4 +359,13 @@ pub fn is_format<S: Alter>(conn: &Connection<S>) -> bool
     ensures live { IsLive (state S.Store conn.now) }
 {
     is_schema(conn.schema())
+}
+
+/// Whether there is no table, index or view, so that the tables of a store can be made.
+pub fn is_blank<S: Alter>(conn: &Connection<S>) -> bool
+    ensures yes { IsTrue result → IsBlank S.Store conn.now }
+    ensures no { result ≡ false → ¬ (IsBlank S.Store conn.now) }
+{
+    let found = conn.schema();
+    found.tables.len() == 0 && found.indexes.len() == 0 && found.views.len() == 0
 }

@@ -13,7 +13,7 @@ mod statement;
 mod stored;
 
 pub use commit::{configure, create, trim, write};
-pub use format::is_format;
+pub use format::{is_blank, is_format};
 pub use loading::load;
 pub use probe::{Probe, ask};
 pub use stored::{

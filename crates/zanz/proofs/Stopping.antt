@@ -25,10 +25,10 @@ module _ {R W D : Type 0} {g : disk.Ghosts D} (image : Image) (remaining : R →
   StoppedBy fault task = StoppedOf image task fault remaining (reader, writer) (reader_after, writer_after) left
 
   module _ (place : Place) where
-    pub done_service : (task : Task) (port : ℕ) (workers : Option ℕ) → task ≡ Serve place port workers → reader_after ≡ reader → Announced port writer writer_after → left ≡ Err None → Done task
+    pub done_service : (task : Task) (port : ℕ) (workers : ℕ) → task ≡ Serve place port workers → reader_after ≡ reader → Announced port writer writer_after → left ≡ Err None → Done task
     done_service task port workers is same announced none = subst Done (sym is) (same, announced, none)
 
-    pub service_stops : (task : Task) (port : ℕ) (workers : Option ℕ) (fault : Fault) → task ≡ Serve place port workers → reader_after ≡ reader → StoppedServing port fault writer writer_after → left ≡ Err None → StoppedBy fault task
+    pub service_stops : (task : Task) (port : ℕ) (workers : ℕ) (fault : Fault) → task ≡ Serve place port workers → reader_after ≡ reader → StoppedServing port fault writer writer_after → left ≡ Err None → StoppedBy fault task
     service_stops task port workers fault is same stopped none = subst (StoppedBy fault) (sym is) (same, stopped, none)
 
     pub done_run : (task : Task) → task ≡ Run place → RanAt image all_lines place remaining (reader, writer) (reader_after, writer_after) left → Done task

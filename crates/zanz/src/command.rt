@@ -6,18 +6,18 @@ ghost use Rattle.command_line.specs.declared.fault.Fault.TheVariants.{Refused};
 ghost use Rattle.command_line.specs.Faults.{IsRunFault, IsLineFault};
 ghost use Rattle.command_line.specs.Words.{asks_to_serve, OnServe};
 ghost use Rattle.runs.specs.Runs.{is_read_fault, is_write_fault};
-ghost use Rattle.zanz.specs.Listening.{Announced, NotAnnounced, StoppedServing};
+ghost use Rattle.zanz.specs.Listening.{Announced, IsStartFault, NotAnnounced, StoppedServing};
 ghost use Rattle.zanz.specs.Ran.{AreWhole, RanAt, RefusedAt, Reported, StoppedReport, IsReport, DoneOf, StoppedOf, Obeyed, Stopped, all_lines, whole_lines, first_lines};
 ghost use Rattle.zanz.specs.Telling.{Tells};
 
-use crate::listening::serve;
+use crate::listening::{see_port, serve};
 use crate::place::{is_number, is_there};
-use crate::sharing::{share, share_over, workers_of_machine};
+use crate::sharing::{share, share_over};
 use crate::telling::tell;
 use command_line::{Fault, Place, Task, read_file, report_of, task_of};
 use keeper::Answering;
 use names::Refusal;
-use runs::{Left, open_in, run, run_in, tables_in};
+use runs::{Left, find_blank, open_in, run, run_in, tables_in};
 use sqlite::Start;
 use std::alloc::Global;
 use std::env::Args;
@@ -101,6 +101,32 @@ fn run_at<P: Start, H: Wait + Drop, R: Read, W: Write>(
     }
 }
 
+// Sees that a new store can be made in a file and served on a port, and gives back what says what the file holds. Where the
+// port cannot be had, what stands in the way of the store is still told first; it is not made, so that another port can be tried.
+fn see_new<P: Start, N: Net<Listener = TcpListener, Stream = TcpStream>>(
+    rt: &HostRuntime,
+    net: &N,
+    file: &str,
+    store: u64,
+    port: u16,
+    start: P,
+) -> Result<P, Fault>
+    ensures number { OnOk result ((1 ≤ store) × (store < 2 ^ 63)) }
+    ensures same { IfOk result (λ given. given ≡ start) }
+    ensures err { IfErr result IsStartFault }
+{
+    if !is_number(store) {
+        return Err(Fault::Refused(Refusal::StoreFault));
+    }
+    if see_port(net, port).is_ok() {
+        return Ok(start);
+    }
+    match find_blank(rt, file, start) {
+        Ok(_) => Err(Fault::CannotListen),
+        Err((fault, _)) => Err(fault),
+    }
+}
+
 // Serves connections from the store at a place, one after the other, from a desk of its own. `start` says what its file
 // holds.
 fn serve_alone_at<
@@ -132,9 +158,7 @@ fn serve_alone_at<
             }
         }
         Place::New { file, store } => {
-            if !is_number(*store) {
-                return Err(Fault::Refused(Refusal::StoreFault));
-            }
+            let start = see_new(rt, net, file.as_str(), *store, port, start)?;
             let mut answering = match open_in(rt, wait, file.as_str(), Some(*store), start) {
                 Ok(answering) => answering,
                 Err((fault, _)) => return Err(fault),
@@ -211,9 +235,7 @@ fn serve_shared_at<
             share(alloc, net, wait, tables, port, workers, writer)
         }
         Place::New { file, store } => {
-            if !is_number(*store) {
-                return Err(Fault::Refused(Refusal::StoreFault));
-            }
+            let start = see_new(rt, net, file.as_str(), *store, port, start)?;
             share_in(
                 rt,
                 wait,
@@ -243,7 +265,7 @@ fn serve_shared_at<
     }
 }
 
-// Serves connections from the store at a place, by as many workers as are named, or else as the machine has processors.
+// Serves connections from the store at a place, by so many workers.
 fn serve_at<
     P: Start + Send,
     H: Wait + Drop + Send,
@@ -255,7 +277,7 @@ fn serve_at<
     net: &N,
     place: &Place,
     port: u16,
-    workers: Option<u64>,
+    workers: u64,
     start: P,
     writer: &mut TrackedWriter<W>,
 ) -> Result<(), Fault>
@@ -265,10 +287,6 @@ fn serve_at<
     ensures line { IfErr result (λ fault. fault ≢ Fault.CommandLine) }
     ensures failed { IfErr result (λ fault. StoppedServing port fault writer.old writer.new) }
 {
-    let workers = match workers {
-        Some(workers) => workers,
-        None => workers_of_machine(net),
-    };
     if workers == 1 {
         match serve_alone_at(rt, wait, net, place, port, start, writer) {
             Ok(()) => Ok(()),

@@ -12,7 +12,7 @@ use keeper::Answering;
 use matchit::Router;
 use names::{Call, Refusal};
 use runs::talk;
-use server::{sides_of, take_leave};
+use server::{Arrivals, Patience, Peer, sides_of, take_leave};
 use std::alloc::{AllocError, Global};
 use std::io::Write;
 use std::net::{Ipv4Addr, Net, TcpListener, TcpStream};
@@ -56,6 +56,19 @@ fn bind<N: Net<Listener = TcpListener, Stream = TcpStream>>(
     }
 }
 
+/// Sees that a port of this machine's own address can be listened on.
+pub(crate) fn see_port<N: Net<Listener = TcpListener, Stream = TcpStream>>(
+    net: &N,
+    port: u16,
+) -> Result<(), Fault>
+    ensures cause { IfErr result (λ fault. fault ≡ Fault.CannotListen) }
+{
+    match bind(net, port) {
+        Ok(_) => Ok(()),
+        Err(fault) => Err(fault),
+    }
+}
+
 /// Listens on a port of this machine's own address, 0 for one that is free, and says so.
 pub(crate) fn listen<N: Net<Listener = TcpListener, Stream = TcpStream>, W: Write>(
     alloc: Global,
@@ -79,17 +92,19 @@ pub(crate) fn listen<N: Net<Listener = TcpListener, Stream = TcpStream>, W: Writ
     Ok(listener)
 }
 
-// Serves one connection.
-fn serve_stream<T: Tables + Drop, H: Wait + Drop>(
+// Serves one connection, as patiently as it may.
+fn serve_stream<T: Tables + Drop, H: Wait + Drop, P: Patience>(
     alloc: Global,
     routes: &Router<Call>,
     answering: &mut Answering<T, H>,
     stream: &TcpStream,
+    patience: &P,
 ) -> End
     requires { routes.now ≡ table }
     ensures { StaysServing T.Tables answering.old answering.new }
 {
-    match sides_of(alloc, stream) {
+    let peer = Peer::new(stream, patience);
+    match sides_of(alloc, &peer) {
         Some((mut reader, mut writer)) => {
             talk(alloc, routes, answering, &mut reader, &mut writer)
         }
@@ -97,24 +112,38 @@ fn serve_stream<T: Tables + Drop, H: Wait + Drop>(
     }
 }
 
-// Serves one connection after another. However one of them ends, the next is served.
-fn serve_each<T: Tables + Drop, H: Wait + Drop>(
+// Serves the next connection, as patiently as it may. Where none can be had there is a pause.
+fn serve_next<T: Tables + Drop, H: Wait + Drop>(
     rt: &HostRuntime,
-    listener: &TcpListener,
+    arrivals: &Arrivals<'_, HostRuntime>,
     routes: &Router<Call>,
     answering: &mut Answering<T, H>,
 )
     requires { routes.now ≡ table }
     ensures { StaysServing T.Tables answering.old answering.new }
 {
-    for stream in listener.incoming() {
-        match stream {
-            Ok(stream) => {
-                let end = serve_stream(rt.alloc(), routes, answering, &stream);
-                take_leave(&stream, end);
-            }
-            Err(_) => thread::sleep(rt, Duration::from_millis(PAUSE)),
-        }
+    let Ok(stream) = arrivals.next() else {
+        thread::sleep(rt, Duration::from_millis(PAUSE));
+        return;
+    };
+    let end = serve_stream(rt.alloc(), routes, answering, &stream, arrivals);
+    take_leave(&stream, end, arrivals);
+}
+
+// Serves one connection after another. However one of them ends, the next is served. One of which nothing comes is given up
+// once another waits.
+fn serve_each<'a, T: Tables + Drop, H: Wait + Drop>(
+    rt: &'a HostRuntime,
+    listener: &'a TcpListener,
+    routes: &Router<Call>,
+    answering: &mut Answering<T, H>,
+)
+    requires { routes.now ≡ table }
+    ensures { StaysServing T.Tables answering.old answering.new }
+{
+    let arrivals = Arrivals::new(rt, listener);
+    for _ in 0..u64::MAX {
+        serve_next(rt, &arrivals, routes, answering);
     }
 }
 

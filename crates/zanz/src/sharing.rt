@@ -1,10 +1,9 @@
 //! Listening for connections, and serving them by many workers.
 ghost use Rattle.std.specs.Prelude.{◌≡◌, ◌≢◌, true, false, IfErr, OnOk};
-ghost use Rattle.command_line.specs.Words.{AreWorkers};
 ghost use Rattle.zanz.specs.Listening.{Announced, StoppedServing};
 
 use crate::listening::listen;
-use command_line::{Fault, MAX_WORKERS};
+use command_line::Fault;
 use front::{Gate, Keeper};
 use published::{Naming, Opened};
 use server::run;
@@ -14,27 +13,11 @@ use std::io::Write;
 use std::marker::Brand;
 use std::net::{Net, TcpListener, TcpStream};
 use std::sync::Wait;
-use std::thread;
 use std::thread::Threads;
 use std::time::Clock;
 use store::Store;
 use tables::Tables;
 use tracked_io::TrackedWriter;
-
-// How many workers there are where it is not known how many processors.
-const SOME_WORKERS: u64 = 4;
-
-/// How many workers serve where none is named: as many as there are processors.
-pub fn workers_of_machine<R: Threads>(rt: &R) -> u64
-    ensures { AreWorkers result }
-{
-    match thread::available_parallelism(rt) {
-        Ok(count) => u64::try_from(count.get())
-            .unwrap_or(MAX_WORKERS)
-            .clamp(1, MAX_WORKERS),
-        Err(_) => SOME_WORKERS,
-    }
-}
 
 // A gate that takes each connection, until the process is stopped.
 struct AlwaysOpen;
