@@ -1,4 +1,5 @@
 """Which wrong bodies are to be tried: what the verdict on each rests on, and .ci/refused.txt, where those that were seen refused stand."""
+import collections
 import enum
 import functools
 import hashlib
@@ -24,6 +25,8 @@ OF_A_FUNCTION = re.compile(r"proofs/.+/(Answers|Invariants|Proof)\.antt")
 MODULES = re.compile(r"(?m)^(pub )?mod \w+$\n?")
 # A landing tries one of so many parts of all wrong bodies, whatever their standing.
 PARTS = 8
+# Of the wrong bodies of one function a landing draws so many, since only one stands in a check.
+OF_ONE = 3
 # A verdict is believed at so many gates after it was seen.
 BELIEVED = 16
 # A line of .ci/refused.txt.
@@ -185,4 +188,14 @@ def drawn(lot, numbers):
         if left > 0:
             left -= numbers[it]
             found.add(it)
+    return found
+
+
+def few(lot, edits):
+    """Returns those of a drawn crate's wrong bodies that are tried, also those that need not be: of each function at most three, by the same text."""
+    taken, found = collections.Counter(), []
+    for it in sorted(edits, key=lambda edit: sum_of([lot, edit.label])):
+        if all(taken[place] < OF_ONE for place in it.places()):
+            taken.update(it.places())
+            found.append(it)
     return found

@@ -1,13 +1,15 @@
 #!/usr/bin/env python3
-"""What makes a wrong body one that must be tried, or that is due, on two small crates of which nothing is proved; which crates are drawn; and how
-many processors a check may take."""
+"""What makes a wrong body one that must be tried, or that is due, on two small crates of which nothing is proved; which crates are drawn, and
+which of their wrong bodies; how many processors a check may take; and how a stamp is made."""
 import os
 import sys
 import tempfile
+import types
 import unittest
 
 sys.dont_write_bytecode = True
-from known import BELIEVED, PARTS, Basis, Key, Known, Standing, drawn
+from known import BELIEVED, OF_ONE, PARTS, Basis, Key, Known, Standing, drawn, few
+from rt_ci import read_once
 from sources import rtlib
 from trials import Wrong
 from wrong_bodies import BUILD, FIRST, LATER, Lanes
@@ -174,6 +176,16 @@ class Drawn(unittest.TestCase):
         self.assertEqual(drawn("lot 1", numbers), each[1])
         self.assertEqual(drawn("lot 1", {}), set())
 
+    def test_of_each_function_some_are_tried_and_each_by_some_lot(self):
+        edit = lambda name, *places: types.SimpleNamespace(label=name, places=lambda: {*places})
+        edits = [*(edit(f"one_{it}", "one") for it in range(OF_ONE + 4)), edit("two", "two"), edit("a constant")]
+        each = [{it.label for it in few(f"lot {lot}", edits)} for lot in range(60)]
+        self.assertEqual({sum(it.startswith("one") for it in found) for found in each}, {OF_ONE})
+        self.assertTrue(all({"two", "a constant"} <= found for found in each))
+        self.assertEqual(set().union(*each), {it.label for it in edits})
+        both = few("lot 1", [edit(f"both_{it}", "one", "two") for it in range(OF_ONE + 1)])
+        self.assertEqual(len(both), OF_ONE)
+
 
 class Shares(unittest.TestCase):
     def test_a_trial_takes_one_processor_unless_few_are_left(self):
@@ -186,6 +198,31 @@ class Shares(unittest.TestCase):
         self.assertEqual(shares(), [4, 4, 4])
         lanes.is_beside = True
         self.assertEqual(shares(), [2, 1, 1])
+
+
+class Stamps(unittest.TestCase):
+    def test_a_stamp_reads_each_crate_once_and_the_next_stamp_anew(self):
+        class Crate:
+            read = []
+            text = "1"
+
+            def __init__(self, name, *deps):
+                self.name, self.deps = name, deps
+
+            def stamp(self):
+                self.read.append(self.name)
+                return [self.name, self.text, *[it.stamp() for it in self.deps]]
+
+        low = Crate("low")
+        middle = Crate("middle", low)
+        high = Crate("high", low, middle)
+        wanted = high.stamp()
+        self.assertEqual(Crate.read.count("low"), 2)
+        Crate.stamp, Crate.read = read_once(Crate.stamp), []
+        self.assertEqual(high.stamp(), wanted)
+        self.assertEqual(sorted(Crate.read), ["high", "low", "middle"])
+        Crate.text = "2"
+        self.assertNotEqual(high.stamp(), wanted)
 
 
 if __name__ == "__main__":

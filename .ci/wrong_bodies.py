@@ -21,9 +21,9 @@ Which are tried. .ci/refused.txt has a line for each that was seen refused, with
          how edits are judged, or the kit. It is tried with --due
   held   nothing has changed. It is tried with --all alone, and read and applied always
 
-With --minutes, as in the gate, no check begins after so many, or fifteen more for what must be tried: one of these that was not fails. Beside these, all
-edits of so many crates are tried as have an eighth of all. A checksum of all that the verdicts rest on draws them: another
-eighth at each landing, and nobody chooses. An edit that is refused gets its line, and one that is not loses it.
+With --minutes, as in the gate, no check begins after so many, or forty-five more for what must be tried: one of these that was not fails. Beside these,
+edits of so many crates are tried as have an eighth of all, and of each function at most three, since each further one costs a whole check. A checksum
+of all that the verdicts rest on draws them: another eighth at each landing, and nobody chooses. An edit that is refused gets its line, and one that is not loses it.
 
 How they are tried. What the proof of another function reads of a function is its contract, not its body. So the edits
 of a crate stand side by side in one copy of it, at most one for each function (or for each cycle of calls, which has
@@ -67,7 +67,8 @@ import time
 import traceback
 
 sys.dont_write_bytecode = True
-from known import Basis, Known, Standing, drawn, sum_of
+from known import Basis, Known, Standing, drawn, few, sum_of
+from rt_ci import read_once
 from sources import rt, rtlib, text_of
 from trials import MOST_JOBS, Trial, Wrong
 
@@ -81,7 +82,7 @@ RESERVE, FILLING = 4_000_000_000, 60
 # In which order checks begin: those of a library that is built by hand, of edits that must be tried, and of others.
 BUILD, FIRST, LATER = range(3)
 # For how many minutes more than the others a check of what must be tried may begin.
-MORE = 15
+MORE = 45
 
 
 class Voice:
@@ -395,13 +396,16 @@ class Run:
         self.refused.keep(keys)
         self.refused.gates += given.follow
         numbers = {it.crate.name: len(it.edits) for it in wrongs if it.edits}
-        chosen = drawn(sum_of(keys), numbers) if given.minutes is not None else set()
+        lot = sum_of(keys)
+        chosen = drawn(lot, numbers) if given.minutes is not None else set()
         most = Standing.HELD if given.all else Standing.DUE if given.due else Standing.MUST
         for wrong in wrongs:
             for it in wrong.edits:
                 it.key = keys.get(it.label)
                 it.standing = self.refused.standing(it.label, it.key)
-                is_tried = not it.verdict and (it.standing <= most or wrong.crate.name in chosen)
+            also = few(lot, wrong.edits) if wrong.crate.name in chosen else []
+            for it in wrong.edits:
+                is_tried = not it.verdict and (it.standing <= most or it in also)
                 it.turn = (FIRST if it.standing == Standing.MUST else LATER) if is_tried else None
         wrongs = [it for it in wrongs if not given.crates or it.crate.name in given.crates]
         found = [it.standing for wrong in wrongs for it in wrong.edits]
@@ -438,6 +442,7 @@ def try_all(given, since, room):
         sys.exit(f"wrong_bodies: there is no crate {', '.join(sorted(unknown))}")
     # (held till the end, so that no other rt changes the libraries; rt ci holds them where it is followed)
     held = None if given.follow else rtlib.lock(every)
+    rtlib.Crate.stamp = read_once(rtlib.Crate.stamp)
     # (the first call sets a signal's handler, which only the main thread may)
     rtlib.guarded()
     for it in every if given.follow else []:
