@@ -9,7 +9,7 @@ import unittest
 
 sys.dont_write_bytecode = True
 from known import BELIEVED, OF_ONE, PARTS, Basis, Key, Known, Standing, drawn, few
-from rt_ci import read_once
+from rt_once import read_once
 from sources import rtlib
 from trials import Wrong
 from wrong_bodies import BUILD, FIRST, LATER, Lanes

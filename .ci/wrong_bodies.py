@@ -68,7 +68,7 @@ import traceback
 
 sys.dont_write_bytecode = True
 from known import Basis, Known, Standing, drawn, few, sum_of
-from rt_ci import read_once
+from rt_once import read_once
 from sources import rt, rtlib, text_of
 from trials import MOST_JOBS, Trial, Wrong
 

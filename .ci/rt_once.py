@@ -1,13 +1,12 @@
 #!/usr/bin/env python3
-"""rt ci, which reads each crate once for a stamp.
+"""rt, but that it reads each crate once for a stamp.
 
-usage: .ci/rt_ci.py
+usage: .ci/rt_once.py WORDS..    as rt WORDS.., in the folder in which that is called
 
 A crate's stamp is a sum of its files and of the stamps of the crates below it. rt makes these anew for each way down to a crate: over 60,000 ways from
-`server`, which took minutes of the longest chain, twice. Here each is made once for the stamp that asks for it: the value is the same, and no stamp is kept for
-the next. All else is rt's own.
+`server`, which takes minutes of each call of rt above it. Here each is made once for the stamp that asks for it: the value is the same, and no stamp is kept
+for the next. All else is rt's own.
 """
-import os
 import sys
 import threading
 
@@ -34,11 +33,6 @@ def read_once(stamp):
     return stamp_of
 
 
-def main():
-    os.chdir(os.path.dirname(os.path.dirname(os.path.realpath(__file__))))
-    rtlib.Crate.stamp = read_once(rtlib.Crate.stamp)
-    return rt.main(["ci"])
-
-
 if __name__ == "__main__":
-    sys.exit(main())
+    rtlib.Crate.stamp = read_once(rtlib.Crate.stamp)
+    sys.exit(rt.main(sys.argv[1:]))
