@@ -4,14 +4,14 @@ use Rattle.std.specs.Prelude.{not, ◌&&◌}
 use Rattle.std.proofs.lemmas.Bool.Decides.{nat_tests}
 use Rattle.std.proofs.lemmas.List.Elements.{All-nil, All-cons}
 use mathlib.Core.Bool.{true≢false}
-use Rattle.shown.specs.declared.answer.Answer.{Answer}
 use Rattle.shown.specs.declared.answer.Refused.{Refused}
+use Rattle.shown.specs.declared.question.Question.{Question}
+use Rattle.shown.specs.declared.question.Told.{Told}
 use Rattle.shown.specs.declared.step.Step.{Step}
 use Rattle.shown.specs.declared.step.Step.TheVariants.{Take, Trim, Marking as MarkingStep, Rebase}
 use Rattle.publication.specs.declared.event.Event.{Event}
 use Rattle.publication.specs.declared.event.Event.TheVariants.{Stored, Posted, Published, Entered, Notified}
 use Rattle.publication.specs.declared.event.Posting.TheVariants.{Opening, NextCommit, Taking, Trimming, Marking as MarkingPosted, Rebasing}
-use Rattle.publication.specs.declared.event.Question.{Question}
 use Rattle.publication.specs.declared.event.Outcome.{Outcome}
 use Rattle.publication.specs.declared.event.Outcome.TheVariants.{No, Done, Answered}
 use Rattle.publication.specs.World.{State, start, has_begun, next_step, can_come, after_coming, after_event, IsComing, HasOutcome, IsReply, Happening, published_steps}
@@ -110,7 +110,7 @@ is_no Done = false
 is_no (Answered steps reply) = false
 
 -- an answer comes by what is published
-answered : (s : State) (seat : ℕ) (question : Question) (steps : ℕ) (reply : Result (Answer Bool) Refused) → HasOutcome s (Entered seat question) (Answered steps reply)
+answered : (s : State) (seat : ℕ) (question : Question) (steps : ℕ) (reply : Result Told Refused) → HasOutcome s (Entered seat question) (Answered steps reply)
     → (steps ≡ s.shown) × IsReply (published_steps s) question reply
 answered s seat question steps reply has = by_test (can_come s (Entered seat question)) refl
   where

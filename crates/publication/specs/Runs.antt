@@ -7,14 +7,14 @@ use Rattle.rows.specs.Retained.{Retained, IsRetained, after_trim}
 use Rattle.rows.specs.Loads.{retained_of}
 use Rattle.shown.specs.Standing.{nothing_kept, standing}
 use Rattle.meaning.specs.History.{History}
-use Rattle.shown.specs.declared.answer.Answer.{Answer}
 use Rattle.shown.specs.declared.answer.Refused.{Refused}
+use Rattle.shown.specs.declared.question.Question.{Question}
+use Rattle.shown.specs.declared.question.Told.{Told}
 use Rattle.shown.specs.declared.step.Step.{Step}
 use Rattle.rows.specs.declared.loaded.Loaded.{Loaded}
 use Rattle.shown.specs.declared.step.Step.TheVariants.{Open, Commit, Take, Trim, Marking, Rebase}
 use Rattle.publication.specs.declared.event.Event.{Event}
 use Rattle.publication.specs.declared.event.Event.TheVariants.{Entered, Notified}
-use Rattle.publication.specs.declared.event.Question.{Question}
 use Rattle.publication.specs.declared.event.Outcome.{Outcome}
 use Rattle.publication.specs.declared.event.Outcome.TheVariants.{Done, Answered}
 use Rattle.publication.specs.World.{State, start, after_event, HasOutcome, IsReply, Happening, published_steps}
@@ -46,7 +46,7 @@ KnowsNoMore seat run steps = All (λ h. known_by seat h.event h.outcome ≤ step
 abbrev pub AnswersRise : List Happening → ℕ → Question → Type 0
 AnswersRise run seat question =
     let s = after_events start (map (λ h. h.event) run) in
-    (steps : ℕ) (reply : Result (Answer Bool) Refused)
+    (steps : ℕ) (reply : Result Told Refused)
     → IsRun start run → HasOutcome s (Entered seat question) (Answered steps reply)
     → IsReply (take steps s.posted) question reply
     × (steps ≤ length s.posted) × KnowsNoMore seat run steps

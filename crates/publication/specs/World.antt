@@ -17,21 +17,20 @@ use Rattle.rows.specs.Retained.{Retained, newest, newest_of, spans_of, with_comm
 use Rattle.rows.specs.Loads.{retained_of}
 use Rattle.rows.specs.Follows.{commit_cause}
 use Rattle.rows.specs.declared.loaded.Loaded.{Loaded}
-use Rattle.shown.specs.declared.answer.Answer.{Answer}
 use Rattle.shown.specs.declared.answer.Refused.{Refused}
+use Rattle.shown.specs.declared.question.Question.{Question}
+use Rattle.shown.specs.declared.question.Told.{Told}
 use Rattle.shown.specs.declared.step.Step.{Step}
 use Rattle.shown.specs.declared.step.Step.TheVariants.{Open, Commit, Take, Trim, Marking as MarkingStep, Rebase}
 use Rattle.publication.specs.declared.event.Event.{Event}
 use Rattle.publication.specs.declared.event.Event.TheVariants.{Stored, Posted, Published, Entered, Notified}
 use Rattle.publication.specs.declared.event.Posting.TheVariants.{Opening, NextCommit, Taking, Trimming, Marking as MarkingPosted, Rebasing}
-use Rattle.publication.specs.declared.event.Question.{Question}
-use Rattle.publication.specs.declared.event.Question.TheVariants.{Check}
 use Rattle.publication.specs.declared.event.Outcome.{Outcome}
 use Rattle.publication.specs.declared.event.Outcome.TheVariants.{No, Done, Answered}
 use Rattle.shown.specs.Standing.{Standing, nothing_kept, standing, base_cause}
 use Rattle.shown.specs.Marks.{marking_cause}
 use Rattle.shown.specs.Raising.{is_in_use}
-use Rattle.shown.specs.Answers.{IsAnswer, IsRefusal}
+use Rattle.shown.specs.Asked.{IsTold, IsRefused}
 
 -- what is stored, the posted steps, and how many of these are published
 pub record State : Type 0 where
@@ -142,10 +141,9 @@ abbrev pub after_event : State → Event → State
 after_event s e = if can_come s e then after_coming s e else s
 
 -- the question is answered or refused by the standing of the steps
-abbrev pub IsReply : List Step → Question → Result (Answer Bool) Refused → Type 0
-IsReply steps (Check consistency node user) (Ok answer) = IsAnswer (standing steps) consistency node user answer
-IsReply steps (Check consistency node user) (Err refused) =
-    IsRefusal (standing steps) consistency node refused × (refused.why ≢ Memory)
+abbrev pub IsReply : List Step → Question → Result Told Refused → Type 0
+IsReply steps question (Ok told) = IsTold (standing steps) question told
+IsReply steps question (Err refused) = IsRefused (standing steps) question refused × (refused.why ≢ Memory)
 
 -- what comes of an event that can come: a question is answered by the standing of the published
 -- steps

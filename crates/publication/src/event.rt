@@ -1,13 +1,12 @@
 //! What can happen to a published state, and what comes of it.
 
 use config::Config;
-use names::{Commit, Marking, Node, Object, Part};
+use names::{Commit, Marking, Part};
 use rows::Loaded;
-use shown::{Answer, Refused};
-use zookie::Consistency;
+use shown::{Question, Refused, Told};
 
 /// One atomic action. A seat is the number of a session.
-#[derive(Debug, Drop)]
+#[derive(Drop)]
 pub enum Event {
     /// A commit is stored.
     Stored(Commit<Config>),
@@ -23,7 +22,7 @@ pub enum Event {
 
 /// Which step is posted. A commit's step has no commit of its own here: it is that of the oldest stored
 /// commit whose step is not posted.
-#[derive(Debug, Drop)]
+#[derive(Drop)]
 pub enum Posting {
     /// The tables were opened.
     Opening(Loaded),
@@ -39,20 +38,13 @@ pub enum Posting {
     Rebasing(u64),
 }
 
-/// What a session asks.
-#[derive(Debug, Drop)]
-pub enum Question {
-    /// Whether the user is a member of the node, and how fresh the answer must be.
-    Check(Consistency, Node, Object),
-}
-
 /// What comes of an event.
-#[derive(Debug, Drop)]
+#[derive(Drop)]
 pub enum Outcome {
     /// It cannot come now. Nothing has changed.
     No,
     /// It came.
     Done,
     /// The question was answered or refused by the standing of so many posted steps.
-    Answered(u64, Result<Answer<bool>, Refused>),
+    Answered(u64, Result<Told, Refused>),
 }

@@ -9,6 +9,6 @@ mod law;
 mod within;
 mod world;
 
-pub use event::{Event, Outcome, Posting, Question};
+pub use event::{Event, Outcome, Posting};
 pub use law::{answers_rise, opens_what_is_within, posts_stored, trims_keep_what_they_retain};
 pub use world::World;

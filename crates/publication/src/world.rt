@@ -6,13 +6,13 @@ ghost use Rattle.publication.specs.declared.event.Posting.TheVariants.{Opening, 
 ghost use Rattle.shown.specs.Standing.{standing, nothing};
 ghost use Rattle.publication.specs.WorldParts.{HaveRoom};
 
-use crate::event::{Event, Outcome, Posting, Question};
+use crate::event::{Event, Outcome, Posting};
 use crate::within::is_within;
 use config::Config;
 use names::limits::MAX_CATCH_UP;
 use names::{Commit, Marking, Part, Refusal};
 use rows::{Loaded, Rows, what_follows_has_room};
-use shown::{Shown, Step};
+use shown::{Question, Shown, Step};
 use std::alloc::{AllocError, Global};
 use std::collections::VecDeque;
 use std::marker::Model;
@@ -211,13 +211,8 @@ impl World {
         if self.shown == 0 {
             return Ok(Outcome::No);
         }
-        let reply = match question {
-            Question::Check(consistency, node, user) => {
-                self.published.check(consistency, node, user)
-            }
-        };
-        match reply {
-            Ok(answer) => Ok(Outcome::Answered(self.shown as u64, Ok(answer))),
+        match self.published.answer(question) {
+            Ok(told) => Ok(Outcome::Answered(self.shown as u64, Ok(told))),
             Err(refused) => match &refused.why {
                 Refusal::Memory => Err(AllocError),
                 _ => Ok(Outcome::Answered(self.shown as u64, Err(refused))),

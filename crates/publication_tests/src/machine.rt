@@ -1,15 +1,19 @@
 //! The pure machine of publication, which no program runs.
 
 use config::Config;
+use leopard::Expr;
 use names::limits::MAX_MARKS;
-use names::{Commit, Items, Marking, Node, Object, Op, OpKind, Part, Refusal, Tuple};
-use publication::{Event, Outcome, Posting, Question, World};
-use rows::{Loaded, events_of};
+use names::{Commit, Items, Marking, Name, Node, Object, Op, OpKind, Part, Refusal, Tuple};
+use publication::{Event, Outcome, Posting, World};
+use rows::{Loaded, Tupleset, events_of};
+use shown::{Depth, Question, Told};
 use std::alloc::Global;
 use tuple_keys::KeptCommit;
+use watch::Namespaces;
 use zookie::{Consistency, Zookie};
 
-const CONFIG: &str = r#"{"namespaces":{"group":{"member":{"types":["user"]}},"user":{}}}"#;
+const CONFIG: &str =
+    r#"{"namespaces":{"group":{"member":{"types":["user"],"indexed":true}},"user":{}}}"#;
 
 const ANN: &str = "group:a#member@user:ann";
 
@@ -62,7 +66,9 @@ fn asked(alloc: Global, world: &mut World) -> Result<Option<(u64, u64, bool)>, R
     let user = Object::parse("user:ann")?;
     let any = Consistency::AtLeast(Zookie { store: 1, rev: 0 });
     match world.event(Event::Entered(7, Question::Check(any, node, user)))? {
-        Outcome::Answered(steps, Ok(answer)) => Ok(Some((steps, answer.rev, answer.value))),
+        Outcome::Answered(steps, Ok(Told::Checked(answer))) => {
+            Ok(Some((steps, answer.rev, answer.value)))
+        }
         _ => Ok(None),
     }
 }
@@ -206,4 +212,78 @@ fn is_seen_at_the_base(alloc: Global) -> bool {
 #[test]
 fn no_base_is_below_the_last(rt: HostRuntime) {
     assert!(rt; is_seen_at_the_base(rt.alloc()));
+}
+
+fn told(world: &mut World, question: Question) -> Result<Option<Told>, Refusal> {
+    match world.event(Event::Entered(7, question))? {
+        Outcome::Answered(3, Ok(told)) => Ok(Some(told)),
+        _ => Ok(None),
+    }
+}
+
+// The tree of ann's group is opened, and its answer is of the newest revision.
+fn has_tree(world: &mut World) -> Result<bool, Refusal> {
+    let node = Node::parse("group:a#member")?;
+    let question = Question::Expand(Consistency::Latest, node, Depth { nodes: 1 });
+    Ok(match &told(world, question)? {
+        Some(Told::Expanded(tree)) => tree.rev == 2,
+        _ => false,
+    })
+}
+
+fn has_page(world: &mut World) -> Result<bool, Refusal> {
+    let asked = Tupleset {
+        namespace: Name::parse("group")?,
+        object: None,
+        relation: None,
+        subject: None,
+        after: None,
+        limit: 9,
+    };
+    let told = told(world, Question::Read(Consistency::Latest, asked))?;
+    Ok(match &told {
+        Some(Told::Found(page)) => page.rev == 2 && page.value.as_slice().len() == 1,
+        _ => false,
+    })
+}
+
+fn has_groups(world: &mut World) -> Result<bool, Refusal> {
+    let expr = Expr::Member2Group(Object::parse("user:ann")?);
+    let told = told(world, Question::Groups(Consistency::Latest, expr, 9))?;
+    Ok(match &told {
+        Some(Told::Grouped(groups)) => groups.rev == 2 && groups.value.as_slice().len() == 1,
+        _ => false,
+    })
+}
+
+fn has_events(world: &mut World) -> Result<bool, Refusal> {
+    let cursor = Zookie { store: 1, rev: 1 };
+    let told = told(world, Question::Watch(cursor, Namespaces::All, 9))?;
+    Ok(match &told {
+        Some(Told::Watched(page)) => page.heartbeat == 2 && page.events.as_slice().len() == 1,
+        _ => false,
+    })
+}
+
+fn has_numbers(world: &mut World) -> Result<bool, Refusal> {
+    Ok(match &told(world, Question::State)? {
+        Some(Told::Numbers(state)) => state.newest == 2 && state.tuples == 1,
+        _ => false,
+    })
+}
+
+fn answers_each(alloc: Global, world: &mut World) -> Result<bool, Refusal> {
+    let seen = is_put_and_taken(alloc, world)? && has_numbers(world)?;
+    let listed = seen && has_tree(world)? && has_page(world)?;
+    Ok(listed && has_groups(world)? && has_events(world)?)
+}
+
+fn is_answered(alloc: Global) -> bool {
+    let mut world = World::new(alloc);
+    answers_each(alloc, &mut world).unwrap_or(false)
+}
+
+#[test]
+fn each_question_is_answered(rt: HostRuntime) {
+    assert!(rt; is_answered(rt.alloc()));
 }
