@@ -1,3 +1,4 @@
+pub mod Asked
 pub mod World
 pub mod WorldParts
 pub mod Runs

@@ -7,5 +7,4 @@ pub mod Expanding
 pub mod Watching
 pub mod Paging
 pub mod Grouping
-pub mod Asked
 pub mod inside

@@ -7,11 +7,9 @@ mod groups;
 mod known;
 mod marks;
 mod members;
-mod question;
 mod shown;
 mod step;
 
 pub use answer::{Answer, Refused};
-pub use question::{Depth, Question, Told};
 pub use shown::Shown;
 pub use step::Step;

@@ -18,8 +18,7 @@ ghost use Rattle.hot.specs.Kept.{IsHot};
 ghost use Rattle.expand.specs.declared.limits.TheConstants.{MAX_DEPTH};
 ghost use Rattle.expand.specs.Causes.{ExpandCause};
 ghost use Rattle.expand.specs.Viewed.{tree_of};
-ghost use Rattle.zookie.specs.Fits.{IsFirstCause};
-ghost use Rattle.shown.specs.Answers.{IsAnswer, IsAskedAt, IsRefusal};
+ghost use Rattle.shown.specs.Answers.{IsAnswer, IsRefusal};
 ghost use Rattle.shown.specs.KeptAnswers.{AreRetainedAnswers};
 ghost use Rattle.shown.specs.Expanding.{IsTreeOf, IsTree, IsTreeRefusal};
 ghost use Rattle.shown.specs.Watching.{IsWatched, WatchRefused};
@@ -30,7 +29,6 @@ ghost use Rattle.leopard.specs.Exprs.{query_of};
 ghost use Rattle.leopard.specs.Groups.{Means};
 ghost use Rattle.leopard.specs.Query.{is_allowed};
 ghost use Rattle.group_index.specs.Indices.{TellsOf};
-ghost use Rattle.shown.specs.Asked.{IsTold, IsRefused};
 ghost use Rattle.shown.specs.Grouping.{AreGroups, IsGroupsRefusal};
 ghost use Rattle.shown.specs.inside.Basing.{AreMarked, IsIndexIn};
 
@@ -39,7 +37,6 @@ use crate::groups::{self, index_later};
 use crate::known::{Known, answers_at};
 use crate::marks::{count_with, remark};
 use crate::members::{members_after, members_later, members_of};
-use crate::question::{Question, Told};
 use crate::step::Step;
 use answer_cache::CachedAnswers;
 use config::Config;
@@ -304,40 +301,6 @@ impl Shown {
         }
     }
 
-    /// The revision at which a question is answered.
-    fn choose(&self, consistency: &Consistency) -> Result<u64, Refusal>
-        ensures asked { IfOk result (IsAskedAt self.now consistency.now) }
-        ensures retained { IfOk result (IsRetained self.now.kept) }
-        ensures err { IfErr result
-            (IsFirstCause consistency.now self.now.kept.number self.now.kept.floor (newest self.now.kept)) }
-    {
-        let newest = self.rows.newest();
-        consistency.judge(self.rows.number(), self.rows.floor(), newest)?;
-        Ok(consistency.choose(newest, self.index))
-    }
-
-    /// What a question is told.
-    pub fn answer(&self, question: &Question) -> Result<Told, Refused>
-        ensures ok { IfOk result (IsTold self.now question.now) }
-        ensures err { IfErr result (IsRefused self.now question.now) }
-    {
-        match question {
-            Question::Check(at, node, user) => Ok(Told::Checked(self.check(at, node, user)?)),
-            Question::Expand(at, node, depth) => {
-                Ok(Told::Expanded(self.expand(at, node, depth.nodes)?))
-            }
-            Question::Read(at, asked) => Ok(Told::Found(self.read(at, asked)?)),
-            Question::Groups(at, expr, limit) => Ok(Told::Grouped(self.groups(at, expr, *limit)?)),
-            Question::Watch(cursor, namespaces, commits) => {
-                match self.watch(cursor, namespaces, *commits) {
-                    Ok(page) => Ok(Told::Watched(page)),
-                    Err(why) => Err(Refused { why, at: None }),
-                }
-            }
-            Question::State => Ok(Told::Numbers(self.state())),
-        }
-    }
-
     /// Whether the user is a member of the node, at the revision that the consistency chooses.
     pub fn check(
         &self,
@@ -378,10 +341,11 @@ impl Shown {
         ensures ok { IfOk result (IsAnswer self.now consistency.now node.now user.now) }
         ensures err { IfErr result (IsRefusal self.now consistency.now node.now) }
     {
-        let rev = match self.choose(consistency) {
-            Ok(rev) => rev,
-            Err(why) => return Err(Refused { why, at: None }),
-        };
+        let newest = self.rows.newest();
+        if let Err(why) = consistency.judge(self.rows.number(), self.rows.floor(), newest) {
+            return Err(Refused { why, at: None });
+        }
+        let rev = consistency.choose(newest, self.index);
         match self.check_at(kept, rev, node, user) {
             Ok(value) => Ok(Answer { rev, value }),
             Err(why) => {
@@ -446,10 +410,11 @@ impl Shown {
         ensures ok { IfOk result (IsTree self.now consistency.now node.now depth) }
         ensures err { IfErr result (IsTreeRefusal self.now consistency.now node.now depth) }
     {
-        let rev = match self.choose(consistency) {
-            Ok(rev) => rev,
-            Err(why) => return Err(Refused { why, at: None }),
-        };
+        let newest = self.rows.newest();
+        if let Err(why) = consistency.judge(self.rows.number(), self.rows.floor(), newest) {
+            return Err(Refused { why, at: None });
+        }
+        let rev = consistency.choose(newest, self.index);
         match self.expand_at(rev, node, depth) {
             Ok(value) => Ok(Answer { rev, value }),
             Err(why) => {
@@ -501,10 +466,11 @@ impl Shown {
         ensures ok { IfOk result (IsPage self.now consistency.now asked.now) }
         ensures err { IfErr result (IsPageRefusal self.now consistency.now) }
     {
-        let rev = match self.choose(consistency) {
-            Ok(rev) => rev,
-            Err(why) => return Err(Refused { why, at: None }),
-        };
+        let newest = self.rows.newest();
+        if let Err(why) = consistency.judge(self.rows.number(), self.rows.floor(), newest) {
+            return Err(Refused { why, at: None });
+        }
+        let rev = consistency.choose(newest, self.index);
         let page = self.rows.at(rev).read(self.alloc, asked);
         match page {
             Ok(tuples) => Ok(Answer {
@@ -538,10 +504,11 @@ impl Shown {
                 at: None,
             });
         }
-        let rev = match self.choose(consistency) {
-            Ok(rev) => rev,
-            Err(why) => return Err(Refused { why, at: None }),
-        };
+        let newest = self.rows.newest();
+        if let Err(why) = consistency.judge(self.rows.number(), self.rows.floor(), newest) {
+            return Err(Refused { why, at: None });
+        }
+        let rev = consistency.choose(newest, self.index);
         match self.groups_at(rev, expr, limit) {
             Ok(groups) => Ok(Answer {
                 rev,

@@ -1,12 +1,12 @@
-//! What is asked of what is shown, and what is told.
+//! What a session asks, and what it is told.
 ghost use Rattle.std.specs.Prelude.{◌≤◌};
 ghost use Rattle.expand.specs.declared.limits.TheConstants.{MAX_DEPTH};
 
-use crate::answer::Answer;
 use expand::Tree;
 use leopard::Expr;
 use names::{Items, Node, Object, State, Tuple};
 use rows::Tupleset;
+use shown::Answer;
 use watch::{Namespaces, Page};
 use zookie::{Consistency, Zookie};
 

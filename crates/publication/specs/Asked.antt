@@ -2,10 +2,10 @@
 use Rattle.std.specs.Prelude.{◌≡◌, None}
 use Rattle.leopard.specs.Exprs.{query_of}
 use Rattle.shown.specs.declared.answer.Refused.{Refused}
-use Rattle.shown.specs.declared.question.Question.{Question}
-use Rattle.shown.specs.declared.question.Question.TheVariants.{Check, Expand, Read, Groups, Watch, State}
-use Rattle.shown.specs.declared.question.Told.{Told}
-use Rattle.shown.specs.declared.question.Told.TheVariants.{Checked, Expanded, Found, Grouped, Watched, Numbers}
+use Rattle.publication.specs.declared.question.Question.{Question}
+use Rattle.publication.specs.declared.question.Question.TheVariants.{Check, Expand, Read, Groups, Watch, State}
+use Rattle.publication.specs.declared.question.Told.{Told}
+use Rattle.publication.specs.declared.question.Told.TheVariants.{Checked, Expanded, Found, Grouped, Watched, Numbers}
 use Rattle.shown.specs.Standing.{Standing, state_of}
 use Rattle.shown.specs.Answers.{IsAnswer, IsRefusal}
 use Rattle.shown.specs.Expanding.{IsTree, IsTreeRefusal}
