@@ -1,11 +1,11 @@
 //! Questions about groups and their members, answered by the index of each revision as its tuples answer them.
 
-use crate::history::{event, history, is_committed};
+use crate::history::{add, are_nodes, events_of, fill};
 use decide::check_at;
 use facts::each_view_is_valid;
 use group_index::{At, GroupIndex};
 use leopard::{Expr, groups_at};
-use names::{Commit, Event, EventKind, Items, Node, Object, Refusal};
+use names::{Event, Node, Object, Refusal};
 use rows::{Rows, View};
 use std::alloc::{AllocError, Global};
 use std::test::Fail;
@@ -14,14 +14,10 @@ use std::test::Fail;
 const TUPLES: &str =
     "group:a#member@group:b#member group:b#member@user:ann group:c#member@user:ann";
 
-fn told(alloc: Global, nodes: &[Node]) -> Result<String, AllocError> {
-    let mut text = String::new(alloc);
-    for node in nodes {
-        let word = format!(in alloc; "{node};")?;
-        text.push_str(word.as_str())?;
-    }
-    Ok(text)
-}
+// The user leaves the second group, which then leads to the third.
+const LEAVES: &str = "-group:b#member@user:ann";
+
+const LEADS: &str = "group:b#member@group:c#member";
 
 // The groups that name the user, among those to which the group leads.
 fn both(alloc: Global, user: &str, group: &str) -> Result<Expr, Refusal> {
@@ -30,27 +26,64 @@ fn both(alloc: Global, user: &str, group: &str) -> Result<Expr, Refusal> {
     Ok(Expr::Intersection(vec![in alloc; direct, closure]?))
 }
 
-// Whether the first so many of these groups are given by the index and by the tuples.
-fn gives(
+// Whether the first so many groups of the expression are these by the index.
+fn by_index(at: &At<'_>, expr: &Expr, limit: u32, wanted: &str) -> Result<bool, Refusal> {
+    let found = at.first_groups(expr, limit)?;
+    are_nodes(&found, wanted)
+}
+
+// And by the tuples.
+fn by_tuples(
     alloc: Global,
-    at: &At<'_>,
     view: &View<'_>,
+    expr: &Expr,
     limit: u32,
     wanted: &str,
 ) -> Result<bool, Refusal> {
-    let expr = both(alloc, "user:ann", "group:a#member")?;
-    let by_index = at.first_groups(&expr, limit)?;
-    let by_tuples = groups_at(alloc, view, &expr, limit)?;
-    Ok(told(alloc, &by_index)?.as_str() == wanted && told(alloc, &by_tuples)?.as_str() == wanted)
+    let found = groups_at(alloc, view, expr, limit)?;
+    are_nodes(&found, wanted)
 }
 
-// Whether the user is a member of these groups: the first one is kept by the index, and of the other nothing is.
-fn is_member(at: &At<'_>, of_first: bool, of_other: bool) -> Result<bool, Refusal> {
+fn give(
+    alloc: Global,
+    at: &At<'_>,
+    view: &View<'_>,
+    expr: &Expr,
+    limit: u32,
+    wanted: &str,
+) -> Result<bool, Refusal> {
+    Ok(by_index(at, expr, limit, wanted)? && by_tuples(alloc, view, expr, limit, wanted)?)
+}
+
+// Whether the groups are these, by the index and by the tuples, and none where none are asked for.
+fn gives(alloc: Global, at: &At<'_>, view: &View<'_>, wanted: &str) -> Result<bool, Refusal> {
+    let expr = both(alloc, "user:ann", "group:a#member")?;
+    let found = give(alloc, at, view, &expr, 9, wanted)?;
+    Ok(found && give(alloc, at, view, &expr, 0, "")?)
+}
+
+// Whether ann is a member of the node, as far as the index knows.
+fn has(at: &At<'_>, node: &str) -> Result<Option<bool>, Refusal> {
+    let node = Node::parse(node)?;
     let user = Object::parse("user:ann")?;
-    let first = at.has(&Node::parse("group:a#member")?, &user);
-    let other = at.has(&Node::parse("group:c#member")?, &user);
-    let owner = at.has(&Node::parse("doc:d#owner")?, &user);
-    Ok(first == Some(of_first) && other == Some(of_other) && owner == None)
+    Ok(at.has(&node, &user))
+}
+
+// Whether ann is a member of the first group, as is said, and of the third: of the first something is kept by the
+// index, and of the other nothing is. Of an owner nothing is known.
+fn is_member(at: &At<'_>, of_first: bool) -> Result<bool, Refusal> {
+    let first = has(at, "group:a#member")? == Some(of_first);
+    let other = has(at, "group:c#member")? == Some(true);
+    Ok(first && other && has(at, "doc:d#owner")? == None)
+}
+
+// The view of a revision, where there is one.
+fn view_at(rows: &Rows, rev: u64) -> Option<View<'_>> {
+    if rows.floor() <= rev && rev <= rows.newest() {
+        Some(rows.at(rev))
+    } else {
+        None
+    }
 }
 
 fn tells(
@@ -61,75 +94,91 @@ fn tells(
     wanted: &str,
     member: bool,
 ) -> Result<bool, Refusal> {
-    if rev < rows.floor() || rows.newest() < rev {
+    let Some(view) = view_at(rows, rev) else {
         return Ok(false);
-    }
+    };
     let Some(at) = index.at(alloc, rev) else {
         return Ok(false);
     };
-    let view = rows.at(rev);
-    Ok(
-        gives(alloc, &at, &view, 9, wanted)?
-            && gives(alloc, &at, &view, 0, "")?
-            && is_member(&at, member, true)?,
-    )
+    Ok(gives(alloc, &at, &view, wanted)? && is_member(&at, member)?)
 }
 
-// The history and the index take one event on a tuple.
-fn takes(
-    alloc: Global,
-    rows: &mut Rows,
-    index: GroupIndex,
-    kind: EventKind,
-    tuple: &str,
-) -> Result<Option<GroupIndex>, Refusal> {
-    let kept = vec![in alloc; event(kind, tuple)?]?;
-    let taken: Vec<Event> = vec![in alloc; event(kind, tuple)?]?;
-    if !is_committed(rows, &Commit::Tuples(Items::of(kept)))? || index.cursor() == u64::MAX {
-        return Ok(None);
+fn tells_each(alloc: Global, index: &GroupIndex, rows: &Rows) -> Result<bool, Refusal> {
+    for (rev, wanted, member) in [
+        (2, "group:b#member", true),
+        (3, "", false),
+        (4, "group:c#member", true),
+    ] {
+        if !tells(alloc, index, rows, rev, wanted, member)? {
+            return Ok(false);
+        }
     }
-    let view = rows.at(rows.newest());
-    Ok(Some(index.take(alloc, &taken, &view)?))
+    Ok(true)
 }
 
-fn followed(alloc: Global, rows: &mut Rows) -> Result<Option<GroupIndex>, Refusal> {
-    let index = {
-        let view = rows.at(rows.newest());
-        GroupIndex::restart(alloc, &view, 2)?
-    };
-    let left = takes(
-        alloc,
-        rows,
-        index,
-        EventKind::Del,
-        "group:b#member@user:ann",
-    )?;
-    let Some(index) = left else {
-        return Ok(None);
-    };
-    takes(
-        alloc,
-        rows,
-        index,
-        EventKind::Put,
-        "group:b#member@group:c#member",
-    )
-}
-
-fn each_revision_is_told(alloc: Global) -> Result<bool, Refusal> {
-    let mut rows = history(alloc, TUPLES)?;
-    let Some(mut index) = followed(alloc, &mut rows)? else {
-        return Ok(false);
-    };
-    let told = tells(alloc, &index, &rows, 2, "group:b#member;", true)?
-        && tells(alloc, &index, &rows, 3, "", false)?
-        && tells(alloc, &index, &rows, 4, "group:c#member;", true)?;
+// A raised index tells of no revision below.
+fn is_raised(alloc: Global, index: &mut GroupIndex, rows: &Rows) -> Result<bool, Refusal> {
     if index.cursor() < 3 {
         return Ok(false);
     }
     index.raise(3);
-    let raised = tells(alloc, &index, &rows, 3, "", false)? && index.at(alloc, 2).is_none();
-    Ok(told && raised)
+    Ok(index.at(alloc, 2).is_none() && tells(alloc, index, rows, 3, "", false)?)
+}
+
+fn is_told(alloc: Global, index: &mut GroupIndex, rows: &Rows) -> Result<bool, Refusal> {
+    Ok(tells_each(alloc, index, rows)? && is_raised(alloc, index, rows)?)
+}
+
+// The index after the commit that gave a revision.
+fn take(
+    alloc: Global,
+    rows: &Rows,
+    index: GroupIndex,
+    events: &[Event],
+    rev: u64,
+) -> Result<GroupIndex, AllocError> {
+    match view_at(rows, rev) {
+        Some(view) if index.cursor() < u64::MAX => index.take(alloc, events, &view),
+        _ => Err(AllocError),
+    }
+}
+
+fn restart(alloc: Global, rows: &Rows, rev: u64) -> Result<GroupIndex, AllocError> {
+    match view_at(rows, rev) {
+        Some(view) => GroupIndex::restart(alloc, &view, rev),
+        None => Err(AllocError),
+    }
+}
+
+// The index of the first tuples, after the two commits that came then.
+fn followed(
+    alloc: Global,
+    rows: &Rows,
+    leaves: &[Event],
+    leads: &[Event],
+) -> Result<GroupIndex, AllocError> {
+    let first = restart(alloc, rows, 2)?;
+    let second = take(alloc, rows, first, leaves, 3)?;
+    take(alloc, rows, second, leads, 4)
+}
+
+fn follows(alloc: Global, rows: &Rows) -> Result<bool, Refusal> {
+    let leaves = events_of(alloc, LEAVES)?;
+    let leads = events_of(alloc, LEADS)?;
+    let mut index = followed(alloc, rows, leaves.as_slice(), leads.as_slice())?;
+    is_told(alloc, &mut index, rows)
+}
+
+fn has_an_index(alloc: Global, rows: &mut Rows) -> Result<bool, Refusal> {
+    fill(alloc, rows, TUPLES)?;
+    add(alloc, rows, LEAVES)?;
+    add(alloc, rows, LEADS)?;
+    follows(alloc, rows)
+}
+
+fn each_revision_is_told(alloc: Global) -> Result<bool, Refusal> {
+    let mut rows = Rows::empty(alloc);
+    has_an_index(alloc, &mut rows)
 }
 
 #[test]
@@ -138,22 +187,31 @@ fn an_index_answers_at_each_revision(rt: HostRuntime) -> Result<(), Fail> {
     Ok(())
 }
 
-fn is_asked(alloc: Global) -> Result<bool, Refusal> {
-    let rows = history(alloc, TUPLES)?;
+fn is_asked(alloc: Global, rows: &Rows, group: &Node, user: &Object) -> Result<bool, Refusal> {
     let view = rows.at(rows.newest());
     each_view_is_valid(&view);
     let mut index = GroupIndex::restart(alloc, &view, 2)?;
     index.rebase(alloc, &view, 2)?;
-    let group = Node::parse("group:a#member")?;
-    let user = Object::parse("user:ann")?;
     match index.at(alloc, 2) {
-        Some(mut at) => check_at(alloc, &view, &mut at, &group, &user),
+        Some(mut at) => check_at(alloc, &view, &mut at, group, user),
         None => Ok(false),
     }
 }
 
+fn asks_the_index(alloc: Global, rows: &mut Rows) -> Result<bool, Refusal> {
+    fill(alloc, rows, TUPLES)?;
+    let group = Node::parse("group:a#member")?;
+    let user = Object::parse("user:ann")?;
+    is_asked(alloc, rows, &group, &user)
+}
+
+fn a_check_is_told(alloc: Global) -> Result<bool, Refusal> {
+    let mut rows = Rows::empty(alloc);
+    asks_the_index(alloc, &mut rows)
+}
+
 #[test]
 fn a_check_asks_the_index(rt: HostRuntime) -> Result<(), Fail> {
-    assert!(rt; is_asked(rt.alloc())?);
+    assert!(rt; a_check_is_told(rt.alloc())?);
     Ok(())
 }

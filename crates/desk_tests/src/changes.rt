@@ -2,12 +2,14 @@
 ghost use Rattle.std.specs.Prelude.{◌≡◌, true};
 
 use config::Config;
-use desk::Desk;
-use names::{Items, Marking, Node, Object, Op, OpKind, Part, Refusal, Tuple, Write};
+use desk::{Desk, Posted};
+use names::{Items, Marking, Node, Object, Op, OpKind, Part, Refusal, State, Tuple, Write};
 use published::{Opened, Receipt, Session, StepPrefix};
 use rows::Loaded;
 use std::alloc::Global;
+use std::process::Abort;
 use std::sync::Wait;
+use std::test::*;
 use tables::{Listed, Puts, Tables, TablesError};
 use tuple_keys::KeptCommit;
 use zookie::{Consistency, Zookie};
@@ -58,6 +60,19 @@ impl Tables for Broken {
     ghost weaker = { λ t rs ss among left. among t.inner left };
 }
 
+// A desk over the tables.
+fn open<A: Abort, T: Tables + Drop, H: Wait + Drop>(
+    rt: &A,
+    alloc: Global,
+    handle: H,
+    tables: T,
+) -> Desk<T, H> {
+    let Ok(desk) = Desk::open(alloc, handle, Opened::new(), tables) else {
+        panic!(rt; "no desk");
+    };
+    desk
+}
+
 fn configure<T: Tables + Drop, H: Wait + Drop>(
     alloc: Global,
     desk: &mut Desk<T, H>,
@@ -69,7 +84,7 @@ fn configure<T: Tables + Drop, H: Wait + Drop>(
 }
 
 // The number of the refusal, or 0.
-fn number_of<A: Drop>(answer: &Result<A, Refusal>) -> u8 {
+fn number_of<A: Drop>(answer: Result<A, Refusal>) -> u8 {
     match answer {
         Ok(_) => 0,
         Err(why) => why.number(),
@@ -81,14 +96,17 @@ const OTHER: Zookie = Zookie { store: 9, rev: 0 };
 
 // Before the fault a catch-up of too many commits is malformed, and a floor of another store is foreign; after it every
 // change is refused with 23.
-fn is_closed_by_fault<H: Wait + Drop>(alloc: Global, desk: &mut Desk<Broken, H>) -> bool {
-    let many = number_of(&desk.catch_up(Part::Hot, 65_537));
-    let foreign = number_of(&desk.trim(OTHER));
+fn is_closed_by_fault<T: Tables + Drop, H: Wait + Drop>(
+    alloc: Global,
+    desk: &mut Desk<T, H>,
+) -> bool {
+    let many = number_of(desk.catch_up(Part::Hot, 65_537));
+    let foreign = number_of(desk.trim(OTHER));
     let worked = !desk.has_failed() && foreign == 12;
-    let fault = number_of(&configure(alloc, desk));
-    let next = number_of(&configure(alloc, desk));
-    let closed = number_of(&desk.catch_up(Part::Hot, 65_537));
-    let kept = number_of(&desk.trim(OTHER)) == 23 && closed == 23;
+    let fault = number_of(configure(alloc, desk));
+    let next = number_of(configure(alloc, desk));
+    let closed = number_of(desk.catch_up(Part::Hot, 65_537));
+    let kept = number_of(desk.trim(OTHER)) == 23 && closed == 23;
     worked && desk.has_failed() && many == 1 && fault == 22 && next == 23 && kept
 }
 
@@ -101,30 +119,28 @@ fn is_at_zero(session: &mut Session) -> bool {
 
 // Sessions go on: of the one that was given before the fault, and of one that is given after it, the newest
 // revision is 0.
-fn faults_close<H: Wait + Drop>(
+fn faults_close<A: Abort, T: Tables + Drop, H: Wait + Drop>(
+    rt: &A,
     alloc: Global,
-    desk: &mut Desk<Broken, H>,
-) -> Result<bool, Refusal> {
-    let mut session = desk.session()?;
-    let closed = is_closed_by_fault(alloc, desk);
-    let mut other = desk.session()?;
-    Ok(closed && is_at_zero(&mut session) && is_at_zero(&mut other))
+    desk: &mut Desk<T, H>,
+) {
+    let mut session = desk.session().expect(rt, "a session");
+    assert!(rt; is_closed_by_fault(alloc, desk));
+    let mut other = desk.session().expect(rt, "a session");
+    assert!(rt; is_at_zero(&mut session) && is_at_zero(&mut other));
 }
 
-fn closes_once<H: Wait + Drop>(alloc: Global, rt: H) -> bool {
+fn closes_once<A: Abort, H: Wait + Drop>(rt: &A, alloc: Global, handle: H) {
     let inner = Listed::new(alloc, 7);
-    match Desk::open(alloc, rt, Opened::new(), Broken { inner, faults: 0 }) {
-        Ok(mut desk) => {
-            let closed = faults_close(alloc, &mut desk).unwrap_or(false);
-            closed && desk.close().faults() == 1
-        }
-        Err(_) => false,
-    }
+    let tables = Broken { inner, faults: 0 };
+    let mut desk = open(rt, alloc, handle, tables);
+    faults_close(rt, alloc, &mut desk);
+    assert!(rt; desk.close().faults() == 1);
 }
 
 #[test]
 fn after_a_fault_changes_are_refused(rt: HostRuntime) {
-    assert!(rt; closes_once(rt.alloc(), &rt));
+    closes_once(&rt, rt.alloc(), &rt);
 }
 
 fn insert_of(alloc: Global, text: &str) -> Result<Write<Zookie>, Refusal> {
@@ -155,90 +171,134 @@ fn finds_ann(session: &mut Session, zookie: Zookie) -> Result<bool, Refusal> {
 }
 
 // The opening, a configuration and a write are three steps.
-fn publishes<H: Wait + Drop>(alloc: Global, desk: &mut Desk<Listed, H>) -> Result<bool, Refusal> {
-    let first = configure(alloc, desk)?;
-    let second = desk.write(insert_of(alloc, "group:a#member@user:ann")?)?;
+fn publishes<A: Abort, T: Tables + Drop, H: Wait + Drop>(
+    rt: &A,
+    alloc: Global,
+    desk: &mut Desk<T, H>,
+) {
+    let write = insert_of(alloc, "group:a#member@user:ann").expect(rt, "a write");
+    let first = configure(alloc, desk).expect(rt, "a configuration");
+    let second = desk.write(write).expect(rt, "a receipt");
     let told = has_steps(first.published_steps(), 2) && has_steps(second.published_steps(), 3);
-    Ok(told && second.zookie() == Zookie { store: 7, rev: 2 } && desk.publish())
+    assert!(rt; told && second.zookie() == Zookie { store: 7, rev: 2 } && desk.publish());
 }
 
-fn begins_empty<H: Wait + Drop>(alloc: Global, rt: H) -> bool {
-    match Desk::open(alloc, rt, Opened::new(), Listed::new(alloc, 7)) {
-        Ok(mut desk) => publishes(alloc, &mut desk).unwrap_or(false),
-        Err(_) => false,
-    }
+fn begins_empty<A: Abort, T: Tables + Drop, H: Wait + Drop>(
+    rt: &A,
+    alloc: Global,
+    handle: H,
+    tables: T,
+) {
+    let mut desk = open(rt, alloc, handle, tables);
+    publishes(rt, alloc, &mut desk);
 }
 
 #[test]
 fn receipts_have_the_list_of_shown_steps(rt: HostRuntime) {
-    assert!(rt; begins_empty(rt.alloc(), &rt));
+    begins_empty(&rt, rt.alloc(), &rt, Listed::new(rt.alloc(), 7));
 }
 
 // A session that learns the receipt of a write finds what was written.
-fn learns<H: Wait + Drop>(alloc: Global, desk: &mut Desk<Listed, H>) -> Result<bool, Refusal> {
-    let mut session = desk.session()?;
-    configure(alloc, desk)?;
-    let receipt = desk.write(insert_of(alloc, "group:a#member@user:ann")?)?;
+fn learns<A: Abort, T: Tables + Drop, H: Wait + Drop>(
+    rt: &A,
+    alloc: Global,
+    desk: &mut Desk<T, H>,
+) {
+    let write = insert_of(alloc, "group:a#member@user:ann").expect(rt, "a write");
+    let mut session = desk.session().expect(rt, "a session");
+    configure(alloc, desk).expect(rt, "a configuration");
+    let receipt = desk.write(write).expect(rt, "a receipt");
     session.learn(&receipt);
-    finds_ann(&mut session, receipt.zookie())
+    assert!(rt; finds_ann(&mut session, receipt.zookie()).expect(rt, "an answer"));
+}
+
+fn took_one(taken: &Posted) -> bool {
+    taken.value == 1 && taken.receipt.zookie().rev == 2
+}
+
+fn is_told(receipt: &Receipt) -> bool {
+    receipt.is_shown() && receipt.zookie() == Zookie { store: 7, rev: 2 }
+}
+
+fn knows_it(state: &State) -> bool {
+    state.index == 1 && state.newest == 2
 }
 
 // A session that was there before is refreshed once the index has taken one commit.
-fn refreshes<H: Wait + Drop>(desk: &mut Desk<Listed, H>) -> Result<bool, Refusal> {
-    let mut session = desk.session()?;
-    let taken = desk.catch_up(Part::Index, 1)?;
+fn refreshes<A: Abort, T: Tables + Drop, H: Wait + Drop>(rt: &A, desk: &mut Desk<T, H>) {
+    let mut session = desk.session().expect(rt, "a session");
+    let taken = desk.catch_up(Part::Index, 1).expect(rt, "a cursor");
     let refreshed = desk.refresh(&mut session);
-    let told = refreshed.is_shown() && refreshed.zookie() == Zookie { store: 7, rev: 2 };
-    let moved = taken.value == 1 && taken.receipt.zookie().rev == 2;
-    let state = session.state()?;
-    Ok(told && moved && state.index == 1 && state.newest == 2)
+    let state = session.state().expect(rt, "a state");
+    assert!(rt; took_one(&taken) && is_told(&refreshed) && knows_it(&state));
 }
 
-fn sessions_learn<H: Wait + Drop>(alloc: Global, rt: H) -> bool {
-    match Desk::open(alloc, rt, Opened::new(), Listed::new(alloc, 7)) {
-        Ok(mut desk) => {
-            let learnt = learns(alloc, &mut desk).unwrap_or(false);
-            let refreshed = refreshes(&mut desk).unwrap_or(false);
-            learnt && refreshed && desk.newest() == 2 && desk.number() == 7
-        }
-        Err(_) => false,
-    }
+fn is_at_two<T: Tables + Drop, H: Wait + Drop>(desk: &Desk<T, H>) -> bool {
+    desk.newest() == 2 && desk.number() == 7
+}
+
+fn sessions_learn<A: Abort, T: Tables + Drop, H: Wait + Drop>(
+    rt: &A,
+    alloc: Global,
+    handle: H,
+    tables: T,
+) {
+    let mut desk = open(rt, alloc, handle, tables);
+    learns(rt, alloc, &mut desk);
+    refreshes(rt, &mut desk);
+    assert!(rt; is_at_two(&desk));
 }
 
 #[test]
 fn sessions_know_what_they_are_told(rt: HostRuntime) {
-    assert!(rt; sessions_learn(rt.alloc(), &rt));
+    sessions_learn(&rt, rt.alloc(), &rt, Listed::new(rt.alloc(), 7));
 }
 
 // A node is marked once however often it is asked for, one whose relation is not there is refused with 2, and a mark is taken
 // away.
-fn marks<H: Wait + Drop>(alloc: Global, desk: &mut Desk<Listed, H>) -> Result<bool, Refusal> {
-    configure(alloc, desk)?;
-    let first = desk.mark(Marking::Mark(Node::parse("group:a#member")?))?;
-    let again = desk.mark(Marking::Mark(Node::parse("group:a#member")?))?;
-    let unknown = number_of(&desk.mark(Marking::Mark(Node::parse("group:a#owner")?)));
-    let last = desk.mark(Marking::Unmark(Node::parse("group:a#member")?))?;
-    Ok(first.value == 1 && again.value == 1 && unknown == 2 && last.value == 0)
+fn marks<A: Abort, T: Tables + Drop, H: Wait + Drop>(rt: &A, alloc: Global, desk: &mut Desk<T, H>) {
+    configure(alloc, desk).expect(rt, "a configuration");
+    assert!(rt; marked(rt, desk, "group:a#member") == 1);
+    assert!(rt; marked(rt, desk, "group:a#member") == 1);
+    let owner = Node::parse("group:a#owner").expect(rt, "a node");
+    assert!(rt; number_of(desk.mark(Marking::Mark(owner))) == 2);
+    let member = Node::parse("group:a#member").expect(rt, "a node");
+    let last = desk.mark(Marking::Unmark(member)).expect(rt, "no mark");
+    assert!(rt; last.value == 0);
+}
+
+// How many nodes are marked once this one is.
+fn marked<A: Abort, T: Tables + Drop, H: Wait + Drop>(
+    rt: &A,
+    desk: &mut Desk<T, H>,
+    node: &str,
+) -> u64 {
+    let node = Node::parse(node).expect(rt, "a node");
+    desk.mark(Marking::Mark(node)).expect(rt, "a mark").value
+}
+
+fn is_rebuilt(rebuilt: &Posted, state: &State) -> bool {
+    rebuilt.value == 1 && state.base == 1 && state.index == 1 && state.hot == 0
 }
 
 // The base comes to the newest revision, and the index with it.
-fn rebuilds<H: Wait + Drop>(desk: &mut Desk<Listed, H>) -> Result<bool, Refusal> {
-    let rebuilt = desk.rebuild()?;
-    let state = desk.state();
-    Ok(rebuilt.value == 1 && state.base == 1 && state.index == 1 && state.hot == 0)
+fn rebuilds<A: Abort, T: Tables + Drop, H: Wait + Drop>(rt: &A, desk: &mut Desk<T, H>) {
+    let rebuilt = desk.rebuild().expect(rt, "a base");
+    assert!(rt; is_rebuilt(&rebuilt, &desk.state()));
 }
 
-fn steps_without_tables<H: Wait + Drop>(alloc: Global, rt: H) -> bool {
-    match Desk::open(alloc, rt, Opened::new(), Listed::new(alloc, 7)) {
-        Ok(mut desk) => {
-            let marked = marks(alloc, &mut desk).unwrap_or(false);
-            marked && rebuilds(&mut desk).unwrap_or(false)
-        }
-        Err(_) => false,
-    }
+fn steps_without_tables<A: Abort, T: Tables + Drop, H: Wait + Drop>(
+    rt: &A,
+    alloc: Global,
+    handle: H,
+    tables: T,
+) {
+    let mut desk = open(rt, alloc, handle, tables);
+    marks(rt, alloc, &mut desk);
+    rebuilds(rt, &mut desk);
 }
 
 #[test]
 fn nodes_are_marked_and_the_base_is_made_anew(rt: HostRuntime) {
-    assert!(rt; steps_without_tables(rt.alloc(), &rt));
+    steps_without_tables(&rt, rt.alloc(), &rt, Listed::new(rt.alloc(), 7));
 }

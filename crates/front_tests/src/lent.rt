@@ -6,22 +6,23 @@ ghost use Rattle.desk.specs.Posts.{shown_by};
 use answers::Answers;
 use desk::Desk;
 use keeper::answer_on;
-use names::{Call, Refusal, Reply};
+use names::{Call, Reply};
 use published::{Opened, Session};
 use std::alloc::Global;
 use std::marker::Model;
+use std::process::Abort;
 use std::sync::Wait;
-use tables::Listed;
+use tables::Tables;
 
-/// A desk over tables in memory, and a session of it.
+/// A desk, and a session of it.
 #[derive(Drop)]
-pub struct Lent<H: Wait + Drop> {
+pub struct Lent<T: Tables + Drop, H: Wait + Drop> {
     alloc: Global,
-    desk: Desk<Listed, H>,
+    desk: Desk<T, H>,
     session: Session,
 }
 
-impl<H: Wait + Drop> Model for Lent<H> {
+impl<T: Tables + Drop, H: Wait + Drop> Model for Lent<T, H> {
     ghost use Rattle.published.specs.Known.{Begins, Known};
     ghost use Rattle.published.specs.inside.Codes.{coded_known};
     ghost use Rattle.desk.specs.Posts.{shown_by};
@@ -35,7 +36,7 @@ impl<H: Wait + Drop> Model for Lent<H> {
     ghost invariant = { λ l. Begins (shown_by l.desk) l.session };
 }
 
-impl<H: Wait + Drop> Answers for Lent<H> {
+impl<T: Tables + Drop, H: Wait + Drop> Answers for Lent<T, H> {
     ghost use Rattle.std.specs.Prelude.{⊤};
 
     ghost step = { λ s call body told t. ⊤ };
@@ -46,14 +47,19 @@ impl<H: Wait + Drop> Answers for Lent<H> {
 }
 
 /// A desk over a new store, with a session.
-pub(crate) fn open<H: Wait + Drop>(handle: H, alloc: Global) -> Result<Lent<H>, Refusal> {
-    let Ok(mut desk) = Desk::open(alloc, handle, Opened::new(), Listed::new(alloc, 1)) else {
-        return Err(Refusal::Memory);
+pub(crate) fn open<A: Abort, T: Tables + Drop, H: Wait + Drop>(
+    rt: &A,
+    handle: H,
+    alloc: Global,
+    tables: T,
+) -> Lent<T, H> {
+    let Ok(mut desk) = Desk::open(alloc, handle, Opened::new(), tables) else {
+        panic!(rt; "no desk");
     };
-    let session = desk.session()?;
-    Ok(Lent {
+    let session = desk.session().expect(rt, "a session");
+    Lent {
         alloc,
         desk,
         session,
-    })
+    }
 }

@@ -2,15 +2,17 @@
 ghost use Rattle.std.specs.Prelude.{◌≡◌};
 
 use crate::lent;
+use crate::workers::keeper_of;
 use answers::Answers;
 use front::{Front, Keeper, Locked};
-use names::{Call, Refusal, Reply};
+use names::{Call, Reply};
 use published::{Naming, Opened};
 use std::alloc::{AllocError, Global};
 use std::marker::Brand;
+use std::process::Abort;
 use std::sync::Wait;
 use std::test::*;
-use tables::Listed;
+use tables::{Listed, Tables};
 
 // The calls of the stored script, and calls that are refused.
 const CALLS: [(Call, &str); 37] = [
@@ -116,59 +118,75 @@ const MARKED: &str = r#"400 {"error":{"code":1,"name":"Malformed"}}
 200 {"marked":0,"shown":true}
 "#;
 
-fn put(text: &mut Vec<u8>, reply: Reply) -> Result<(), AllocError> {
-    let (class, body) = match reply {
-        Reply::Said { status, body } => (status, body),
-        Reply::NoMemory => return Err(AllocError),
-    };
-    let digits = match class {
-        200 => b"200 ",
-        400 => b"400 ",
-        404 => b"404 ",
-        409 => b"409 ",
-        _ => b"??? ",
-    };
-    text.extend_from_slice(digits.as_slice())?;
-    text.extend_from_slice(body.as_slice())?;
-    text.extend_from_slice(b"\n".as_slice())
+fn digits_of(status: u16) -> &'static str {
+    match status {
+        200 => "200 ",
+        400 => "400 ",
+        404 => "404 ",
+        409 => "409 ",
+        _ => "??? ",
+    }
+}
+
+fn put(text: &mut Vec<u8>, reply: &Reply) -> Result<(), AllocError> {
+    match reply {
+        Reply::Said { status, body } => {
+            text.extend_from_slice(digits_of(*status).as_bytes())?;
+            text.extend_from_slice(body.as_slice())?;
+            text.extend_from_slice(b"\n".as_slice())
+        }
+        Reply::NoMemory => Err(AllocError),
+    }
 }
 
 /// The replies to the calls, a line each.
 fn replies_of<A: Answers>(alloc: Global, machine: &mut A) -> Result<Vec<u8>, AllocError> {
     let mut text = Vec::new(alloc);
     for (call, body) in CALLS {
-        put(&mut text, machine.answer(call, body.as_bytes()))?;
+        put(&mut text, &machine.answer(call, body.as_bytes()))?;
     }
     Ok(text)
 }
 
-fn by_lent<H: Wait + Drop>(handle: H, alloc: Global) -> Result<Vec<u8>, Refusal> {
-    let mut machine = lent::open(handle, alloc)?;
-    Ok(replies_of(alloc, &mut machine)?)
+fn by_lent<A: Abort, T: Tables + Drop, H: Wait + Drop>(
+    rt: &A,
+    handle: H,
+    alloc: Global,
+    tables: T,
+) -> Vec<u8> {
+    let mut machine = lent::open(rt, handle, alloc, tables);
+    replies_of(alloc, &mut machine).expect(rt, "replies")
 }
 
-fn by_locked<J: Naming, H: Wait + Drop, W: Wait>(
+fn by_front<J: Naming, H: Wait + Drop, W: Abort + Wait, T: Tables + Drop>(
+    rt: &W,
+    alloc: Global,
+    keeper: &Keeper<T, J, H>,
+) -> Vec<u8> {
+    let front = Front::new(alloc, rt, keeper).expect(rt, "a front");
+    let mut machine = Locked::new(rt, front);
+    replies_of(alloc, &mut machine).expect(rt, "replies")
+}
+
+fn by_locked<J: Naming, H: Wait + Drop, W: Abort + Wait, T: Tables + Drop>(
     rt: &W,
     handle: H,
     alloc: Global,
     opened: Opened,
-) -> Result<Vec<u8>, Refusal>
+    tables: T,
+) -> Vec<u8>
     requires { opened.book ≡ J.book }
 {
-    let tables = Listed::new(alloc, 1);
-    let Ok(keeper) = Keeper::<Listed, J, H>::open(alloc, handle, opened, tables) else {
-        return Err(Refusal::Memory);
-    };
-    let mut machine = Locked::new(rt, Front::new(alloc, rt, &keeper)?);
-    Ok(replies_of(alloc, &mut machine)?)
+    let keeper = keeper_of::<J, H, W, T>(rt, handle, alloc, opened, tables);
+    by_front(rt, alloc, &keeper)
 }
 
 #[test]
 fn a_worker_is_answered_as_one_who_holds_the_desk(rt: HostRuntime) {
-    let lent = by_lent(&rt, rt.alloc()).unwrap_or(Vec::new(rt.alloc()));
-    let locked = by_locked::<Brand, _, _>(&rt, &rt, rt.alloc(), Opened::new()).unwrap_or(Vec::new(
-        rt.alloc(),
-    ));
+    let alloc = rt.alloc();
+    let lent = by_lent(&rt, &rt, alloc, Listed::new(alloc, 1));
+    let tables = Listed::new(alloc, 1);
+    let locked = by_locked::<Brand, _, _, _>(&rt, &rt, alloc, Opened::new(), tables);
     assert!(rt; locked.as_slice().starts_with(STORED.as_bytes()));
     assert!(rt; locked.as_slice().ends_with(MARKED.as_bytes()));
     assert!(rt; locked.as_slice() == lent.as_slice());

@@ -3,14 +3,15 @@ ghost use Rattle.std.specs.Prelude.{◌≡◌};
 
 use crate::workers::{keeper_of, status_of};
 use front::{Front, Keeper};
-use names::{Node, Object, Refusal};
+use names::{Node, Object};
 use published::{Naming, Opened, Receipt, Session};
 use std::alloc::{AllocError, Global};
 use std::marker::{Brand, PhantomData};
+use std::process::Abort;
 use std::sync::{Mutex, Wait};
 use std::test::*;
 use std::thread::{Threads, join, map_vec};
-use tables::Listed;
+use tables::{Listed, Tables};
 use zookie::Consistency;
 
 const GROUPS: &[u8] = br#"{"namespaces":{"group":{"member":{"types":["user"]}},"user":{}}}"#;
@@ -57,10 +58,10 @@ impl<J: Naming> Reader<J> {
     }
 
     // What is shown now, to hand on to other readers.
-    fn refresh<H: Wait + Drop, W: Wait>(
+    fn refresh<H: Wait + Drop, W: Wait, T: Tables + Drop>(
         &mut self,
         rt: &W,
-        keeper: &Keeper<Listed, J, H>,
+        keeper: &Keeper<T, J, H>,
     ) -> Handed<J> {
         refreshed(rt, keeper, &mut self.session)
     }
@@ -111,10 +112,10 @@ fn all_read<J: Naming + Send + Sync, W: Threads + Wait + Sync>(
 }
 
 // Whether every write was answered with 200. The receipt of each is handed on.
-fn writes<J: Naming, H: Wait + Drop, W: Wait>(
+fn writes<J: Naming, H: Wait + Drop, W: Wait, T: Tables + Drop>(
     rt: &W,
-    front: &mut Front<'_, Listed, J, H>,
-    keeper: &Keeper<Listed, J, H>,
+    front: &mut Front<'_, T, J, H>,
+    keeper: &Keeper<T, J, H>,
     own: &mut Reader<J>,
     desktop: &Desktop<J>,
 ) -> bool {
@@ -129,9 +130,9 @@ fn writes<J: Naming, H: Wait + Drop, W: Wait>(
     true
 }
 
-fn refreshed<J: Naming, H: Wait + Drop, W: Wait>(
+fn refreshed<J: Naming, H: Wait + Drop, W: Wait, T: Tables + Drop>(
     rt: &W,
-    keeper: &Keeper<Listed, J, H>,
+    keeper: &Keeper<T, J, H>,
     session: &mut Session,
 ) -> Handed<J>
     requires { session.old.book ≡ J.book }
@@ -150,16 +151,17 @@ fn handed_of<J: Naming>(receipt: Receipt) -> Handed<J>
     }
 }
 
-fn readers_of<J: Naming, H: Wait + Drop, W: Wait>(
+fn readers_of<J: Naming, H: Wait + Drop, W: Abort + Wait, T: Tables + Drop>(
     rt: &W,
     alloc: Global,
-    keeper: &Keeper<Listed, J, H>,
-) -> Result<Vec<Reader<J>>, Refusal> {
+    keeper: &Keeper<T, J, H>,
+) -> Vec<Reader<J>> {
     let mut readers = Vec::new(alloc);
     for _ in 0..3 {
-        readers.push(reader_of(keeper.hold(rt).session()?))?;
+        let session = keeper.hold(rt).session().expect(rt, "a session");
+        readers.push(reader_of(session)).expect(rt, "memory");
     }
-    Ok(readers)
+    readers
 }
 
 fn reader_of<J: Naming>(session: Session) -> Reader<J>
@@ -171,40 +173,41 @@ fn reader_of<J: Naming>(session: Session) -> Reader<J>
     }
 }
 
-fn read_beside<J: Naming + Send + Sync, H: Wait + Drop, W: Threads + Wait + Sync>(
-    rt: &W,
-    alloc: Global,
-    keeper: &Keeper<Listed, J, H>,
-) -> Result<bool, Refusal> {
-    let mut front = Front::new(alloc, rt, keeper)?;
+fn read_beside<
+    J: Naming + Send + Sync,
+    H: Wait + Drop,
+    W: Abort + Threads + Wait + Sync,
+    T: Tables + Drop,
+>(rt: &W, alloc: Global, keeper: &Keeper<T, J, H>) {
+    let mut front = Front::new(alloc, rt, keeper).expect(rt, "a front");
     let taken = status_of(&front.configure(rt, GROUPS));
-    let readers = readers_of(rt, alloc, keeper)?;
-    let mut own = reader_of(keeper.hold(rt).session()?);
+    let readers = readers_of(rt, alloc, keeper);
+    let mut own = reader_of(keeper.hold(rt).session().expect(rt, "a session"));
     let desktop = Mutex::new(None);
     let (right, written) = join(
         rt,
         || all_read(rt, readers, &desktop),
         || writes(rt, &mut front, keeper, &mut own, &desktop),
     );
-    Ok(taken == 200 && right? && written)
+    assert!(rt; taken == 200 && right.expect(rt, "memory") && written);
 }
 
-fn beside<J: Naming + Send + Sync, H: Wait + Drop, W: Threads + Wait + Sync>(
-    rt: &W,
-    handle: H,
-    alloc: Global,
-    opened: Opened,
-) -> Result<bool, Refusal>
+fn beside<
+    J: Naming + Send + Sync,
+    H: Wait + Drop,
+    W: Abort + Threads + Wait + Sync,
+    T: Tables + Drop,
+>(rt: &W, handle: H, alloc: Global, opened: Opened, tables: T)
     requires { opened.book ≡ J.book }
 {
-    let keeper = keeper_of::<J, H>(handle, alloc, opened)?;
-    read_beside(rt, alloc, &keeper)
+    let keeper = keeper_of::<J, H, W, T>(rt, handle, alloc, opened, tables);
+    read_beside(rt, alloc, &keeper);
 }
 
 #[test]
 fn sessions_beside_a_worker_that_writes(rt: HostRuntime) {
-    let right = beside::<Brand, _, _>(&rt, &rt, rt.alloc(), Opened::new());
-    assert!(rt; right.unwrap_or(false));
+    let tables = Listed::new(rt.alloc(), 1);
+    beside::<Brand, _, _, _>(&rt, &rt, rt.alloc(), Opened::new(), tables);
 }
 
 // Whether a session that was refused once is refused ever after.
@@ -225,23 +228,24 @@ fn stays_shut(session: &mut Session) -> bool {
     true
 }
 
-fn closed<J: Naming, H: Wait + Drop, W: Threads + Wait + Sync>(
+fn closed<J: Naming, H: Wait + Drop, W: Abort + Threads + Wait, T: Tables + Drop>(
     rt: &W,
     handle: H,
     alloc: Global,
     opened: Opened,
-) -> Result<bool, Refusal>
+    tables: T,
+)
     requires { opened.book ≡ J.book }
 {
-    let keeper = keeper_of::<J, H>(handle, alloc, opened)?;
-    let mut session = keeper.hold(rt).session()?;
+    let keeper = keeper_of::<J, H, W, T>(rt, handle, alloc, opened, tables);
+    let mut session = keeper.hold(rt).session().expect(rt, "a session");
     let (stays, tables) = join(rt, || stays_shut(&mut session), || keeper.close());
     drop(tables);
-    Ok(stays && session.state().is_err())
+    assert!(rt; stays && session.state().is_err());
 }
 
 #[test]
 fn a_session_beside_a_keeper_that_is_closed(rt: HostRuntime) {
-    let shut = closed::<Brand, _, _>(&rt, &rt, rt.alloc(), Opened::new());
-    assert!(rt; shut.unwrap_or(false));
+    let tables = Listed::new(rt.alloc(), 1);
+    closed::<Brand, _, _, _>(&rt, &rt, rt.alloc(), Opened::new(), tables);
 }

@@ -1,13 +1,13 @@
 //! Questions about groups, answered by an index and from the tuples.
 
-use config::Config;
+use crate::history::fill;
 use idsets::{IdSet, Ids};
 use leopard::{
     Built, Expr, Found, answers_are_one, first_named, found_of, groups_at,
     indexes_mean_what_their_snapshots_do,
 };
-use names::{Commit, Items, Node, Object, Op, OpKind, Refusal, Tuple};
-use rows::{Rows, events_of};
+use names::{Node, Object, Refusal};
+use rows::{Rows, View};
 use std::alloc::{AllocError, Global};
 use std::test::Fail;
 
@@ -25,37 +25,6 @@ const GUESTS: &str = r#"{"namespaces":{"user":{},
 const CYCLE: &str =
     "group:a#member@group:b#member group:b#member@group:a#member group:b#member@user:ann";
 
-fn is_committed(rows: &mut Rows, commit: &Commit<Config>) -> Result<bool, AllocError> {
-    if rows.refuses(commit)? {
-        return Ok(false);
-    }
-    rows.admits_its_tuples();
-    rows.commit(commit)?;
-    Ok(true)
-}
-
-fn written(alloc: Global, tuples: &str) -> Result<Commit<Config>, Refusal> {
-    let mut ops = Vec::new(alloc);
-    for tuple in tuples.split_ascii_whitespace() {
-        ops.push(Op {
-            kind: OpKind::Touch,
-            tuple: Tuple::parse(tuple)?,
-        })?;
-    }
-    Ok(Commit::Tuples(events_of(Items::of(ops))?))
-}
-
-fn history(alloc: Global, config: &str, tuples: &str) -> Result<Rows, Refusal> {
-    let mut rows = Rows::empty(alloc);
-    let config = Commit::Config(Config::from_json(alloc, config.as_bytes())?);
-    let tuples = written(alloc, tuples)?;
-    if is_committed(&mut rows, &config)? && is_committed(&mut rows, &tuples)? {
-        Ok(rows)
-    } else {
-        Err(Refusal::Malformed)
-    }
-}
-
 fn groups_of(user: &str) -> Result<Expr, Refusal> {
     Ok(Expr::Member2Group(Object::parse(user)?))
 }
@@ -70,53 +39,109 @@ fn both(alloc: Global) -> Result<Vec<Expr>, Refusal> {
     Ok(vec![in alloc; direct, closure]?)
 }
 
-fn told(alloc: Global, nodes: &[Node]) -> Result<String, AllocError> {
-    let mut text = String::new(alloc);
-    for node in nodes {
-        let word = format!(in alloc; "{node};")?;
-        text.push_str(word.as_str())?;
-    }
-    Ok(text)
+fn is_at(nodes: &[Node], place: usize, word: &str) -> Result<bool, Refusal> {
+    let node = Node::parse(word)?;
+    Ok(nodes.get(place) == Some(&node))
 }
 
-/// Whether the index and the tuples give these.
-fn give(
+// Whether these are the words' nodes, in this order.
+fn are_nodes(nodes: &[Node], words: &str) -> Result<bool, Refusal> {
+    for (place, word) in words.split_ascii_whitespace().enumerate() {
+        if !is_at(nodes, place, word)? {
+            return Ok(false);
+        }
+    }
+    Ok(nodes.len() == words.split_ascii_whitespace().count())
+}
+
+fn by_index(
+    alloc: Global,
+    built: &Built,
+    expr: &Expr,
+    limit: u32,
+    wanted: &str,
+) -> Result<bool, Refusal> {
+    let found = built.groups(alloc, expr, limit)?;
+    are_nodes(&found, wanted)
+}
+
+fn by_tuples(
     alloc: Global,
     rows: &Rows,
     expr: &Expr,
     limit: u32,
     wanted: &str,
 ) -> Result<bool, Refusal> {
-    let view = rows.at(rows.newest());
-    let built = Built::of(alloc, &view, rows.newest())?;
-    let by_index = built.groups(alloc, expr, limit)?;
-    let by_tuples = groups_at(alloc, &view, expr, limit)?;
-    Ok(told(alloc, &by_index)?.as_str() == wanted && told(alloc, &by_tuples)?.as_str() == wanted)
+    let found = groups_at(alloc, &rows.at(rows.newest()), expr, limit)?;
+    are_nodes(&found, wanted)
 }
 
-fn chains_are_met(alloc: Global) -> Result<bool, Refusal> {
-    let rows = history(alloc, CONFIG, CHAIN)?;
+/// A history and its index.
+#[derive(Clone, Copy)]
+struct Asked<'a> {
+    rows: &'a Rows,
+    built: &'a Built,
+}
+
+/// Whether the index and the tuples give these.
+fn give(
+    alloc: Global,
+    asked: &Asked<'_>,
+    expr: &Expr,
+    limit: u32,
+    wanted: &str,
+) -> Result<bool, Refusal> {
+    Ok(
+        by_index(alloc, asked.built, expr, limit, wanted)?
+            && by_tuples(alloc, asked.rows, expr, limit, wanted)?,
+    )
+}
+
+fn are_met(alloc: Global, asked: &Asked<'_>) -> Result<bool, Refusal> {
     let met = Expr::Intersection(both(alloc)?);
-    let none = give(alloc, &rows, &met, 0, "")?;
-    Ok(none && give(alloc, &rows, &met, 1, "group:b#member;")?)
+    let none = give(alloc, asked, &met, 0, "")?;
+    Ok(none && give(alloc, asked, &met, 1, "group:b#member")?)
 }
 
-fn chains_are_united(alloc: Global) -> Result<bool, Refusal> {
-    let rows = history(alloc, CONFIG, CHAIN)?;
+fn are_united(alloc: Global, asked: &Asked<'_>) -> Result<bool, Refusal> {
     let united = Expr::Union(both(alloc)?);
-    give(alloc, &rows, &united, 2, "group:a#member;group:b#member;")
+    give(alloc, asked, &united, 2, "group:a#member group:b#member")
 }
 
-fn chains_are_lessened(alloc: Global) -> Result<bool, Refusal> {
-    let rows = history(alloc, CONFIG, CHAIN)?;
-    let base = Box::new(alloc, groups_of("user:ann")?)?;
-    let less = Box::new(alloc, led_from("group:a#member")?)?;
-    let left = Expr::Exclusion(base, less);
-    give(alloc, &rows, &left, 2, "group:c#member;")
+fn without(alloc: Global, base: Expr, less: Expr) -> Result<Expr, AllocError> {
+    let base = Box::new(alloc, base)?;
+    let less = Box::new(alloc, less)?;
+    Ok(Expr::Exclusion(base, less))
+}
+
+fn are_lessened(alloc: Global, asked: &Asked<'_>) -> Result<bool, Refusal> {
+    let base = groups_of("user:ann")?;
+    let less = led_from("group:a#member")?;
+    let left = without(alloc, base, less)?;
+    give(alloc, asked, &left, 2, "group:c#member")
+}
+
+fn are_answered(alloc: Global, asked: &Asked<'_>) -> Result<bool, Refusal> {
+    let met = are_met(alloc, asked)?;
+    let united = are_united(alloc, asked)?;
+    Ok(met && united && are_lessened(alloc, asked)?)
+}
+
+fn chains_have_an_index(alloc: Global, rows: &mut Rows) -> Result<bool, Refusal> {
+    fill(alloc, rows, CONFIG, CHAIN)?;
+    let built = Built::of(alloc, &rows.at(rows.newest()), rows.newest())?;
+    are_answered(
+        alloc,
+        &Asked {
+            rows,
+            built: &built,
+        },
+    )
 }
 
 fn chains_are_answered(alloc: Global) -> Result<bool, Refusal> {
-    Ok(chains_are_met(alloc)? && chains_are_united(alloc)? && chains_are_lessened(alloc)?)
+    let mut rows = Rows::empty(alloc);
+    chains_have_an_index(alloc, &mut rows)
 }
 
 #[test]
@@ -127,28 +152,49 @@ fn an_index_answers_as_the_tuples_do(rt: HostRuntime) -> Result<(), Fail> {
     Ok(())
 }
 
-fn cycles_end(alloc: Global) -> Result<bool, Refusal> {
-    let rows = history(alloc, GUESTS, CYCLE)?;
-    let guest = led_from("group:b#guest")?;
-    give(
+fn are_led_to(
+    alloc: Global,
+    asked: &Asked<'_>,
+    group: &str,
+    wanted: &str,
+) -> Result<bool, Refusal> {
+    let led = led_from(group)?;
+    give(alloc, asked, &led, 9, wanted)
+}
+
+fn nobody_is_named(alloc: Global, asked: &Asked<'_>) -> Result<bool, Refusal> {
+    let nobody = groups_of("user:bob")?;
+    give(alloc, asked, &nobody, 9, "")
+}
+
+// A cycle ends, and what no tuple names leads to its computed usersets.
+fn cycles_end(alloc: Global, asked: &Asked<'_>) -> Result<bool, Refusal> {
+    let cycle = "group:a#member group:b#guest group:b#member";
+    let ends = are_led_to(alloc, asked, "group:b#guest", cycle)?;
+    let leads = are_led_to(
         alloc,
-        &rows,
-        &guest,
-        9,
-        "group:a#member;group:b#guest;group:b#member;",
+        asked,
+        "group:z#guest",
+        "group:z#guest group:z#member",
+    )?;
+    Ok(ends && leads && nobody_is_named(alloc, asked)?)
+}
+
+fn cycles_have_an_index(alloc: Global, rows: &mut Rows) -> Result<bool, Refusal> {
+    fill(alloc, rows, GUESTS, CYCLE)?;
+    let built = Built::of(alloc, &rows.at(rows.newest()), rows.newest())?;
+    cycles_end(
+        alloc,
+        &Asked {
+            rows,
+            built: &built,
+        },
     )
 }
 
-fn what_no_tuple_names_leads_to_its_computed_usersets(alloc: Global) -> Result<bool, Refusal> {
-    let rows = history(alloc, GUESTS, CYCLE)?;
-    let guest = led_from("group:z#guest")?;
-    let nobody = groups_of("user:bob")?;
-    let leads = give(alloc, &rows, &guest, 9, "group:z#guest;group:z#member;")?;
-    Ok(leads && give(alloc, &rows, &nobody, 9, "")?)
-}
-
 fn cycles_and_strangers_are_answered(alloc: Global) -> Result<bool, Refusal> {
-    Ok(cycles_end(alloc)? && what_no_tuple_names_leads_to_its_computed_usersets(alloc)?)
+    let mut rows = Rows::empty(alloc);
+    cycles_have_an_index(alloc, &mut rows)
 }
 
 #[test]
@@ -157,43 +203,65 @@ fn an_index_has_cycles_and_what_no_tuple_names(rt: HostRuntime) -> Result<(), Fa
     Ok(())
 }
 
-/// Whether the index refuses the question so.
-fn refuses(alloc: Global, rows: &Rows, expr: &Expr, number: u8) -> Result<bool, Refusal> {
-    let view = rows.at(rows.newest());
-    let built = Built::of(alloc, &view, rows.newest())?;
+/// The number of the index's refusal, or 0.
+fn refusal_of(alloc: Global, built: &Built, expr: &Expr) -> u8 {
     match built.groups(alloc, expr, 9) {
-        Ok(_) => Ok(false),
-        Err(why) => Ok(why.number() == number && built.rev() == rows.newest()),
+        Ok(_) => 0,
+        Err(why) => why.number(),
     }
 }
 
-fn causes_come_in_order(alloc: Global) -> Result<bool, Refusal> {
-    let rows = history(alloc, CONFIG, CHAIN)?;
+fn causes_come_in_order(alloc: Global, built: &Built) -> Result<bool, Refusal> {
     let unindexed = led_from("doc:1#owner")?;
     let unknown = led_from("doc:1#none")?;
-    let first = refuses(alloc, &rows, &unindexed, 16)?;
-    let second = refuses(alloc, &rows, &unknown, 2)?;
-    let all = vec![in alloc; unindexed, unknown]?;
-    Ok(first && second && refuses(alloc, &rows, &Expr::Union(all), 2)?)
+    let each = refusal_of(alloc, built, &unindexed) == 16
+        && refusal_of(alloc, built, &unknown) == 2;
+    let all = Expr::Union(vec![in alloc; unindexed, unknown]?);
+    Ok(each && refusal_of(alloc, built, &all) == 2)
+}
+
+fn refuses(alloc: Global, rows: &mut Rows) -> Result<bool, Refusal> {
+    fill(alloc, rows, CONFIG, CHAIN)?;
+    let built = Built::of(alloc, &rows.at(rows.newest()), rows.newest())?;
+    Ok(causes_come_in_order(alloc, &built)? && built.rev() == rows.newest())
+}
+
+fn an_index_refuses(alloc: Global) -> Result<bool, Refusal> {
+    let mut rows = Rows::empty(alloc);
+    refuses(alloc, &mut rows)
 }
 
 #[test]
 fn an_index_refuses_as_the_tuples_do(rt: HostRuntime) -> Result<(), Fail> {
-    assert!(rt; causes_come_in_order(rt.alloc())?);
+    assert!(rt; an_index_refuses(rt.alloc())?);
     Ok(())
 }
 
-/// Whether a group that has an id and groups that have none are given in the order of nodes.
-fn ids_are_named(alloc: Global) -> Result<bool, Refusal> {
-    let rows = history(alloc, CONFIG, CHAIN)?;
-    let view = rows.at(rows.newest());
+// What the tuples give without numbers, beside the first group, which has one.
+fn found(alloc: Global, view: &View<'_>, id: u64) -> Result<Found, Refusal> {
     let expr = Expr::Member2Group(Object::parse("user:ann")?);
-    let Found { others, .. } = found_of(alloc, &view, &expr)?;
-    let mut names = Ids::new(alloc);
-    let id = names.see(Node::parse("group:a#member")?)?;
     let ids = IdSet::of(vec![in alloc; id]?);
-    let nodes = first_named(alloc, &names, Found { ids, others }, 2)?;
-    Ok(told(alloc, &nodes)?.as_str() == "group:a#member;group:b#member;")
+    let Found { others, .. } = found_of(alloc, view, &expr)?;
+    Ok(Found { ids, others })
+}
+
+/// Whether a group that has an id and groups that have none are given in the order of nodes.
+fn are_named(alloc: Global, rows: &Rows, names: &mut Ids<Node>) -> Result<bool, Refusal> {
+    let id = names.see(Node::parse("group:a#member")?)?;
+    let found = found(alloc, &rows.at(rows.newest()), id)?;
+    let nodes = first_named(alloc, names, found, 2)?;
+    are_nodes(&nodes, "group:a#member group:b#member")
+}
+
+fn names_ids(alloc: Global, rows: &mut Rows) -> Result<bool, Refusal> {
+    fill(alloc, rows, CONFIG, CHAIN)?;
+    let mut names = Ids::new(alloc);
+    are_named(alloc, rows, &mut names)
+}
+
+fn ids_are_named(alloc: Global) -> Result<bool, Refusal> {
+    let mut rows = Rows::empty(alloc);
+    names_ids(alloc, &mut rows)
 }
 
 #[test]

@@ -1,5 +1,5 @@
 //! A small desk: it judges changes on a history of its own, posts them, and publishes them when it is told to.
-ghost use Rattle.std.specs.Prelude.{◌≡◌, IfOk, OnOk};
+ghost use Rattle.std.specs.Prelude.{◌≡◌, OnOk};
 ghost use Rattle.rows.specs.Retained.{newest_of};
 ghost use Rattle.rows.specs.Follows.{IsAccepted};
 ghost use Rattle.shown.specs.Standing.{standing, HasRoom};
@@ -11,6 +11,7 @@ use published::{Opened, Publication};
 use rows::{events_of, refuses_what_no_write_gives};
 use shown::{Shown, Step};
 use std::alloc::Global;
+use std::process::Abort;
 use std::sync::Wait;
 use tables::{Listed, Tables};
 use tuple_keys::KeptCommit;
@@ -23,25 +24,36 @@ pub struct Desk<R: Wait + Drop> {
     pub ghost agrees: { own ≡ standing publication.posted },
 }
 
-/// A desk over a store that holds nothing.
-pub(crate) fn open<R: Wait + Drop>(handle: R, alloc: Global) -> Result<Desk<R>, Refusal> {
-    let Ok(loaded) = Listed::new(alloc, 7).load(alloc) else {
-        return Err(Refusal::Memory);
-    };
+/// What a test makes of a desk over a store that holds nothing. The desk is gone afterwards.
+pub(crate) fn on_desk<A: Abort, R: Wait + Drop, T, F: FnOnce(&mut Desk<R>) -> T>(
+    rt: &A,
+    handle: R,
+    alloc: Global,
+    test: F,
+) -> T
+    requires { F.IsAlwaysCallable test }
+{
+    let mut desk = open(rt, handle, alloc);
+    test(&mut desk)
+}
+
+fn open<A: Abort, R: Wait + Drop>(rt: &A, handle: R, alloc: Global) -> Desk<R> {
+    let loaded = Listed::new(alloc, 7).load(alloc).expect(rt, "tables");
     let first = Step::Open(loaded);
     let mut own = Shown::new(alloc);
-    own.apply(&first)?;
-    let publication = Publication::open(alloc, handle, Opened::new(), first)?;
-    Ok(Desk { own, publication })
+    own.apply(&first).expect(rt, "a history");
+    let opened = Publication::open(alloc, handle, Opened::new(), first);
+    let publication = opened.expect(rt, "a publication");
+    Desk { own, publication }
 }
 
 /// Posts a configuration.
 pub(crate) fn configure<R: Wait + Drop>(
     alloc: Global,
-    desk: Desk<R>,
+    desk: &mut Desk<R>,
     text: &str,
-) -> Result<Desk<R>, Refusal>
-    ensures { IfOk result (λ d. d.publication.book ≡ desk.publication.book) }
+) -> Result<(), Refusal>
+    ensures { desk.new.publication.book ≡ desk.old.publication.book }
 {
     let config = Config::from_json(alloc, text.as_bytes())?;
     desk.own.judge_config(&config)?;
@@ -52,10 +64,10 @@ pub(crate) fn configure<R: Wait + Drop>(
 /// Posts that a tuple is inserted.
 pub(crate) fn insert<R: Wait + Drop>(
     alloc: Global,
-    desk: Desk<R>,
+    desk: &mut Desk<R>,
     text: &str,
-) -> Result<Desk<R>, Refusal>
-    ensures { IfOk result (λ d. d.publication.book ≡ desk.publication.book) }
+) -> Result<(), Refusal>
+    ensures { desk.new.publication.book ≡ desk.old.publication.book }
 {
     let tuple = Tuple::parse(text)?;
     let mut ops = Vec::new(alloc);
@@ -77,17 +89,13 @@ fn judge(own: &Shown, ops: &Items<Op>) -> Result<(), Refusal>
     own.judge(ops.as_slice())
 }
 
-fn post<R: Wait + Drop>(desk: Desk<R>, step: Step) -> Result<Desk<R>, Refusal>
+fn post<R: Wait + Drop>(desk: &mut Desk<R>, step: Step) -> Result<(), Refusal>
     requires later { IsLater step }
-    requires follows { HasRoom desk.own step }
-    ensures { IfOk result (λ d. d.publication.book ≡ desk.publication.book) }
+    requires follows { HasRoom desk.old.own step }
+    ensures { desk.new.publication.book ≡ desk.old.publication.book }
 {
-    let Desk {
-        mut own,
-        mut publication,
-    } = desk;
-    publication.reserve()?;
-    own.apply(&step)?;
-    publication.post(step);
-    Ok(Desk { own, publication })
+    desk.publication.reserve()?;
+    desk.own.apply(&step)?;
+    desk.publication.post(step);
+    Ok(())
 }

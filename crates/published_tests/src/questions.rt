@@ -1,12 +1,13 @@
 //! Trees, pages and groups that a session answers: the program asks for the same beside the number of the store.
 
-use crate::desk::{Desk, configure, insert, open};
+use crate::desk::{Desk, configure, insert, on_desk};
 use expand::Tree;
 use leopard::Expr;
 use names::{EventKind, Name, Node, Object, Refusal, Tuple};
 use published::Session;
 use rows::Tupleset;
 use std::alloc::Global;
+use std::process::Abort;
 use std::sync::Wait;
 use std::test::*;
 use watch::{Namespaces, WatchedEvent};
@@ -17,13 +18,12 @@ const INDEXED: &str =
 
 const ANN: &str = "group:a#member@user:ann";
 
-// A desk where Ann is a member of the group at revision 2, which is shown, and a session of it.
-fn filled<R: Wait + Drop>(handle: R, alloc: Global) -> Result<(Desk<R>, Session), Refusal> {
-    let desk = configure(alloc, open(handle, alloc)?, INDEXED)?;
-    let mut desk = insert(alloc, desk, ANN)?;
+// A session of a desk where Ann is a member of the group at revision 2, which is shown.
+fn filled<A: Abort, R: Wait + Drop>(rt: &A, alloc: Global, desk: &mut Desk<R>) -> Session {
+    configure(alloc, desk, INDEXED).expect(rt, "a configuration");
+    insert(alloc, desk, ANN).expect(rt, "a tuple");
     desk.publication.publish();
-    let session = desk.publication.session()?;
-    Ok((desk, session))
+    desk.publication.session().expect(rt, "a session")
 }
 
 fn has_only(tree: &Tree, user: &Object) -> bool {
@@ -105,19 +105,16 @@ fn has_events(session: &mut Session) -> Result<bool, Refusal> {
     Ok(page.heartbeat == 2 && is_put(page.events.as_slice(), &tuple))
 }
 
-fn has_all(session: &mut Session) -> Result<bool, Refusal> {
-    let read = has_tree(session)? && has_page(session)?;
-    Ok(read && has_groups(session)? && has_events(session)?)
-}
-
-fn answers<R: Wait + Drop>(handle: R, alloc: Global) -> bool {
-    let Ok((_desk, mut session)) = filled(handle, alloc) else {
-        return false;
-    };
-    has_all(&mut session).unwrap_or(false)
+fn answers<A: Abort, R: Wait + Drop>(rt: &A, alloc: Global, desk: &mut Desk<R>) {
+    let mut session = filled(rt, alloc, desk);
+    assert!(rt; has_tree(&mut session).expect(rt, "a tree"));
+    assert!(rt; has_page(&mut session).expect(rt, "a page"));
+    assert!(rt; has_groups(&mut session).expect(rt, "groups"));
+    assert!(rt; has_events(&mut session).expect(rt, "events"));
 }
 
 #[test]
 fn a_session_answers_each_question(rt: HostRuntime) {
-    assert!(rt; answers(&rt, rt.alloc()));
+    let alloc = rt.alloc();
+    on_desk(&rt, &rt, alloc, |desk| answers(&rt, alloc, desk));
 }

@@ -1,15 +1,18 @@
 //! What sessions answer.
 ghost use Rattle.std.specs.Prelude.{◌≡◌};
 
-use crate::desk::{Desk, configure, insert, open};
+use crate::desk::{Desk, configure, insert, on_desk};
 use names::{Node, Object, Refusal};
 use published::{MAX_SESSIONS, Receipt, Session};
 use std::alloc::Global;
+use std::process::Abort;
 use std::sync::Wait;
 use std::test::*;
 use zookie::{Consistency, Zookie};
 
 const GROUPS: &str = r#"{"namespaces":{"group":{"member":{"types":["user"]}},"user":{}}}"#;
+
+const ANN: &str = "group:a#member@user:ann";
 
 // Whether Ann is a member of the group at the session's newest revision: 0 for no, 1 for yes, or 100 and the
 // number of the refusal.
@@ -38,107 +41,120 @@ fn newest_of(session: &mut Session) -> u64
     }
 }
 
-fn runs_out<R: Wait + Drop>(handle: R, alloc: Global) -> Result<bool, Refusal> {
-    let mut desk = open(handle, alloc)?;
-    for _ in 0..MAX_SESSIONS {
-        if desk.publication.session().is_err() {
-            return Ok(false);
-        }
-    }
-    let number = match desk.publication.session() {
+// The number of the refusal, or 0.
+fn number_of<T: Drop>(answer: Result<T, Refusal>) -> u8 {
+    match answer {
         Ok(_) => 0,
         Err(why) => why.number(),
-    };
-    Ok(number == 20)
+    }
+}
+
+fn runs_out<A: Abort, R: Wait + Drop>(rt: &A, desk: &mut Desk<R>) {
+    for _ in 0..MAX_SESSIONS {
+        assert!(rt; number_of(desk.publication.session()) == 0);
+    }
+    assert!(rt; number_of(desk.publication.session()) == 20);
 }
 
 #[test]
 fn there_are_32_sessions(rt: HostRuntime) {
     assert!(rt; MAX_SESSIONS == 32);
-    assert!(rt; runs_out(&rt, rt.alloc()).unwrap_or(false));
+    on_desk(&rt, &rt, rt.alloc(), |desk| runs_out(&rt, desk));
 }
 
-// A desk and a session of it, and whether the relation was there to the session no earlier than it was shown.
-fn configured<R: Wait + Drop>(
-    handle: R,
+// The relation is there to the session no earlier than it is shown.
+fn waits_for_configuration<A: Abort, R: Wait + Drop>(
+    rt: &A,
     alloc: Global,
-) -> Result<(Desk<R>, Session, bool), Refusal> {
-    let mut desk = open(handle, alloc)?;
-    let mut session = desk.publication.session()?;
-    let before = asked(&mut session);
-    let mut desk = configure(alloc, desk, GROUPS)?;
-    let waiting = asked(&mut session);
-    let shown = desk.publication.publish();
-    let after = asked(&mut session);
-    Ok((
-        desk,
-        session,
-        shown && before == 102 && waiting == 102 && after == 0,
-    ))
-}
-
-// Whether Ann was a member to the session no earlier than her tuple was shown.
-fn inserted<R: Wait + Drop>(
-    alloc: Global,
-    desk: Desk<R>,
+    desk: &mut Desk<R>,
     session: &mut Session,
-) -> Result<bool, Refusal> {
-    let desk = insert(alloc, desk, "group:a#member@user:ann")?;
-    let mut desk = insert(alloc, desk, "group:a#member@user:bob")?;
-    let waiting = asked(session);
-    let both = desk.publication.publish();
-    let newest = desk.publication.newest() == 3 && newest_of(session) == 3;
-    Ok(both && newest && waiting == 0 && asked(session) == 1)
+) {
+    assert!(rt; asked(session) == 102);
+    configure(alloc, desk, GROUPS).expect(rt, "a configuration");
+    assert!(rt; asked(session) == 102);
+    assert!(rt; desk.publication.publish());
+    assert!(rt; asked(session) == 0);
 }
 
-fn waits<R: Wait + Drop>(handle: R, alloc: Global) -> Result<bool, Refusal> {
-    let (desk, mut session, first) = configured(handle, alloc)?;
-    Ok(first && inserted(alloc, desk, &mut session)?)
+// Ann is a member to the session no earlier than her tuple is shown.
+fn waits_for_tuples<A: Abort, R: Wait + Drop>(
+    rt: &A,
+    alloc: Global,
+    desk: &mut Desk<R>,
+    session: &mut Session,
+) {
+    insert(alloc, desk, ANN).expect(rt, "a tuple");
+    insert(alloc, desk, "group:a#member@user:bob").expect(rt, "a tuple");
+    assert!(rt; asked(session) == 0);
+    assert!(rt; desk.publication.publish());
+    assert!(rt; desk.publication.newest() == 3);
+    assert!(rt; newest_of(session) == 3);
+    assert!(rt; asked(session) == 1);
+}
+
+fn waits<A: Abort, R: Wait + Drop>(rt: &A, alloc: Global, desk: &mut Desk<R>) {
+    let mut session = desk.publication.session().expect(rt, "a session");
+    waits_for_configuration(rt, alloc, desk, &mut session);
+    waits_for_tuples(rt, alloc, desk, &mut session);
 }
 
 #[test]
 fn posted_steps_wait_until_they_are_published(rt: HostRuntime) {
-    assert!(rt; waits(&rt, rt.alloc()).unwrap_or(false));
+    let alloc = rt.alloc();
+    on_desk(&rt, &rt, alloc, |desk| waits(&rt, alloc, desk));
 }
 
-fn is_told(receipt: &Receipt) -> bool {
+/// Two sessions of one publication.
+struct Pair {
+    one: Session,
+    two: Session,
+}
+
+// The receipt of Ann's tuple.
+fn receipt_of<A: Abort, R: Wait + Drop>(rt: &A, alloc: Global, desk: &mut Desk<R>) -> Receipt
+    ensures { result.published.book ≡ desk.old.publication.book }
+{
+    configure(alloc, desk, GROUPS).expect(rt, "a configuration");
+    insert(alloc, desk, ANN).expect(rt, "a tuple");
+    let shown = desk.publication.publish();
     let zookie = Zookie { store: 7, rev: 2 };
-    receipt.is_shown() && receipt.zookie() == zookie && receipt.published_steps().len() == 3
+    Receipt::new(zookie, shown, desk.publication.shown_steps())
 }
 
 // Both learn one receipt, and answer by it.
-fn both_learn<R: Wait + Drop>(
-    alloc: Global,
-    desk: Desk<R>,
-    one: &mut Session,
-    two: &mut Session,
-) -> Result<bool, Refusal>
-    requires one { one.old.book ≡ desk.publication.book }
-    requires two { two.old.book ≡ desk.publication.book }
+fn both_learn<A: Abort>(rt: &A, receipt: &Receipt, one: &mut Session, two: &mut Session)
+    requires one { one.old.book ≡ receipt.now.published.book }
+    requires two { two.old.book ≡ receipt.now.published.book }
 {
-    let desk = configure(alloc, desk, GROUPS)?;
-    let mut desk = insert(alloc, desk, "group:a#member@user:ann")?;
-    let shown = desk.publication.publish();
-    let zookie = Zookie { store: 7, rev: 2 };
-    let receipt = Receipt::new(zookie, shown, desk.publication.shown_steps());
-    one.learn(&receipt);
-    two.learn(&receipt);
-    Ok(is_told(&receipt) && asked(one) == 1 && asked(two) == 1)
+    assert!(rt; receipt.is_shown());
+    assert!(rt; receipt.zookie() == Zookie { store: 7, rev: 2 });
+    assert!(rt; receipt.published_steps().len() == 3);
+    one.learn(receipt);
+    two.learn(receipt);
+    assert!(rt; asked(one) == 1);
+    assert!(rt; asked(two) == 1);
 }
 
-// Two sessions learn one receipt. After the publication is gone neither answers.
-fn learn<R: Wait + Drop>(handle: R, alloc: Global) -> Result<bool, Refusal> {
-    let mut desk = open(handle, alloc)?;
-    let mut one = desk.publication.session()?;
-    let mut two = desk.publication.session()?;
-    let learnt = both_learn(alloc, desk, &mut one, &mut two)?;
-    let gone = asked(&mut one) == 123 && newest_of(&mut two) == 1_023;
-    Ok(learnt && gone)
+fn learns<A: Abort, R: Wait + Drop>(rt: &A, alloc: Global, desk: &mut Desk<R>) -> Pair {
+    let mut one = desk.publication.session().expect(rt, "a session");
+    let mut two = desk.publication.session().expect(rt, "a session");
+    let receipt = receipt_of(rt, alloc, desk);
+    both_learn(rt, &receipt, &mut one, &mut two);
+    Pair { one, two }
+}
+
+// Neither answers, since the publication is gone.
+fn answers_no_more<A: Abort>(rt: &A, one: &mut Session, two: &mut Session) {
+    assert!(rt; asked(one) == 123);
+    assert!(rt; newest_of(two) == 1_023);
 }
 
 #[test]
 fn a_receipt_is_learnt_by_two(rt: HostRuntime) {
-    assert!(rt; learn(&rt, rt.alloc()).unwrap_or(false));
+    let alloc = rt.alloc();
+    let pair = on_desk(&rt, &rt, alloc, |desk| learns(&rt, alloc, desk));
+    let Pair { mut one, mut two } = pair;
+    answers_no_more(&rt, &mut one, &mut two);
 }
 
 // What the session answers of Ann, and at which revision.
@@ -151,33 +167,36 @@ fn answered(session: &mut Session, at: &Consistency) -> Result<(u64, bool), Refu
     }
 }
 
-// Whether the session answers so, asked twice.
-fn answers(
-    session: &mut Session,
-    at: &Consistency,
-    rev: u64,
-    value: bool,
-) -> Result<bool, Refusal> {
-    let first = answered(session, at)?;
-    let again = answered(session, at)?;
-    Ok(first == (rev, value) && again == (rev, value))
+// The session answers so, asked twice.
+fn answers<A: Abort>(rt: &A, session: &mut Session, at: &Consistency, rev: u64, value: bool) {
+    assert!(rt; answered(session, at).expect(rt, "an answer") == (rev, value));
+    assert!(rt; answered(session, at).expect(rt, "an answer") == (rev, value));
 }
 
-// A session is asked before a commit that changes the answer, after it, and then at the revision before.
-fn asks_again<R: Wait + Drop>(handle: R, alloc: Global) -> Result<bool, Refusal> {
-    let mut desk = configure(alloc, open(handle, alloc)?, GROUPS)?;
+// The session is asked before a commit that changes the answer, after it, and then at the revision before.
+fn asks_again<A: Abort, R: Wait + Drop>(
+    rt: &A,
+    alloc: Global,
+    desk: &mut Desk<R>,
+    session: &mut Session,
+) {
+    answers(rt, session, &Consistency::Latest, 1, false);
+    insert(alloc, desk, ANN).expect(rt, "a tuple");
     desk.publication.publish();
-    let mut session = desk.publication.session()?;
-    let no = answers(&mut session, &Consistency::Latest, 1, false)?;
-    let mut desk = insert(alloc, desk, "group:a#member@user:ann")?;
-    desk.publication.publish();
-    let yes = answers(&mut session, &Consistency::Latest, 2, true)?;
+    answers(rt, session, &Consistency::Latest, 2, true);
     let before = Consistency::Exactly(Zookie { store: 7, rev: 1 });
-    let still_no = answers(&mut session, &before, 1, false)?;
-    Ok(no && yes && still_no)
+    answers(rt, session, &before, 1, false);
+}
+
+fn repeats<A: Abort, R: Wait + Drop>(rt: &A, alloc: Global, desk: &mut Desk<R>) {
+    configure(alloc, desk, GROUPS).expect(rt, "a configuration");
+    desk.publication.publish();
+    let mut session = desk.publication.session().expect(rt, "a session");
+    asks_again(rt, alloc, desk, &mut session);
 }
 
 #[test]
 fn a_repeated_check_is_answered_at_its_revision(rt: HostRuntime) {
-    assert!(rt; asks_again(&rt, rt.alloc()).unwrap_or(false));
+    let alloc = rt.alloc();
+    on_desk(&rt, &rt, alloc, |desk| repeats(&rt, alloc, desk));
 }

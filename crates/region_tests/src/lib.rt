@@ -3,6 +3,10 @@
 #![tactic(auto)]
 
 #[cfg(test)]
+mod history;
+#[cfg(test)]
+mod kept;
+#[cfg(test)]
 mod marked;
 #[cfg(test)]
 mod parts;

@@ -1,105 +1,103 @@
 //! What a view tells: members that are kept of a document whose viewers come from a folder's group, less a banned one.
 ghost use Rattle.region.specs.Sets.{IsWhole};
 
-use config::Config;
+use crate::history::fill;
 use facts::{Numbers, ViewFacts, number_of};
 use idsets::IdSet;
-use names::{Commit, Items, Node, Object, Op, OpKind, Refusal, Tuple};
+use names::{Node, Object, Refusal};
 use region::{Sets, refresh};
-use rows::{Rows, events_of};
+use rows::{Rows, View};
 use std::alloc::{AllocError, Global};
 use std::test::Fail;
 
-const CONFIG: &str = r#"{"namespaces":{"doc":{"banned":{"types":["user","group#member"]},
-"owner":{"types":["user"]},"parent":{"types":["folder"]},
-"viewer":{"rewrite":{"exclusion":[{"union":["this",{"computed":"owner"},
-{"tuple_to":{"relation":"viewer","tupleset":"parent"}}]},
-{"computed":"banned"}]},"types":["user"]}},
-"folder":{"viewer":{"types":["user","group#member"]}},
-"group":{"member":{"indexed":true,"types":["user","group#member"]}},
-"user":{}}}"#;
-
-const TUPLES: &str = "doc:1#parent@folder:f folder:f#viewer@group:v#member group:v#member@user:ann \
-    group:v#member@user:zoe doc:1#owner@user:bob doc:1#banned@group:b#member group:b#member@user:zoe \
-    group:c#member@user:ann";
-
-pub(crate) fn is_committed(rows: &mut Rows, commit: &Commit<Config>) -> Result<bool, AllocError> {
-    if rows.refuses(commit)? {
-        return Ok(false);
-    }
-    rows.admits_its_tuples();
-    rows.commit(commit)?;
-    Ok(true)
-}
-
-// A history with the configuration and then the tuples.
-pub(crate) fn history(alloc: Global) -> Result<Rows, Refusal> {
-    let mut rows = Rows::empty(alloc);
-    let config = Commit::Config(Config::from_json(alloc, CONFIG.as_bytes())?);
-    let mut ops = Vec::new(alloc);
-    for word in TUPLES.split_ascii_whitespace() {
-        ops.push(Op {
-            kind: OpKind::Touch,
-            tuple: Tuple::parse(word)?,
-        })?;
-    }
-    let tuples = Commit::Tuples(events_of(Items::of(ops))?);
-    if is_committed(&mut rows, &config)? && is_committed(&mut rows, &tuples)? {
-        return Ok(rows);
-    }
-    Err(Refusal::Malformed)
-}
-
 // Whether a node has a user; nothing, where it is not kept.
-fn has(numbers: &Numbers, sets: &Sets, node: &str, user: &str) -> Result<Option<bool>, Refusal> {
-    let Some(id) = numbers.nodes.id_of(&Node::parse(node)?) else {
-        return Ok(None);
-    };
-    let Some(members) = sets.members(id) else {
-        return Ok(None);
-    };
-    match numbers.users.id_of(&Object::parse(user)?) {
-        Some(number) => Ok(Some(members.contains(number))),
-        None => Ok(Some(false)),
+fn has(numbers: &Numbers, sets: &Sets, node: &Node, user: &Object) -> Option<bool> {
+    let id = numbers.nodes.id_of(node)?;
+    let members = sets.members(id)?;
+    match numbers.users.id_of(user) {
+        Some(number) => Some(members.contains(number)),
+        None => Some(false),
     }
 }
 
-// Keeps what the document's viewers depend on, and says who was asked.
-fn kept(alloc: Global, numbers: &mut Numbers, sets: &mut Sets) -> Result<usize, Refusal>
-    requires { IsWhole sets.old }
-{
-    let rows = history(alloc)?;
-    let view = rows.at(rows.newest());
-    let root = number_of(&mut numbers.nodes, &Node::parse("doc:1#viewer")?)?;
-    let roots = IdSet::of(vec![in alloc; root]?);
-    let mut facts = ViewFacts::of(alloc, &view);
-    facts.exchange(numbers);
-    refresh(alloc, sets, &roots, &[root], &[], &mut facts)?;
-    facts.exchange(numbers);
-    Ok(facts.asked().len())
+fn is_kept_so(
+    numbers: &Numbers,
+    sets: &Sets,
+    node: &str,
+    user: &str,
+    expected: Option<bool>,
+) -> Result<bool, Refusal> {
+    let node = Node::parse(node)?;
+    let user = Object::parse(user)?;
+    Ok(has(numbers, sets, &node, &user) == expected)
 }
 
 // Whether the members that are kept are those that the tuples and rewrites give by hand.
-fn is_told(alloc: Global) -> Result<bool, Refusal> {
-    let mut numbers = Numbers::new(alloc);
-    let mut sets = Sets::new(alloc);
-    if kept(alloc, &mut numbers, &mut sets)? != 7 {
-        return Ok(false);
-    }
-    let members = [
+fn are_by_hand(numbers: &Numbers, sets: &Sets) -> Result<bool, Refusal> {
+    for (node, user, expected) in [
         ("doc:1#viewer", "user:ann", Some(true)),
         ("doc:1#viewer", "user:bob", Some(true)),
         ("doc:1#viewer", "user:zoe", Some(false)),
         ("folder:f#viewer", "user:zoe", Some(true)),
         ("group:b#member", "user:ann", Some(false)),
         ("group:c#member", "user:ann", None),
-    ];
-    for (node, user, expected) in members {
-        if has(&numbers, &sets, node, user)? != expected {
+    ] {
+        if !is_kept_so(numbers, sets, node, user, expected)? {
             return Ok(false);
         }
     }
     Ok(true)
+}
+
+// How many nodes the view was asked for.
+fn asked(
+    alloc: Global,
+    view: &View<'_>,
+    numbers: &mut Numbers,
+    sets: &mut Sets,
+    root: u64,
+) -> Result<usize, AllocError>
+    requires { IsWhole sets.old }
+{
+    let roots = IdSet::of(vec![in alloc; root]?);
+    let mut facts = ViewFacts::of(alloc, view);
+    facts.exchange(numbers);
+    refresh(alloc, sets, &roots, &[root], &[], &mut facts)?;
+    facts.exchange(numbers);
+    Ok(facts.asked().len())
+}
+
+// Keeps what the document's viewers depend on, which are seven nodes.
+fn keeps(
+    alloc: Global,
+    rows: &Rows,
+    numbers: &mut Numbers,
+    sets: &mut Sets,
+) -> Result<bool, Refusal>
+    requires { IsWhole sets.old }
+{
+    let viewers = Node::parse("doc:1#viewer")?;
+    let root = number_of(&mut numbers.nodes, &viewers)?;
+    Ok(asked(alloc, &rows.at(rows.newest()), numbers, sets, root)? == 7)
+}
+
+fn tells(
+    alloc: Global,
+    rows: &mut Rows,
+    numbers: &mut Numbers,
+    sets: &mut Sets,
+) -> Result<bool, Refusal>
+    requires { IsWhole sets.old }
+{
+    fill(alloc, rows)?;
+    Ok(keeps(alloc, rows, numbers, sets)? && are_by_hand(numbers, sets)?)
+}
+
+fn is_told(alloc: Global) -> Result<bool, Refusal> {
+    let mut rows = Rows::empty(alloc);
+    let mut numbers = Numbers::new(alloc);
+    let mut sets = Sets::new(alloc);
+    tells(alloc, &mut rows, &mut numbers, &mut sets)
 }
 
 #[test]

@@ -1,8 +1,8 @@
 //! The worked rows: a document whose viewers come from a folder and its groups, less the banned ones, and two
 //! groups that hold each other.
-use crate::table::{Known, Table, refresh_by};
+use crate::kept::Kept;
+use crate::table::Known;
 use idsets::IdSet;
-use region::Sets;
 use std::alloc::{AllocError, Global};
 use std::test::Fail;
 
@@ -30,121 +30,105 @@ const ANN: u64 = 100;
 
 const ZOE: u64 = 101;
 
-// Nothing is known, and nobody was asked.
-pub(crate) fn empty_table(alloc: Global) -> Table {
-    Table {
-        known: Vec::new(alloc),
-        asked: Vec::new(alloc),
-    }
-}
-
-// A node that holds some users, and the members of some nodes.
-pub(crate) fn known(
-    alloc: Global,
-    node: u64,
-    own: &[u64],
-    any: &[u64],
-) -> Result<Known, AllocError> {
-    Ok(Known {
-        node,
-        own: IdSet::of(own.to_vec(alloc)?),
-        any: any.to_vec(alloc)?,
-        reads: Vec::new(alloc),
-        less: Vec::new(alloc),
-    })
-}
-
 // The document's viewers: what is in the folder, if it has one, and its owners, without those that are banned.
 fn viewers(alloc: Global, any: &[u64]) -> Result<Known, AllocError> {
+    let any = any.to_vec(alloc)?;
+    let reads = vec![in alloc; PARENT]?;
+    let less = vec![in alloc; BANNED]?;
     Ok(Known {
         node: VIEWER,
         own: IdSet::new(alloc),
-        any: any.to_vec(alloc)?,
-        reads: vec![in alloc; PARENT]?,
-        less: vec![in alloc; BANNED]?,
+        any,
+        reads,
+        less,
     })
 }
 
 // The document is in a folder, whose viewers are those of V. Of three groups two hold each other, and one of them holds
 // the third, which holds Ann.
-fn with_a_folder(alloc: Global) -> Result<Table, AllocError> {
-    let mut table = empty_table(alloc);
-    table.known.push(viewers(alloc, &[OWNER, FOLDER])?)?;
-    table.known.push(known(alloc, PARENT, &[], &[])?)?;
-    table.known.push(known(alloc, FOLDER, &[], &[V])?)?;
-    table.known.push(known(alloc, V, &[ANN], &[])?)?;
-    table.known.push(known(alloc, A, &[], &[B])?)?;
-    table.known.push(known(alloc, B, &[], &[A, C])?)?;
-    table.known.push(known(alloc, C, &[ANN], &[])?)?;
-    Ok(table)
+fn know_a_folder(alloc: Global, kept: &mut Kept) -> Result<(), AllocError> {
+    kept.learn(viewers(alloc, &[OWNER, FOLDER])?)?;
+    kept.know(alloc, PARENT, &[], &[])?;
+    kept.know(alloc, FOLDER, &[], &[V])?;
+    kept.know(alloc, V, &[ANN], &[])?;
+    kept.know(alloc, A, &[], &[B])?;
+    kept.know(alloc, B, &[], &[A, C])?;
+    kept.know(alloc, C, &[ANN], &[])
 }
 
-// Whether a kept node has a user.
-pub(crate) fn has(sets: &Sets, node: u64, user: u64) -> bool {
-    match sets.members(node) {
-        Some(members) => members.contains(user),
-        None => false,
-    }
+fn asks_all_without_a_folder(alloc: Global, kept: &mut Kept) -> Result<bool, AllocError> {
+    kept.learn(viewers(alloc, &[OWNER])?)?;
+    kept.refresh(alloc, &[VIEWER], &[])?;
+    Ok(kept.has_asked(&[VIEWER, BANNED, OWNER, PARENT]))
+}
+
+fn has_the_folders_viewers(alloc: Global, kept: &mut Kept) -> Result<bool, AllocError> {
+    know_a_folder(alloc, kept)?;
+    kept.refresh(alloc, &[], &[PARENT, FOLDER, V, A, B, C])?;
+    let asked = kept.has_asked(&[VIEWER, PARENT, FOLDER, V]);
+    Ok(asked && kept.has(VIEWER, ANN) && !kept.is_kept(C))
+}
+
+fn lacks_whom_a_cycle_bans(alloc: Global, kept: &mut Kept) -> Result<bool, AllocError> {
+    kept.know(alloc, BANNED, &[], &[A])?;
+    kept.refresh(alloc, &[], &[BANNED])?;
+    let asked = kept.has_asked(&[VIEWER, BANNED, A, B, C]);
+    Ok(asked && kept.is_kept(VIEWER) && !kept.has(VIEWER, ANN) && kept.has(A, ANN))
+}
+
+fn has_whom_the_broken_cycle_banned(alloc: Global, kept: &mut Kept) -> Result<bool, AllocError> {
+    kept.know(alloc, B, &[], &[A])?;
+    kept.refresh(alloc, &[], &[B])?;
+    let asked = kept.has_asked(&[VIEWER, BANNED, A, B]);
+    let given_back = kept.has(VIEWER, ANN) && !kept.is_kept(C);
+    Ok(asked && given_back && kept.is_kept(A) && !kept.has(A, ANN) && !kept.has(B, ANN))
+}
+
+fn follows_each_change(alloc: Global, kept: &mut Kept) -> Result<bool, AllocError> {
+    let first = asks_all_without_a_folder(alloc, kept)?;
+    let viewed = first && has_the_folders_viewers(alloc, kept)?;
+    let banned = viewed && lacks_whom_a_cycle_bans(alloc, kept)?;
+    Ok(banned && has_whom_the_broken_cycle_banned(alloc, kept)?)
+}
+
+fn is_given_back(alloc: Global) -> Result<bool, AllocError> {
+    let mut kept = Kept::new(alloc, IdSet::of(vec![in alloc; VIEWER]?));
+    follows_each_change(alloc, &mut kept)
 }
 
 #[test]
 fn a_break_of_a_cycle_gives_back_whom_it_banned(rt: HostRuntime) -> Result<(), Fail> {
-    let alloc = rt.alloc();
-    let roots = IdSet::of(vec![in alloc; VIEWER]?);
-    let mut sets = Sets::new(alloc);
-    let mut table = empty_table(alloc);
-    table.known.push(viewers(alloc, &[OWNER])?)?;
-    refresh_by(alloc, &mut sets, &roots, &[VIEWER], &[], &mut table)?;
-    assert_eq!(rt;
-        table.asked.as_slice(),
-        [VIEWER, BANNED, OWNER, PARENT].as_slice()
-    );
-
-    table = with_a_folder(alloc)?;
-    let changed = [PARENT, FOLDER, V, A, B, C];
-    refresh_by(alloc, &mut sets, &roots, &[], &changed, &mut table)?;
-    assert_eq!(rt;
-        table.asked.as_slice(),
-        [VIEWER, PARENT, FOLDER, V].as_slice()
-    );
-    assert!(rt; has(&sets, VIEWER, ANN) && !sets.is_kept(C));
-
-    table.asked.clear();
-    table.known.push(known(alloc, BANNED, &[], &[A])?)?;
-    refresh_by(alloc, &mut sets, &roots, &[], &[BANNED], &mut table)?;
-    assert_eq!(rt;
-        table.asked.as_slice(),
-        [VIEWER, BANNED, A, B, C].as_slice()
-    );
-    assert!(rt; sets.is_kept(VIEWER) && !has(&sets, VIEWER, ANN) && has(&sets, A, ANN));
-
-    table.asked.clear();
-    table.known.insert(0, known(alloc, B, &[], &[A])?)?;
-    refresh_by(alloc, &mut sets, &roots, &[], &[B], &mut table)?;
-    assert_eq!(rt; table.asked.as_slice(), [VIEWER, BANNED, A, B].as_slice());
-    assert!(rt; has(&sets, VIEWER, ANN) && sets.members(C).is_none());
-    assert!(rt; sets.is_kept(A) && !has(&sets, A, ANN) && !has(&sets, B, ANN));
+    assert!(rt; is_given_back(rt.alloc())?);
     Ok(())
+}
+
+fn hold_each_other(alloc: Global, kept: &mut Kept) -> Result<bool, AllocError> {
+    kept.know(alloc, A, &[], &[B])?;
+    kept.know(alloc, B, &[ANN], &[A])?;
+    kept.know(alloc, Z, &[ZOE], &[])?;
+    kept.refresh(alloc, &[A, Z], &[])?;
+    let asked = kept.has_asked(&[A, Z, B]);
+    Ok(asked && kept.has(A, ANN) && kept.has(B, ANN) && kept.has(Z, ZOE))
+}
+
+fn are_emptied(alloc: Global, kept: &mut Kept) -> Result<bool, AllocError> {
+    kept.know(alloc, B, &[], &[A])?;
+    kept.refresh(alloc, &[], &[B])?;
+    let empty = kept.has_asked(&[A, B]) && !kept.has(A, ANN) && !kept.has(B, ANN);
+    Ok(empty && kept.has(Z, ZOE) && kept.is_kept(A) && kept.is_kept(B))
+}
+
+fn lose_ann(alloc: Global, kept: &mut Kept) -> Result<bool, AllocError> {
+    Ok(hold_each_other(alloc, kept)? && are_emptied(alloc, kept)?)
+}
+
+fn groups_lose_ann(alloc: Global) -> Result<bool, AllocError> {
+    let mut kept = Kept::new(alloc, IdSet::of(vec![in alloc; A, Z]?));
+    lose_ann(alloc, &mut kept)
 }
 
 #[test]
 fn groups_that_hold_each_other_are_emptied(rt: HostRuntime) -> Result<(), Fail> {
-    let alloc = rt.alloc();
-    let roots = IdSet::of(vec![in alloc; A, Z]?);
-    let mut sets = Sets::new(alloc);
-    let mut table = empty_table(alloc);
-    table.known.push(known(alloc, A, &[], &[B])?)?;
-    table.known.push(known(alloc, B, &[ANN], &[A])?)?;
-    table.known.push(known(alloc, Z, &[ZOE], &[])?)?;
-    refresh_by(alloc, &mut sets, &roots, &[A, Z], &[], &mut table)?;
-    assert_eq!(rt; table.asked.as_slice(), [A, Z, B].as_slice());
-    assert!(rt; has(&sets, A, ANN) && has(&sets, B, ANN) && has(&sets, Z, ZOE));
-
-    table.asked.clear();
-    table.known.insert(0, known(alloc, B, &[], &[A])?)?;
-    refresh_by(alloc, &mut sets, &roots, &[], &[B], &mut table)?;
-    assert_eq!(rt; table.asked.as_slice(), [A, B].as_slice());
-    assert!(rt; !has(&sets, A, ANN) && !has(&sets, B, ANN) && has(&sets, Z, ZOE));
-    assert!(rt; sets.is_kept(A) && sets.is_kept(B));
+    assert!(rt; groups_lose_ann(rt.alloc())?);
     Ok(())
 }
