@@ -10,11 +10,7 @@ use Rattle.front.specs.Kept.{IsKnownIn}
 use Rattle.front.specs.Fronts.{ChangeFrom, off_the_desk, on_a_desk, MayTell, FrontStep}
 use Rattle.front.proofs.Kept.{Keeps}
 use Rattle.front.proofs.NeverBack.{never_back}
-use Rattle.front.proofs.Told.{from_later, state_later}
-use Rattle.front.proofs.Grown.{tree_later}
-use Rattle.front.proofs.Listed.{tuples_later}
-use Rattle.front.proofs.Grouped.{groups_later}
-use Rattle.front.proofs.Paged.{page_later}
+use Rattle.front.proofs.Told.{from_later}
 
 module _ {T : Type 0} (g : Ghosts T) (b : Book) where
   change_later : (old : Known) (call : Call) (body : List ℕ) (told : Option (ℕ × List ℕ)) (new : Known) → ChangeFrom g b old call body told new → Keeps old new
@@ -22,12 +18,12 @@ module _ {T : Type 0} (g : Ghosts T) (b : Book) where
   change_later old call body told new (on_a_desk before after kept step later known) = inr later
 
   tells_later : (old : Known) (call : Call) (body : List ℕ) (told : Option (ℕ × List ℕ)) (new : Known) → MayTell g b old call body told new → Keeps old new
-  tells_later old Check body told new tells = from_later old body told new tells
-  tells_later old Read body told new tells = tuples_later old body told new tells
-  tells_later old Expand body told new tells = tree_later old body told new tells
-  tells_later old Leopard body told new tells = groups_later old body told new tells
-  tells_later old Watch body told new tells = page_later old body told new tells
-  tells_later old State body told new tells = state_later old told new tells
+  tells_later old Check body told new tells = from_later old Check body told new tells
+  tells_later old Read body told new tells = from_later old Read body told new tells
+  tells_later old Expand body told new tells = from_later old Expand body told new tells
+  tells_later old Leopard body told new tells = from_later old Leopard body told new tells
+  tells_later old Watch body told new tells = from_later old Watch body told new tells
+  tells_later old State body told new tells = from_later old State body told new tells
   tells_later old Write body told new tells = change_later old Write body told new tells
   tells_later old Config body told new tells = change_later old Config body told new tells
   tells_later old Trim body told new tells = change_later old Trim body told new tells

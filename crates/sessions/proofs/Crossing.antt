@@ -10,15 +10,10 @@ use Rattle.std.specs.Prelude.{ℕ, List}
 use Rattle.std.specs.contracts.sync.atomic.AtomicBool as AtomicBool
 use Rattle.std.proofs.Crossing.{crosses}
 use Rattle.front.proofs.Crossing.{Session-send}
-use Rattle.front.proofs.questions.Question.TheSendSync as Question
-use Rattle.front.specs.contracts.questions.Question as Questions
 use Rattle.sessions.specs.contracts.asking.Asker as Asker
 
 pub Asker-send : IsSend Asker.the_row
-Asker-send = declared_send Asker.the_type (Session-send, ((search sendable), tt))
-
-pub Question-sync : IsSync Questions.the_row
-Question-sync = Question.the_sync
+Asker-send = declared_send Asker.the_type ((search (crosses, sendable) depth 20), (Session-send, ((search sendable), tt)))
 
 pub u32-sync : IsSync u32
 u32-sync = search sendable
