@@ -361,7 +361,7 @@ class Run:
             if self.since is None and os.path.isdir(own):
                 # the crate's proof with no edit may rest on what a developer's checks kept, as rt check does
                 shutil.copytree(own, kept, dirs_exist_ok=True)
-            trial = Trial(wrong, edits, lambda turn, most: self.lend(crate, turn, len(edits), most), kept, say)
+            trial = Trial(wrong, edits, lambda turn, most: self.lend(crate, turn, edits, most), kept, say)
             with contextlib.suppress(Stopped):
                 if not lacking:
                     trial.run(self.since is not None)
@@ -370,13 +370,20 @@ class Run:
         for it in edits:
             if why or not it.verdict and not self.lanes.is_late(it.turn):
                 it.judge("BAD EDIT", why or "no check judged it")
-        now = Wrong(crate, edits_of(crate)[0])
-        self.refused.note_each(edits, keys_of([now]))
+        self.note(crate, edits)
+
+    def note(self, crate, edits):
+        """Notes what was seen of these edits of a crate."""
+        if edits:
+            self.refused.note_each(edits, keys_of([Wrong(crate, edits_of(crate)[0])]))
 
     @contextlib.contextmanager
     def lend(self, crate, turn, edits, most):
         """Gives one of the checks of a crate's edits its processors, unless it is known by then that the crate is not proved."""
-        with self.lanes.lent(turn, edits * crate.count(rb"\n"), rt.need(crate), most) as jobs:
+        if self.since is None:
+            # what the checks before showed is not lost with a run that is ended (beside rt ci it stands only once that has proved the crate)
+            self.note(crate, [it for it in edits if it.verdict])
+        with self.lanes.lent(turn, len(edits) * crate.count(rb"\n"), rt.need(crate), most) as jobs:
             if self.since is not None and self.proved.is_refuted(crate):
                 raise Stopped
             yield jobs

@@ -16,6 +16,8 @@ import subprocess
 import threading
 import time
 
+# (a shell that runs this in the background has it ignore interrupts, which the program would inherit)
+signal.signal(signal.SIGINT, signal.default_int_handler)
 LIMIT = int(os.environ.get("CASE_SECONDS", "60"))
 TOP = os.path.dirname(os.path.dirname(os.path.dirname(os.path.realpath(__file__))))
 CONFIG = '{"namespaces":{"group":{"member":{"types":["user","group#member"]}},"user":{}}}'

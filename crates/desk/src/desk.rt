@@ -10,16 +10,10 @@ ghost use Rattle.rows.specs.Follows.{IsAccepted, IsNext};
 ghost use Rattle.rows.specs.Judging.{ConfigRefused};
 ghost use Rattle.verdict.specs.Verdict.{AcceptsWrite, RefusesWrite};
 ghost use Rattle.shown.specs.declared.step.Step.TheVariants.{Commit as CommitStep, Marking as MarkingStep, Rebase, Take, Trim};
-ghost use Rattle.shown.specs.Standing.{standing, state_of, base_cause, cursor_of, CanRaise, HasRoom};
+ghost use Rattle.shown.specs.Standing.{standing, base_cause, cursor_of, CanRaise, HasRoom};
 ghost use Rattle.shown.specs.Marks.{marking_cause};
 ghost use Rattle.shown.specs.Raising.{floor_cause, RefusesFloor, RefusesMarking};
-ghost use Rattle.expand.specs.declared.limits.TheConstants.{MAX_DEPTH};
-ghost use Rattle.shown.specs.Answers.{IsAnswer, IsRefusal};
-ghost use Rattle.shown.specs.Expanding.{IsTree, IsTreeRefusal};
-ghost use Rattle.leopard.specs.Exprs.{query_of};
-ghost use Rattle.shown.specs.Grouping.{AreGroups, IsGroupsRefusal};
-ghost use Rattle.shown.specs.Paging.{IsPage, IsPageRefusal};
-ghost use Rattle.shown.specs.Watching.{IsWatched, WatchRefused};
+ghost use Rattle.shown.specs.Asked.{IsTold, RefusesQuestion};
 ghost use Rattle.tables.specs.Device.{IsOpen};
 ghost use Rattle.tables.specs.Opening.{CannotOpen};
 ghost use Rattle.tables.specs.Storing.{PutsAbsent};
@@ -35,20 +29,17 @@ use crate::latched_tables::{LatchedTables, load};
 use crate::opening::publish_first;
 use crate::storing::{store, store_floor};
 use config::Config;
-use expand::Tree;
-use leopard::Expr;
 use names::limits::MAX_CATCH_UP;
-use names::{Commit, Items, Marking, Node, Object, Part, Refusal, State, Tuple, Write};
+use names::{Commit, Marking, Part, Refusal, Write};
 use published::{Opened, Publication, Receipt, Session};
-use rows::{Tupleset, events_of, refuses_what_no_write_gives};
-use shown::{Answer, Refused, Shown, Step};
+use rows::{events_of, refuses_what_no_write_gives};
+use shown::{Question, Refused, Shown, Step, Told};
 use std::alloc::Global;
 use std::marker::Model;
 use std::sync::Wait;
 use tables::{Puts, Tables, puts_of};
 use tuple_keys::KeptCommit;
-use watch::{Namespaces, Page};
-use zookie::{Consistency, Zookie};
+use zookie::Zookie;
 
 /// What a caller is told of a part that takes commits, a floor, a marking and a base: the revision up to which the part has
 /// read them, once all that is posted is shown, the floor, how many nodes are marked, or the base's revision; and the receipt,
@@ -275,94 +266,14 @@ impl<T: Tables + Drop, R: Wait + Drop> Desk<T, R> {
         self.publication.publish()
     }
 
-    /// Whether the user is a member of the node, at a shown revision that is as fresh as is asked.
-    pub fn check(
-        &self,
-        consistency: &Consistency,
-        node: &Node,
-        user: &Object,
-    ) -> Result<Answer<bool>, Refused>
-        ensures ok { IfOk result
-            (IsAnswer (standing self.now.shown) consistency.now node.now user.now) }
-        ensures err { IfErr result (IsRefusal (standing self.now.shown) consistency.now node.now) }
+    /// What a question is told, at a shown revision that is as fresh as is asked.
+    pub fn ask(&self, question: &Question) -> Result<Told, Refused>
+        ensures ok { IfOk result (IsTold (standing self.now.shown) question.now) }
+        ensures err { IfErr result (RefusesQuestion (standing self.now.shown) question.now) }
         ensures beginning { IsPrefix self.now.shown self.now.posted }
         ensures judged { WereJudged self.now.posted self.now.shown }
     {
-        self.publication.shown().check(consistency, node, user)
-    }
-
-    /// The userset tree of the node, at a shown revision that is as fresh as is asked. At most `depth` nodes are open on a
-    /// path of it, 1 to 8.
-    pub fn expand(
-        &self,
-        consistency: &Consistency,
-        node: &Node,
-        depth: u8,
-    ) -> Result<Answer<Tree>, Refused>
-        requires opens { 1 ≤ depth }
-        requires bounded { depth ≤ MAX_DEPTH }
-        ensures ok { IfOk result (IsTree (standing self.now.shown) consistency.now node.now depth) }
-        ensures err { IfErr result
-            (IsTreeRefusal (standing self.now.shown) consistency.now node.now depth) }
-        ensures beginning { IsPrefix self.now.shown self.now.posted }
-        ensures judged { WereJudged self.now.posted self.now.shown }
-    {
-        self.publication.shown().expand(consistency, node, depth)
-    }
-
-    /// The page of a tupleset, at a shown revision that is as fresh as is asked.
-    pub fn read(
-        &self,
-        consistency: &Consistency,
-        asked: &Tupleset,
-    ) -> Result<Answer<Items<Tuple>>, Refused>
-        ensures ok { IfOk result (IsPage (standing self.now.shown) consistency.now asked.now) }
-        ensures err { IfErr result (IsPageRefusal (standing self.now.shown) consistency.now) }
-        ensures beginning { IsPrefix self.now.shown self.now.posted }
-        ensures judged { WereJudged self.now.posted self.now.shown }
-    {
-        self.publication.shown().read(consistency, asked)
-    }
-
-    /// The first so many groups that the expression means, at a shown revision that is as fresh as is asked.
-    pub fn groups(
-        &self,
-        consistency: &Consistency,
-        expr: &Expr,
-        limit: u32,
-    ) -> Result<Answer<Items<Node>>, Refused>
-        ensures ok { IfOk result
-            (AreGroups (standing self.now.shown) consistency.now (query_of expr.now) limit) }
-        ensures err { IfErr result
-            (IsGroupsRefusal (standing self.now.shown) consistency.now (query_of expr.now) limit) }
-        ensures beginning { IsPrefix self.now.shown self.now.posted }
-        ensures judged { WereJudged self.now.posted self.now.shown }
-    {
-        self.publication.shown().groups(consistency, expr, limit)
-    }
-
-    /// The events on tuples of the namespaces, of so many shown commits above the cursor's revision, or of as many as there
-    /// are.
-    pub fn watch(
-        &self,
-        cursor: &Zookie,
-        namespaces: &Namespaces,
-        commits: u32,
-    ) -> Result<Page, Refusal>
-        ensures ok { IfOk result
-            (IsWatched (standing self.now.shown) cursor.now namespaces.now commits) }
-        ensures err { IfErr result (WatchRefused (standing self.now.shown) cursor.now) }
-        ensures beginning { IsPrefix self.now.shown self.now.posted }
-        ensures judged { WereJudged self.now.posted self.now.shown }
-    {
-        self.publication.shown().watch(cursor, namespaces, commits)
-    }
-
-    /// The shown revisions, and how large the history is at the newest of them.
-    pub fn state(&self) -> State
-        ensures { result ≡ state_of (standing self.now.shown) }
-    {
-        self.publication.shown().state()
+        self.publication.shown().answer(question)
     }
 
     /// The store's number.

@@ -3,8 +3,4 @@ pub mod Kept
 pub mod NeverBack
 pub mod Ahead
 pub mod Told
-pub mod Grown
-pub mod Listed
-pub mod Grouped
-pub mod Paged
 pub mod Changed

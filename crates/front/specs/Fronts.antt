@@ -10,11 +10,7 @@ use Rattle.desk.specs.Posts.{Posts, shown_by}
 use Rattle.desk.specs.Changes.{TellsShown}
 use Rattle.keeper.specs.Rules.{DeskStep}
 use Rattle.front.specs.Kept.{IsKept, KnowsADesk, KnowsMore, NeverGoesBack}
-use Rattle.front.specs.Questions.{CheckFrom, StateFrom}
-use Rattle.front.specs.Tuples.{ReadFrom}
-use Rattle.front.specs.Trees.{ExpandFrom}
-use Rattle.front.specs.Groups.{GroupsFrom}
-use Rattle.front.specs.Pages.{WatchFrom}
+use Rattle.front.specs.Questions.{AskFrom, sought_by}
 
 -- A change: whatever a desk holds, it would tell this and stay as it is, and no desk was asked; or a desk of the book was,
 -- which its rules let tell this, and the session then knows no less than it did, and all that the desk shows after it.
@@ -37,12 +33,12 @@ pub record ToldByDesk (T : Type 0) (book : Book) (receipt : ReceiptFacts) (new :
 -- that a question is of the future only where the session then knows all that a desk of the book shows.
 abbrev pub MayTell : {T : Type 0}
     → Ghosts T → Book → Known → Call → List ℕ → Option (ℕ × List ℕ) → Known → Type 0
-MayTell {T} g book old Check body told new = CheckFrom (KnowsADesk T book new) old body told new
-MayTell {T} g book old Read body told new = ReadFrom (KnowsADesk T book new) old body told new
-MayTell {T} g book old Expand body told new = ExpandFrom (KnowsADesk T book new) old body told new
-MayTell {T} g book old Leopard body told new = GroupsFrom (KnowsADesk T book new) old body told new
-MayTell {T} g book old Watch body told new = WatchFrom (KnowsADesk T book new) old body told new
-MayTell g book old State body told new = StateFrom old told new
+MayTell {T} g book old Check body told new = AskFrom (sought_by Check (KnowsADesk T book new)) old Check body told new
+MayTell {T} g book old Read body told new = AskFrom (sought_by Read (KnowsADesk T book new)) old Read body told new
+MayTell {T} g book old Expand body told new = AskFrom (sought_by Expand (KnowsADesk T book new)) old Expand body told new
+MayTell {T} g book old Leopard body told new = AskFrom (sought_by Leopard (KnowsADesk T book new)) old Leopard body told new
+MayTell {T} g book old Watch body told new = AskFrom (sought_by Watch (KnowsADesk T book new)) old Watch body told new
+MayTell {T} g book old State body told new = AskFrom (sought_by State (KnowsADesk T book new)) old State body told new
 MayTell g book old call body told new = ChangeFrom g book old call body told new
 
 -- It may tell so, and no later answer goes back on what its session knew.

@@ -5,19 +5,11 @@ ghost use Rattle.names.specs.declared.call.Call.TheVariants.{Write, Config, Trim
 ghost use Rattle.names.specs.declared.refusal.Refusal.TheVariants.{NoSeat};
 ghost use Rattle.published.specs.Known.{Begins};
 ghost use Rattle.front.specs.Kept.{IsKnownIn, KnowsADesk, KnowsMore};
-ghost use Rattle.front.specs.Questions.{IsAsked, CheckFrom, StateFrom};
-ghost use Rattle.front.specs.Trees.{IsTreeAsked, ExpandFrom};
-ghost use Rattle.front.specs.Tuples.{AreTuplesAsked, ReadFrom};
-ghost use Rattle.front.specs.Groups.{AreGroupsAsked, GroupsFrom};
-ghost use Rattle.front.specs.Pages.{IsPageAsked, WatchFrom};
+ghost use Rattle.front.specs.Questions.{IsAsked, AskFrom, sought_by};
 ghost use Rattle.front.specs.Fronts.{ChangeFrom, FrontStep, MayTell, ToldByDesk};
 
-use crate::groups::{AskedGroups, groups_again, groups_from};
 use crate::lock::Keeper;
-use crate::pages::{AskedPage, watch_again, watch_from};
-use crate::questions::{Asked, check_again, check_from, state_from};
-use crate::trees::{AskedTree, expand_again, expand_from};
-use crate::tuples::{AskedTuples, read_again, read_from};
+use crate::questions::{Asked, ask_again, ask_from};
 use bodies::marking::{hot_body, rebuild_body};
 use bodies::refusals::refusal;
 use bodies::requests::catch_up_body;
@@ -32,7 +24,7 @@ use std::sync::Wait;
 use tables::Tables;
 
 /// A keeper, and a session of it. A question is asked of the session alone, with no lock and no wait: by the type of
-/// [`check_from`] and its like, which no clause says. The desk is held for a change whose body was read, and for a refresh.
+/// [`ask_from`] and [`ask_again`], which no clause says. The desk is held for a change whose body was read, and for a refresh.
 /// Contracts see it as what the session knows.
 #[derive(Drop)]
 pub struct Front<'k, T: Tables + Drop, J: Naming, R: Wait + Drop> {
@@ -74,51 +66,12 @@ impl<'k, T: Tables + Drop, J: Naming, R: Wait + Drop> Front<'k, T, J, R> {
         })
     }
 
-    /// Reads a `check` and asks it of the session alone. Where its zookie is of a revision that the session does not know
-    /// yet, it comes back.
-    pub fn ask(&mut self, body: &[u8]) -> Asked
-        ensures { IsAsked self.old body.now result self.new }
+    /// Reads a question and asks it of the session alone. Where it is of a revision that the session does not know yet, it comes
+    /// back.
+    pub fn ask(&mut self, call: Call, body: &[u8]) -> Asked
+        ensures { IsAsked self.old call body.now result self.new }
     {
-        check_from(self.alloc, &mut self.session, body)
-    }
-
-    /// Reads an `expand` and asks it of the session alone. Where its zookie is of a revision that the session does not know
-    /// yet, it comes back.
-    pub fn ask_for_tree(&mut self, body: &[u8]) -> AskedTree
-        ensures { IsTreeAsked self.old body.now result self.new }
-    {
-        expand_from(self.alloc, &mut self.session, body)
-    }
-
-    /// Reads a `read` and asks it of the session alone. Where its zookie is of a revision that the session does not know
-    /// yet, it comes back.
-    pub fn ask_for_tuples(&mut self, body: &[u8]) -> AskedTuples
-        ensures { AreTuplesAsked self.old body.now result self.new }
-    {
-        read_from(self.alloc, &mut self.session, body)
-    }
-
-    /// Reads a `leopard` and asks it of the session alone. Where its zookie is of a revision that the session does not know
-    /// yet, it comes back.
-    pub fn ask_for_groups(&mut self, body: &[u8]) -> AskedGroups
-        ensures { AreGroupsAsked self.old body.now result self.new }
-    {
-        groups_from(self.alloc, &mut self.session, body)
-    }
-
-    /// Reads a `watch` and asks it of the session alone. Where its cursor is of a revision that the session does not know
-    /// yet, it comes back.
-    pub fn ask_for_page(&mut self, body: &[u8]) -> AskedPage
-        ensures { IsPageAsked self.old body.now result self.new }
-    {
-        watch_from(self.alloc, &mut self.session, body)
-    }
-
-    /// Answers `state` from the session alone.
-    pub fn state(&mut self) -> Reply
-        ensures { StateFrom self.old (told result) self.new }
-    {
-        state_from(self.alloc, &mut self.session)
+        ask_from(self.alloc, &mut self.session, call, body)
     }
 
     /// Lets the session know what is shown now, and shows what waits, as far as there is memory.
@@ -130,67 +83,16 @@ impl<'k, T: Tables + Drop, J: Naming, R: Wait + Drop> Front<'k, T, J, R> {
         self.keeper.hold(rt).refresh(&mut self.session)
     }
 
-    /// Answers `check`. A question of the future is asked once more after a refresh.
-    pub fn check<W: Wait>(&mut self, rt: &W, body: &[u8]) -> Reply
-        ensures { CheckFrom (KnowsADesk T J.book self.new) self.old body.now (told result) self.new }
+    /// Answers a call that asks. A question of the future is asked once more after a refresh.
+    pub fn answer_question<W: Wait>(&mut self, rt: &W, call: Call, body: &[u8]) -> Reply
+        ensures { AskFrom (sought_by call (KnowsADesk T J.book self.new))
+            self.old call body.now (told result) self.new }
     {
-        match self.ask(body) {
+        match self.ask(call, body) {
             Asked::Told(reply) => reply,
             Asked::NotYet(question) => {
                 self.refresh(rt);
-                check_again(self.alloc, &mut self.session, &question)
-            }
-        }
-    }
-
-    /// Answers `expand`. A question of the future is asked once more after a refresh.
-    pub fn expand<W: Wait>(&mut self, rt: &W, body: &[u8]) -> Reply
-        ensures { ExpandFrom (KnowsADesk T J.book self.new) self.old body.now (told result) self.new }
-    {
-        match self.ask_for_tree(body) {
-            AskedTree::Told(reply) => reply,
-            AskedTree::NotYet(question) => {
-                self.refresh(rt);
-                expand_again(self.alloc, &mut self.session, &question)
-            }
-        }
-    }
-
-    /// Answers `read`. A question of the future is asked once more after a refresh.
-    pub fn read<W: Wait>(&mut self, rt: &W, body: &[u8]) -> Reply
-        ensures { ReadFrom (KnowsADesk T J.book self.new) self.old body.now (told result) self.new }
-    {
-        match self.ask_for_tuples(body) {
-            AskedTuples::Told(reply) => reply,
-            AskedTuples::NotYet(question) => {
-                self.refresh(rt);
-                read_again(self.alloc, &mut self.session, &question)
-            }
-        }
-    }
-
-    /// Answers `leopard`. A question of the future is asked once more after a refresh.
-    pub fn groups<W: Wait>(&mut self, rt: &W, body: &[u8]) -> Reply
-        ensures { GroupsFrom (KnowsADesk T J.book self.new) self.old body.now (told result) self.new }
-    {
-        match self.ask_for_groups(body) {
-            AskedGroups::Told(reply) => reply,
-            AskedGroups::NotYet(question) => {
-                self.refresh(rt);
-                groups_again(self.alloc, &mut self.session, &question)
-            }
-        }
-    }
-
-    /// Answers `watch`. A question of the future is asked once more after a refresh.
-    pub fn watch<W: Wait>(&mut self, rt: &W, body: &[u8]) -> Reply
-        ensures { WatchFrom (KnowsADesk T J.book self.new) self.old body.now (told result) self.new }
-    {
-        match self.ask_for_page(body) {
-            AskedPage::Told(reply) => reply,
-            AskedPage::NotYet(question) => {
-                self.refresh(rt);
-                watch_again(self.alloc, &mut self.session, &question)
+                ask_again(self.alloc, &mut self.session, &question)
             }
         }
     }
@@ -296,16 +198,11 @@ impl<'k, T: Tables + Drop, J: Naming, R: Wait + Drop> Front<'k, T, J, R> {
         match call {
             Call::Write => self.write(rt, body),
             Call::Config => self.configure(rt, body),
-            Call::Check => self.check(rt, body),
-            Call::Expand => self.expand(rt, body),
-            Call::Read => self.read(rt, body),
-            Call::Leopard => self.groups(rt, body),
-            Call::Watch => self.watch(rt, body),
             Call::Trim => self.trim(rt, body),
             Call::CatchUp => self.catch_up(rt, body),
             Call::Hot => self.hot(rt, body),
             Call::Rebuild => self.rebuild(rt, body),
-            Call::State => self.state(),
+            _ => self.answer_question(rt, call, body),
         }
     }
 }

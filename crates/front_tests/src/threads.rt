@@ -46,10 +46,10 @@ type Desktop<J> = Mutex<Option<Handed<J>>>;
 
 impl<J: Naming> Reader<J> {
     // The revision that is answered at, where Ann is a member exactly if it is even.
-    fn ask(&mut self, at: &Consistency) -> Option<u64> {
+    fn ask(&mut self, at: Consistency) -> Option<u64> {
         let node = Node::parse("group:a#member").ok()?;
         let user = Object::parse("user:ann").ok()?;
-        let answer = self.session.check(at, &node, &user).ok()?;
+        let answer = self.session.check(at, node, user).ok()?;
         if answer.value == (answer.rev % 2 == 0) {
             Some(answer.rev)
         } else {
@@ -94,7 +94,7 @@ fn reads<J: Naming, W: Wait>(rt: &W, reader: Reader<J>, desktop: &Desktop<J>) ->
             }
             None => Consistency::Latest,
         };
-        match reader.ask(&at) {
+        match reader.ask(at) {
             Some(rev) if rev >= least => least = rev,
             _ => return false,
         }

@@ -2,9 +2,10 @@
 ghost use Rattle.std.specs.Prelude.{◌≡◌};
 
 use desk::Posted;
-use front::{Asked, Front, Keeper, check_again, check_from, state_from};
+use front::{Asked, Front, Keeper, ask_again, ask_from};
 use names::{Call, Marking, Node, Part, Reply};
 use published::{Naming, Opened};
+use shown::Question;
 use std::alloc::Global;
 use std::marker::Brand;
 use std::process::Abort;
@@ -56,10 +57,10 @@ fn sees_the_other<J: Naming, H: Wait + Drop, W: Abort + Wait, T: Tables + Drop>(
     let mut one = Front::new(alloc, rt, keeper).expect(rt, "a front");
     let mut two = Front::new(alloc, rt, keeper).expect(rt, "a front");
     let taken = status_of(&one.configure(rt, GROUPS));
-    let early = comes_back(&two.ask(NEXT));
-    let refused = status_of(&two.check(rt, NEXT));
+    let early = comes_back(&two.ask(Call::Check, NEXT));
+    let refused = status_of(&two.answer_question(rt, Call::Check, NEXT));
     let written = status_of(&one.write(rt, INSERT));
-    let late = comes_back(&two.ask(NEXT));
+    let late = comes_back(&two.ask(Call::Check, NEXT));
     let answered = status_of(&two.answer(rt, Call::Check, NEXT));
     assert!(rt;
         taken == 200 && early && refused == 409 && written == 200 && !late && answered == 200
@@ -94,12 +95,12 @@ fn is_answered_later<J: Naming, H: Wait + Drop, W: Abort + Wait, T: Tables + Dro
     let mut front = Front::new(alloc, rt, keeper).expect(rt, "a front");
     let mut session = keeper.hold(rt).session().expect(rt, "a session");
     let taken = status_of(&front.configure(rt, GROUPS));
-    let Asked::NotYet(question) = check_from(alloc, &mut session, NEXT) else {
+    let Asked::NotYet(question) = ask_from(alloc, &mut session, Call::Check, NEXT) else {
         panic!(rt; "an answer");
     };
     let written = status_of(&front.write(rt, INSERT));
     keeper.hold(rt).refresh(&mut session);
-    let answered = status_of(&check_again(alloc, &mut session, &question));
+    let answered = status_of(&ask_again(alloc, &mut session, &question));
     assert!(rt; taken == 200 && written == 200 && answered == 200);
 }
 
@@ -134,9 +135,9 @@ fn outlives<J: Naming, H: Wait + Drop, W: Abort + Wait, T: Tables + Drop>(
 {
     let keeper = keeper_of::<J, H, W, T>(rt, handle, alloc, opened, tables);
     let mut session = keeper.hold(rt).session().expect(rt, "a session");
-    let before = status_of(&state_from(alloc, &mut session));
+    let before = status_of(&ask_again(alloc, &mut session, &Question::State));
     drop(keeper.close());
-    let after = status_of(&state_from(alloc, &mut session));
+    let after = status_of(&ask_again(alloc, &mut session, &Question::State));
     assert!(rt; before == 200 && after == 503);
 }
 

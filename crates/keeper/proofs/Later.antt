@@ -7,13 +7,9 @@ use Rattle.names.specs.declared.call.Call.TheVariants.{Write, Config, Check, Rea
 use Rattle.tables.specs.declared.tables.Tables.{Ghosts}
 use Rattle.published.proofs.Prefixes.{prefix_self}
 use Rattle.desk.specs.Posts.{Posts}
+use Rattle.keeper.specs.calls.Ask.{AskStep, asks_nothing, is_told, is_refused}
 use Rattle.keeper.specs.calls.Write.{WriteStep, write_malformed, write_bad_zookie, write_accepted, write_refused, write_unread}
 use Rattle.keeper.specs.calls.Config.{ConfigStep, config_invalid, config_accepted, config_refused, config_unread}
-use Rattle.keeper.specs.calls.Check.{CheckStep, check_malformed, check_bad_zookie, check_answered, check_refused, check_unread}
-use Rattle.keeper.specs.calls.Read.{ReadStep, read_malformed, read_bad_zookie, read_answered, read_refused, read_unread}
-use Rattle.keeper.specs.calls.Expand.{ExpandStep, expand_malformed, expand_bad_zookie, expand_answered, expand_refused, expand_unread}
-use Rattle.keeper.specs.calls.Groups.{GroupsStep, groups_malformed, groups_bad_zookie, groups_answered, groups_refused, groups_unread}
-use Rattle.keeper.specs.calls.Watch.{WatchStep, watch_malformed, watch_bad_zookie, watch_answered, watch_refused, watch_unread}
 use Rattle.keeper.specs.calls.Trim.{TrimStep, trim_malformed, trim_bad_zookie, trim_accepted, trim_refused, trim_unread}
 use Rattle.keeper.specs.calls.CatchUp.{CatchUpStep, catch_up_malformed, catch_up_accepted, catch_up_refused, catch_up_unread}
 use Rattle.keeper.specs.calls.Hot.{HotStep, hot_malformed, hot_accepted, hot_refused, hot_unread}
@@ -38,40 +34,10 @@ module _ {T : Type 0} (g : Ghosts T) (old : Posts T) (body : List ℕ) (told : O
   config_later (config_refused config why accepts refused says) = refused.shows.later
   config_later (config_unread none same) = unmoved old new same
 
-  check_later : CheckStep old body told new → IsPrefix old.shown new.shown
-  check_later (check_malformed form says same) = unmoved old new same
-  check_later (check_bad_zookie bad says same) = unmoved old new same
-  check_later (check_answered consistency node user rev allowed asks checked says only) = only.shows.later
-  check_later (check_refused consistency node user why at asks cause says only) = only.shows.later
-  check_later (check_unread none same) = unmoved old new same
-
-  read_later : ReadStep old body told new → IsPrefix old.shown new.shown
-  read_later (read_malformed form says same) = unmoved old new same
-  read_later (read_bad_zookie bad says same) = unmoved old new same
-  read_later (read_answered consistency asked rev found asks are says only) = only.shows.later
-  read_later (read_refused consistency asked why at asks cause says only) = only.shows.later
-  read_later (read_unread none same) = unmoved old new same
-
-  expand_later : ExpandStep old body told new → IsPrefix old.shown new.shown
-  expand_later (expand_malformed form says same) = unmoved old new same
-  expand_later (expand_bad_zookie bad says same) = unmoved old new same
-  expand_later (expand_answered consistency node depth rev found asks is says only) = only.shows.later
-  expand_later (expand_refused consistency node depth why at asks cause says only) = only.shows.later
-  expand_later (expand_unread none same) = unmoved old new same
-
-  groups_later : GroupsStep old body told new → IsPrefix old.shown new.shown
-  groups_later (groups_malformed form says same) = unmoved old new same
-  groups_later (groups_bad_zookie bad says same) = unmoved old new same
-  groups_later (groups_answered consistency asked limit rev found asks are says only) = only.shows.later
-  groups_later (groups_refused consistency asked limit why at asks cause says only) = only.shows.later
-  groups_later (groups_unread none same) = unmoved old new same
-
-  watch_later : WatchStep old body told new → IsPrefix old.shown new.shown
-  watch_later (watch_malformed form says same) = unmoved old new same
-  watch_later (watch_bad_zookie bad says same) = unmoved old new same
-  watch_later (watch_answered cursor namespaces commits page asks is says only) = only.shows.later
-  watch_later (watch_refused cursor namespaces commits why asks cause says only) = only.shows.later
-  watch_later (watch_unread none same) = unmoved old new same
+  ask_later : (call : Call) → AskStep old call body told new → IsPrefix old.shown new.shown
+  ask_later call (asks_nothing why cause says same) = unmoved old new same
+  ask_later call (is_told question answer asks is says shows) = shows.only.shows.later
+  ask_later call (is_refused question refused asks is says shows) = shows.only.shows.later
 
   trim_later : TrimStep g old body told new → IsPrefix old.shown new.shown
   trim_later (trim_malformed form says same) = unmoved old new same
@@ -101,13 +67,13 @@ module _ {T : Type 0} (g : Ghosts T) (old : Posts T) (body : List ℕ) (told : O
   pub step_later : (call : Call) → DeskStep g old call body told new → IsPrefix old.shown new.shown
   step_later Write step = write_later step
   step_later Config step = config_later step
-  step_later Check step = check_later step
-  step_later Read step = read_later step
-  step_later Expand step = expand_later step
-  step_later Leopard step = groups_later step
-  step_later Watch step = watch_later step
+  step_later Check step = ask_later Check step
+  step_later Read step = ask_later Read step
+  step_later Expand step = ask_later Expand step
+  step_later Leopard step = ask_later Leopard step
+  step_later Watch step = ask_later Watch step
   step_later Trim step = trim_later step
   step_later CatchUp step = catch_up_later step
   step_later Hot step = hot_later step
   step_later Rebuild step = rebuild_later step
-  step_later State step = unmoved old new step.1
+  step_later State step = ask_later State step

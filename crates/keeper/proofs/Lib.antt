@@ -2,16 +2,11 @@ pub mod Refreshing
 pub mod Changing
 pub mod Writing
 pub mod Configuring
-pub mod Checking
-pub mod Reading
-pub mod Expanding
-pub mod Grouping
-pub mod Watching
+pub mod Answered
 pub mod CatchingUp
 pub mod Trimming
 pub mod Marking
 pub mod Rebuilding
-pub mod Stating
 pub mod ByCall
 pub mod Later
 pub mod Beginning

@@ -1,4 +1,5 @@
 pub mod Showing
 pub mod Beginning
+pub mod Questions
 pub mod calls
 pub mod Rules

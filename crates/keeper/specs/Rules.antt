@@ -4,31 +4,26 @@ use Rattle.names.specs.declared.call.Call.{Call}
 use Rattle.names.specs.declared.call.Call.TheVariants.{Write, Config, Check, Read, Expand, Leopard, Watch, Trim, CatchUp, Hot, Rebuild, State}
 use Rattle.tables.specs.declared.tables.Tables.{Ghosts}
 use Rattle.desk.specs.Posts.{Posts}
+use Rattle.keeper.specs.calls.Ask.{AskStep}
 use Rattle.keeper.specs.calls.Write.{WriteStep}
 use Rattle.keeper.specs.calls.Config.{ConfigStep}
-use Rattle.keeper.specs.calls.Check.{CheckStep}
-use Rattle.keeper.specs.calls.Read.{ReadStep}
-use Rattle.keeper.specs.calls.Expand.{ExpandStep}
-use Rattle.keeper.specs.calls.Groups.{GroupsStep}
-use Rattle.keeper.specs.calls.Watch.{WatchStep}
 use Rattle.keeper.specs.calls.Trim.{TrimStep}
 use Rattle.keeper.specs.calls.CatchUp.{CatchUpStep}
 use Rattle.keeper.specs.calls.Hot.{HotStep}
 use Rattle.keeper.specs.calls.Rebuild.{RebuildStep}
-use Rattle.keeper.specs.calls.State.{StateStep}
 
 -- from old, the desk may tell this to the call with this body, and go on to new
 abbrev pub DeskStep : {T : Type 0}
     → Ghosts T → Posts T → Call → List ℕ → Option (ℕ × List ℕ) → Posts T → Type 0
 DeskStep g old Write body told new = WriteStep g old body told new
 DeskStep g old Config body told new = ConfigStep g old body told new
-DeskStep g old Check body told new = CheckStep old body told new
-DeskStep g old Read body told new = ReadStep old body told new
-DeskStep g old Expand body told new = ExpandStep old body told new
-DeskStep g old Leopard body told new = GroupsStep old body told new
-DeskStep g old Watch body told new = WatchStep old body told new
+DeskStep g old Check body told new = AskStep old Check body told new
+DeskStep g old Read body told new = AskStep old Read body told new
+DeskStep g old Expand body told new = AskStep old Expand body told new
+DeskStep g old Leopard body told new = AskStep old Leopard body told new
+DeskStep g old Watch body told new = AskStep old Watch body told new
 DeskStep g old Trim body told new = TrimStep g old body told new
 DeskStep g old CatchUp body told new = CatchUpStep g old body told new
 DeskStep g old Hot body told new = HotStep g old body told new
 DeskStep g old Rebuild body told new = RebuildStep g old body told new
-DeskStep g old State body told new = StateStep old told new
+DeskStep g old State body told new = AskStep old State body told new

@@ -7,17 +7,12 @@ ghost use Rattle.published.specs.Rising.{Rises};
 ghost use Rattle.desk.specs.Posts.{shown_by};
 ghost use Rattle.keeper.specs.Rules.{DeskStep};
 
+use crate::calls::asking::answer_question;
 use crate::calls::catch_up::answer_catch_up;
-use crate::calls::check::answer_check;
 use crate::calls::configuring::answer_config;
-use crate::calls::expanding::answer_expand;
-use crate::calls::grouping::answer_groups;
 use crate::calls::marking::answer_hot;
-use crate::calls::reading::answer_read;
 use crate::calls::rebuilding::answer_rebuild;
-use crate::calls::state::answer_state;
 use crate::calls::trim::answer_trim;
-use crate::calls::watching::answer_watch;
 use crate::calls::write::answer_write;
 use desk::Desk;
 use names::{Call, Reply};
@@ -67,15 +62,10 @@ fn answer_call<T: Tables + Drop, R: Wait + Drop>(
     match call {
         Call::Write => answer_write(alloc, desk, session, body),
         Call::Config => answer_config(alloc, desk, session, body),
-        Call::Check => answer_check(alloc, desk, session, body),
-        Call::Read => answer_read(alloc, desk, session, body),
-        Call::Expand => answer_expand(alloc, desk, session, body),
-        Call::Leopard => answer_groups(alloc, desk, session, body),
-        Call::Watch => answer_watch(alloc, desk, session, body),
         Call::Trim => answer_trim(alloc, desk, session, body),
         Call::CatchUp => answer_catch_up(alloc, desk, session, body),
         Call::Hot => answer_hot(alloc, desk, session, body),
         Call::Rebuild => answer_rebuild(alloc, desk, session, body),
-        Call::State => answer_state(alloc, desk),
+        _ => answer_question(alloc, desk, session, call, body),
     }
 }

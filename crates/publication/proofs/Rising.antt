@@ -5,8 +5,8 @@ use Rattle.std.proofs.lemmas.Bool.Decides.{nat_tests}
 use Rattle.std.proofs.lemmas.List.Elements.{All-nil, All-cons}
 use mathlib.Core.Bool.{true≢false}
 use Rattle.shown.specs.declared.answer.Refused.{Refused}
-use Rattle.publication.specs.declared.question.Question.{Question}
-use Rattle.publication.specs.declared.question.Told.{Told}
+use Rattle.shown.specs.declared.question.Question.{Question}
+use Rattle.shown.specs.declared.question.Told.{Told}
 use Rattle.shown.specs.declared.step.Step.{Step}
 use Rattle.shown.specs.declared.step.Step.TheVariants.{Take, Trim, Marking as MarkingStep, Rebase}
 use Rattle.publication.specs.declared.event.Event.{Event}

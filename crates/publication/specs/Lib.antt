@@ -1,4 +1,3 @@
-pub mod Asked
 pub mod World
 pub mod WorldParts
 pub mod Runs

@@ -8,8 +8,8 @@ use Rattle.rows.specs.Loads.{retained_of}
 use Rattle.shown.specs.Standing.{nothing_kept, standing}
 use Rattle.meaning.specs.History.{History}
 use Rattle.shown.specs.declared.answer.Refused.{Refused}
-use Rattle.publication.specs.declared.question.Question.{Question}
-use Rattle.publication.specs.declared.question.Told.{Told}
+use Rattle.shown.specs.declared.question.Question.{Question}
+use Rattle.shown.specs.declared.question.Told.{Told}
 use Rattle.shown.specs.declared.step.Step.{Step}
 use Rattle.rows.specs.declared.loaded.Loaded.{Loaded}
 use Rattle.shown.specs.declared.step.Step.TheVariants.{Open, Commit, Take, Trim, Marking, Rebase}

@@ -18,8 +18,8 @@ use Rattle.rows.specs.Loads.{retained_of}
 use Rattle.rows.specs.Follows.{commit_cause}
 use Rattle.rows.specs.declared.loaded.Loaded.{Loaded}
 use Rattle.shown.specs.declared.answer.Refused.{Refused}
-use Rattle.publication.specs.declared.question.Question.{Question}
-use Rattle.publication.specs.declared.question.Told.{Told}
+use Rattle.shown.specs.declared.question.Question.{Question}
+use Rattle.shown.specs.declared.question.Told.{Told}
 use Rattle.shown.specs.declared.step.Step.{Step}
 use Rattle.shown.specs.declared.step.Step.TheVariants.{Open, Commit, Take, Trim, Marking as MarkingStep, Rebase}
 use Rattle.publication.specs.declared.event.Event.{Event}
@@ -30,7 +30,7 @@ use Rattle.publication.specs.declared.event.Outcome.TheVariants.{No, Done, Answe
 use Rattle.shown.specs.Standing.{Standing, nothing_kept, standing, base_cause}
 use Rattle.shown.specs.Marks.{marking_cause}
 use Rattle.shown.specs.Raising.{is_in_use}
-use Rattle.publication.specs.Asked.{IsTold, IsRefused}
+use Rattle.shown.specs.Asked.{IsTold, RefusesQuestion}
 
 -- what is stored, the posted steps, and how many of these are published
 pub record State : Type 0 where
@@ -143,7 +143,7 @@ after_event s e = if can_come s e then after_coming s e else s
 -- the question is answered or refused by the standing of the steps
 abbrev pub IsReply : List Step → Question → Result Told Refused → Type 0
 IsReply steps question (Ok told) = IsTold (standing steps) question told
-IsReply steps question (Err refused) = IsRefused (standing steps) question refused × (refused.why ≢ Memory)
+IsReply steps question (Err refused) = RefusesQuestion (standing steps) question refused × (refused.why ≢ Memory)
 
 -- what comes of an event that can come: a question is answered by the standing of the published
 -- steps

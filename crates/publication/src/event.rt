@@ -1,10 +1,9 @@
 //! What can happen to a published state, and what comes of it.
 
-use crate::question::{Question, Told};
 use config::Config;
 use names::{Commit, Marking, Part};
 use rows::Loaded;
-use shown::Refused;
+use shown::{Question, Refused, Told};
 
 /// One atomic action. A seat is the number of a session.
 #[derive(Drop)]

@@ -4,7 +4,7 @@ ghost use Rattle.rows.specs.Loads.{IsWithin};
 ghost use Rattle.rows.specs.Retained.{Retained, newest};
 ghost use Rattle.rows.specs.declared.loaded.Loaded.{Loaded};
 ghost use Rattle.publication.specs.declared.event.Event.{Event};
-ghost use Rattle.publication.specs.declared.question.Question.{Question};
+ghost use Rattle.shown.specs.declared.question.Question.{Question};
 ghost use Rattle.publication.specs.Keeping.{KeepsRetained};
 ghost use Rattle.publication.specs.World.{Happening, is_within};
 ghost use Rattle.publication.specs.Runs.{AnswersRise, PostsStored};

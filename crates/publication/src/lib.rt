@@ -3,15 +3,12 @@
 #![tactic(auto)]
 
 mod admitted;
-mod asking;
 mod copies;
 mod event;
 mod law;
-mod question;
 mod within;
 mod world;
 
 pub use event::{Event, Outcome, Posting};
 pub use law::{answers_rise, opens_what_is_within, posts_stored, trims_keep_what_they_retain};
-pub use question::{Depth, Question, Told};
 pub use world::World;

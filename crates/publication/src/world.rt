@@ -6,15 +6,13 @@ ghost use Rattle.publication.specs.declared.event.Posting.TheVariants.{Opening, 
 ghost use Rattle.shown.specs.Standing.{standing, nothing};
 ghost use Rattle.publication.specs.WorldParts.{HaveRoom};
 
-use crate::asking::ask;
 use crate::event::{Event, Outcome, Posting};
-use crate::question::Question;
 use crate::within::is_within;
 use config::Config;
 use names::limits::MAX_CATCH_UP;
 use names::{Commit, Marking, Part, Refusal};
 use rows::{Loaded, Rows, what_follows_has_room};
-use shown::{Shown, Step};
+use shown::{Question, Shown, Step};
 use std::alloc::{AllocError, Global};
 use std::collections::VecDeque;
 use std::marker::Model;
@@ -213,7 +211,7 @@ impl World {
         if self.shown == 0 {
             return Ok(Outcome::No);
         }
-        match ask(&self.published, question) {
+        match self.published.answer(question) {
             Ok(told) => Ok(Outcome::Answered(self.shown as u64, Ok(told))),
             Err(refused) => match &refused.why {
                 Refusal::Memory => Err(AllocError),

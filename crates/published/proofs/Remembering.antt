@@ -12,7 +12,12 @@ use Rattle.rows.specs.Retained.{Retained, IsRetained, snap_at}
 use Rattle.shown.specs.declared.answer.Answer.{Answer}
 use Rattle.shown.specs.declared.answer.Refused.{Refused}
 use Rattle.shown.specs.declared.step.Step.{Step}
+use Rattle.shown.specs.declared.question.Question as asked
+use Rattle.shown.specs.declared.question.Question.TheVariants.{Check}
+use Rattle.shown.specs.declared.question.Told.{Told}
+use Rattle.shown.specs.declared.question.Told.TheVariants.{Checked}
 use Rattle.shown.specs.Answers as check
+use Rattle.shown.specs.Asked.{IsTold}
 use Rattle.shown.specs.KeptAnswers.{IsRetainedAnswer, AreRetainedAnswers}
 use Rattle.shown.specs.Standing.{Standing, standing}
 use Rattle.zookie.specs.declared.consistency.Consistency.{Consistency}
@@ -49,10 +54,14 @@ kept_with r rev n u b old new retained right no_other are q a has = ⊎_elim
     (no_other q a has)
 
 -- what a check was answered can be kept
-pub can_be_kept : (s : Standing) (consistency : Consistency) (n : Node) (u : Object) (r : Result (Answer Bool) Refused) → IfOk r (check.IsAnswer s consistency n u)
-    → IfOk r (λ answer. IsRetained s.kept answer.rev × IsAnswer (snap_at s.kept answer.rev) u n answer.value)
-can_be_kept s consistency n u (Ok answer) is = (record { not_below = is.asked.fits.0; not_above = is.asked.fits.1 }, is.meaning)
-can_be_kept s consistency n u (Err refused) is = tt
+pub can_be_kept : (s : Standing) (question : asked.Question) (r : Result Told Refused) (told : Told) (consistency : Consistency) (n : Node) (u : Object) (answer : Answer Bool)
+    → r ≡ Ok told → question ≡ Check consistency n u → told ≡ Checked answer → IfOk r (IsTold s question)
+    → IsRetained s.kept answer.rev × IsAnswer (snap_at s.kept answer.rev) u n answer.value
+can_be_kept s question r told consistency n u answer tells asks checks is =
+    let of_told : IsTold s question told = subst (λ (r : Result Told Refused). IfOk r (IsTold s question)) tells is in
+    let of_check : IsTold s (Check consistency n u) told = subst (λ (q : asked.Question). IsTold s q told) asks of_told in
+    let checked : check.IsAnswer s consistency n u answer = subst (IsTold s (Check consistency n u)) checks of_check in
+    (record { not_below = checked.asked.fits.0; not_above = checked.asked.fits.1 }, checked.meaning)
 
 -- in the branch that a test chose
 pub begun : {P : Type 0} (Q : Type 0) (t : Bool) → t ≡ true → MatchBool t P Q → P

@@ -1,16 +1,14 @@
 //! What a session remembers.
-ghost use Rattle.std.specs.Prelude.{◌≡◌, ◌⊎◌, IfOk, IfSome, IfNone};
-ghost use Rattle.decide.specs.Answers.{IsAnswer};
-ghost use Rattle.rows.specs.Retained.{IsRetained, snap_at};
+ghost use Rattle.std.specs.Prelude.{◌≡◌, ◌⊎◌, IfOk, IfSome};
+ghost use Rattle.shown.specs.Asked.{IsTold};
 ghost use Rattle.shown.specs.KeptAnswers.{AreRetainedAnswers};
 ghost use Rattle.shown.specs.Standing.{standing};
-ghost use Rattle.published.specs.Known.{Begins, BeginsLonger};
+ghost use Rattle.published.specs.Known.{Begins};
 ghost use Rattle.published.specs.Judged.{AreJudged};
 
 use crate::book::StepPrefix;
 use answer_cache::CachedAnswers;
-use names::{Node, Object};
-use shown::{Answer, Refused};
+use shown::{Question, Refused, Told};
 use std::alloc::{AllocError, Global};
 use std::marker::Model;
 
@@ -84,24 +82,6 @@ impl Remembered {
         self.known = steps;
     }
 
-    /// What a copy told, with its number first, where its steps begin with what is known; then these are known. Nothing is told
-    /// by a copy of fewer steps. The answers stay.
-    pub(crate) fn follow<A: Drop>(&mut self, seen: Seen<A>) -> Option<(u64, A)>
-        requires book { seen.2.book ≡ self.old.book }
-        requires judged { AreJudged seen.2.steps }
-        ensures told { IfSome result (λ told. (told ≡ (seen.1, seen.0)) × (Begins self.old seen.2 × (self.new ≡ seen.2))) }
-        ensures none { IfNone result (BeginsLonger seen.2 self.old × (self.new ≡ self.old)) }
-        ensures later { Begins self.old self.new }
-    {
-        let (answer, number, steps) = seen;
-        if self.known.begins(&steps) {
-            self.advance(steps);
-            Some((number, answer))
-        } else {
-            None
-        }
-    }
-
     /// From now on no less than these steps is known. The answers stay.
     pub(crate) fn learn(&mut self, steps: &StepPrefix)
         requires book { steps.now.book ≡ self.old.book }
@@ -115,18 +95,19 @@ impl Remembered {
     }
 
     /// Keeps what a check was answered, as far as there is memory for it. The steps stay.
-    pub(crate) fn keep(
-        &mut self,
-        node: &Node,
-        user: &Object,
-        checked: &Result<Answer<bool>, Refused>,
-    )
-        requires { IfOk checked.now (λ answer. IsRetained (standing self.old.steps).kept answer.rev
-            × IsAnswer (snap_at (standing self.old.steps).kept answer.rev) user.now node.now answer.value) }
+    pub(crate) fn keep(&mut self, question: &Question, asked: &Result<Told, Refused>)
+        requires { IfOk asked.now (IsTold (standing self.old.steps) question.now) }
         ensures { self.new ≡ self.old }
     {
-        if let Ok(answer) = checked {
-            let _kept = self.kept.keep(answer.rev, node, user, answer.value);
-        }
+        let Ok(told) = asked else {
+            return;
+        };
+        let Question::Check(_, node, user) = question else {
+            return;
+        };
+        let Told::Checked(answer) = told else {
+            return;
+        };
+        let _kept = self.kept.keep(answer.rev, node, user, answer.value);
     }
 }

@@ -1,18 +1,17 @@
 //! A session asks the published state, with no lock and no wait.
-ghost use Rattle.std.specs.Prelude.{◌≡◌, ◌≤◌, ◌⊎◌, IfOk, IfErr, IfSome, IfNone, Some, None};
+ghost use Rattle.std.specs.Prelude.{◌≡◌, ◌⊎◌, IfOk, IfErr, IfSome, IfNone, Some, None};
 ghost use Rattle.names.specs.declared.refusal.Refusal.TheVariants.{Reopen};
 ghost use Rattle.left_right.specs.Sides.{view};
 ghost use Rattle.shown.specs.Standing.{standing, state_of};
-ghost use Rattle.expand.specs.declared.limits.TheConstants.{MAX_DEPTH};
 ghost use Rattle.shown.specs.Answers.{IsAnswer, IsRefusal};
+ghost use Rattle.shown.specs.Asked.{IsTold, RefusesQuestion};
 ghost use Rattle.shown.specs.Expanding.{IsTree, IsTreeRefusal};
 ghost use Rattle.leopard.specs.Exprs.{query_of};
 ghost use Rattle.shown.specs.Grouping.{AreGroups, IsGroupsRefusal};
 ghost use Rattle.shown.specs.Paging.{IsPage, IsPageRefusal};
-ghost use Rattle.shown.specs.Watching.{IsWatched, WatchRefused};
+ghost use Rattle.shown.specs.Watching.{IsWatched};
 ghost use Rattle.published.specs.Known.{Known, Begins};
 ghost use Rattle.published.specs.Judged.{AreJudged};
-ghost use Rattle.published.specs.Copies.{KnowsNoMore};
 ghost use Rattle.published.specs.Answering.{IsRefusedIn, IsWatchRefusedIn};
 
 use crate::book::StepPrefix;
@@ -24,7 +23,7 @@ use expand::Tree;
 use leopard::Expr;
 use names::{Items, Node, Object, Refusal, State, Tuple};
 use rows::Tupleset;
-use shown::{Answer, Refused};
+use shown::{Answer, Depth, Question, Refused, Told};
 use std::marker::Model;
 use watch::{Namespaces, Page};
 use zookie::{Consistency, Zookie};
@@ -67,233 +66,130 @@ impl Session {
         Session { reader, known }
     }
 
+    /// What a question is told or why it is refused, beside the number of the store, for its zookies. There is nothing where the
+    /// publication is gone. What a check was answered is kept, and asked at the next checks.
+    pub fn ask(&mut self, question: &Question) -> Option<(u64, Result<Told, Refused>)>
+        ensures number { IfSome result (λ asked. asked.0 ≡ (standing self.new.steps).kept.number) }
+        ensures ok { IfSome result (λ asked. IfOk asked.1
+            (IsTold (standing self.new.steps) question.now)) }
+        ensures err { IfSome result (λ asked. IfErr asked.1
+            (RefusesQuestion (standing self.new.steps) question.now)) }
+        ensures none { IfNone result (self.new ≡ self.old) }
+        ensures judged { AreJudged self.new.steps }
+        ensures later { Begins self.old self.new }
+    {
+        let asking = Asking {
+            known: &self.known,
+            question,
+        };
+        let (asked, number, steps) = replace_with(&mut self.reader, asking, look)?;
+        self.known.advance(steps);
+        self.known.keep(question, &asked);
+        Some((number, asked))
+    }
+
     /// Whether the user is a member of the node, at the revision that the consistency chooses.
     pub fn check(
         &mut self,
-        consistency: &Consistency,
-        node: &Node,
-        user: &Object,
+        consistency: Consistency,
+        node: Node,
+        user: Object,
     ) -> Result<Answer<bool>, Refused>
-        ensures ok { IfOk result
-            (IsAnswer (standing self.new.steps) consistency.now node.now user.now) }
+        ensures ok { IfOk result (IsAnswer (standing self.new.steps) consistency node user) }
         ensures err { IfErr result (IsRefusedIn self.old self.new
-            (IsRefusal (standing self.new.steps) consistency.now node.now)) }
+            (IsRefusal (standing self.new.steps) consistency node)) }
         ensures judged { AreJudged self.new.steps }
         ensures later { Begins self.old self.new }
     {
-        match self.check_in_store(consistency, node, user) {
-            Some((_, checked)) => checked,
+        match self.ask(&Question::Check(consistency, node, user)) {
+            Some((_, Ok(Told::Checked(answer)))) => Ok(answer),
+            Some((_, Ok(_))) => unreachable!(),
+            Some((_, Err(refused))) => Err(refused),
             None => Err(no_publication()),
         }
     }
 
-    /// The same, beside the number of the store, for the zookie of the answer. There is none where the publication
-    /// is gone.
-    pub fn check_in_store(
-        &mut self,
-        consistency: &Consistency,
-        node: &Node,
-        user: &Object,
-    ) -> Option<(u64, Result<Answer<bool>, Refused>)>
-        ensures number { IfSome result (λ asked. asked.0 ≡ (standing self.new.steps).kept.number) }
-        ensures ok { IfSome result (λ asked. IfOk asked.1
-            (IsAnswer (standing self.new.steps) consistency.now node.now user.now)) }
-        ensures err { IfSome result (λ asked. IfErr asked.1
-            (IsRefusal (standing self.new.steps) consistency.now node.now)) }
-        ensures none { IfNone result (self.new ≡ self.old) }
-        ensures judged { AreJudged self.new.steps }
-        ensures later { Begins self.old self.new }
-    {
-        let question = Question {
-            known: &self.known,
-            consistency,
-            node,
-            user,
-        };
-        let (checked, number, prefix) = replace_with(&mut self.reader, question, look)?;
-        self.known.advance(prefix);
-        self.known.keep(node, user, &checked);
-        Some((number, checked))
-    }
-
-    /// The userset tree of the node, at the revision that the consistency chooses. At most `depth` nodes are open on a
-    /// path of it, 1 to 8.
+    /// The userset tree of the node, at the revision that the consistency chooses.
     pub fn expand(
         &mut self,
-        consistency: &Consistency,
-        node: &Node,
-        depth: u8,
+        consistency: Consistency,
+        node: Node,
+        depth: Depth,
     ) -> Result<Answer<Tree>, Refused>
-        requires opens { 1 ≤ depth }
-        requires bounded { depth ≤ MAX_DEPTH }
-        ensures ok { IfOk result (IsTree (standing self.new.steps) consistency.now node.now depth) }
+        ensures ok { IfOk result (IsTree (standing self.new.steps) consistency node depth.nodes) }
         ensures err { IfErr result (IsRefusedIn self.old self.new
-            (IsTreeRefusal (standing self.new.steps) consistency.now node.now depth)) }
+            (IsTreeRefusal (standing self.new.steps) consistency node depth.nodes)) }
         ensures judged { AreJudged self.new.steps }
         ensures later { Begins self.old self.new }
     {
-        match self.expand_in_store(consistency, node, depth) {
-            Some((_, found)) => found,
+        match self.ask(&Question::Expand(consistency, node, depth)) {
+            Some((_, Ok(Told::Expanded(answer)))) => Ok(answer),
+            Some((_, Ok(_))) => unreachable!(),
+            Some((_, Err(refused))) => Err(refused),
             None => Err(no_publication()),
         }
-    }
-
-    /// The same tree, beside the number of the store, for the zookie of the answer. There is none where the publication
-    /// is gone.
-    pub fn expand_in_store(
-        &mut self,
-        consistency: &Consistency,
-        node: &Node,
-        depth: u8,
-    ) -> Option<(u64, Result<Answer<Tree>, Refused>)>
-        requires opens { 1 ≤ depth }
-        requires bounded { depth ≤ MAX_DEPTH }
-        ensures number { IfSome result (λ asked. asked.0 ≡ (standing self.new.steps).kept.number) }
-        ensures ok { IfSome result (λ asked. IfOk asked.1
-            (IsTree (standing self.new.steps) consistency.now node.now depth)) }
-        ensures err { IfSome result (λ asked. IfErr asked.1
-            (IsTreeRefusal (standing self.new.steps) consistency.now node.now depth)) }
-        ensures none { IfNone result (self.new ≡ self.old) }
-        ensures judged { AreJudged self.new.steps }
-        ensures later { Begins self.old self.new }
-    {
-        let question = TreeQuestion {
-            consistency,
-            node,
-            depth,
-        };
-        let seen = replace_with(&mut self.reader, question, look_at_tree)?;
-        self.known.follow(seen)
     }
 
     /// The page of a tupleset, at the revision that the consistency chooses.
     pub fn read(
         &mut self,
-        consistency: &Consistency,
-        asked: &Tupleset,
+        consistency: Consistency,
+        asked: Tupleset,
     ) -> Result<Answer<Items<Tuple>>, Refused>
-        ensures ok { IfOk result (IsPage (standing self.new.steps) consistency.now asked.now) }
+        ensures ok { IfOk result (IsPage (standing self.new.steps) consistency asked) }
         ensures err { IfErr result (IsRefusedIn self.old self.new
-            (IsPageRefusal (standing self.new.steps) consistency.now)) }
+            (IsPageRefusal (standing self.new.steps) consistency)) }
         ensures judged { AreJudged self.new.steps }
         ensures later { Begins self.old self.new }
     {
-        match self.read_in_store(consistency, asked) {
-            Some((_, tuples)) => tuples,
+        match self.ask(&Question::Read(consistency, asked)) {
+            Some((_, Ok(Told::Found(answer)))) => Ok(answer),
+            Some((_, Ok(_))) => unreachable!(),
+            Some((_, Err(refused))) => Err(refused),
             None => Err(no_publication()),
         }
-    }
-
-    /// The same page, beside the number of the store, for the zookie of the answer. There is none where the publication
-    /// is gone.
-    pub fn read_in_store(
-        &mut self,
-        consistency: &Consistency,
-        asked: &Tupleset,
-    ) -> Option<(u64, Result<Answer<Items<Tuple>>, Refused>)>
-        ensures number { IfSome result (λ told. told.0 ≡ (standing self.new.steps).kept.number) }
-        ensures ok { IfSome result (λ told. IfOk told.1
-            (IsPage (standing self.new.steps) consistency.now asked.now)) }
-        ensures err { IfSome result (λ told. IfErr told.1
-            (IsPageRefusal (standing self.new.steps) consistency.now)) }
-        ensures none { IfNone result (self.new ≡ self.old) }
-        ensures judged { AreJudged self.new.steps }
-        ensures later { Begins self.old self.new }
-    {
-        let question = TuplesQuestion { consistency, asked };
-        let seen = replace_with(&mut self.reader, question, look_at_tuples)?;
-        self.known.follow(seen)
     }
 
     /// The first so many groups that the expression means, at the revision that the consistency chooses.
     pub fn groups(
         &mut self,
-        consistency: &Consistency,
-        expr: &Expr,
+        consistency: Consistency,
+        expr: Expr,
         limit: u32,
     ) -> Result<Answer<Items<Node>>, Refused>
         ensures ok { IfOk result
-            (AreGroups (standing self.new.steps) consistency.now (query_of expr.now) limit) }
+            (AreGroups (standing self.new.steps) consistency (query_of expr) limit) }
         ensures err { IfErr result (IsRefusedIn self.old self.new
-            (IsGroupsRefusal (standing self.new.steps) consistency.now (query_of expr.now) limit)) }
+            (IsGroupsRefusal (standing self.new.steps) consistency (query_of expr) limit)) }
         ensures judged { AreJudged self.new.steps }
         ensures later { Begins self.old self.new }
     {
-        match self.groups_in_store(consistency, expr, limit) {
-            Some((_, groups)) => groups,
+        match self.ask(&Question::Groups(consistency, expr, limit)) {
+            Some((_, Ok(Told::Grouped(answer)))) => Ok(answer),
+            Some((_, Ok(_))) => unreachable!(),
+            Some((_, Err(refused))) => Err(refused),
             None => Err(no_publication()),
         }
-    }
-
-    /// The same groups, beside the number of the store, for the zookie of the answer. There is none where the publication
-    /// is gone.
-    pub fn groups_in_store(
-        &mut self,
-        consistency: &Consistency,
-        expr: &Expr,
-        limit: u32,
-    ) -> Option<(u64, Result<Answer<Items<Node>>, Refused>)>
-        ensures number { IfSome result (λ told. told.0 ≡ (standing self.new.steps).kept.number) }
-        ensures ok { IfSome result (λ told. IfOk told.1
-            (AreGroups (standing self.new.steps) consistency.now (query_of expr.now) limit)) }
-        ensures err { IfSome result (λ told. IfErr told.1
-            (IsGroupsRefusal (standing self.new.steps) consistency.now (query_of expr.now) limit)) }
-        ensures none { IfNone result (self.new ≡ self.old) }
-        ensures judged { AreJudged self.new.steps }
-        ensures later { Begins self.old self.new }
-    {
-        let question = GroupsQuestion {
-            consistency,
-            expr,
-            limit,
-        };
-        let seen = replace_with(&mut self.reader, question, look_at_groups)?;
-        self.known.follow(seen)
     }
 
     /// The events on tuples of the namespaces, of so many commits above the cursor's revision, or of as many as there are.
     pub fn watch(
         &mut self,
-        cursor: &Zookie,
-        namespaces: &Namespaces,
+        cursor: Zookie,
+        namespaces: Namespaces,
         commits: u32,
     ) -> Result<Page, Refusal>
-        ensures ok { IfOk result
-            (IsWatched (standing self.new.steps) cursor.now namespaces.now commits) }
-        ensures err { IfErr result (IsWatchRefusedIn self.old self.new cursor.now) }
+        ensures ok { IfOk result (IsWatched (standing self.new.steps) cursor namespaces commits) }
+        ensures err { IfErr result (IsWatchRefusedIn self.old self.new cursor) }
         ensures judged { AreJudged self.new.steps }
         ensures later { Begins self.old self.new }
     {
-        match self.watch_in_store(cursor, namespaces, commits) {
-            Some((_, page)) => page,
+        match self.ask(&Question::Watch(cursor, namespaces, commits)) {
+            Some((_, Ok(Told::Watched(page)))) => Ok(page),
+            Some((_, Ok(_))) => unreachable!(),
+            Some((_, Err(refused))) => Err(refused.why),
             None => Err(Refusal::Reopen),
         }
-    }
-
-    /// The same page, beside the number of the store, for the zookies of its events. There is none where the publication
-    /// is gone.
-    pub fn watch_in_store(
-        &mut self,
-        cursor: &Zookie,
-        namespaces: &Namespaces,
-        commits: u32,
-    ) -> Option<(u64, Result<Page, Refusal>)>
-        ensures number { IfSome result (λ asked. asked.0 ≡ (standing self.new.steps).kept.number) }
-        ensures ok { IfSome result (λ asked. IfOk asked.1
-            (IsWatched (standing self.new.steps) cursor.now namespaces.now commits)) }
-        ensures err { IfSome result (λ asked. IfErr asked.1
-            (WatchRefused (standing self.new.steps) cursor.now)) }
-        ensures none { IfNone result (self.new ≡ self.old) }
-        ensures judged { AreJudged self.new.steps }
-        ensures later { Begins self.old self.new }
-    {
-        let question = PageQuestion {
-            cursor,
-            namespaces,
-            commits,
-        };
-        let seen = replace_with(&mut self.reader, question, look_at_page)?;
-        self.known.follow(seen)
     }
 
     /// Revisions, and how large the history is.
@@ -303,22 +199,11 @@ impl Session {
         ensures judged { AreJudged self.new.steps }
         ensures later { Begins self.old self.new }
     {
-        match self.state_in_store() {
-            Some((_, numbers)) => Ok(numbers),
+        match self.ask(&Question::State) {
+            Some((_, Ok(Told::Numbers(numbers)))) => Ok(numbers),
+            Some(_) => unreachable!(),
             None => Err(Refusal::Reopen),
         }
-    }
-
-    /// The same, beside the number of the store. There is none where the publication is gone.
-    pub fn state_in_store(&mut self) -> Option<(u64, State)>
-        ensures number { IfSome result (λ told. told.0 ≡ (standing self.new.steps).kept.number) }
-        ensures state { IfSome result (λ told. told.1 ≡ state_of (standing self.new.steps)) }
-        ensures none { IfNone result (self.new ≡ self.old) }
-        ensures judged { AreJudged self.new.steps }
-        ensures later { Begins self.old self.new }
-    {
-        let seen = replace_with(&mut self.reader, (), look_at_state)?;
-        self.known.follow(seen)
     }
 
     /// All that a session knows was judged, whether it has been asked yet or not.
@@ -352,44 +237,11 @@ impl Session {
     }
 }
 
-// What a session asks, and what it remembers.
+// A question, and what the session that asks it remembers.
 #[derive(Drop)]
-struct Question<'a> {
+struct Asking<'a> {
     known: &'a Remembered,
-    consistency: &'a Consistency,
-    node: &'a Node,
-    user: &'a Object,
-}
-
-// Which tree a session asks for.
-#[derive(Drop)]
-struct TreeQuestion<'a> {
-    consistency: &'a Consistency,
-    node: &'a Node,
-    depth: u8,
-}
-
-// Which tuples a session asks for.
-#[derive(Drop)]
-struct TuplesQuestion<'a> {
-    consistency: &'a Consistency,
-    asked: &'a Tupleset,
-}
-
-// Which groups a session asks for.
-#[derive(Drop)]
-struct GroupsQuestion<'a> {
-    consistency: &'a Consistency,
-    expr: &'a Expr,
-    limit: u32,
-}
-
-// Which page of events a session asks for.
-#[derive(Drop)]
-struct PageQuestion<'a> {
-    cursor: &'a Zookie,
-    namespaces: &'a Namespaces,
-    commits: u32,
+    question: &'a Question,
 }
 
 // The publication is gone.
@@ -403,170 +255,27 @@ fn no_publication() -> Refused
 }
 
 // Where the copy does not begin with what the session knows, it is not asked.
-fn look(
-    reader: CopyReader,
-    question: Question<'_>,
-) -> (CopyReader, Option<Seen<Result<Answer<bool>, Refused>>>)
-    requires book { (k : Known) × (view reader.place ≡ Some k) × (k.book ≡ question.known.now.book) }
-    ensures book { (k : Known) × (view result.0.place ≡ Some k) × (k.book ≡ question.entry.known.now.book) }
-    ensures later { IfSome result.1 (λ seen. Begins question.entry.known.now seen.2) }
+fn look(reader: CopyReader, asking: Asking<'_>) -> (CopyReader, Option<Seen<Result<Told, Refused>>>)
+    requires book { (k : Known) × (view reader.place ≡ Some k) × (k.book ≡ asking.known.now.book) }
+    ensures book { (k : Known) × (view result.0.place ≡ Some k) × (k.book ≡ asking.entry.known.now.book) }
+    ensures later { IfSome result.1 (λ seen. Begins asking.entry.known.now seen.2) }
     ensures judged { IfSome result.1 (λ seen. AreJudged seen.2.steps) }
     ensures number { IfSome result.1 (λ seen. seen.1 ≡ (standing seen.2.steps).kept.number) }
     ensures ok { IfSome result.1 (λ seen. IfOk seen.0
-        (IsAnswer (standing seen.2.steps) question.entry.consistency.now question.entry.node.now question.entry.user.now)) }
+        (IsTold (standing seen.2.steps) asking.entry.question.now)) }
     ensures err { IfSome result.1 (λ seen. IfErr seen.0
-        (IsRefusal (standing seen.2.steps) question.entry.consistency.now question.entry.node.now)) }
+        (RefusesQuestion (standing seen.2.steps) asking.entry.question.now)) }
 {
     match reader.enter_as::<Seeing>() {
         Ok(reading) => {
             let copy = reading.get();
-            let Some(kept) = question.known.answers_for(&copy.prefix) else {
+            let Some(kept) = asking.known.answers_for(&copy.prefix) else {
                 return (reading.leave(), None);
             };
-            let answer = copy
-                .shown
-                .check_knowing(kept, question.consistency, question.node, question.user);
+            let answer = copy.shown.answer_knowing(kept, asking.question);
             let number = copy.shown.number();
             let prefix = copy.prefix.again();
             (reading.leave(), Some((answer, number, prefix)))
-        }
-        Err(reader) => (reader, None),
-    }
-}
-
-fn look_at_tree(
-    reader: CopyReader,
-    question: TreeQuestion<'_>,
-) -> (CopyReader, Option<Seen<Result<Answer<Tree>, Refused>>>)
-    requires opens { 1 ≤ question.depth }
-    requires bounded { question.depth ≤ MAX_DEPTH }
-    ensures seen { IfSome result.1 (λ seen.
-        KnowsNoMore (view reader.place) seen.2 × (view result.0.place ≡ Some seen.2)) }
-    ensures judged { IfSome result.1 (λ seen. AreJudged seen.2.steps) }
-    ensures number { IfSome result.1 (λ seen. seen.1 ≡ (standing seen.2.steps).kept.number) }
-    ensures ok { IfSome result.1 (λ seen. IfOk seen.0
-        (IsTree (standing seen.2.steps) question.entry.consistency.now question.entry.node.now question.entry.depth)) }
-    ensures err { IfSome result.1 (λ seen. IfErr seen.0
-        (IsTreeRefusal (standing seen.2.steps) question.entry.consistency.now question.entry.node.now question.entry.depth)) }
-    ensures refused { IfNone result.1 (view result.0.place ≡ view reader.place) }
-{
-    match reader.enter_as::<Seeing>() {
-        Ok(reading) => {
-            let copy = reading.get();
-            let answer = copy
-                .shown
-                .expand(question.consistency, question.node, question.depth);
-            let number = copy.shown.number();
-            let prefix = copy.prefix.again();
-            (reading.leave(), Some((answer, number, prefix)))
-        }
-        Err(reader) => (reader, None),
-    }
-}
-
-fn look_at_tuples(
-    reader: CopyReader,
-    question: TuplesQuestion<'_>,
-) -> (
-    CopyReader,
-    Option<Seen<Result<Answer<Items<Tuple>>, Refused>>>,
-)
-    ensures seen { IfSome result.1 (λ seen.
-        KnowsNoMore (view reader.place) seen.2 × (view result.0.place ≡ Some seen.2)) }
-    ensures judged { IfSome result.1 (λ seen. AreJudged seen.2.steps) }
-    ensures number { IfSome result.1 (λ seen. seen.1 ≡ (standing seen.2.steps).kept.number) }
-    ensures ok { IfSome result.1 (λ seen. IfOk seen.0
-        (IsPage (standing seen.2.steps) question.entry.consistency.now question.entry.asked.now)) }
-    ensures err { IfSome result.1 (λ seen. IfErr seen.0
-        (IsPageRefusal (standing seen.2.steps) question.entry.consistency.now)) }
-    ensures refused { IfNone result.1 (view result.0.place ≡ view reader.place) }
-{
-    match reader.enter_as::<Seeing>() {
-        Ok(reading) => {
-            let copy = reading.get();
-            let tuples = copy.shown.read(question.consistency, question.asked);
-            let number = copy.shown.number();
-            let prefix = copy.prefix.again();
-            (reading.leave(), Some((tuples, number, prefix)))
-        }
-        Err(reader) => (reader, None),
-    }
-}
-
-fn look_at_groups(
-    reader: CopyReader,
-    question: GroupsQuestion<'_>,
-) -> (
-    CopyReader,
-    Option<Seen<Result<Answer<Items<Node>>, Refused>>>,
-)
-    ensures seen { IfSome result.1 (λ seen.
-        KnowsNoMore (view reader.place) seen.2 × (view result.0.place ≡ Some seen.2)) }
-    ensures judged { IfSome result.1 (λ seen. AreJudged seen.2.steps) }
-    ensures number { IfSome result.1 (λ seen. seen.1 ≡ (standing seen.2.steps).kept.number) }
-    ensures ok { IfSome result.1 (λ seen. IfOk seen.0
-        (AreGroups (standing seen.2.steps) question.entry.consistency.now (query_of question.entry.expr.now) question.entry.limit)) }
-    ensures err { IfSome result.1 (λ seen. IfErr seen.0
-        (IsGroupsRefusal (standing seen.2.steps) question.entry.consistency.now (query_of question.entry.expr.now) question.entry.limit)) }
-    ensures refused { IfNone result.1 (view result.0.place ≡ view reader.place) }
-{
-    match reader.enter_as::<Seeing>() {
-        Ok(reading) => {
-            let copy = reading.get();
-            let groups = copy
-                .shown
-                .groups(question.consistency, question.expr, question.limit);
-            let number = copy.shown.number();
-            let prefix = copy.prefix.again();
-            (reading.leave(), Some((groups, number, prefix)))
-        }
-        Err(reader) => (reader, None),
-    }
-}
-
-fn look_at_page(
-    reader: CopyReader,
-    question: PageQuestion<'_>,
-) -> (CopyReader, Option<Seen<Result<Page, Refusal>>>)
-    ensures seen { IfSome result.1 (λ seen.
-        KnowsNoMore (view reader.place) seen.2 × (view result.0.place ≡ Some seen.2)) }
-    ensures judged { IfSome result.1 (λ seen. AreJudged seen.2.steps) }
-    ensures number { IfSome result.1 (λ seen. seen.1 ≡ (standing seen.2.steps).kept.number) }
-    ensures ok { IfSome result.1 (λ seen. IfOk seen.0
-        (IsWatched (standing seen.2.steps) question.entry.cursor.now question.entry.namespaces.now question.entry.commits)) }
-    ensures err { IfSome result.1 (λ seen. IfErr seen.0
-        (WatchRefused (standing seen.2.steps) question.entry.cursor.now)) }
-    ensures refused { IfNone result.1 (view result.0.place ≡ view reader.place) }
-{
-    match reader.enter_as::<Seeing>() {
-        Ok(reading) => {
-            let copy = reading.get();
-            let page = copy
-                .shown
-                .watch(question.cursor, question.namespaces, question.commits);
-            let number = copy.shown.number();
-            let prefix = copy.prefix.again();
-            (reading.leave(), Some((page, number, prefix)))
-        }
-        Err(reader) => (reader, None),
-    }
-}
-
-fn look_at_state(reader: CopyReader, _question: ()) -> (CopyReader, Option<Seen<State>>)
-    ensures seen { IfSome result.1 (λ seen.
-        KnowsNoMore (view reader.place) seen.2 × (view result.0.place ≡ Some seen.2)) }
-    ensures judged { IfSome result.1 (λ seen. AreJudged seen.2.steps) }
-    ensures number { IfSome result.1 (λ seen. seen.1 ≡ (standing seen.2.steps).kept.number) }
-    ensures state { IfSome result.1 (λ seen. seen.0 ≡ state_of (standing seen.2.steps)) }
-    ensures refused { IfNone result.1 (view result.0.place ≡ view reader.place) }
-{
-    match reader.enter_as::<Seeing>() {
-        Ok(reading) => {
-            let copy = reading.get();
-            let state = copy.shown.state();
-            let number = copy.shown.number();
-            let prefix = copy.prefix.again();
-            (reading.leave(), Some((state, number, prefix)))
         }
         Err(reader) => (reader, None),
     }

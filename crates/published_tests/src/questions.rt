@@ -6,6 +6,7 @@ use leopard::Expr;
 use names::{EventKind, Name, Node, Object, Refusal, Tuple};
 use published::Session;
 use rows::Tupleset;
+use shown::Depth;
 use std::alloc::Global;
 use std::process::Abort;
 use std::sync::Wait;
@@ -46,7 +47,8 @@ fn opens_to(tree: &Tree, node: &Node, user: &Object) -> bool {
 fn has_tree(session: &mut Session) -> Result<bool, Refusal> {
     let node = Node::parse("group:a#member")?;
     let user = Object::parse("user:ann")?;
-    match session.expand(&Consistency::Latest, &node, 1) {
+    let asked = Node::parse("group:a#member")?;
+    match session.expand(Consistency::Latest, asked, Depth { nodes: 1 }) {
         Ok(found) => Ok(found.rev == 2 && opens_to(&found.value, &node, &user)),
         Err(refused) => Err(refused.why),
     }
@@ -69,7 +71,7 @@ fn has_page(session: &mut Session) -> Result<bool, Refusal> {
         after: None,
         limit: 9,
     };
-    match session.read(&Consistency::Latest, &asked) {
+    match session.read(Consistency::Latest, asked) {
         Ok(page) => Ok(page.rev == 2 && is_tuple(page.value.as_slice(), &tuple)),
         Err(refused) => Err(refused.why),
     }
@@ -85,7 +87,7 @@ fn is_group(found: &[Node], wanted: &Node) -> bool {
 fn has_groups(session: &mut Session) -> Result<bool, Refusal> {
     let node = Node::parse("group:a#member")?;
     let asked = Expr::Member2Group(Object::parse("user:ann")?);
-    match session.groups(&Consistency::Latest, &asked, 9) {
+    match session.groups(Consistency::Latest, asked, 9) {
         Ok(groups) => Ok(groups.rev == 2 && is_group(groups.value.as_slice(), &node)),
         Err(refused) => Err(refused.why),
     }
@@ -101,7 +103,7 @@ fn is_put(events: &[WatchedEvent], tuple: &Tuple) -> bool {
 fn has_events(session: &mut Session) -> Result<bool, Refusal> {
     let tuple = Tuple::parse(ANN)?;
     let cursor = Zookie { store: 7, rev: 1 };
-    let page = session.watch(&cursor, &Namespaces::All, 9)?;
+    let page = session.watch(cursor, Namespaces::All, 9)?;
     Ok(page.heartbeat == 2 && is_put(page.events.as_slice(), &tuple))
 }
 

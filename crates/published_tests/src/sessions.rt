@@ -25,7 +25,7 @@ fn asked(session: &mut Session) -> u8
     let Ok(user) = Object::parse("user:ann") else {
         return 255;
     };
-    match session.check(&Consistency::Latest, &node, &user) {
+    match session.check(Consistency::Latest, node, user) {
         Ok(answer) => u8::from(answer.value),
         Err(refused) => refused.why.number().saturating_add(100),
     }
@@ -158,17 +158,17 @@ fn a_receipt_is_learnt_by_two(rt: HostRuntime) {
 }
 
 // What the session answers of Ann, and at which revision.
-fn answered(session: &mut Session, at: &Consistency) -> Result<(u64, bool), Refusal> {
+fn answered(session: &mut Session, at: Consistency) -> Result<(u64, bool), Refusal> {
     let node = Node::parse("group:a#member")?;
     let user = Object::parse("user:ann")?;
-    match session.check(at, &node, &user) {
+    match session.check(at, node, user) {
         Ok(answer) => Ok((answer.rev, answer.value)),
         Err(refused) => Err(refused.why),
     }
 }
 
 // The session answers so, asked twice.
-fn answers<A: Abort>(rt: &A, session: &mut Session, at: &Consistency, rev: u64, value: bool) {
+fn answers<A: Abort>(rt: &A, session: &mut Session, at: Consistency, rev: u64, value: bool) {
     assert!(rt; answered(session, at).expect(rt, "an answer") == (rev, value));
     assert!(rt; answered(session, at).expect(rt, "an answer") == (rev, value));
 }
@@ -180,12 +180,12 @@ fn asks_again<A: Abort, R: Wait + Drop>(
     desk: &mut Desk<R>,
     session: &mut Session,
 ) {
-    answers(rt, session, &Consistency::Latest, 1, false);
+    answers(rt, session, Consistency::Latest, 1, false);
     insert(alloc, desk, ANN).expect(rt, "a tuple");
     desk.publication.publish();
-    answers(rt, session, &Consistency::Latest, 2, true);
+    answers(rt, session, Consistency::Latest, 2, true);
     let before = Consistency::Exactly(Zookie { store: 7, rev: 1 });
-    answers(rt, session, &before, 1, false);
+    answers(rt, session, before, 1, false);
 }
 
 fn repeats<A: Abort, R: Wait + Drop>(rt: &A, alloc: Global, desk: &mut Desk<R>) {

@@ -27,13 +27,9 @@ use Rattle.desk.specs.Posts.{Posts}
 use Rattle.desk.specs.Changes.{IsStored, IsTrimmed, trim_raises, trim_stays, IsCommitOfWrite, IsRaiseTo, IsRefused, Touches, leaves_alone, adds_one, Refuses}
 use Rattle.keeper.specs.Rules.{DeskStep}
 use Rattle.keeper.specs.Showing.{OnlyShows}
+use Rattle.keeper.specs.calls.Ask.{AskStep, asks_nothing, is_told, is_refused}
 use Rattle.keeper.specs.calls.Write.{WriteStep, write_malformed, write_bad_zookie, write_accepted, write_refused, write_unread}
 use Rattle.keeper.specs.calls.Config.{ConfigStep, config_invalid, config_accepted, config_refused, config_unread}
-use Rattle.keeper.specs.calls.Check.{CheckStep, check_malformed, check_bad_zookie, check_answered, check_refused, check_unread}
-use Rattle.keeper.specs.calls.Read.{ReadStep, read_malformed, read_bad_zookie, read_answered, read_refused, read_unread}
-use Rattle.keeper.specs.calls.Expand.{ExpandStep, expand_malformed, expand_bad_zookie, expand_answered, expand_refused, expand_unread}
-use Rattle.keeper.specs.calls.Groups.{GroupsStep, groups_malformed, groups_bad_zookie, groups_answered, groups_refused, groups_unread}
-use Rattle.keeper.specs.calls.Watch.{WatchStep, watch_malformed, watch_bad_zookie, watch_answered, watch_refused, watch_unread}
 use Rattle.keeper.specs.calls.Trim.{TrimStep, trim_malformed, trim_bad_zookie, trim_accepted, trim_refused, trim_unread}
 use Rattle.keeper.specs.calls.CatchUp.{CatchUpStep, catch_up_malformed, catch_up_accepted, catch_up_refused, catch_up_unread}
 use Rattle.keeper.specs.calls.Hot.{HotStep, hot_malformed, hot_accepted, hot_refused, hot_unread}
@@ -138,40 +134,10 @@ module _ {T : Type 0} (g : Ghosts T) (weaker : Weaker g) (P : TableChange → Ty
   after_config old body told new asked (config_refused config why accepts is says) h = refused old new _ _ why (λ c made. asked c (config, accepts, made)) is h
   after_config old body told new asked (config_unread none same) h = same_desk old new same h
 
-  after_check : (old : Posts T) (body : List ℕ) (told : Option (ℕ × List ℕ)) (new : Posts T) → CheckStep old body told new → HasLeft g P start old → HasLeft g P start new
-  after_check old body told new (check_malformed asks says same) h = same_desk old new same h
-  after_check old body told new (check_bad_zookie asks says same) h = same_desk old new same h
-  after_check old body told new (check_answered consistency node user rev allowed asks is says only) h = shows_only old new only h
-  after_check old body told new (check_refused consistency node user why at asks is says only) h = shows_only old new only h
-  after_check old body told new (check_unread none same) h = same_desk old new same h
-
-  after_read : (old : Posts T) (body : List ℕ) (told : Option (ℕ × List ℕ)) (new : Posts T) → ReadStep old body told new → HasLeft g P start old → HasLeft g P start new
-  after_read old body told new (read_malformed asks says same) h = same_desk old new same h
-  after_read old body told new (read_bad_zookie asks says same) h = same_desk old new same h
-  after_read old body told new (read_answered consistency tupleset rev found asks is says only) h = shows_only old new only h
-  after_read old body told new (read_refused consistency tupleset why at asks is says only) h = shows_only old new only h
-  after_read old body told new (read_unread none same) h = same_desk old new same h
-
-  after_expand : (old : Posts T) (body : List ℕ) (told : Option (ℕ × List ℕ)) (new : Posts T) → ExpandStep old body told new → HasLeft g P start old → HasLeft g P start new
-  after_expand old body told new (expand_malformed asks says same) h = same_desk old new same h
-  after_expand old body told new (expand_bad_zookie asks says same) h = same_desk old new same h
-  after_expand old body told new (expand_answered consistency node depth rev found asks is says only) h = shows_only old new only h
-  after_expand old body told new (expand_refused consistency node depth why at asks is says only) h = shows_only old new only h
-  after_expand old body told new (expand_unread none same) h = same_desk old new same h
-
-  after_groups : (old : Posts T) (body : List ℕ) (told : Option (ℕ × List ℕ)) (new : Posts T) → GroupsStep old body told new → HasLeft g P start old → HasLeft g P start new
-  after_groups old body told new (groups_malformed asks says same) h = same_desk old new same h
-  after_groups old body told new (groups_bad_zookie asks says same) h = same_desk old new same h
-  after_groups old body told new (groups_answered consistency asked limit rev found asks is says only) h = shows_only old new only h
-  after_groups old body told new (groups_refused consistency asked limit why at asks is says only) h = shows_only old new only h
-  after_groups old body told new (groups_unread none same) h = same_desk old new same h
-
-  after_watch : (old : Posts T) (body : List ℕ) (told : Option (ℕ × List ℕ)) (new : Posts T) → WatchStep old body told new → HasLeft g P start old → HasLeft g P start new
-  after_watch old body told new (watch_malformed asks says same) h = same_desk old new same h
-  after_watch old body told new (watch_bad_zookie asks says same) h = same_desk old new same h
-  after_watch old body told new (watch_answered cursor namespaces commits page asks is says only) h = shows_only old new only h
-  after_watch old body told new (watch_refused cursor namespaces commits why asks is says only) h = shows_only old new only h
-  after_watch old body told new (watch_unread none same) h = same_desk old new same h
+  after_question : (old : Posts T) (k : Call) (body : List ℕ) (told : Option (ℕ × List ℕ)) (new : Posts T) → AskStep old k body told new → HasLeft g P start old → HasLeft g P start new
+  after_question old k body told new (asks_nothing why cause says same) h = same_desk old new same h
+  after_question old k body told new (is_told question answer asks is says shows) h = shows_only old new shows.only h
+  after_question old k body told new (is_refused question refused asks is says shows) h = shows_only old new shows.only h
 
   after_catch_up : (old : Posts T) (body : List ℕ) (told : Option (ℕ × List ℕ)) (new : Posts T) → CatchUpStep g old body told new → HasLeft g P start old → HasLeft g P start new
   after_catch_up old body told new (catch_up_malformed asks says same) h = same_desk old new same h
@@ -210,13 +176,13 @@ module _ {T : Type 0} (g : Ghosts T) (weaker : Weaker g) (P : TableChange → Ty
       → DeskStep g old k body told new → HasLeft g P start old → HasLeft g P start new
   after_step_of old call.Write body told new asked s h = after_write old body told new asked s h
   after_step_of old call.Config body told new asked s h = after_config old body told new asked s h
-  after_step_of old call.Check body told new asked s h = after_check old body told new s h
+  after_step_of old call.Check body told new asked s h = after_question old call.Check body told new s h
   after_step_of old call.CatchUp body told new asked s h = after_catch_up old body told new s h
-  after_step_of old call.State body told new asked s h = same_desk old new s.1 h
-  after_step_of old call.Read body told new asked s h = after_read old body told new s h
-  after_step_of old call.Expand body told new asked s h = after_expand old body told new s h
-  after_step_of old call.Watch body told new asked s h = after_watch old body told new s h
-  after_step_of old call.Leopard body told new asked s h = after_groups old body told new s h
+  after_step_of old call.State body told new asked s h = after_question old call.State body told new s h
+  after_step_of old call.Read body told new asked s h = after_question old call.Read body told new s h
+  after_step_of old call.Expand body told new asked s h = after_question old call.Expand body told new s h
+  after_step_of old call.Watch body told new asked s h = after_question old call.Watch body told new s h
+  after_step_of old call.Leopard body told new asked s h = after_question old call.Leopard body told new s h
   after_step_of old call.Hot body told new asked s h = after_hot old body told new s h
   after_step_of old call.Trim body told new asked s h = after_trim old body told new asked s h
   after_step_of old call.Rebuild body told new asked s h = after_rebuild old body told new s h

@@ -4,21 +4,22 @@ use denote.Builtin.{u32}
 use denote.Param.Send.{IsSend, IsSync, sendable, recorded_send, struct_send}
 use denote.Param.SendFields.{declared_send}
 use denote.RattleType.{RattleType}
+use base.Fml.{Lft}
+use mir.Syntax.{Lifetime}
 use denote.Struct.Declared as S
 use denote.Struct.Tuple.{TupleAt, type_at}
+use denote.Text.{Str}
 use Rattle.std.specs.Prelude.{ℕ, List}
 use Rattle.std.specs.contracts.sync.atomic.AtomicBool as AtomicBool
-use Rattle.std.proofs.Crossing.{crosses}
+use Rattle.std.proofs.Crossing.{crosses, send}
 use Rattle.front.proofs.Crossing.{Session-send}
-use Rattle.front.proofs.questions.Question.TheSendSync as Question
-use Rattle.front.specs.contracts.questions.Question as Questions
 use Rattle.sessions.specs.contracts.asking.Asker as Asker
 
 pub Asker-send : IsSend Asker.the_row
-Asker-send = declared_send Asker.the_type (Session-send, ((search sendable), tt))
+Asker-send = declared_send Asker.the_type (send, (Session-send, ((search sendable), tt)))
 
-pub Question-sync : IsSync Questions.the_row
-Question-sync = Question.the_sync
+pub Str-send : (ℓ : Lifetime) (κ : Lft) → IsSend (Str ℓ κ)
+Str-send ℓ κ = search sendable
 
 pub u32-sync : IsSync u32
 u32-sync = search sendable

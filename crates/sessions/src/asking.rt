@@ -1,10 +1,11 @@
 //! Sessions in threads, beside a writer.
 ghost use Rattle.std.specs.Prelude.{◌≡◌};
 
-use bodies::requests::check_body;
-use front::{Front, Keeper, Question};
-use names::{Refusal, Reply};
+use front::{Front, Keeper};
+use keeper::question_of;
+use names::{Call, Refusal, Reply};
 use published::{Naming, Opened, Session};
+use shown::{Question, Told as Answered};
 use std::alloc::{AllocError, Global};
 use std::sync::Wait;
 use std::sync::atomic::{AtomicBool, Ordering};
@@ -23,7 +24,8 @@ pub(crate) struct Asked {
     pub beside_a_writer: bool,
 }
 
-/// What a session was told, or all of them together, and the processor time that it took.
+/// What a session was told, or all of them together, the processor time that it took, and the time by the clock, of all that
+/// of the slowest.
 #[derive(Drop)]
 pub(crate) struct Count {
     pub yes: u64,
@@ -31,6 +33,7 @@ pub(crate) struct Count {
     pub refused: u64,
     pub went_back: bool,
     pub processor: Duration,
+    pub clock: Duration,
 }
 
 /// How many writes were accepted, whether one was not, and the processor time that they took.
@@ -41,79 +44,113 @@ pub(crate) struct Writes {
     pub processor: Duration,
 }
 
-/// What came of it all, and the time by the clock.
+/// What came of it all.
 #[derive(Drop)]
 pub(crate) struct Told {
     pub tuples: u64,
     pub count: Count,
     pub writes: Writes,
-    pub clock: Duration,
 }
 
 /// A session, and the place of its first question in the list that it goes through again and again.
 #[derive(Drop)]
 struct Asker {
+    alloc: Global,
     session: Session,
     first: usize,
+}
+
+impl Count {
+    fn none() -> Count {
+        Count {
+            yes: 0,
+            no: 0,
+            refused: 0,
+            went_back: false,
+            processor: Duration::ZERO,
+            clock: Duration::ZERO,
+        }
+    }
 }
 
 fn processor_of<W: CpuClock>(rt: &W) -> Duration {
     rt.thread_cpu_time().unwrap_or(Duration::ZERO)
 }
 
-fn ask<W: CpuClock>(rt: &W, asker: Asker, list: &[Question], questions: u32) -> Count {
-    let began = processor_of(rt);
-    let Asker { mut session, first } = asker;
-    let (mut yes, mut no, mut refused) = (0u64, 0u64, 0u64);
-    let (mut last, mut went_back) = (0, false);
-    let asked = list.iter().cycle().skip(first).take(questions as usize);
-    for question in asked {
-        match session.check(&question.consistency, &question.node, &question.user) {
-            Ok(answer) => {
-                went_back |= answer.rev < last;
-                last = answer.rev;
-                yes = yes.saturating_add(u64::from(answer.value));
-                no = no.saturating_add(u64::from(!answer.value));
-            }
-            Err(_) => refused = refused.saturating_add(1),
+// The questions among the lines.
+fn questions_of(alloc: Global, lines: &str) -> Result<Vec<Question>, Refusal> {
+    let mut questions = Vec::new(alloc);
+    for line in lines.lines() {
+        let (call, body) = line.split_once(' ').unwrap_or((line, ""));
+        if call == "check" {
+            questions.push(question_of(alloc, Call::Check, body.as_bytes())?)?;
         }
     }
-    Count {
-        yes,
-        no,
-        refused,
-        went_back,
-        processor: processor_of(rt).saturating_sub(began),
+    Ok(questions)
+}
+
+// Goes through the list, so many questions long.
+fn ask(session: &mut Session, list: &[Question], first: usize, questions: u32) -> Count {
+    let mut count = Count::none();
+    let mut last = 0;
+    let asked = list.iter().cycle().skip(first).take(questions as usize);
+    for question in asked {
+        match session.ask(question) {
+            Some((_, Ok(Answered::Checked(answer)))) => {
+                count.went_back |= answer.rev < last;
+                last = answer.rev;
+                count.yes = count.yes.saturating_add(u64::from(answer.value));
+                count.no = count.no.saturating_add(u64::from(!answer.value));
+            }
+            _ => count.refused = count.refused.saturating_add(1),
+        }
     }
+    count
+}
+
+// A session has its own questions: they are read before it is timed.
+fn ask_timed<W: Clock + CpuClock>(rt: &W, asker: Asker, lines: &str, questions: u32) -> Count {
+    let Asker {
+        alloc,
+        mut session,
+        first,
+    } = asker;
+    let Ok(list) = questions_of(alloc, lines) else {
+        let mut none = Count::none();
+        none.refused = 1;
+        return none;
+    };
+    let (began, processor) = (Instant::now(rt), processor_of(rt));
+    let mut count = ask(&mut session, list.as_slice(), first, questions);
+    count.processor = processor_of(rt).saturating_sub(processor);
+    if let Ok(began) = began {
+        count.clock = began.elapsed(rt).unwrap_or(Duration::ZERO);
+    }
+    count
 }
 
 fn sum_of(counts: &[Count]) -> Count {
-    let mut all = Count {
-        yes: 0,
-        no: 0,
-        refused: 0,
-        went_back: false,
-        processor: Duration::ZERO,
-    };
+    let mut all = Count::none();
     for count in counts {
         all.yes = all.yes.saturating_add(count.yes);
         all.no = all.no.saturating_add(count.no);
         all.refused = all.refused.saturating_add(count.refused);
         all.went_back |= count.went_back;
         all.processor = all.processor.saturating_add(count.processor);
+        all.clock = all.clock.max(count.clock);
     }
     all
 }
 
 // Each session asks in a thread of its own.
-fn ask_all<W: Threads + CpuClock + Sync>(
+fn ask_all<W: Threads + Clock + CpuClock + Sync>(
     rt: &W,
     askers: Vec<Asker>,
-    list: &[Question],
+    lines: &str,
     questions: u32,
     done: &AtomicBool,
 ) -> Result<Vec<Count>, AllocError> {
-    let counts = map_vec(rt, askers, &|asker| ask(rt, asker, list, questions));
+    let counts = map_vec(rt, askers, &|asker| ask_timed(rt, asker, lines, questions));
     done.store(true, Ordering::SeqCst);
     counts
 }
@@ -158,35 +195,26 @@ fn write_until<J: Naming, H: Wait + Drop, W: Wait + CpuClock>(
     })
 }
 
-// Has the changes among the lines made, and returns the questions.
+// Has the changes among the lines made.
 fn take<J: Naming, H: Wait + Drop, W: Wait>(
     rt: &W,
-    alloc: Global,
     front: &mut Front<'_, Listed, J, H>,
     lines: &str,
-) -> Result<Vec<Question>, Refusal> {
-    let mut questions = Vec::new(alloc);
+) -> Result<(), Refusal> {
     for line in lines.lines() {
         let (call, body) = line.split_once(' ').unwrap_or((line, ""));
         let body = body.as_bytes();
         let accepted = match call {
             "config" => is_accepted(&front.configure(rt, body)),
             "write" => is_accepted(&front.write(rt, body)),
-            _ => {
-                let (consistency, node, user) = check_body(alloc, body)?;
-                questions.push(Question {
-                    consistency,
-                    node,
-                    user,
-                })?;
-                true
-            }
+            "check" => true,
+            _ => false,
         };
         if !accepted {
             return Err(Refusal::Malformed);
         }
     }
-    Ok(questions)
+    Ok(())
 }
 
 fn askers_of<J: Naming, H: Wait + Drop, W: Wait>(
@@ -199,7 +227,11 @@ fn askers_of<J: Naming, H: Wait + Drop, W: Wait>(
     for number in 0..sessions {
         let session = keeper.hold(rt).session()?;
         let first = number as usize * 1_000;
-        askers.push(Asker { session, first })?;
+        askers.push(Asker {
+            alloc,
+            session,
+            first,
+        })?;
     }
     Ok(askers)
 }
@@ -212,26 +244,20 @@ fn ask_beside<J: Naming, H: Wait + Drop, W: Threads + Wait + Clock + CpuClock + 
     asked: Asked,
 ) -> Result<Told, Refusal> {
     let mut front = Front::new(alloc, rt, keeper)?;
-    let list = take(rt, alloc, &mut front, lines)?;
+    take(rt, &mut front, lines)?;
     let tuples = keeper.hold(rt).session()?.state()?.tuples;
     let askers = askers_of(rt, alloc, keeper, asked.sessions)?;
-    let (list, questions) = (list.as_slice(), asked.questions);
+    let questions = asked.questions;
     let done = AtomicBool::new(!asked.beside_a_writer);
-    let began = Instant::now(rt);
     let (counts, writes) = join(
         rt,
-        || ask_all(rt, askers, list, questions, &done),
+        || ask_all(rt, askers, lines, questions, &done),
         || write_until(rt, alloc, &mut front, &done),
     );
-    let clock = match began {
-        Ok(began) => began.elapsed(rt).unwrap_or(Duration::ZERO),
-        Err(_) => Duration::ZERO,
-    };
     Ok(Told {
         tuples,
         count: sum_of(counts?.as_slice()),
         writes: writes?,
-        clock,
     })
 }
 

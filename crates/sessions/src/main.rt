@@ -77,7 +77,7 @@ fn tell(rt: &HostRuntime, asked: Asked, told: &Told, time: bool) -> io::Result<(
     println!(rt; "{tuples} tuples, {sessions} sessions with {questions} questions each")?;
     println!(rt; "{yes} yes, {no} no, {refused} refused, went back: {went_back}")?;
     if time {
-        let clock = told.clock.as_micros();
+        let clock = told.count.clock.as_micros();
         let processor = told.count.processor.as_micros();
         let writes = told.writes.accepted;
         let of_writes = told.writes.processor.as_micros();

@@ -7,4 +7,5 @@ pub mod Expanding
 pub mod Watching
 pub mod Paging
 pub mod Grouping
+pub mod Asked
 pub mod inside

@@ -3,13 +3,16 @@
 #![tactic(auto)]
 
 mod answer;
+mod asking;
 mod groups;
 mod known;
 mod marks;
 mod members;
+mod question;
 mod shown;
 mod step;
 
 pub use answer::{Answer, Refused};
+pub use question::{Depth, Question, Told};
 pub use shown::Shown;
 pub use step::Step;

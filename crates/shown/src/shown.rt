@@ -18,7 +18,8 @@ ghost use Rattle.hot.specs.Kept.{IsHot};
 ghost use Rattle.expand.specs.declared.limits.TheConstants.{MAX_DEPTH};
 ghost use Rattle.expand.specs.Causes.{ExpandCause};
 ghost use Rattle.expand.specs.Viewed.{tree_of};
-ghost use Rattle.shown.specs.Answers.{IsAnswer, IsRefusal};
+ghost use Rattle.zookie.specs.Fits.{IsFirstCause};
+ghost use Rattle.shown.specs.Answers.{IsAnswer, IsAskedAt, IsRefusal};
 ghost use Rattle.shown.specs.KeptAnswers.{AreRetainedAnswers};
 ghost use Rattle.shown.specs.Expanding.{IsTreeOf, IsTree, IsTreeRefusal};
 ghost use Rattle.shown.specs.Watching.{IsWatched, WatchRefused};
@@ -301,6 +302,18 @@ impl Shown {
         }
     }
 
+    /// The revision at which a question is answered.
+    fn choose(&self, consistency: &Consistency) -> Result<u64, Refusal>
+        ensures asked { IfOk result (IsAskedAt self.now consistency.now) }
+        ensures retained { IfOk result (IsRetained self.now.kept) }
+        ensures err { IfErr result
+            (IsFirstCause consistency.now self.now.kept.number self.now.kept.floor (newest self.now.kept)) }
+    {
+        let newest = self.rows.newest();
+        consistency.judge(self.rows.number(), self.rows.floor(), newest)?;
+        Ok(consistency.choose(newest, self.index))
+    }
+
     /// Whether the user is a member of the node, at the revision that the consistency chooses.
     pub fn check(
         &self,
@@ -341,11 +354,10 @@ impl Shown {
         ensures ok { IfOk result (IsAnswer self.now consistency.now node.now user.now) }
         ensures err { IfErr result (IsRefusal self.now consistency.now node.now) }
     {
-        let newest = self.rows.newest();
-        if let Err(why) = consistency.judge(self.rows.number(), self.rows.floor(), newest) {
-            return Err(Refused { why, at: None });
-        }
-        let rev = consistency.choose(newest, self.index);
+        let rev = match self.choose(consistency) {
+            Ok(rev) => rev,
+            Err(why) => return Err(Refused { why, at: None }),
+        };
         match self.check_at(kept, rev, node, user) {
             Ok(value) => Ok(Answer { rev, value }),
             Err(why) => {
@@ -410,11 +422,10 @@ impl Shown {
         ensures ok { IfOk result (IsTree self.now consistency.now node.now depth) }
         ensures err { IfErr result (IsTreeRefusal self.now consistency.now node.now depth) }
     {
-        let newest = self.rows.newest();
-        if let Err(why) = consistency.judge(self.rows.number(), self.rows.floor(), newest) {
-            return Err(Refused { why, at: None });
-        }
-        let rev = consistency.choose(newest, self.index);
+        let rev = match self.choose(consistency) {
+            Ok(rev) => rev,
+            Err(why) => return Err(Refused { why, at: None }),
+        };
         match self.expand_at(rev, node, depth) {
             Ok(value) => Ok(Answer { rev, value }),
             Err(why) => {
@@ -466,11 +477,10 @@ impl Shown {
         ensures ok { IfOk result (IsPage self.now consistency.now asked.now) }
         ensures err { IfErr result (IsPageRefusal self.now consistency.now) }
     {
-        let newest = self.rows.newest();
-        if let Err(why) = consistency.judge(self.rows.number(), self.rows.floor(), newest) {
-            return Err(Refused { why, at: None });
-        }
-        let rev = consistency.choose(newest, self.index);
+        let rev = match self.choose(consistency) {
+            Ok(rev) => rev,
+            Err(why) => return Err(Refused { why, at: None }),
+        };
         let page = self.rows.at(rev).read(self.alloc, asked);
         match page {
             Ok(tuples) => Ok(Answer {
@@ -504,11 +514,10 @@ impl Shown {
                 at: None,
             });
         }
-        let newest = self.rows.newest();
-        if let Err(why) = consistency.judge(self.rows.number(), self.rows.floor(), newest) {
-            return Err(Refused { why, at: None });
-        }
-        let rev = consistency.choose(newest, self.index);
+        let rev = match self.choose(consistency) {
+            Ok(rev) => rev,
+            Err(why) => return Err(Refused { why, at: None }),
+        };
         match self.groups_at(rev, expr, limit) {
             Ok(groups) => Ok(Answer {
                 rev,

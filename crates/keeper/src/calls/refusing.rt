@@ -1,21 +1,18 @@
 //! Calls that are refused.
-ghost use Rattle.std.specs.Prelude.{◌≡◌, option_map};
+ghost use Rattle.std.specs.Prelude.{◌≡◌};
 ghost use Rattle.names.specs.Calls.{told};
-ghost use Rattle.zookie.specs.Text.{zookie_text};
-ghost use Rattle.bodies.specs.Replies.{SaysRefusal, SaysRefusalAt};
+ghost use Rattle.bodies.specs.Replies.{SaysRefusal};
 ghost use Rattle.published.specs.Judged.{AreJudged};
 ghost use Rattle.published.specs.Known.{Begins};
 ghost use Rattle.desk.specs.Posts.{ShowsMore, SameTables, shown_by};
 
-use bodies::refusals::{refusal, refusal_at};
+use bodies::refusals::refusal;
 use desk::Desk;
 use names::{Refusal, Reply};
 use published::Session;
-use shown::Refused;
 use std::alloc::Global;
 use std::sync::Wait;
 use tables::Tables;
-use zookie::Zookie;
 
 /// What a refused change is answered. The session then knows what is shown.
 pub(crate) fn refuse<T: Tables + Drop, R: Wait + Drop>(
@@ -34,15 +31,4 @@ pub(crate) fn refuse<T: Tables + Drop, R: Wait + Drop>(
 {
     desk.refresh(session);
     refusal(alloc, why)
-}
-
-/// What a question is answered that is refused, with the revision that was chosen, if one was.
-pub fn refused_question(alloc: Global, store: u64, refused: &Refused) -> Reply
-    ensures { SaysRefusalAt (told result) refused.now.why
-        (option_map (zookie_text store) refused.now.at) }
-{
-    match refused.at {
-        Some(rev) => refusal_at(alloc, &refused.why, &Zookie { store, rev }),
-        None => refusal(alloc, &refused.why),
-    }
 }

@@ -7,7 +7,7 @@ use Rattle.published.proofs.session.look.Goals as goal
 pub enter_as-requires : goal.enter_as-requires
 enter_as-requires c = enters _ _
 
-pub check_knowing-answer-requires : goal.check_knowing-answer-requires
-check_knowing-answer-requires c =
+pub answer_knowing-answer-requires : goal.answer_knowing-answer-requires
+answer_knowing-answer-requires c =
     let stands : c.get-copy.result.now.shown ≡ standing c.get-copy.result.now.prefix.steps = search rules in
     subst (λ (s : Standing). AreRetainedAnswers s.kept c.in-Some.kept.now) (sym stands) c.in-Some.ensures.right

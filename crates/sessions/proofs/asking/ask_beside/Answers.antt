@@ -1,10 +1,9 @@
 use denote.Exit.{no}
-use denote.Param.Send.{arg_send, param_send, shr_send, shr_slice_send}
+use denote.Param.Send.{arg_send, param_send, shr_send}
 use Rattle.std.proofs.Crossing.{Vec-send}
-use Rattle.sessions.proofs.Crossing.{AtomicBool-sync, Asker-send, Question-sync, five_send, u32-sync}
+use Rattle.sessions.proofs.Crossing.{AtomicBool-sync, Asker-send, Str-send, five_send, u32-sync}
 use Rattle.sessions.proofs.asking.ask_beside.Goals as goal
 
 pub join-counts-requires-send-F : goal.join-counts-requires-send-F
 join-counts-requires-send-F g c κs within =
-    let asked = shr_slice_send _ _ _ Question-sync in
-    param_send 1 _ (arg_send _ no _ (five_send _ _ _ _ _ _ (shr_send _ _ _ c.type_bounds.sync-W) (Vec-send _ Asker-send) asked (shr_send _ _ _ u32-sync) (shr_send _ _ _ AtomicBool-sync)))
+    param_send 1 _ (arg_send _ no _ (five_send _ _ _ _ _ _ (shr_send _ _ _ c.type_bounds.sync-W) (Vec-send _ Asker-send) (Str-send _ _) (shr_send _ _ _ u32-sync) (shr_send _ _ _ AtomicBool-sync)))

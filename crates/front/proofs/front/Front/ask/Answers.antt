@@ -4,4 +4,4 @@ use Rattle.front.proofs.front.Front.ask.Goals as goal
 
 pub invariant_of-self : goal.invariant_of-self
 invariant_of-self g c =
-    known_on g.J.Naming.book c.self.inside.session c.check_from.new.session c.self.invariant (asked_later c.self.inside.session c.args.body.now c.check_from.result c.check_from.new.session c.check_from.ensures)
+    known_on g.J.Naming.book c.self.inside.session c.ask_from.new.session c.self.invariant (asked_later c.self.inside.session c.args.call c.args.body.now c.ask_from.result c.ask_from.new.session c.ask_from.ensures)
