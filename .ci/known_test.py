@@ -1,6 +1,6 @@
 #!/usr/bin/env python3
 """What makes a wrong body one that must be tried, or that is due, on two small crates of which nothing is proved; which crates are drawn, and
-which of their wrong bodies; how many processors a check may take; and how a stamp is made."""
+which of their wrong bodies; what is believed of those that stand side by side; how many processors a check may take; and how a stamp is made."""
 import os
 import sys
 import tempfile
@@ -11,7 +11,7 @@ sys.dont_write_bytecode = True
 from known import BELIEVED, OF_ONE, PARTS, Basis, Key, Known, Standing, drawn, few
 from rt_once import read_once
 from sources import rtlib
-from trials import Wrong
+from trials import MOST_ROUNDS, MOST_TWINS, Trial, Wrong, groups
 from wrong_bodies import BUILD, FIRST, LATER, Lanes
 
 MUST, DUE, HELD = Standing
@@ -185,6 +185,51 @@ class Drawn(unittest.TestCase):
         self.assertEqual(set().union(*each), {it.label for it in edits})
         both = few("lot 1", [edit(f"both_{it}", "one", "two") for it in range(OF_ONE + 1)])
         self.assertEqual(len(both), OF_ONE)
+
+
+class Twins(unittest.TestCase):
+    def refused(self, control, twin):
+        """The edits that are refused side by side where the check says this of the function's own body and of the edit's, and the texts that it was given."""
+        given = {}
+        with tempfile.TemporaryDirectory(prefix="known-") as top:
+            for path, text in FILES.items():
+                os.makedirs(os.path.dirname(f"{top}/{path}"), exist_ok=True)
+                with open(f"{top}/{path}", "w", encoding="utf-8") as it:
+                    it.write(text)
+            crate = next(it for it in rtlib.crates_below(top) if it.name == "high")
+            wrong = Wrong(crate, [f"{crate.folder}/wrong/{name}" for name in sorted(os.listdir(f"{crate.folder}/wrong"))])
+            for it in wrong.edits:
+                it.turn = FIRST
+            trial = Trial(wrong, wrong.edits, None, None, lambda _: None)
+
+            def check(texts, only):
+                given.update(texts)
+                return f"fn high::two_twin0: {control}\nfn high::two_twin1: {twin}\nlogic=not-proved functions=2", 1
+
+            trial.check = check
+            return [it.label for it in trial.side_by_side([it for it in wrong.edits if it.function()])], given
+
+    def test_a_twin_has_the_contract_and_the_proof_files_of_its_function(self):
+        found, texts = self.refused("proved", "not proved (`returns`)")
+        self.assertEqual([BODY], found)
+        text = texts["src/lib.rt"]
+        self.assertIn("pub fn two() -> u8 {\n    // as it is\n    one() + 1\n}", text)
+        self.assertIn("pub fn two_twin0() -> u8 {\n    // as it is\n    one() + 1\n}", text)
+        self.assertIn("pub fn two_twin1() -> u8 {\n    // as it is\n    one() + 2\n}", text)
+        self.assertEqual({"src/lib.rt", "proofs/two_twin0/Answers.antt", "proofs/two_twin1/Answers.antt"}, {*texts})
+
+    def test_nothing_counts_where_the_own_body_is_not_proved_under_another_name(self):
+        self.assertEqual([], self.refused("not proved (`returns`)", "not proved (`returns`)")[0])
+
+    def test_those_of_a_function_with_few_are_not_tried_so_and_the_others_in_checks_that_are_not_too_large(self):
+        edits = lambda name, number: [types.SimpleNamespace(function=lambda: name) for _ in range(number)]
+        self.assertEqual([], groups(edits("one", MOST_ROUNDS) + edits(None, 9)))
+        large = groups(edits("one", MOST_TWINS) + edits("two", 3) + edits("three", 3))
+        self.assertEqual([MOST_TWINS, 6], [len(it) for it in large])
+
+    def test_what_is_proved_or_fails_through_another_is_not_refused(self):
+        self.assertEqual([], self.refused("proved", "proved")[0])
+        self.assertEqual([], self.refused("proved", "no proof: it calls `high::one`, which is not proved")[0])
 
 
 class Shares(unittest.TestCase):

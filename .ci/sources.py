@@ -176,6 +176,18 @@ def functions_in(path, tokens):
     return found
 
 
+def is_in_attribute(code, at):
+    """Returns whether the token there stands in the brackets of an attribute that ends before the next item."""
+    depth = 0
+    for i in range(at, -1, -1):
+        depth += (code[i].text == "]") - (code[i].text == "[")
+        if code[i].text in ("{", "}", ";") and depth <= 0:
+            return False
+        if code[i].text == "[" and depth <= 0:
+            return i > 0 and code[i - 1].text == "#"
+    return False
+
+
 class Source:
     """A file of src/ with its functions. One that rattle cannot read has none, and no outline."""
 
@@ -204,6 +216,25 @@ class Source:
             if not hidden or it.start < hidden[0][0]:
                 found.append((it.kind, it.text))
         return found
+
+    def item(self, function):
+        """Returns where a function begins, with its attributes and its visibility, and where its name stands: both as a range of bytes."""
+        code = [it for it in self.tokens if it.kind == "Code" and it.end <= function.body[0]]
+        at = max(i for i, it in enumerate(code) if it.text == "fn" and code[i + 1].text == function.name)
+        first = at
+        while first and code[first - 1].text in ("pub", "crate", "(", ")", "#", "[", "]", "unsafe") or first and is_in_attribute(code, first - 1):
+            first -= 1
+        return (code[first].start, function.body[0]), (code[at + 1].start, code[at + 1].end)
+
+    def with_twins(self, twins):
+        """Returns the text with functions beside its own that have another name and body, but the same contract. twins: a function, a name and a body each."""
+        made = self.bytes
+        for function in sorted({it for it, _, _ in twins}, key=lambda it: it.body, reverse=True):
+            (start, end), (before, after) = self.item(function)
+            head = lambda name: made[start:before] + name.encode() + made[after:end]
+            its = b"".join(b"\n\n" + head(name) + body for it, name, body in twins if it == function)
+            made = made[: function.body[1]] + its + made[function.body[1] :]
+        return made.decode()
 
     def with_bodies(self, bodies):
         """Returns the text with these bodies in place of its own, by function."""

@@ -1,11 +1,14 @@
 """Judges the edits of one crate by what checks of copies of it say."""
+import copy
 import os
 import re
+import shutil
 import signal
+import tempfile
 import time
 import typing
 
-from sources import likely_names_of, names_of, path_of, read, rt, rtlib, source_of, text_of
+from sources import likely_names_of, module_of, names_of, path_of, read, rt, rtlib, source_of, text_of
 
 # What the check says of a function that fails through another one.
 THROUGH = re.compile(r"(it|a call of) .*which (is|are) not proved")
@@ -17,6 +20,10 @@ IN_A_CYCLE = re.compile(r"in `[^`]*`, of this cycle of calls")
 ERROR = re.compile(r"(?m)^(?:\./)?(src/\S+\.rt):(\d+):\d+: error")
 # More jobs seldom make a check faster.
 MOST_JOBS = 4
+# So many twins stand in one check, where no function has more: a check of 70 of `zanz` would take more memory than a small machine has.
+MOST_TWINS = 40
+# The edits of a function that has so few are tried in as many rounds: side by side its own body would be proved once more.
+MOST_ROUNDS = 2
 
 
 # -- one edit
@@ -50,6 +57,12 @@ class Edit:
                 by_name = {(it.name, it.owner): new.body(it) for it in new.functions}
                 after = [by_name.get((it.name, it.owner), b"") for it in old.functions]
             self.bodies.update((it, body) for it, body in zip(old.functions, after) if body != old.body(it))
+
+    def function(self):
+        """Returns the one function whose body alone it changes, where one of another name can stand beside that, or None."""
+        only = [*self.bodies][0] if len(self.bodies) == 1 and not self.is_wider else None
+        has_twin = only and not only.cycle and not only.is_open and not (only.owner and only.owner.of_trait)
+        return only if has_twin else None
 
     def places(self):
         """Returns what at most one edit of a round may change: a function, or a cycle of calls."""
@@ -105,6 +118,17 @@ def unreadable(output, status, texts):
     return "" if lines[-1].startswith(last.get(status, ())) else lines[-1] or "the check said nothing"
 
 
+def checked(crate, texts, flags, kept):
+    """Checks a copy of the crate with these texts, of which some may be of files that it does not have."""
+    with tempfile.TemporaryDirectory(prefix="beside-") as room:
+        made = copy.copy(crate)
+        made.folder = f"{room}/{crate.name}"
+        shutil.copytree(crate.folder, made.folder, ignore=shutil.ignore_patterns("out"))
+        for it in texts:
+            os.makedirs(os.path.dirname(f"{made.folder}/{it}"), exist_ok=True)
+        return rt.checked(made, texts, flags, kept)
+
+
 # -- the edits of one crate
 
 
@@ -122,6 +146,23 @@ class Wrong:
             it.compare(self.sources)
 
 
+def groups(edits):
+    """Returns those of these edits that are tried side by side, by their checks: all of a function in one, and few enough for its memory."""
+    mates, found, number = {}, [], MOST_TWINS
+    for it in edits:
+        if it.function():
+            mates.setdefault(it.function(), []).append(it)
+    for its in mates.values():
+        if len(its) <= MOST_ROUNDS:
+            continue
+        number += len(its) + 1
+        if number > MOST_TWINS:
+            found.append([])
+            number = len(its) + 1
+        found[-1] += its
+    return found
+
+
 class Trial:
     """Judges edits of one crate. What its checks prove is kept in a folder of this run."""
 
@@ -134,10 +175,10 @@ class Trial:
         words = [word for it in sorted(set(only)) for word in ("--only", it)]
         # (one function has one job's work)
         with self.lend(self.turn, len(set(only)) or MOST_JOBS) as jobs:
-            ran = rt.checked(self.crate, texts, ["--jobs", str(jobs), *words], self.kept)
+            ran = checked(self.crate, texts, ["--jobs", str(jobs), *words], self.kept)
             if ran.returncode == -signal.SIGKILL:
                 # most likely for memory
-                ran = rt.checked(self.crate, texts, ["--jobs", "1", *words], self.kept)
+                ran = checked(self.crate, texts, ["--jobs", "1", *words], self.kept)
         return ran.stdout, ran.returncode
 
     def run(self, is_proved):
@@ -152,6 +193,8 @@ class Trial:
 
     def judge_all(self, edits):
         started, left = time.monotonic(), [it for it in edits if not it.verdict]
+        beside = [it for group in groups(left) for it in self.side_by_side(group)]
+        left = [it for it in left if it not in beside]
         alone = [it for it in left if it.is_wider or not it.bodies]
         left = [it for it in left if it not in alone]
         rounds = 0
@@ -165,7 +208,55 @@ class Trial:
         for it in alone:
             self.judge_alone(it)
         seconds = time.monotonic() - started
-        self.say(f"{self.crate.name}: {len(edits)} edits in {rounds} rounds, {len(alone)} of them alone, in {seconds:.0f} s")
+        self.say(f"{self.crate.name}: {len(edits)} edits, {len(beside)} side by side, {rounds} rounds, {len(alone)} alone, in {seconds:.0f} s")
+
+    def side_by_side(self, edits):
+        """Refuses these edits in one check, as far as that can be. Returns those that it refused.
+
+        Each stands beside the function that it changes as a twin with its contract and its proof files. So does a twin with the function's own body: where
+        that is not proved, its twins fail through something else than their bodies, and nothing of them counts.
+        """
+        mates = {}
+        for it in edits:
+            mates.setdefault(it.function(), []).append(it)
+        twins = {(of, at): of._replace(name=f"{of.name}_twin{at}") for of, its in mates.items() for at in range(len(its) + 1)}
+        bodies = {(of, at): it.bodies[of] for of, its in mates.items() for at, it in enumerate(its, 1)}
+        texts, proofs = {}, {}
+        for path in {it.path for it in mates}:
+            its = [(of, it.name, bodies.get((of, at)) or self.sources[path].body(of)) for (of, at), it in twins.items() if of.path == path]
+            texts[path] = self.sources[path].with_twins(its)
+        for (of, _), it in twins.items():
+            proofs.update(self.proofs_of(of, it))
+        if not edits:
+            return []
+        output, status = self.check({**texts, **proofs}, [path_of(it) for it in twins.values()])
+        why = unreadable(output, status, texts)
+        if why:
+            self.say(f"{self.crate.name}: its edits are not tried side by side: {why[:200]}")
+            return []
+        said = said_in(output)
+        is_proved = lambda names: names and all(said[it].words.startswith("proved") for it in names)
+        sure = [of for of in mates if is_proved(names_of(twins[of, 0], said))]
+        for of in mates.keys() - sure:
+            self.say(f"{self.crate.name}: {of.name} is not proved under another name, so its edits are tried in rounds")
+        for of in sure:
+            for at, it in enumerate(mates[of], 1):
+                failing = {name: said[name] for name in names_of(twins[of, at], said) if said[name].fails_itself()}
+                if failing and not all(it.is_unsure() for it in failing.values()):
+                    it.judge("refused", "; ".join(f"{name}: {its.text()}" for name, its in failing.items()))
+        return [it for it in edits if it.verdict]
+
+    def proofs_of(self, function, twin):
+        """Returns the function's own proof files as its twin's, by their paths."""
+        above = ["proofs", *module_of(function), *([function.owner.of_type] if function.owner else [])]
+        folder, found = "/".join([*above, function.name]), {}
+        dotted = re.compile(re.escape(f".{'.'.join([*above, function.name])}.").replace("/", "."))
+        for at, _, files in os.walk(f"{self.crate.folder}/{folder}"):
+            for it in files:
+                file = f"{at}/{it}"
+                path = os.path.relpath(file, self.crate.folder).replace(folder, "/".join([*above, twin.name]), 1)
+                found[path] = dotted.sub(f".{'.'.join([*above, twin.name])}.", text_of(file))
+        return found
 
     def next_round(self, left):
         """Returns the first of these edits for each place."""

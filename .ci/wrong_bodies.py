@@ -22,12 +22,16 @@ Which are tried. .ci/refused.txt has a line for each that was seen refused, with
   held   nothing has changed. It is tried with --all alone, and read and applied always
 
 With --minutes, as in the gate, no check begins after so many, or forty-five more for what must be tried: one of these that was not fails. Beside these,
-edits of so many crates are tried as have an eighth of all, and of each function at most three, since each further one costs a whole check. A checksum
+edits of so many crates are tried as have an eighth of all, and of each function at most three, since each further one is one proof more. A checksum
 of all that the verdicts rest on draws them: another eighth at each landing, and nobody chooses. An edit that is refused gets its line, and one that is not loses it.
 
-How they are tried. What the proof of another function reads of a function is its contract, not its body. So the edits
-of a crate stand side by side in one copy of it, at most one for each function (or for each cycle of calls, which has
-one proof), and one check of that copy says of each edited function whether it is refused. That is a round. An edit
+How they are tried. Where a function has more than two edits of its body, each stands in a copy of the crate as a twin: a function
+more, beside the one that it changes, with the edit's body and that function's contract and proof files. So do all of a crate, in
+one check or a few; and for each function a twin with its own body. Where that one is proved and an edit's is not, the edit is
+refused: nothing but the body is another. Where it is not, for what the check says otherwise of a twin, for methods of traits and
+cycles of calls, and for all other edits of bodies there are rounds. What the proof of another function reads of a function is its contract, not its body. So the edits that are left
+stand in one copy, at most one for each function (or for each cycle of calls, which has one proof), and one check of
+that copy says of each edited function whether it is refused. That is a round. An edit
 goes into a later round where its function was taken, and where the check says only that its function calls one that
 is not proved. An edit stands in a copy of its own where it changes more than bodies (a constant, a contract), where
 the check's name of its function is not certain or the prover could not tell, and where it makes a copy unreadable or
