@@ -4,6 +4,7 @@ ghost use Rattle.names.specs.Calls.{told};
 
 use answers::Answers;
 use crossbeam_channel::Sender;
+use keeper::changes;
 use names::{Call, Reply};
 use std::sync::Wait;
 
@@ -32,17 +33,9 @@ impl<'a, A: Answers, R: Wait> Answers for Waking<'a, A, R> {
         ensures { A.step self.old.answers call body.now (told result) self.new.answers }
     {
         let reply = self.answers.answer(call, body);
-        if is_change(call) {
+        if changes(call) {
             let _ = self.wakes.try_send(self.rt, ());
         }
         reply
-    }
-}
-
-// Whether a call may change what is shown, be it by showing what waited.
-fn is_change(call: Call) -> bool {
-    match call {
-        Call::Write | Call::Config | Call::Trim | Call::CatchUp | Call::Hot | Call::Rebuild => true,
-        _ => false,
     }
 }
