@@ -6,7 +6,7 @@ use Rattle.logbook.specs.Pages.{Book}
 use Rattle.names.specs.declared.call.Call.{Call}
 use Rattle.tables.specs.declared.tables.Tables.{Ghosts}
 use Rattle.published.specs.Known.{Known}
-use Rattle.keeper.specs.Changes.{changes}
+use Rattle.keeper.specs.Changes.{is_change}
 use Rattle.front.specs.Kept.{IsKnownIn, KnowsADesk}
 use Rattle.front.specs.Questions.{AskFrom, sought_by}
 use Rattle.front.specs.Fronts.{ChangeFrom, off_the_desk, on_a_desk, MayTell, FrontStep}
@@ -26,4 +26,4 @@ module _ {T : Type 0} (g : Ghosts T) (b : Book) where
 
   -- what it tells so goes back on nothing
   pub step_of : (old : Known) (call : Call) (body : List ℕ) (told : Option (ℕ × List ℕ)) (new : Known) → IsKnownIn b old → MayTell g b old call body told new → FrontStep g b old call body told new
-  step_of old call body told new known tells = record { tells = tells; never_back = never_back b old new known (tells_later (changes call) old call body told new tells) }
+  step_of old call body told new known tells = record { tells = tells; never_back = never_back b old new known (tells_later (is_change call) old call body told new tells) }

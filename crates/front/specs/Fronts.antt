@@ -8,7 +8,7 @@ use Rattle.published.specs.Known.{Known, Begins}
 use Rattle.published.specs.Receipts.{ReceiptFacts}
 use Rattle.desk.specs.Posts.{Posts, shown_by}
 use Rattle.desk.specs.Changes.{TellsShown}
-use Rattle.keeper.specs.Changes.{changes}
+use Rattle.keeper.specs.Changes.{is_change}
 use Rattle.keeper.specs.calls.Change.{ChangeStep}
 use Rattle.front.specs.Kept.{IsKept, KnowsADesk, KnowsMore, NeverGoesBack}
 use Rattle.front.specs.Questions.{AskFrom, sought_by}
@@ -35,7 +35,7 @@ pub record ToldByDesk (T : Type 0) (book : Book) (receipt : ReceiptFacts) (new :
 abbrev pub MayTell : {T : Type 0}
     → Ghosts T → Book → Known → Call → List ℕ → Option (ℕ × List ℕ) → Known → Type 0
 MayTell {T} g book old call body told new =
-    MatchBool (changes call)
+    MatchBool (is_change call)
     (ChangeFrom g book old call body told new)
     (AskFrom (sought_by call (KnowsADesk T book new)) old call body told new)
 

@@ -10,7 +10,7 @@ ghost use Rattle.front.specs.Fronts.{ChangeFrom, FrontStep, MayTell, ToldByDesk}
 use crate::lock::Keeper;
 use crate::questions::{Asked, ask_again, ask_from};
 use bodies::refusals::refusal;
-use keeper::{change_of, changes};
+use keeper::{change_of, is_change};
 use names::{Call, Refusal, Reply};
 use published::{Naming, Receipt, Session};
 use std::alloc::Global;
@@ -123,7 +123,7 @@ impl<'k, T: Tables + Drop, J: Naming, R: Wait + Drop> Front<'k, T, J, R> {
     fn tell<W: Wait>(&mut self, rt: &W, call: Call, body: &[u8]) -> Reply
         ensures { MayTell T.Tables J.book self.old call body.now (told result) self.new }
     {
-        if changes(call) {
+        if is_change(call) {
             self.answer_change(rt, call, body)
         } else {
             self.answer_question(rt, call, body)

@@ -4,7 +4,7 @@ ghost use Rattle.names.specs.Calls.{told};
 
 use answers::Answers;
 use crossbeam_channel::Sender;
-use keeper::changes;
+use keeper::is_change;
 use names::{Call, Reply};
 use std::sync::Wait;
 
@@ -33,7 +33,7 @@ impl<'a, A: Answers, R: Wait> Answers for Waking<'a, A, R> {
         ensures { A.step self.old.answers call body.now (told result) self.new.answers }
     {
         let reply = self.answers.answer(call, body);
-        if changes(call) {
+        if is_change(call) {
             let _ = self.wakes.try_send(self.rt, ());
         }
         reply

@@ -20,14 +20,14 @@ use Rattle.desk.specs.declared.change.Made.{Made}
 use Rattle.desk.specs.declared.change.Made.TheVariants.{Commit, Floor, Cursor, Marked, Base}
 
 -- the calls that change something; every other asks
-abbrev pub changes : Call → Bool
-changes WriteCall = true
-changes ConfigCall = true
-changes TrimCall = true
-changes CatchUpCall = true
-changes Hot = true
-changes RebuildCall = true
-changes call = false
+abbrev pub is_change : Call → Bool
+is_change WriteCall = true
+is_change ConfigCall = true
+is_change TrimCall = true
+is_change CatchUpCall = true
+is_change Hot = true
+is_change RebuildCall = true
+is_change call = false
 
 -- the body of the call asks for this
 abbrev pub AsksChange : Call → List ℕ → Change → Type 0

@@ -10,7 +10,7 @@ ghost use Rattle.keeper.specs.Rules.{DeskStep};
 
 use crate::calls::asking::answer_question;
 use crate::calls::changing::answer_change;
-use crate::changes::changes;
+use crate::changes::is_change;
 use desk::Desk;
 use names::{Call, Reply};
 use published::Session;
@@ -57,7 +57,7 @@ fn answer_call<T: Tables + Drop, R: Wait + Drop>(
     ensures kept { Begins session.old session.new }
     ensures known { Begins (shown_by desk.new) session.new }
 {
-    if changes(call) {
+    if is_change(call) {
         answer_change(alloc, desk, session, call, body)
     } else {
         answer_question(alloc, desk, session, call, body)

@@ -1,7 +1,7 @@
 //! What the body of a call changes, and what a change is answered.
 ghost use Rattle.std.specs.Prelude.{◌≡◌, IfOk, IfErr};
 ghost use Rattle.names.specs.Calls.{told};
-ghost use Rattle.keeper.specs.Changes.{changes, AsksChange, AsksNoChange, SaysMade};
+ghost use Rattle.keeper.specs.Changes.{is_change, AsksChange, AsksNoChange, SaysMade};
 
 use bodies::marking::{hot_body, rebuild_body};
 use bodies::replies::{base, cursor, floor, marked, receipt};
@@ -15,8 +15,8 @@ use std::alloc::Global;
 use zookie::Zookie;
 
 /// Whether a call changes something. Every other asks.
-pub fn changes(call: Call) -> bool
-    ensures { result ≡ changes call }
+pub fn is_change(call: Call) -> bool
+    ensures { result ≡ is_change call }
 {
     match call {
         Call::Write | Call::Config | Call::Trim | Call::CatchUp | Call::Hot | Call::Rebuild => true,

@@ -12,5 +12,5 @@ pub use answer::answer_on;
 pub use answering_desk::Answering;
 pub use asking::is_of_the_future;
 pub use calls::changing::change_on;
-pub use changes::{change_of, changes, made_reply};
+pub use changes::{change_of, is_change, made_reply};
 pub use questions::{question_of, told_reply};

@@ -1,5 +1,5 @@
 -- What each call does to a desk, by events.
-use Rattle.std.proofs.Common.{◌≡◌, ◌<◌, ℕ, Bool, true, false, List, [], ◌∷◌, ◌++◌, length, refl, ap, sym, ◌∙◌, subst}
+use Rattle.std.proofs.Common.{◌≡◌, ℕ, Bool, true, false, List, [], ◌∷◌, refl, ap, sym, ◌∙◌, subst}
 use Rattle.std.specs.Prelude.{Option}
 use Rattle.std.specs.Bool.{MatchBool}
 use Rattle.names.specs.declared.call.Call.{Call}
@@ -24,7 +24,7 @@ use Rattle.desk.specs.declared.change.Change.TheVariants.{Write, Config, Trim, C
 use Rattle.desk.specs.declared.change.Made.{Made}
 use Rattle.desk.specs.declared.change.Made.TheVariants.{Commit, Floor, Cursor, Marked, Base}
 use Rattle.keeper.specs.Beginning.{Began}
-use Rattle.keeper.specs.Changes.{changes}
+use Rattle.keeper.specs.Changes.{is_change}
 use Rattle.keeper.specs.Rules.{DeskStep}
 use Rattle.keeper.specs.calls.Ask.{AskStep, asks_nothing, is_told, is_refused}
 use Rattle.keeper.specs.calls.Change.{ChangeStep, changes_nothing, is_made, is_not_made}
@@ -78,7 +78,7 @@ module _ {T : Type 0} (g : Ghosts T) (old : Posts T) (are : AreJudged old.posted
     by_either false is = by_question is
 
     pub by_call : DeskStep g old call body told new → IsRunTo (state_of old) (state_of new)
-    by_call is = by_either (changes call) is
+    by_call is = by_either (is_change call) is
 
 -- the opening is posted and published
 pub opens : {T : Type 0} (g : Ghosts T) (tables : T) (first : Posts T) → Began g tables first → IsRunTo start (state_of first)

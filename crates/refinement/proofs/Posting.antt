@@ -1,15 +1,14 @@
 -- A step that had room is posted by events.
-use Rattle.std.proofs.Common.{◌≡◌, ◌≤◌, ℕ, Bool, true, List, [], ◌∷◌, ◌++◌, length, take, drop, map, nat_le, refl, ap, sym, ◌∙◌, subst}
+use Rattle.std.proofs.Common.{◌≡◌, ◌≤◌, ℕ, true, List, [], ◌∷◌, ◌++◌, length, take, map, nat_le, refl, ap, sym, ◌∙◌}
 use Rattle.std.specs.Prelude.{fold, not, is_some, Option, None}
 use Rattle.std.proofs.Math.Seq.{drop-append_seam}
-use mathlib.Core.List.{IsPrefix}
 use Rattle.names.specs.declared.limits.TheConstants.{MAX_CATCH_UP}
 use Rattle.names.specs.declared.commit.Commit.{Commit as CommitOf}
 use Rattle.names.specs.declared.part.Part.{Part}
 use Rattle.names.specs.declared.part.Part.TheVariants.{Index, Hot}
 use Rattle.meaning.specs.Config.{Configured}
 use Rattle.meaning.specs.History.{History}
-use Rattle.rows.specs.Retained.{Retained, newest_of, with_commit, after_trim}
+use Rattle.rows.specs.Retained.{Retained, newest_of, with_commit}
 use Rattle.rows.specs.Follows.{commit_cause, IsNext}
 use Rattle.shown.specs.declared.step.Step.{Step}
 use Rattle.shown.specs.declared.step.Step.TheVariants.{Open, Commit, Take, Trim, Marking, Rebase}
@@ -18,7 +17,7 @@ use Rattle.shown.specs.Standing.{Standing, nothing, standing, after_step, after_
 use Rattle.published.specs.Judged.{AreJudged, AreLater}
 use Rattle.publication.specs.declared.event.Event.TheVariants.{Stored, Posted}
 use Rattle.publication.specs.declared.event.Posting.TheVariants.{NextCommit, Taking, Trimming, Marking as MarkingPosted, Rebasing}
-use Rattle.publication.specs.World.{State, has_begun, waiting_commits, can_come, can_raise, can_mark, can_rebase}
+use Rattle.publication.specs.World.{State, has_begun, waiting_commits}
 use Rattle.publication.proofs.Raising.{raises_where}
 use Rattle.desk.proofs.Standings.{standing_next}
 use Rattle.refinement.specs.Events.{state_after, IsRunTo}
@@ -30,15 +29,15 @@ later_last s (x ∷ xs) step are = later_last (after_step s x) xs step are.2
 
 -- the last of judged steps had room on what those before it left
 pub judged_last : (xs : List Step) (step : Step) → AreJudged xs → AreJudged (xs ++ step ∷ []) → HasRoom (standing xs) step
-judged_last [] step no are = absurd no
+judged_last [] step none are = absurd none
 judged_last (first ∷ xs) step begun are = later_last (after_step nothing first) xs step are.1
 
 pub begun : (posted : List Step) → AreJudged posted → has_begun posted ≡ true
-begun [] no = absurd no
+begun [] none = absurd none
 begun (first ∷ steps) are = refl
 
 nothing_told : {A : Type 0} (o : Option A) → o ≡ None → not (is_some o) ≡ true
-nothing_told o none = ap (λ (x : Option A). not (is_some x)) none
+nothing_told {A} o none = ap (λ (x : Option A). not (is_some x)) none
 
 kept_by_take : (s : Standing) (part : Part) (n : ℕ) → (after_take s part n).kept ≡ s.kept
 kept_by_take s Index n = refl
@@ -71,7 +70,7 @@ module _ (posted shown : List Step) (are : AreJudged posted) where
       ∙ ap (λ (h : History). record { stored = with_commit r commit; posted = posted ++ map (λ c. Commit c) (take 1 h); shown = length shown }) (sym waits)))
 
   pub posts : (step : Step) → Fits step → HasRoom (standing posted) step → IsRunTo (state_after posted shown) (state_after (posted ++ step ∷ []) shown)
-  posts (Open loaded) no room = absurd no
+  posts (Open loaded) fits room = absurd fits
   posts (Commit commit) fits room = commits commit room
   posts (Take part n) fits room =
       one _ _ (Posted (Taking part n)) (both_true _ _ (begun posted are) (reaches n MAX_CATCH_UP fits))

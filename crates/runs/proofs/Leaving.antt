@@ -32,7 +32,7 @@ use Rattle.desk.specs.declared.change.Change.{Change}
 use Rattle.desk.specs.declared.change.Change.TheVariants as of_change
 use Rattle.desk.specs.declared.change.Made.{Made}
 use Rattle.desk.specs.declared.change.Made.TheVariants.{Commit, Floor, Cursor, Marked, Base}
-use Rattle.keeper.specs.Changes.{changes, AsksChange as AsksFor}
+use Rattle.keeper.specs.Changes.{is_change, AsksChange as AsksFor}
 use Rattle.keeper.specs.Rules.{DeskStep}
 use Rattle.keeper.specs.Showing.{OnlyShows}
 use Rattle.keeper.specs.calls.Ask.{AskStep, asks_nothing, is_told, is_refused}
@@ -167,7 +167,7 @@ module _ {T : Type 0} (g : Ghosts T) (weaker : Weaker g) (P : TableChange → Ty
 
   pub after_step_of : (old : Posts T) (k : Call) (body : List ℕ) (told : Option (ℕ × List ℕ)) (new : Posts T) → ((c : TableChange) → AsksChange k body c → P c)
       → DeskStep g old k body told new → HasLeft g P start old → HasLeft g P start new
-  after_step_of old k body told new asked s h = after_either (changes k) old k body told new asked s h
+  after_step_of old k body told new asked s h = after_either (is_change k) old k body told new asked s h
 
   after_answer : (old : Posts T) (fits : Bool) (k : Option Call) (body text : List ℕ) (new : Posts T) → ((it : Call) → k ≡ Some it → (c : TableChange) → AsksChange it body c → P c)
       → IsAnswer (DeskStep g) old fits k body text new → HasLeft g P start old → HasLeft g P start new
