@@ -1,6 +1,6 @@
 #!/usr/bin/env python3
 """What makes a wrong body one that must be tried, or that is due, on two small crates of which nothing is proved; which crates are drawn, and
-which of their wrong bodies; what is believed of those that stand side by side; how many processors a check may take; and how a stamp is made."""
+which of their wrong bodies; what is believed of those that stand side by side; how many processors a check may take; and how a stamp and a list are made."""
 import os
 import sys
 import tempfile
@@ -9,7 +9,7 @@ import unittest
 
 sys.dont_write_bytecode = True
 from known import BELIEVED, OF_ONE, PARTS, Basis, Key, Known, Standing, drawn, few
-from rt_once import read_once
+from rt_once import listed_once, read_once
 from sources import rtlib
 from trials import MOST_ROUNDS, MOST_TWINS, Trial, Wrong, groups
 from wrong_bodies import BUILD, FIRST, LATER, Lanes
@@ -268,6 +268,31 @@ class Stamps(unittest.TestCase):
         self.assertEqual(sorted(Crate.read), ["high", "low", "middle"])
         Crate.text = "2"
         self.assertNotEqual(high.stamp(), wanted)
+
+    def test_what_is_below_a_crate_is_listed_once_and_each_has_a_list_of_its_own(self):
+        class Crate:
+            listings = 0
+
+            def __init__(self, *deps):
+                self.deps = deps
+
+            def below(self):
+                Crate.listings += 1
+                found = []
+                for dep in self.deps:
+                    found += [it for it in [*dep.below(), dep] if it not in found]
+                return found
+
+        low = Crate()
+        middle = Crate(low)
+        high = Crate(low, middle)
+        wanted = high.below()
+        self.assertEqual(wanted, [low, middle])
+        Crate.below, Crate.listings = listed_once(Crate.below), 0
+        high.below().clear()
+        self.assertEqual(high.below(), wanted)
+        self.assertEqual(middle.below(), [low])
+        self.assertEqual(Crate.listings, 3)
 
 
 if __name__ == "__main__":

@@ -72,7 +72,7 @@ import traceback
 
 sys.dont_write_bytecode = True
 from known import Basis, Known, Standing, drawn, few, sum_of
-from rt_once import read_once
+from rt_once import listed_once, read_once
 from sources import rt, rtlib, text_of
 from trials import MOST_JOBS, Trial, Wrong
 
@@ -453,7 +453,7 @@ def try_all(given, since, room):
         sys.exit(f"wrong_bodies: there is no crate {', '.join(sorted(unknown))}")
     # (held till the end, so that no other rt changes the libraries; rt ci holds them where it is followed)
     held = None if given.follow else rtlib.lock(every)
-    rtlib.Crate.stamp = read_once(rtlib.Crate.stamp)
+    rtlib.Crate.below, rtlib.Crate.stamp = listed_once(rtlib.Crate.below), read_once(rtlib.Crate.stamp)
     # (the first call sets a signal's handler, which only the main thread may)
     rtlib.guarded()
     for it in every if given.follow else []:

@@ -15,3 +15,4 @@ pub mod Expressions
 pub mod Alike
 pub mod Grouped
 pub mod Marks
+pub mod Written

@@ -5,6 +5,7 @@ mod conditions;
 mod exprs;
 pub mod grouping;
 pub mod marking;
+mod members;
 mod ops;
 pub mod pages;
 pub mod paging;

@@ -1,14 +1,15 @@
 //! Replies to calls that are served, and to those that are not.
-ghost use Rattle.std.specs.Prelude.{◌≡◌, None, IfOk, MatchResult, false};
+ghost use Rattle.std.specs.Prelude.{◌≡◌, None, IfOk, MatchResult, codes, false};
 ghost use Rattle.names.specs.Calls.{told};
-ghost use Rattle.serde_json.specs.Data.{string};
+ghost use Rattle.serde_json.specs.Data.{string, object, no_members};
 ghost use Rattle.serde_json.specs.View.{view};
-ghost use Rattle.serde_json.specs.Written.{has_float};
+ghost use Rattle.serde_json.specs.Written.{compact_text, has_float};
 ghost use Rattle.zookie.specs.Text.{zookie_text};
-ghost use Rattle.bodies.specs.Replies.{Says, SaysText, receipt_data, answer_data, base_data, cursor_data, floor_data, marked_data, state_data};
+ghost use Rattle.bodies.specs.Replies.{Says, SaysText, receipt_data, answer_data, base_data, cursor_data, floor_data, flag_member, marked_data, state_data, text_member};
 
+use crate::members::{closed, opened, put_flag, put_number, put_rev, put_zookie};
 use names::{Reply, State};
-use serde_json::{Value, json};
+use serde_json::Value;
 use std::alloc::{AllocError, Global};
 use zookie::Zookie;
 
@@ -21,6 +22,17 @@ pub(crate) fn say_text(alloc: Global, status: u16, text: &str) -> Reply
             status,
             body: text.into_bytes(),
         },
+        Err(_) => Reply::NoMemory,
+    }
+}
+
+/// A reply with this text, or the one for want of memory.
+fn said(status: u16, text: Result<Vec<u8>, AllocError>) -> Reply
+    ensures { MatchResult text
+        (λ b. SaysText (told result) status b.items) (λ _. told result ≡ None) }
+{
+    match text {
+        Ok(body) => Reply::Said { status, body },
         Err(_) => Reply::NoMemory,
     }
 }
@@ -48,11 +60,7 @@ pub fn receipt(alloc: Global, shown: bool, zookie: &Zookie) -> Reply
     ensures { Says (told result) 200
         (receipt_data shown (zookie_text zookie.now.store zookie.now.rev)) }
 {
-    let Ok(text) = zookie.to_text(alloc) else {
-        return Reply::NoMemory;
-    };
-    let value = json!(in alloc; {"shown": shown, "zookie": text.as_str()});
-    say(alloc, 200, value)
+    said(200, flag_text(alloc, "shown", shown, zookie))
 }
 
 /// What a check is answered, and the zookie of the revision that it was asked at.
@@ -60,11 +68,18 @@ pub fn answer(alloc: Global, allowed: bool, zookie: &Zookie) -> Reply
     ensures { Says (told result) 200
         (answer_data allowed (zookie_text zookie.now.store zookie.now.rev)) }
 {
-    let Ok(text) = zookie.to_text(alloc) else {
-        return Reply::NoMemory;
-    };
-    let value = json!(in alloc; {"allowed": allowed, "zookie": text.as_str()});
-    say(alloc, 200, value)
+    said(200, flag_text(alloc, "allowed", allowed, zookie))
+}
+
+/// A truth value under a name that comes before `zookie`, and a zookie.
+fn flag_text(alloc: Global, name: &str, flag: bool, zookie: &Zookie) -> Result<Vec<u8>, AllocError>
+    ensures { IfOk result (λ b. b.items ≡ compact_text (object (flag_member name.now flag
+        (text_member (codes "zookie") (zookie_text zookie.now.store zookie.now.rev) no_members)))) }
+{
+    let mut out = opened(alloc)?;
+    put_flag(&mut out, name, flag)?;
+    put_zookie(alloc, &mut out, "zookie", zookie)?;
+    closed(out)
 }
 
 /// What an accepted `catchup` is answered: the cursor after it, and whether it is shown.
@@ -72,11 +87,7 @@ pub fn cursor(alloc: Global, cursor: &Zookie, shown: bool) -> Reply
     ensures { Says (told result) 200
         (cursor_data (zookie_text cursor.now.store cursor.now.rev) shown) }
 {
-    let Ok(text) = cursor.to_text(alloc) else {
-        return Reply::NoMemory;
-    };
-    let value = json!(in alloc; {"cursor": text.as_str(), "shown": shown});
-    say(alloc, 200, value)
+    said(200, shown_text(alloc, "cursor", cursor, shown))
 }
 
 /// What an accepted `trim` is answered: the floor after it, and whether all that is posted is shown.
@@ -84,19 +95,7 @@ pub fn floor(alloc: Global, floor: &Zookie, shown: bool) -> Reply
     ensures { Says (told result) 200
         (floor_data (zookie_text floor.now.store floor.now.rev) shown) }
 {
-    let Ok(text) = floor.to_text(alloc) else {
-        return Reply::NoMemory;
-    };
-    let value = json!(in alloc; {"floor": text.as_str(), "shown": shown});
-    say(alloc, 200, value)
-}
-
-/// What an accepted `hot` is answered: how many nodes are marked after it, and whether all that is posted is shown.
-pub fn marked(alloc: Global, marked: u64, shown: bool) -> Reply
-    ensures { Says (told result) 200 (marked_data marked shown) }
-{
-    let value = json!(in alloc; {"marked": marked, "shown": shown});
-    say(alloc, 200, value)
+    said(200, shown_text(alloc, "floor", floor, shown))
 }
 
 /// What an accepted `rebuild` is answered: the base of the index after it, and whether all that is posted is shown.
@@ -104,11 +103,34 @@ pub fn base(alloc: Global, base: &Zookie, shown: bool) -> Reply
     ensures { Says (told result) 200
         (base_data (zookie_text base.now.store base.now.rev) shown) }
 {
-    let Ok(text) = base.to_text(alloc) else {
-        return Reply::NoMemory;
-    };
-    let value = json!(in alloc; {"base": text.as_str(), "shown": shown});
-    say(alloc, 200, value)
+    said(200, shown_text(alloc, "base", base, shown))
+}
+
+/// A revision under a name that comes before `shown`, and whether all that is posted is shown.
+fn shown_text(alloc: Global, name: &str, rev: &Zookie, shown: bool) -> Result<Vec<u8>, AllocError>
+    ensures { IfOk result (λ b. b.items ≡ compact_text (object (text_member name.now
+        (zookie_text rev.now.store rev.now.rev) (flag_member (codes "shown") shown no_members)))) }
+{
+    let mut out = opened(alloc)?;
+    put_zookie(alloc, &mut out, name, rev)?;
+    put_flag(&mut out, "shown", shown)?;
+    closed(out)
+}
+
+/// What an accepted `hot` is answered: how many nodes are marked after it, and whether all that is posted is shown.
+pub fn marked(alloc: Global, marked: u64, shown: bool) -> Reply
+    ensures { Says (told result) 200 (marked_data marked shown) }
+{
+    said(200, marked_text(alloc, marked, shown))
+}
+
+fn marked_text(alloc: Global, marked: u64, shown: bool) -> Result<Vec<u8>, AllocError>
+    ensures { IfOk result (λ b. b.items ≡ compact_text (marked_data marked shown)) }
+{
+    let mut out = opened(alloc)?;
+    put_number(&mut out, "marked", marked)?;
+    put_flag(&mut out, "shown", shown)?;
+    closed(out)
 }
 
 /// The zookie of a revision of a store, as a value.
@@ -119,24 +141,24 @@ pub(crate) fn rev_value(alloc: Global, store: u64, rev: u64) -> Result<Value, Al
     Ok(Value::String(text))
 }
 
-/// The numbers of a store's state, as a value.
-fn state_value(alloc: Global, store: u64, state: &State) -> Result<Value, AllocError>
-    ensures { IfOk result (λ v. view v ≡ state_data store state.now) }
-{
-    let base = rev_value(alloc, store, state.base)?;
-    let floor = rev_value(alloc, store, state.floor)?;
-    let hot = rev_value(alloc, store, state.hot)?;
-    let index = rev_value(alloc, store, state.index)?;
-    let newest = rev_value(alloc, store, state.newest)?;
-    json!(in alloc; {
-        "base": base, "floor": floor, "hot": hot, "index": index, "marked": state.marked, "newest": newest,
-        "rows": state.rows, "tuples": state.tuples
-    })
-}
-
 /// What a `state` is answered: revisions as zookies of the store, and how many rows and tuples there are.
 pub fn state(alloc: Global, store: u64, state: &State) -> Reply
     ensures { Says (told result) 200 (state_data store state.now) }
 {
-    say(alloc, 200, state_value(alloc, store, state))
+    said(200, state_text(alloc, store, state))
+}
+
+fn state_text(alloc: Global, store: u64, state: &State) -> Result<Vec<u8>, AllocError>
+    ensures { IfOk result (λ b. b.items ≡ compact_text (state_data store state.now)) }
+{
+    let mut out = opened(alloc)?;
+    put_rev(alloc, &mut out, "base", store, state.base)?;
+    put_rev(alloc, &mut out, "floor", store, state.floor)?;
+    put_rev(alloc, &mut out, "hot", store, state.hot)?;
+    put_rev(alloc, &mut out, "index", store, state.index)?;
+    put_number(&mut out, "marked", state.marked)?;
+    put_rev(alloc, &mut out, "newest", store, state.newest)?;
+    put_number(&mut out, "rows", state.rows)?;
+    put_number(&mut out, "tuples", state.tuples)?;
+    closed(out)
 }

@@ -1,18 +1,63 @@
 //! Userset trees, as JSON.
-ghost use Rattle.std.specs.Prelude.{◌≡◌, IfOk};
+ghost use Rattle.std.specs.Prelude.{◌≡◌, IfOk, codes};
+ghost use Rattle.serde_json.specs.Data.{array, object, no_items, item, no_members, member};
 ghost use Rattle.serde_json.specs.View.{view, items_view};
 ghost use Rattle.names.specs.Calls.{told};
+ghost use Rattle.names.specs.Spelling.{node_text, object_text};
 ghost use Rattle.zookie.specs.Text.{zookie_text};
 ghost use Rattle.expand.specs.Viewed.{tree_of, trees_of};
-ghost use Rattle.bodies.specs.Replies.{Says};
+ghost use Rattle.bodies.specs.Replies.{Says, text_member};
 ghost use Rattle.bodies.specs.Trees.{tree_data, trees_data, expanded_data};
 
 use crate::replies::say;
 use expand::Tree;
-use names::Reply;
+use names::{Node, Object, Reply};
 use serde_json::{Value, json};
 use std::alloc::{AllocError, Global};
 use zookie::Zookie;
+
+/// A userset that is opened into what stands below it, as a value.
+fn opened_value(alloc: Global, node: &Node, below: Value) -> Result<Value, AllocError>
+    ensures { IfOk result (λ v. view v
+        ≡ object (member (codes "of") (view below) (text_member (codes "userset") (node_text node.now) no_members))) }
+{
+    let text = format!(in alloc; "{node}")?;
+    json!(in alloc; {"of": below, "userset": text})
+}
+
+fn closed_value(alloc: Global, node: &Node) -> Result<Value, AllocError>
+    ensures { IfOk result (λ v. view v ≡ object (text_member (codes "userset") (node_text node.now) no_members)) }
+{
+    let text = format!(in alloc; "{node}")?;
+    json!(in alloc; {"userset": text})
+}
+
+fn user_value(alloc: Global, user: &Object) -> Result<Value, AllocError>
+    ensures { IfOk result (λ v. view v ≡ object (text_member (codes "user") (object_text user.now) no_members)) }
+{
+    let text = format!(in alloc; "{user}")?;
+    json!(in alloc; {"user": text})
+}
+
+fn union_value(alloc: Global, parts: Vec<Value>) -> Result<Value, AllocError>
+    ensures { IfOk result (λ v. view v ≡ object (member (codes "union") (array (items_view parts.items)) no_members)) }
+{
+    json!(in alloc; {"union": Value::Array(parts)})
+}
+
+fn intersection_value(alloc: Global, parts: Vec<Value>) -> Result<Value, AllocError>
+    ensures { IfOk result (λ v. view v
+        ≡ object (member (codes "intersection") (array (items_view parts.items)) no_members)) }
+{
+    json!(in alloc; {"intersection": Value::Array(parts)})
+}
+
+fn exclusion_value(alloc: Global, base: Value, less: Value) -> Result<Value, AllocError>
+    ensures { IfOk result (λ v. view v ≡ object (member (codes "exclusion")
+        (array (item (view base) (item (view less) no_items))) no_members)) }
+{
+    json!(in alloc; {"exclusion": [base, less]})
+}
 
 /// A tree as a value. Trees are no deeper than their depth and the rewrites let them be.
 #[cycle(told)]
@@ -20,31 +65,15 @@ fn tree_value(alloc: Global, tree: &Tree) -> Result<Value, AllocError>
     ensures { IfOk result (λ v. view v ≡ tree_data (tree_of tree.now)) }
 {
     match tree {
-        Tree::Opened(node, below) => {
-            let below = tree_value(alloc, below)?;
-            let text = format!(in alloc; "{node}")?;
-            json!(in alloc; {"of": below, "userset": text.as_str()})
-        }
-        Tree::One(object) => {
-            let text = format!(in alloc; "{object}")?;
-            json!(in alloc; {"user": text.as_str()})
-        }
-        Tree::Closed(node) => {
-            let text = format!(in alloc; "{node}")?;
-            json!(in alloc; {"userset": text.as_str()})
-        }
-        Tree::Union(parts) => {
-            let list = Value::Array(tree_values(alloc, parts)?);
-            json!(in alloc; {"union": list})
-        }
-        Tree::Intersection(parts) => {
-            let list = Value::Array(tree_values(alloc, parts)?);
-            json!(in alloc; {"intersection": list})
-        }
+        Tree::Opened(node, below) => opened_value(alloc, node, tree_value(alloc, below)?),
+        Tree::One(user) => user_value(alloc, user),
+        Tree::Closed(node) => closed_value(alloc, node),
+        Tree::Union(parts) => union_value(alloc, tree_values(alloc, parts)?),
+        Tree::Intersection(parts) => intersection_value(alloc, tree_values(alloc, parts)?),
         Tree::Exclusion(base, less) => {
             let base = tree_value(alloc, base)?;
             let less = tree_value(alloc, less)?;
-            json!(in alloc; {"exclusion": [base, less]})
+            exclusion_value(alloc, base, less)
         }
     }
 }
