@@ -1,6 +1,6 @@
 pub mod Standings
 pub mod Agreeing
-pub mod Changed
+pub mod Accepting
 pub mod Sound
 pub mod Unposted
 pub mod Judged

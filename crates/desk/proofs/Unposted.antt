@@ -18,7 +18,7 @@ use Rattle.desk.specs.Posts.{Posts, ShowsMore}
 use Rattle.desk.specs.Changes.{Touches, leaves_alone, adds_one, Refuses, IsRefused, IsUnopposed}
 use Rattle.desk.specs.inside.Latching.{IsLatched, IsUnstored, AgreeWith}
 use Rattle.desk.specs.inside.Posting.{NoCause}
-use Rattle.desk.proofs.Changed.{refused_exit, lasts_same}
+use Rattle.desk.proofs.Accepting.{refused_exit, lasts_same}
 
 nothing_speaks : IsUnopposed NoCause
 nothing_speaks why cause = absurd cause

@@ -1,5 +1,6 @@
 pub mod TableChanges
 pub mod Posts
 pub mod Changes
+pub mod Made
 pub mod Invariant
 pub mod inside

@@ -23,8 +23,10 @@ ghost use Rattle.published.specs.Known.{Begins};
 ghost use Rattle.desk.specs.TableChanges.{Adds, Raises};
 ghost use Rattle.desk.specs.Posts.{Agrees, OpensWith, ComesBack, FailsToLoad, SameTables, ShowsMore, PostsStep, newest_posted, shown_by};
 ghost use Rattle.desk.specs.Changes.{Tells, TellsShown, IsStored, WriteAccepted, ConfigAccepted, CatchUpAccepted, TrimAccepted, MarkingAccepted, RebuildAccepted, IsRefused, IsCommitOfWrite, IsRaiseTo, IsNoChange, CatchUpJudged, RebuildJudged, receipt_at};
+ghost use Rattle.desk.specs.Made.{IsMade, MayStore, SpeaksAgainst};
 ghost use Rattle.desk.specs.inside.Posting.{NoCause, LeavesHistory};
 
+use crate::change::{Change, Changed, Made};
 use crate::latched_tables::{LatchedTables, load};
 use crate::opening::publish_first;
 use crate::storing::{store, store_floor};
@@ -34,7 +36,7 @@ use names::{Commit, Marking, Part, Refusal, Write};
 use published::{Opened, Publication, Receipt, Session};
 use rows::{events_of, refuses_what_no_write_gives};
 use shown::{Question, Refused, Shown, Step, Told};
-use std::alloc::Global;
+use std::alloc::{AllocError, Global};
 use std::marker::Model;
 use std::sync::Wait;
 use tables::{Puts, Tables, puts_of};
@@ -126,6 +128,40 @@ impl<T: Tables + Drop, R: Wait + Drop> Desk<T, R> {
         ensures agrees { Agrees T.Tables self.failed result (standing self.posted).kept }
     {
         self.tables.into_tables()
+    }
+
+    /// Makes a change that nothing speaks against, by all that is posted, shown or not; or leaves what is posted as it was.
+    pub fn change(&mut self, change: Change) -> Result<Changed, Refusal>
+        ensures ok { IfOk result (λ done. IsMade T.Tables self.old change done.made done.receipt self.new) }
+        ensures err { IfErr result (λ why.
+            IsRefused T.Tables self.old (MayStore self.old change) (SpeaksAgainst self.old change) why self.new) }
+        ensures told { IfOk result (λ done. done.receipt.published ≡ shown_by self.new) }
+        ensures book { self.new.book ≡ self.old.book }
+        ensures later { IsPrefix self.old.shown self.new.shown }
+        ensures judged { WereJudged self.new.posted self.new.shown }
+        ensures seats { self.new.seats ≡ self.old.seats }
+    {
+        let (made, receipt) = match change {
+            Change::Write(write) => (Made::Commit, self.write(write)?),
+            Change::Config(config) => (Made::Commit, self.configure(config)?),
+            Change::Trim(floor) => {
+                let posted = self.trim(floor)?;
+                (Made::Floor(posted.value), posted.receipt)
+            }
+            Change::CatchUp(part, commits) => {
+                let posted = self.catch_up(part, commits)?;
+                (Made::Cursor(posted.value), posted.receipt)
+            }
+            Change::Mark(marking) => {
+                let posted = self.mark(marking)?;
+                (Made::Marked(posted.value), posted.receipt)
+            }
+            Change::Rebuild => {
+                let posted = self.rebuild()?;
+                (Made::Base(posted.value), posted.receipt)
+            }
+        };
+        Ok(Changed { made, receipt })
     }
 
     /// Does operations on distinct tuples together, if the conditions hold, or none of them. It is judged on all that is
@@ -372,7 +408,7 @@ impl<T: Tables + Drop, R: Wait + Drop> Desk<T, R> {
             IsRefused T.Tables self.old (λ made. made ≡ Adds commit) NoCause why self.new) }
         ensures seats { self.new.seats ≡ self.old.seats }
     {
-        let kept = KeptCommit::of(self.alloc, &commit)?;
+        let kept = keep(self.alloc, commit)?;
         self.publication.reserve()?;
         let step = store(&mut self.tables, &mut self.own, &kept, puts)?;
         self.publication.post(step);
@@ -537,5 +573,15 @@ impl<T: Tables + Drop, R: Wait + Drop> Desk<T, R> {
         ensures { result ≡ receipt_at self.now (newest (standing self.now.shown).kept) shown }
     {
         self.receipt(self.publication.newest(), shown)
+    }
+}
+
+// The commit, to be kept: a configuration is moved into it.
+fn keep(alloc: Global, commit: Commit<Config>) -> Result<KeptCommit, AllocError>
+    ensures { IfOk result (λ kept. kept ≡ commit) }
+{
+    match commit {
+        Commit::Tuples(events) => KeptCommit::of_events(alloc, events.as_slice()),
+        Commit::Config(config) => KeptCommit::of_config(alloc, config),
     }
 }

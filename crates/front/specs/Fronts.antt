@@ -1,14 +1,15 @@
 -- What a worker's front may answer to a call, and what its session knows after that.
 use Rattle.std.specs.Prelude.{ℕ, ◌≡◌, List, Option}
+use Rattle.std.specs.Bool.{MatchBool}
 use Rattle.names.specs.declared.call.Call.{Call}
-use Rattle.names.specs.declared.call.Call.TheVariants.{Check, Read, Expand, Leopard, Watch, State}
 use Rattle.tables.specs.declared.tables.Tables.{Ghosts}
 use Rattle.logbook.specs.Pages.{Book}
 use Rattle.published.specs.Known.{Known, Begins}
 use Rattle.published.specs.Receipts.{ReceiptFacts}
 use Rattle.desk.specs.Posts.{Posts, shown_by}
 use Rattle.desk.specs.Changes.{TellsShown}
-use Rattle.keeper.specs.Rules.{DeskStep}
+use Rattle.keeper.specs.Changes.{is_change}
+use Rattle.keeper.specs.calls.Change.{ChangeStep}
 use Rattle.front.specs.Kept.{IsKept, KnowsADesk, KnowsMore, NeverGoesBack}
 use Rattle.front.specs.Questions.{AskFrom, sought_by}
 
@@ -16,9 +17,9 @@ use Rattle.front.specs.Questions.{AskFrom, sought_by}
 -- which its rules let tell this, and the session then knows no less than it did, and all that the desk shows after it.
 pub data ChangeFrom {T : Type 0} (g : Ghosts T) (book : Book)
     (old : Known) (call : Call) (body : List ℕ) (told : Option (ℕ × List ℕ)) (new : Known) : Type 0 where
-  off_the_desk : ((desk : Posts T) → DeskStep g desk call body told desk) → new ≡ old
+  off_the_desk : ((desk : Posts T) → ChangeStep g desk call body told desk) → new ≡ old
       → ChangeFrom g book old call body told new
-  on_a_desk : (before after : Posts T) → IsKept book before → DeskStep g before call body told after
+  on_a_desk : (before after : Posts T) → IsKept book before → ChangeStep g before call body told after
       → KnowsMore old new → Begins (shown_by after) new → ChangeFrom g book old call body told new
 
 -- A desk of the book told this of itself: its store's number, its newest shown revision, and whether all that is posted is
@@ -33,13 +34,10 @@ pub record ToldByDesk (T : Type 0) (book : Book) (receipt : ReceiptFacts) (new :
 -- that a question is of the future only where the session then knows all that a desk of the book shows.
 abbrev pub MayTell : {T : Type 0}
     → Ghosts T → Book → Known → Call → List ℕ → Option (ℕ × List ℕ) → Known → Type 0
-MayTell {T} g book old Check body told new = AskFrom (sought_by Check (KnowsADesk T book new)) old Check body told new
-MayTell {T} g book old Read body told new = AskFrom (sought_by Read (KnowsADesk T book new)) old Read body told new
-MayTell {T} g book old Expand body told new = AskFrom (sought_by Expand (KnowsADesk T book new)) old Expand body told new
-MayTell {T} g book old Leopard body told new = AskFrom (sought_by Leopard (KnowsADesk T book new)) old Leopard body told new
-MayTell {T} g book old Watch body told new = AskFrom (sought_by Watch (KnowsADesk T book new)) old Watch body told new
-MayTell {T} g book old State body told new = AskFrom (sought_by State (KnowsADesk T book new)) old State body told new
-MayTell g book old call body told new = ChangeFrom g book old call body told new
+MayTell {T} g book old call body told new =
+    MatchBool (is_change call)
+    (ChangeFrom g book old call body told new)
+    (AskFrom (sought_by call (KnowsADesk T book new)) old call body told new)
 
 -- It may tell so, and no later answer goes back on what its session knew.
 pub record FrontStep {T : Type 0} (g : Ghosts T) (book : Book)

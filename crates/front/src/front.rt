@@ -1,7 +1,6 @@
 //! Calls by bytes, of one worker.
 ghost use Rattle.std.specs.Prelude.{◌≡◌, IfOk, IfErr};
 ghost use Rattle.names.specs.Calls.{told};
-ghost use Rattle.names.specs.declared.call.Call.TheVariants.{Write, Config, Trim, CatchUp, Hot, Rebuild};
 ghost use Rattle.names.specs.declared.refusal.Refusal.TheVariants.{NoSeat};
 ghost use Rattle.published.specs.Known.{Begins};
 ghost use Rattle.front.specs.Kept.{IsKnownIn, KnowsADesk, KnowsMore};
@@ -10,12 +9,8 @@ ghost use Rattle.front.specs.Fronts.{ChangeFrom, FrontStep, MayTell, ToldByDesk}
 
 use crate::lock::Keeper;
 use crate::questions::{Asked, ask_again, ask_from};
-use bodies::marking::{hot_body, rebuild_body};
 use bodies::refusals::refusal;
-use bodies::requests::catch_up_body;
-use bodies::trimming::trim_body;
-use bodies::writing::write_body;
-use config::Config as Configuration;
+use keeper::{change_of, is_change};
 use names::{Call, Refusal, Reply};
 use published::{Naming, Receipt, Session};
 use std::alloc::Global;
@@ -97,82 +92,15 @@ impl<'k, T: Tables + Drop, J: Naming, R: Wait + Drop> Front<'k, T, J, R> {
         }
     }
 
-    /// Answers `write`. The desk is held once the body is read.
-    pub fn write<W: Wait>(&mut self, rt: &W, body: &[u8]) -> Reply
-        ensures { ChangeFrom T.Tables J.book self.old Write body.now (told result) self.new }
+    /// Answers a call that changes something. The desk is held once the body is read.
+    pub fn answer_change<W: Wait>(&mut self, rt: &W, call: Call, body: &[u8]) -> Reply
+        ensures { ChangeFrom T.Tables J.book self.old call body.now (told result) self.new }
     {
-        match write_body(self.alloc, body) {
-            Ok(write) => self
+        match change_of(self.alloc, call, body) {
+            Ok(change) => self
                 .keeper
                 .hold(rt)
-                .write(self.alloc, &mut self.session, write),
-            Err(why) => refusal(self.alloc, &why),
-        }
-    }
-
-    /// Answers `config`. The desk is held once the body is read.
-    pub fn configure<W: Wait>(&mut self, rt: &W, body: &[u8]) -> Reply
-        ensures { ChangeFrom T.Tables J.book self.old Config body.now (told result) self.new }
-    {
-        match Configuration::from_json(self.alloc, body) {
-            Ok(config) => self
-                .keeper
-                .hold(rt)
-                .configure(self.alloc, &mut self.session, config),
-            Err(why) => refusal(self.alloc, &why),
-        }
-    }
-
-    /// Answers `trim`. The desk is held once the body is read.
-    pub fn trim<W: Wait>(&mut self, rt: &W, body: &[u8]) -> Reply
-        ensures { ChangeFrom T.Tables J.book self.old Trim body.now (told result) self.new }
-    {
-        match trim_body(self.alloc, body) {
-            Ok(floor) => self
-                .keeper
-                .hold(rt)
-                .trim(self.alloc, &mut self.session, floor),
-            Err(why) => refusal(self.alloc, &why),
-        }
-    }
-
-    /// Answers `catchup`. The desk is held once the body is read.
-    pub fn catch_up<W: Wait>(&mut self, rt: &W, body: &[u8]) -> Reply
-        ensures { ChangeFrom T.Tables J.book self.old CatchUp body.now (told result) self.new }
-    {
-        match catch_up_body(self.alloc, body) {
-            Ok((part, commits)) => {
-                self.keeper
-                    .hold(rt)
-                    .move_cursor(self.alloc, &mut self.session, part, commits)
-            }
-            Err(why) => refusal(self.alloc, &why),
-        }
-    }
-
-    /// Answers `hot`. The desk is held once the body is read.
-    pub fn hot<W: Wait>(&mut self, rt: &W, body: &[u8]) -> Reply
-        ensures { ChangeFrom T.Tables J.book self.old Hot body.now (told result) self.new }
-    {
-        match hot_body(self.alloc, body) {
-            Ok(marking) => {
-                self.keeper
-                    .hold(rt)
-                    .change_marks(self.alloc, &mut self.session, marking)
-            }
-            Err(why) => refusal(self.alloc, &why),
-        }
-    }
-
-    /// Answers `rebuild`. The desk is held once the body is read.
-    pub fn rebuild<W: Wait>(&mut self, rt: &W, body: &[u8]) -> Reply
-        ensures { ChangeFrom T.Tables J.book self.old Rebuild body.now (told result) self.new }
-    {
-        match rebuild_body(self.alloc, body) {
-            Ok(()) => self
-                .keeper
-                .hold(rt)
-                .move_base(self.alloc, &mut self.session),
+                .answer(self.alloc, &mut self.session, change),
             Err(why) => refusal(self.alloc, &why),
         }
     }
@@ -195,14 +123,10 @@ impl<'k, T: Tables + Drop, J: Naming, R: Wait + Drop> Front<'k, T, J, R> {
     fn tell<W: Wait>(&mut self, rt: &W, call: Call, body: &[u8]) -> Reply
         ensures { MayTell T.Tables J.book self.old call body.now (told result) self.new }
     {
-        match call {
-            Call::Write => self.write(rt, body),
-            Call::Config => self.configure(rt, body),
-            Call::Trim => self.trim(rt, body),
-            Call::CatchUp => self.catch_up(rt, body),
-            Call::Hot => self.hot(rt, body),
-            Call::Rebuild => self.rebuild(rt, body),
-            _ => self.answer_question(rt, call, body),
+        if is_change(call) {
+            self.answer_change(rt, call, body)
+        } else {
+            self.answer_question(rt, call, body)
         }
     }
 }

@@ -1,38 +1,28 @@
 //! The lock over a desk.
 ghost use Rattle.std.specs.Prelude.{◌≡◌, ◌↔◌, ◌+◌, ℕ, List, Err, IfOk, IfErr};
 ghost use Rattle.std.specs.Sync.Mutex.{mutex_guard_value};
+ghost use mathlib.Core.List.{IsPrefix};
 ghost use Rattle.names.specs.Calls.{told};
+ghost use Rattle.names.specs.declared.call.Call.{Call};
 ghost use Rattle.names.specs.declared.refusal.Refusal.TheVariants.{NoSeat, StoreFault};
-ghost use Rattle.config.specs.Causes.{Accepts};
-ghost use Rattle.bodies.specs.Marking.{AsksHot, AsksRebuild};
-ghost use Rattle.bodies.specs.Requests.{AsksCatchUp};
-ghost use Rattle.bodies.specs.Trimming.{AsksTrim};
-ghost use Rattle.bodies.specs.Writing.{AsksWrite};
 ghost use Rattle.tables.specs.Device.{IsOpen};
 ghost use Rattle.tables.specs.Opening.{CannotOpen};
-ghost use Rattle.shown.specs.Raising.{RefusesMarking};
-ghost use Rattle.shown.specs.Standing.{standing};
 ghost use Rattle.published.specs.Known.{Begins};
 ghost use Rattle.desk.specs.Posts.{ComesBack, FailsToLoad, SameTables, ShowsMore, shown_by};
-ghost use Rattle.desk.specs.Changes.{CatchUpAccepted, CatchUpJudged, IsNoChange, IsRefused, MarkingAccepted, RebuildAccepted, RebuildJudged, TellsShown};
-ghost use Rattle.keeper.specs.calls.Write.{WriteStep};
-ghost use Rattle.keeper.specs.calls.Config.{ConfigStep};
-ghost use Rattle.keeper.specs.calls.Trim.{TrimStep};
-ghost use Rattle.keeper.specs.calls.CatchUp.{CatchUpStep};
-ghost use Rattle.keeper.specs.calls.Hot.{HotStep};
-ghost use Rattle.keeper.specs.calls.Rebuild.{RebuildStep};
+ghost use Rattle.desk.specs.Changes.{CatchUpAccepted, CatchUpJudged, IsNoChange, IsRefused, TellsShown};
+ghost use Rattle.desk.specs.Made.{IsMade, MayStore, SpeaksAgainst};
+ghost use Rattle.keeper.specs.Changes.{AsksChange};
+ghost use Rattle.keeper.specs.calls.Change.{ChangeStep};
 ghost use Rattle.front.specs.Kept.{IsKept, IsKnownIn, KnowsMore, WereKept};
 
-use config::Config;
-use desk::{Desk, Posted};
-use keeper::{catch_up_on, configure_on, mark_on, rebuild_on, trim_on, write_on};
-use names::{Marking, Part, Refusal, Reply, Write};
+use desk::{Change, Changed, Desk, Posted};
+use keeper::change_on;
+use names::{Part, Refusal, Reply};
 use published::{Naming, Opened, Receipt, Session};
 use std::alloc::Global;
 use std::marker::{Model, PhantomData};
 use std::sync::{Mutex, MutexGuard, Wait};
 use tables::Tables;
-use zookie::Zookie;
 
 /// A desk of the book that `J` names, which shows what it was opened with. Contracts see it as the desk.
 #[derive(Drop)]
@@ -118,99 +108,27 @@ impl<T: Tables + Drop, J: Naming, R: Wait + Drop> KeptDesk<T, J, R> {
         self.desk.catch_up(part, commits)
     }
 
-    /// Marks a node, or takes its mark away.
-    pub fn mark(&mut self, marking: Marking) -> Result<Posted, Refusal>
-        ensures ok { IfOk result (λ posted.
-            MarkingAccepted self.old marking posted.value posted.receipt self.new) }
+    /// Makes a change, for no call.
+    pub fn change(&mut self, change: Change) -> Result<Changed, Refusal>
+        ensures ok { IfOk result (λ done. IsMade T.Tables self.old change done.made done.receipt self.new) }
         ensures err { IfErr result (λ why.
-            IsRefused T.Tables self.old IsNoChange
-            (RefusesMarking (standing self.old.posted) marking) why self.new) }
+            IsRefused T.Tables self.old (MayStore self.old change) (SpeaksAgainst self.old change) why self.new) }
+        ensures later { IsPrefix self.old.shown self.new.shown }
         ensures seats { self.new.seats ≡ self.old.seats }
     {
-        self.desk.mark(marking)
+        self.desk.change(change)
     }
 
-    /// Makes the base of the group index of the newest posted revision.
-    pub fn rebuild(&mut self) -> Result<Posted, Refusal>
-        ensures ok { IfOk result (λ posted.
-            RebuildAccepted self.old posted.value posted.receipt self.new) }
-        ensures err { IfErr result (λ why.
-            IsRefused T.Tables self.old IsNoChange RebuildJudged why self.new) }
-        ensures seats { self.new.seats ≡ self.old.seats }
-    {
-        self.desk.rebuild()
-    }
-
-    /// Does the operations that a body asks for, as one commit, if its conditions hold, and tells of it.
-    pub fn write(&mut self, alloc: Global, session: &mut Session, write: Write<Zookie>) -> Reply
+    /// Makes a change, and tells of it.
+    pub fn answer(&mut self, alloc: Global, session: &mut Session, change: Change) -> Reply
         requires { session.old.book ≡ J.book }
-        ensures step { (body : List ℕ) → AsksWrite body write
-            → WriteStep T.Tables self.old body (told result) self.new }
+        ensures step { (call : Call) (body : List ℕ) → AsksChange call body change
+            → ChangeStep T.Tables self.old call body (told result) self.new }
+        ensures later { IsPrefix self.old.shown self.new.shown }
         ensures kept { KnowsMore session.old session.new }
         ensures known { Begins (shown_by self.new) session.new }
     {
-        write_on(alloc, &mut self.desk, session, write)
-    }
-
-    /// Takes the configuration that a body is, and tells of it.
-    pub fn configure(&mut self, alloc: Global, session: &mut Session, config: Config) -> Reply
-        requires { session.old.book ≡ J.book }
-        ensures step { (body : List ℕ) → Accepts body config
-            → ConfigStep T.Tables self.old body (told result) self.new }
-        ensures kept { KnowsMore session.old session.new }
-        ensures known { Begins (shown_by self.new) session.new }
-    {
-        configure_on(alloc, &mut self.desk, session, config)
-    }
-
-    /// Raises the floor as a body asks, and tells where it is.
-    pub fn trim(&mut self, alloc: Global, session: &mut Session, floor: Zookie) -> Reply
-        requires { session.old.book ≡ J.book }
-        ensures step { (body : List ℕ) → AsksTrim body floor
-            → TrimStep T.Tables self.old body (told result) self.new }
-        ensures kept { KnowsMore session.old session.new }
-        ensures known { Begins (shown_by self.new) session.new }
-    {
-        trim_on(alloc, &mut self.desk, session, floor)
-    }
-
-    /// Moves the cursor of a part as a body asks, and tells where it is.
-    pub fn move_cursor(
-        &mut self,
-        alloc: Global,
-        session: &mut Session,
-        part: Part,
-        commits: u64,
-    ) -> Reply
-        requires { session.old.book ≡ J.book }
-        ensures step { (body : List ℕ) → AsksCatchUp body part commits
-            → CatchUpStep T.Tables self.old body (told result) self.new }
-        ensures kept { KnowsMore session.old session.new }
-        ensures known { Begins (shown_by self.new) session.new }
-    {
-        catch_up_on(alloc, &mut self.desk, session, part, commits)
-    }
-
-    /// Marks a node, or takes its mark away, as a body asks, and tells how many are marked.
-    pub fn change_marks(&mut self, alloc: Global, session: &mut Session, marking: Marking) -> Reply
-        requires { session.old.book ≡ J.book }
-        ensures step { (body : List ℕ) → AsksHot body marking
-            → HotStep T.Tables self.old body (told result) self.new }
-        ensures kept { KnowsMore session.old session.new }
-        ensures known { Begins (shown_by self.new) session.new }
-    {
-        mark_on(alloc, &mut self.desk, session, marking)
-    }
-
-    /// Makes the base of the group index of the newest posted revision, and tells where it is.
-    pub fn move_base(&mut self, alloc: Global, session: &mut Session) -> Reply
-        requires { session.old.book ≡ J.book }
-        ensures step { (body : List ℕ) → AsksRebuild body
-            → RebuildStep T.Tables self.old body (told result) self.new }
-        ensures kept { KnowsMore session.old session.new }
-        ensures known { Begins (shown_by self.new) session.new }
-    {
-        rebuild_on(alloc, &mut self.desk, session)
+        change_on(alloc, &mut self.desk, session, change)
     }
 }
 

@@ -4,6 +4,7 @@ ghost use Rattle.names.specs.Calls.{told};
 
 use answers::Answers;
 use crossbeam_channel::Sender;
+use keeper::is_change;
 use names::{Call, Reply};
 use std::sync::Wait;
 
@@ -36,13 +37,5 @@ impl<'a, A: Answers, R: Wait> Answers for Waking<'a, A, R> {
             let _ = self.wakes.try_send(self.rt, ());
         }
         reply
-    }
-}
-
-// Whether a call may change what is shown, be it by showing what waited.
-fn is_change(call: Call) -> bool {
-    match call {
-        Call::Write | Call::Config | Call::Trim | Call::CatchUp | Call::Hot | Call::Rebuild => true,
-        _ => false,
     }
 }

@@ -3,7 +3,7 @@ ghost use Rattle.std.specs.Prelude.{◌≡◌};
 
 use crate::workers::{keeper_of, status_of};
 use front::{Front, Keeper};
-use names::{Node, Object};
+use names::{Call, Node, Object};
 use published::{Naming, Opened, Receipt, Session};
 use std::alloc::{AllocError, Global};
 use std::marker::{Brand, PhantomData};
@@ -121,7 +121,7 @@ fn writes<J: Naming, H: Wait + Drop, W: Wait, T: Tables + Drop>(
 ) -> bool {
     for number in 0..WRITES {
         let body = if number % 2 == 0 { INSERT } else { DELETE };
-        if status_of(&front.write(rt, body)) != 200 {
+        if status_of(&front.answer_change(rt, Call::Write, body)) != 200 {
             return false;
         }
         let handed = own.refresh(rt, keeper);
@@ -180,7 +180,7 @@ fn read_beside<
     T: Tables + Drop,
 >(rt: &W, alloc: Global, keeper: &Keeper<T, J, H>) {
     let mut front = Front::new(alloc, rt, keeper).expect(rt, "a front");
-    let taken = status_of(&front.configure(rt, GROUPS));
+    let taken = status_of(&front.answer_change(rt, Call::Config, GROUPS));
     let readers = readers_of(rt, alloc, keeper);
     let mut own = reader_of(keeper.hold(rt).session().expect(rt, "a session"));
     let desktop = Mutex::new(None);

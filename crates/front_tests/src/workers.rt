@@ -1,7 +1,7 @@
 //! Two workers of one keeper, and a session whose keeper is gone.
 ghost use Rattle.std.specs.Prelude.{◌≡◌};
 
-use desk::Posted;
+use desk::{Change, Made};
 use front::{Asked, Front, Keeper, ask_again, ask_from};
 use names::{Call, Marking, Node, Part, Reply};
 use published::{Naming, Opened};
@@ -56,10 +56,10 @@ fn sees_the_other<J: Naming, H: Wait + Drop, W: Abort + Wait, T: Tables + Drop>(
 ) {
     let mut one = Front::new(alloc, rt, keeper).expect(rt, "a front");
     let mut two = Front::new(alloc, rt, keeper).expect(rt, "a front");
-    let taken = status_of(&one.configure(rt, GROUPS));
+    let taken = status_of(&one.answer_change(rt, Call::Config, GROUPS));
     let early = comes_back(&two.ask(Call::Check, NEXT));
     let refused = status_of(&two.answer_question(rt, Call::Check, NEXT));
-    let written = status_of(&one.write(rt, INSERT));
+    let written = status_of(&one.answer_change(rt, Call::Write, INSERT));
     let late = comes_back(&two.ask(Call::Check, NEXT));
     let answered = status_of(&two.answer(rt, Call::Check, NEXT));
     assert!(rt;
@@ -94,11 +94,11 @@ fn is_answered_later<J: Naming, H: Wait + Drop, W: Abort + Wait, T: Tables + Dro
 ) {
     let mut front = Front::new(alloc, rt, keeper).expect(rt, "a front");
     let mut session = keeper.hold(rt).session().expect(rt, "a session");
-    let taken = status_of(&front.configure(rt, GROUPS));
+    let taken = status_of(&front.answer_change(rt, Call::Config, GROUPS));
     let Asked::NotYet(question) = ask_from(alloc, &mut session, Call::Check, NEXT) else {
         panic!(rt; "an answer");
     };
-    let written = status_of(&front.write(rt, INSERT));
+    let written = status_of(&front.answer_change(rt, Call::Write, INSERT));
     keeper.hold(rt).refresh(&mut session);
     let answered = status_of(&ask_again(alloc, &mut session, &question));
     assert!(rt; taken == 200 && written == 200 && answered == 200);
@@ -147,10 +147,6 @@ fn a_session_outlives_its_keeper(rt: HostRuntime) {
     outlives::<Brand, _, _, _>(&rt, &rt, rt.alloc(), Opened::new(), tables);
 }
 
-fn is_one(posted: &Posted) -> bool {
-    posted.value == 1
-}
-
 // The configuration is revision 1: a part takes it, a node of it is marked, and it is the base of the index.
 fn changes_by_hand<J: Naming, H: Wait + Drop, W: Abort + Wait, T: Tables + Drop>(
     rt: &W,
@@ -159,17 +155,18 @@ fn changes_by_hand<J: Naming, H: Wait + Drop, W: Abort + Wait, T: Tables + Drop>
 ) {
     let node = Node::parse("group:a#member").expect(rt, "a node");
     let mut front = Front::new(alloc, rt, keeper).expect(rt, "a front");
-    let taken = status_of(&front.configure(rt, GROUPS));
+    let taken = status_of(&front.answer_change(rt, Call::Config, GROUPS));
     let moved = keeper
         .hold(rt)
         .catch_up(Part::Hot, 9)
         .expect(rt, "a cursor");
     let marked = keeper
         .hold(rt)
-        .mark(Marking::Mark(node))
+        .change(Change::Mark(Marking::Mark(node)))
         .expect(rt, "a mark");
-    let rebuilt = keeper.hold(rt).rebuild().expect(rt, "a base");
-    assert!(rt; taken == 200 && is_one(&moved) && is_one(&marked) && is_one(&rebuilt));
+    let rebuilt = keeper.hold(rt).change(Change::Rebuild).expect(rt, "a base");
+    assert!(rt; taken == 200 && moved.value == 1);
+    assert!(rt; matches!(marked.made, Made::Marked(1)) && matches!(rebuilt.made, Made::Base(1)));
 }
 
 fn under_the_lock<J: Naming, H: Wait + Drop, W: Abort + Wait, T: Tables + Drop>(

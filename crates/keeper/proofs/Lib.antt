@@ -1,12 +1,3 @@
 pub mod Refreshing
-pub mod Changing
-pub mod Writing
-pub mod Configuring
 pub mod Answered
-pub mod CatchingUp
-pub mod Trimming
-pub mod Marking
-pub mod Rebuilding
-pub mod ByCall
-pub mod Later
 pub mod Beginning

@@ -1,5 +1,6 @@
 pub mod Showing
 pub mod Beginning
 pub mod Questions
+pub mod Changes
 pub mod calls
 pub mod Rules

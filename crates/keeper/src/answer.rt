@@ -1,4 +1,5 @@
 //! Calls by bytes.
+ghost use mathlib.Core.List.{IsPrefix};
 ghost use Rattle.names.specs.Calls.{told};
 ghost use Rattle.shown.specs.Standing.{standing};
 ghost use Rattle.published.specs.Judged.{AreJudged, WereJudged};
@@ -8,12 +9,8 @@ ghost use Rattle.desk.specs.Posts.{shown_by};
 ghost use Rattle.keeper.specs.Rules.{DeskStep};
 
 use crate::calls::asking::answer_question;
-use crate::calls::catch_up::answer_catch_up;
-use crate::calls::configuring::answer_config;
-use crate::calls::marking::answer_hot;
-use crate::calls::rebuilding::answer_rebuild;
-use crate::calls::trim::answer_trim;
-use crate::calls::write::answer_write;
+use crate::calls::changing::answer_change;
+use crate::changes::is_change;
 use desk::Desk;
 use names::{Call, Reply};
 use published::Session;
@@ -46,7 +43,7 @@ pub fn answer_on<T: Tables + Drop, R: Wait + Drop>(
     reply
 }
 
-// Answers by the call's name.
+// Answers a change or a question.
 fn answer_call<T: Tables + Drop, R: Wait + Drop>(
     alloc: Global,
     desk: &mut Desk<T, R>,
@@ -56,16 +53,13 @@ fn answer_call<T: Tables + Drop, R: Wait + Drop>(
 ) -> Reply
     requires { Begins (shown_by desk.old) session.old }
     ensures step { DeskStep T.Tables desk.old call body.now (told result) desk.new }
+    ensures later { IsPrefix desk.old.shown desk.new.shown }
     ensures kept { Begins session.old session.new }
     ensures known { Begins (shown_by desk.new) session.new }
 {
-    match call {
-        Call::Write => answer_write(alloc, desk, session, body),
-        Call::Config => answer_config(alloc, desk, session, body),
-        Call::Trim => answer_trim(alloc, desk, session, body),
-        Call::CatchUp => answer_catch_up(alloc, desk, session, body),
-        Call::Hot => answer_hot(alloc, desk, session, body),
-        Call::Rebuild => answer_rebuild(alloc, desk, session, body),
-        _ => answer_question(alloc, desk, session, call, body),
+    if is_change(call) {
+        answer_change(alloc, desk, session, call, body)
+    } else {
+        answer_question(alloc, desk, session, call, body)
     }
 }

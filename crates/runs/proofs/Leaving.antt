@@ -1,6 +1,7 @@
 -- What the tables of a desk leave after each line.
 use Rattle.std.proofs.Common.{◌≡◌, ℕ, Bool, true, false, List, [], ◌∷◌, map, refl, sym, ap, subst, ◌∙◌, inl, inr, true≢false}
 use Rattle.std.specs.Prelude.{Option, Some, None, nat_le, length}
+use Rattle.std.specs.Bool.{MatchBool}
 use Rattle.std.specs.List.{All}
 use Rattle.std.proofs.lemmas.List.Elements.{All-nil, All-cons}
 use Rattle.names.specs.Calls.{call_of}
@@ -15,6 +16,7 @@ use Rattle.bodies.specs.Writing.{AsksWrite}
 use Rattle.names.specs.declared.part.Part.{Part}
 use Rattle.names.specs.declared.part.Part.TheVariants.{Index, Hot}
 use Rattle.rows.specs.Retained.{Retained, newest}
+use Rattle.published.specs.Receipts.{ReceiptFacts}
 use Rattle.tables.specs.Device.{Device, Lasts}
 use Rattle.tables.specs.Leaving.{AreAmong}
 use Rattle.tables.specs.declared.tables.Tables.{Ghosts}
@@ -25,15 +27,16 @@ use Rattle.std.proofs.lemmas.List.Sums.{fold-append}
 use Rattle.desk.specs.TableChanges.{TableChange, Adds, Raises, changed, CanChange}
 use Rattle.desk.specs.Posts.{Posts}
 use Rattle.desk.specs.Changes.{IsStored, IsTrimmed, trim_raises, trim_stays, IsCommitOfWrite, IsRaiseTo, IsRefused, Touches, leaves_alone, adds_one, Refuses}
+use Rattle.desk.specs.Made.{IsMade, MayStore, SpeaksAgainst}
+use Rattle.desk.specs.declared.change.Change.{Change}
+use Rattle.desk.specs.declared.change.Change.TheVariants as of_change
+use Rattle.desk.specs.declared.change.Made.{Made}
+use Rattle.desk.specs.declared.change.Made.TheVariants.{Commit, Floor, Cursor, Marked, Base}
+use Rattle.keeper.specs.Changes.{is_change, AsksChange as AsksFor}
 use Rattle.keeper.specs.Rules.{DeskStep}
 use Rattle.keeper.specs.Showing.{OnlyShows}
 use Rattle.keeper.specs.calls.Ask.{AskStep, asks_nothing, is_told, is_refused}
-use Rattle.keeper.specs.calls.Write.{WriteStep, write_malformed, write_bad_zookie, write_accepted, write_refused, write_unread}
-use Rattle.keeper.specs.calls.Config.{ConfigStep, config_invalid, config_accepted, config_refused, config_unread}
-use Rattle.keeper.specs.calls.Trim.{TrimStep, trim_malformed, trim_bad_zookie, trim_accepted, trim_refused, trim_unread}
-use Rattle.keeper.specs.calls.CatchUp.{CatchUpStep, catch_up_malformed, catch_up_accepted, catch_up_refused, catch_up_unread}
-use Rattle.keeper.specs.calls.Hot.{HotStep, hot_malformed, hot_accepted, hot_refused, hot_unread}
-use Rattle.keeper.specs.calls.Rebuild.{RebuildStep, rebuild_malformed, rebuild_accepted, rebuild_refused, rebuild_unread}
+use Rattle.keeper.specs.calls.Change.{ChangeStep, changes_nothing, is_made, is_not_made}
 use Rattle.lines.specs.Text.{word_of, body_of}
 use Rattle.lines.specs.Machine.{IsAnswer, Run}
 use Rattle.keeper.specs.Beginning.{Began, kept_by}
@@ -54,6 +57,16 @@ swap a b rs x (inr (inr more)) = inr (inr more)
 write_asks : (body : List ℕ) (write : Write Zookie) (r : Retained) (c : TableChange) → AsksWrite body write → IsCommitOfWrite r write c → AsksChange call.Write body c
 write_asks body write r (Adds commit) asks made = (write, asks, made.1)
 write_asks body write r (Raises floor) asks made = absurd made
+
+-- what may be stored for a change is what the body that asks for it asks for
+stores_asked : {T : Type 0} (old : Posts T) (k : Call) (body : List ℕ) (change : Change) (c : TableChange) → AsksFor k body change → MayStore old change c → AsksChange k body c
+stores_asked old call.Write body (of_change.Write write) c asks stores = write_asks body write (kept_by old) c asks stores
+stores_asked old call.Config body (of_change.Config config) c asks stores = (config, asks, stores)
+stores_asked old call.Trim body (of_change.Trim zookie) c asks stores = (zookie, asks, stores.1)
+stores_asked old call.CatchUp body (of_change.CatchUp part commits) c asks stores = absurd stores
+stores_asked old call.Hot body (of_change.Mark marking) c asks stores = absurd stores
+stores_asked old call.Rebuild body of_change.Rebuild c asks stores = absurd stores
+stores_asked old _ body _ c asks stores = absurd asks
 
 kept_by_take : (s : Standing) (part : Part) (n : ℕ) → (after_take s part n).kept ≡ s.kept
 kept_by_take s Index n = refl
@@ -119,73 +132,42 @@ module _ {T : Type 0} (g : Ghosts T) (weaker : Weaker g) (P : TableChange → Ty
       → IsRefused g old made judged why new → HasLeft g P start old → HasLeft g P start new
   refused old new made judged why asked is h = touched old new made asked (ap (λ (steps : List Step). (standing steps).kept) is.shows.posted) (worked old new judged why is.cause) is.lasts is.touches h
 
-  after_write : (old : Posts T) (body : List ℕ) (told : Option (ℕ × List ℕ)) (new : Posts T) → ((c : TableChange) → AsksChange call.Write body c → P c)
-      → WriteStep g old body told new → HasLeft g P start old → HasLeft g P start new
-  after_write old body told new asked (write_malformed asks says same) h = same_desk old new same h
-  after_write old body told new asked (write_bad_zookie bad says same) h = same_desk old new same h
-  after_write old body told new asked (write_accepted write receipt asks is says) h = stored old new is.stored h
-  after_write old body told new asked (write_refused write why asks is says) h = refused old new (IsCommitOfWrite (kept_by old) write) _ why (λ c made. asked c (write_asks body write (kept_by old) c asks made)) is h
-  after_write old body told new asked (write_unread none same) h = same_desk old new same h
-
-  after_config : (old : Posts T) (body : List ℕ) (told : Option (ℕ × List ℕ)) (new : Posts T) → ((c : TableChange) → AsksChange call.Config body c → P c)
-      → ConfigStep g old body told new → HasLeft g P start old → HasLeft g P start new
-  after_config old body told new asked (config_invalid cause is says same) h = same_desk old new same h
-  after_config old body told new asked (config_accepted config receipt accepts is says) h = stored old new is.stored h
-  after_config old body told new asked (config_refused config why accepts is says) h = refused old new _ _ why (λ c made. asked c (config, accepts, made)) is h
-  after_config old body told new asked (config_unread none same) h = same_desk old new same h
-
   after_question : (old : Posts T) (k : Call) (body : List ℕ) (told : Option (ℕ × List ℕ)) (new : Posts T) → AskStep old k body told new → HasLeft g P start old → HasLeft g P start new
   after_question old k body told new (asks_nothing why cause says same) h = same_desk old new same h
   after_question old k body told new (is_told question answer asks is says shows) h = shows_only old new shows.only h
   after_question old k body told new (is_refused question refused asks is says shows) h = shows_only old new shows.only h
 
-  after_catch_up : (old : Posts T) (body : List ℕ) (told : Option (ℕ × List ℕ)) (new : Posts T) → CatchUpStep g old body told new → HasLeft g P start old → HasLeft g P start new
-  after_catch_up old body told new (catch_up_malformed asks says same) h = same_desk old new same h
-  after_catch_up old body told new (catch_up_accepted part commits cursor receipt asks is says) h =
-      same_tables old new is.tables (λ _. is.works) (ap (λ (steps : List Step). (standing steps).kept) is.posts.posted ∙ (ap (λ (s : Standing). s.kept) (fold-append after_step nothing old.posted (Take part commits ∷ [])) ∙ kept_by_take (standing old.posted) part commits)) h
-  after_catch_up old body told new (catch_up_refused part commits why asks is says) h = refused old new _ _ why (λ c none. absurd none) is h
-  after_catch_up old body told new (catch_up_unread none same) h = same_desk old new same h
-
-  after_hot : (old : Posts T) (body : List ℕ) (told : Option (ℕ × List ℕ)) (new : Posts T) → HotStep g old body told new → HasLeft g P start old → HasLeft g P start new
-  after_hot old body told new (hot_malformed asks says same) h = same_desk old new same h
-  after_hot old body told new (hot_accepted marking marked receipt asks is says) h =
-      same_tables old new is.tables (λ _. is.works) (ap (λ (steps : List Step). (standing steps).kept) is.posts.posted ∙ ap (λ (s : Standing). s.kept) (fold-append after_step nothing old.posted (Marking marking ∷ []))) h
-  after_hot old body told new (hot_refused marking why asks is says) h = refused old new _ _ why (λ c none. absurd none) is h
-  after_hot old body told new (hot_unread none same) h = same_desk old new same h
-
-  after_rebuild : (old : Posts T) (body : List ℕ) (told : Option (ℕ × List ℕ)) (new : Posts T) → RebuildStep g old body told new → HasLeft g P start old → HasLeft g P start new
-  after_rebuild old body told new (rebuild_malformed asks says same) h = same_desk old new same h
-  after_rebuild old body told new (rebuild_accepted base receipt asks is says) h =
-      same_tables old new is.tables (λ _. is.works) (ap (λ (steps : List Step). (standing steps).kept) is.posts.posted ∙ ap (λ (s : Standing). s.kept) (fold-append after_step nothing old.posted (Rebase (newest (kept_by old)) ∷ []))) h
-  after_rebuild old body told new (rebuild_refused why asks is says) h = refused old new _ _ why (λ c none. absurd none) is h
-  after_rebuild old body told new (rebuild_unread none same) h = same_desk old new same h
-
   trimmed : (old new : Posts T) (rev : ℕ) → IsTrimmed g old rev new → HasLeft g P start old → HasLeft g P start new
   trimmed old new rev (trim_raises above posts is) h = stored old new is h
   trimmed old new rev (trim_stays below shows same) h = same_tables old new same.0 (λ works. sym same.1 ∙ works) (ap (λ (steps : List Step). (standing steps).kept) shows.posted) h
 
-  after_trim : (old : Posts T) (body : List ℕ) (told : Option (ℕ × List ℕ)) (new : Posts T) → ((c : TableChange) → AsksChange call.Trim body c → P c)
-      → TrimStep g old body told new → HasLeft g P start old → HasLeft g P start new
-  after_trim old body told new asked (trim_malformed asks says same) h = same_desk old new same h
-  after_trim old body told new asked (trim_bad_zookie bad says same) h = same_desk old new same h
-  after_trim old body told new asked (trim_accepted zookie floor receipt asks is says) h = trimmed old new zookie.rev is.done h
-  after_trim old body told new asked (trim_refused zookie why asks is says) h = refused old new (IsRaiseTo (standing old.posted) zookie) _ why (λ c made. asked c (zookie, asks, made.1)) is h
-  after_trim old body told new asked (trim_unread none same) h = same_desk old new same h
+  after_made : (old new : Posts T) (change : Change) (made : Made) (receipt : ReceiptFacts) → IsMade g old change made receipt new → HasLeft g P start old → HasLeft g P start new
+  after_made old new (of_change.Write write) Commit receipt is h = stored old new is.stored h
+  after_made old new (of_change.Config config) Commit receipt is h = stored old new is.stored h
+  after_made old new (of_change.Trim zookie) (Floor rev) receipt is h = trimmed old new zookie.rev is.done h
+  after_made old new (of_change.CatchUp part commits) (Cursor rev) receipt is h =
+      same_tables old new is.tables (λ _. is.works) (ap (λ (steps : List Step). (standing steps).kept) is.posts.posted ∙ (ap (λ (s : Standing). s.kept) (fold-append after_step nothing old.posted (Take part commits ∷ [])) ∙ kept_by_take (standing old.posted) part commits)) h
+  after_made old new (of_change.Mark marking) (Marked count) receipt is h =
+      same_tables old new is.tables (λ _. is.works) (ap (λ (steps : List Step). (standing steps).kept) is.posts.posted ∙ ap (λ (s : Standing). s.kept) (fold-append after_step nothing old.posted (Marking marking ∷ []))) h
+  after_made old new of_change.Rebuild (Base rev) receipt is h =
+      same_tables old new is.tables (λ _. is.works) (ap (λ (steps : List Step). (standing steps).kept) is.posts.posted ∙ ap (λ (s : Standing). s.kept) (fold-append after_step nothing old.posted (Rebase (newest (kept_by old)) ∷ []))) h
+  after_made old new _ _ receipt is h = absurd is
+
+  after_change : (old : Posts T) (k : Call) (body : List ℕ) (told : Option (ℕ × List ℕ)) (new : Posts T) → ((c : TableChange) → AsksChange k body c → P c)
+      → ChangeStep g old k body told new → HasLeft g P start old → HasLeft g P start new
+  after_change old k body told new asked (changes_nothing why cause says same) h = same_desk old new same h
+  after_change old k body told new asked (is_made change made receipt asks is says seats) h = after_made old new change made receipt is h
+  after_change old k body told new asked (is_not_made change why asks is says seats) h =
+      refused old new (MayStore old change) (SpeaksAgainst old change) why (λ c stores. asked c (stores_asked old k body change c asks stores)) is h
+
+  after_either : (changing : Bool) (old : Posts T) (k : Call) (body : List ℕ) (told : Option (ℕ × List ℕ)) (new : Posts T) → ((c : TableChange) → AsksChange k body c → P c)
+      → MatchBool changing (ChangeStep g old k body told new) (AskStep old k body told new) → HasLeft g P start old → HasLeft g P start new
+  after_either true old k body told new asked s h = after_change old k body told new asked s h
+  after_either false old k body told new asked s h = after_question old k body told new s h
 
   pub after_step_of : (old : Posts T) (k : Call) (body : List ℕ) (told : Option (ℕ × List ℕ)) (new : Posts T) → ((c : TableChange) → AsksChange k body c → P c)
       → DeskStep g old k body told new → HasLeft g P start old → HasLeft g P start new
-  after_step_of old call.Write body told new asked s h = after_write old body told new asked s h
-  after_step_of old call.Config body told new asked s h = after_config old body told new asked s h
-  after_step_of old call.Check body told new asked s h = after_question old call.Check body told new s h
-  after_step_of old call.CatchUp body told new asked s h = after_catch_up old body told new s h
-  after_step_of old call.State body told new asked s h = after_question old call.State body told new s h
-  after_step_of old call.Read body told new asked s h = after_question old call.Read body told new s h
-  after_step_of old call.Expand body told new asked s h = after_question old call.Expand body told new s h
-  after_step_of old call.Watch body told new asked s h = after_question old call.Watch body told new s h
-  after_step_of old call.Leopard body told new asked s h = after_question old call.Leopard body told new s h
-  after_step_of old call.Hot body told new asked s h = after_hot old body told new s h
-  after_step_of old call.Trim body told new asked s h = after_trim old body told new asked s h
-  after_step_of old call.Rebuild body told new asked s h = after_rebuild old body told new s h
+  after_step_of old k body told new asked s h = after_either (is_change k) old k body told new asked s h
 
   after_answer : (old : Posts T) (fits : Bool) (k : Option Call) (body text : List ℕ) (new : Posts T) → ((it : Call) → k ≡ Some it → (c : TableChange) → AsksChange it body c → P c)
       → IsAnswer (DeskStep g) old fits k body text new → HasLeft g P start old → HasLeft g P start new

@@ -182,7 +182,7 @@ fn write_until<J: Naming, H: Wait + Drop, W: Wait + CpuClock>(
             break;
         }
         let body = visit(alloc, number)?;
-        if is_accepted(&front.write(rt, body.as_bytes())) {
+        if is_accepted(&front.answer(rt, Call::Write, body.as_bytes())) {
             accepted = accepted.saturating_add(1);
         } else {
             refused = true;
@@ -205,8 +205,8 @@ fn take<J: Naming, H: Wait + Drop, W: Wait>(
         let (call, body) = line.split_once(' ').unwrap_or((line, ""));
         let body = body.as_bytes();
         let accepted = match call {
-            "config" => is_accepted(&front.configure(rt, body)),
-            "write" => is_accepted(&front.write(rt, body)),
+            "config" => is_accepted(&front.answer(rt, Call::Config, body)),
+            "write" => is_accepted(&front.answer(rt, Call::Write, body)),
             "check" => true,
             _ => false,
         };

@@ -1,5 +1,6 @@
 //! The calls that ask.
 ghost use Rattle.std.specs.Prelude.{IfOk, IfErr};
+ghost use mathlib.Core.List.{IsPrefix};
 ghost use Rattle.names.specs.Calls.{told};
 ghost use Rattle.shown.specs.Standing.{standing};
 ghost use Rattle.shown.specs.Asked.{IsTold, RefusesQuestion};
@@ -51,6 +52,7 @@ pub(crate) fn answer_question<T: Tables + Drop, R: Wait + Drop>(
 ) -> Reply
     requires { Begins (shown_by desk.old) session.old }
     ensures step { AskStep desk.old call body.now (told result) desk.new }
+    ensures later { IsPrefix desk.old.shown desk.new.shown }
     ensures kept { Begins session.old session.new }
     ensures known { Begins (shown_by desk.new) session.new }
 {

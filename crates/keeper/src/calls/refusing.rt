@@ -25,6 +25,7 @@ pub(crate) fn refuse<T: Tables + Drop, R: Wait + Drop>(
     ensures says { SaysRefusal (told result) why.now }
     ensures more { ShowsMore desk.old desk.new }
     ensures same { SameTables desk.old desk.new }
+    ensures seats { desk.new.seats ≡ desk.old.seats }
     ensures kept { Begins session.old session.new }
     ensures known { Begins (shown_by desk.new) session.new }
     ensures known_judged { AreJudged session.new.steps }

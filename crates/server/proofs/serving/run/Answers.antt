@@ -5,7 +5,7 @@ use denote.Param.Send.{arg_send, param_send}
 use denote.Param.{param}
 use Rattle.names.specs.declared.refusal.Refusal.{Refusal}
 use Rattle.names.specs.declared.refusal.Refusal.TheVariants.{Memory, NoSeat}
-use Rattle.desk.proofs.Changed.{refused_exit}
+use Rattle.desk.proofs.Accepting.{refused_exit}
 use Rattle.server.proofs.Crossing.{Worker-send}
 use Rattle.server.proofs.Sending.{Locked-send, Counted-send, Waking-send, Indexer-send}
 use Rattle.server.proofs.serving.run.Goals as goal

@@ -1,5 +1,5 @@
 use Rattle.names.specs.declared.refusal.Refusal.{Refusal}
-use Rattle.desk.proofs.Changed.{refused_exit}
+use Rattle.desk.proofs.Accepting.{refused_exit}
 use Rattle.server.specs.Turns.{TurnRefused, index_refused, hot_refused}
 use Rattle.server.proofs.turn.take_both.Goals as goal
 

@@ -1,4 +1,4 @@
-use Rattle.desk.proofs.Changed.{few_unopposed, not_ready, caught_up, not_posted}
+use Rattle.desk.proofs.Accepting.{few_unopposed, not_ready, caught_up, not_posted}
 use Rattle.desk.specs.declared.desk.Posted.{Posted}
 use Rattle.desk.proofs.desk.Desk.catch_up.Goals as goal
 

@@ -1,7 +1,7 @@
 use Rattle.std.proofs.Common.{refl}
 use Rattle.names.specs.declared.commit.Commit.TheVariants.{Config as ConfigCommit}
 use Rattle.desk.specs.TableChanges.{Adds}
-use Rattle.desk.proofs.Changed.{unlike, not_ready, config_accepted, config_refused, config_still, refuses_on}
+use Rattle.desk.proofs.Accepting.{unlike, not_ready, config_accepted, config_refused, config_still, refuses_on}
 use Rattle.desk.proofs.desk.Desk.configure.Goals as goal
 
 pub returns-in_err-make_ready-clause-err : goal.returns-in_err-make_ready-clause-err

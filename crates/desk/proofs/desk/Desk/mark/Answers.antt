@@ -1,4 +1,4 @@
-use Rattle.desk.proofs.Changed.{unlike, not_ready, marking_refused, marking_still, marking_accepted, not_posted}
+use Rattle.desk.proofs.Accepting.{unlike, not_ready, marking_refused, marking_still, marking_accepted, not_posted}
 use Rattle.desk.specs.declared.desk.Posted.{Posted}
 use Rattle.desk.proofs.desk.Desk.mark.Goals as goal
 

@@ -1,4 +1,4 @@
-use Rattle.desk.proofs.Changed.{not_ready, rebuild_accepted, not_posted}
+use Rattle.desk.proofs.Accepting.{not_ready, rebuild_accepted, not_posted}
 use Rattle.desk.specs.declared.desk.Posted.{Posted}
 use Rattle.desk.proofs.desk.Desk.rebuild.Goals as goal
 

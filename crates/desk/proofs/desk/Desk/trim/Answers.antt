@@ -1,5 +1,5 @@
 use Rattle.std.proofs.Common.{arith}
-use Rattle.desk.proofs.Changed.{not_ready, floor_refused, trim_accepted, trim_refused}
+use Rattle.desk.proofs.Accepting.{not_ready, floor_refused, trim_accepted, trim_refused}
 use Rattle.desk.specs.declared.desk.Posted.{Posted}
 use Rattle.desk.proofs.desk.Desk.trim.Goals as goal
 

@@ -2,7 +2,7 @@ use Rattle.std.proofs.Common.{refl}
 use Rattle.names.specs.declared.commit.Commit.TheVariants.{Tuples}
 use Rattle.desk.specs.TableChanges.{Adds}
 use Rattle.desk.specs.Posts.{newest_posted}
-use Rattle.desk.proofs.Changed.{unlike, not_ready, write_accepted, write_refused, still_accepted, early_memory, refuses_on}
+use Rattle.desk.proofs.Accepting.{unlike, not_ready, write_accepted, write_refused, still_accepted, early_memory, refuses_on}
 use Rattle.desk.proofs.desk.Desk.write.Goals as goal
 
 pub returns-in_err-make_ready-clause-err : goal.returns-in_err-make_ready-clause-err

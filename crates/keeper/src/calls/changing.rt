@@ -1,0 +1,66 @@
+//! The calls that change something.
+ghost use Rattle.std.specs.Prelude.{◌≡◌, ℕ, List};
+ghost use mathlib.Core.List.{IsPrefix};
+ghost use Rattle.names.specs.Calls.{told};
+ghost use Rattle.names.specs.declared.call.Call.{Call as AnyCall};
+ghost use Rattle.published.specs.Judged.{AreJudged, WereJudged};
+ghost use Rattle.published.specs.Known.{Begins};
+ghost use Rattle.desk.specs.Posts.{shown_by};
+ghost use Rattle.keeper.specs.Changes.{AsksChange};
+ghost use Rattle.keeper.specs.calls.Change.{ChangeStep};
+
+use crate::calls::refusing::refuse;
+use crate::changes::{change_of, made_reply};
+use bodies::refusals::refusal;
+use desk::{Change, Desk};
+use names::{Call, Reply};
+use published::Session;
+use std::alloc::Global;
+use std::sync::Wait;
+use tables::Tables;
+
+/// Makes a change, and tells of it. The session then knows no less than it did, and all that is shown.
+pub fn change_on<T: Tables + Drop, R: Wait + Drop>(
+    alloc: Global,
+    desk: &mut Desk<T, R>,
+    session: &mut Session,
+    change: Change,
+) -> Reply
+    requires { session.old.book ≡ desk.old.book }
+    ensures step { (call : AnyCall) (body : List ℕ) → AsksChange call body change
+        → ChangeStep T.Tables desk.old call body (told result) desk.new }
+    ensures book { desk.new.book ≡ desk.old.book }
+    ensures later { IsPrefix desk.old.shown desk.new.shown }
+    ensures kept { Begins session.old session.new }
+    ensures known { Begins (shown_by desk.new) session.new }
+    ensures judged { WereJudged desk.new.posted desk.new.shown }
+    ensures known_judged { AreJudged session.new.steps }
+{
+    match desk.change(change) {
+        Ok(done) => {
+            session.learn(&done.receipt);
+            made_reply(alloc, &done)
+        }
+        Err(why) => refuse(alloc, desk, session, &why),
+    }
+}
+
+/// Makes the change that the body of a call asks for.
+pub(crate) fn answer_change<T: Tables + Drop, R: Wait + Drop>(
+    alloc: Global,
+    desk: &mut Desk<T, R>,
+    session: &mut Session,
+    call: Call,
+    body: &[u8],
+) -> Reply
+    requires { Begins (shown_by desk.old) session.old }
+    ensures step { ChangeStep T.Tables desk.old call body.now (told result) desk.new }
+    ensures later { IsPrefix desk.old.shown desk.new.shown }
+    ensures kept { Begins session.old session.new }
+    ensures known { Begins (shown_by desk.new) session.new }
+{
+    match change_of(alloc, call, body) {
+        Ok(change) => change_on(alloc, desk, session, change),
+        Err(why) => refusal(alloc, &why),
+    }
+}

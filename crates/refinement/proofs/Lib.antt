@@ -1,0 +1,4 @@
+pub mod Leading
+pub mod Posting
+pub mod Calls
+pub mod Asking
