@@ -39,17 +39,11 @@ fn user_value(alloc: Global, user: &Object) -> Result<Value, AllocError>
     json!(in alloc; {"user": text})
 }
 
-fn union_value(alloc: Global, parts: Vec<Value>) -> Result<Value, AllocError>
-    ensures { IfOk result (λ v. view v ≡ object (member (codes "union") (array (items_view parts.items)) no_members)) }
+/// A list of trees under the name of how they are put together.
+fn listed_value(alloc: Global, name: &str, parts: Vec<Value>) -> Result<Value, AllocError>
+    ensures { IfOk result (λ v. view v ≡ object (member name.now (array (items_view parts.items)) no_members)) }
 {
-    json!(in alloc; {"union": Value::Array(parts)})
-}
-
-fn intersection_value(alloc: Global, parts: Vec<Value>) -> Result<Value, AllocError>
-    ensures { IfOk result (λ v. view v
-        ≡ object (member (codes "intersection") (array (items_view parts.items)) no_members)) }
-{
-    json!(in alloc; {"intersection": Value::Array(parts)})
+    json!(in alloc; {(name): Value::Array(parts)})
 }
 
 fn exclusion_value(alloc: Global, base: Value, less: Value) -> Result<Value, AllocError>
@@ -68,8 +62,12 @@ fn tree_value(alloc: Global, tree: &Tree) -> Result<Value, AllocError>
         Tree::Opened(node, below) => opened_value(alloc, node, tree_value(alloc, below)?),
         Tree::One(user) => user_value(alloc, user),
         Tree::Closed(node) => closed_value(alloc, node),
-        Tree::Union(parts) => union_value(alloc, tree_values(alloc, parts)?),
-        Tree::Intersection(parts) => intersection_value(alloc, tree_values(alloc, parts)?),
+        Tree::Union(parts) => listed_value(alloc, "union", tree_values(alloc, parts)?),
+        Tree::Intersection(parts) => listed_value(
+            alloc,
+            "intersection",
+            tree_values(alloc, parts)?,
+        ),
         Tree::Exclusion(base, less) => {
             let base = tree_value(alloc, base)?;
             let less = tree_value(alloc, less)?;

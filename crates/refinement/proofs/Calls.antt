@@ -36,7 +36,7 @@ module _ {T : Type 0} (g : Ghosts T) (old : Posts T) (are : AreJudged old.posted
   same : new ≡ old → IsRunTo (state_of old) (state_of new)
   same is = stays _ _ (ap (λ (d : Posts T). state_of d) is)
 
-  shows : ShowsMore old new → IsRunTo (state_of old) (state_of new)
+  pub shows : ShowsMore old new → IsRunTo (state_of old) (state_of new)
   shows more =
       subst (λ (posted : List Step). IsRunTo (state_after posted old.shown) (state_of new)) more.posted
       (publishes new.posted old.shown new.shown more.later more.beginning)
@@ -53,7 +53,7 @@ module _ {T : Type 0} (g : Ghosts T) (old : Posts T) (are : AreJudged old.posted
   trims rev (trim_raises above is stored) = posts_one (TrimStep rev) tt is
   trims rev (trim_stays below more tables) = shows more
 
-  makes : (change : Change) (made : Made) (receipt : ReceiptFacts) → IsMade g old change made receipt new → IsRunTo (state_of old) (state_of new)
+  pub makes : (change : Change) (made : Made) (receipt : ReceiptFacts) → IsMade g old change made receipt new → IsRunTo (state_of old) (state_of new)
   makes (Write write) Commit receipt is = posts_one (CommitStep (Tuples is.events)) tt is.posts
   makes (Config config) Commit receipt is = posts_one (CommitStep (ConfigCommit config)) tt is.posts
   makes (Trim zookie) (Floor rev) receipt is = trims zookie.rev is.done

@@ -13,7 +13,11 @@ ghost use Rattle.published.specs.Judged.{AreJudged};
 ghost use Rattle.publication.specs.declared.event.Event.{Event};
 ghost use Rattle.publication.specs.World.{State, start};
 ghost use Rattle.publication.specs.Runs.{after_events};
-ghost use Rattle.desk.specs.Posts.{Posts};
+ghost use Rattle.published.specs.Receipts.{ReceiptFacts};
+ghost use Rattle.desk.specs.Posts.{Posts, ShowsMore};
+ghost use Rattle.desk.specs.Made.{IsMade};
+ghost use Rattle.desk.specs.declared.change.Change.{Change};
+ghost use Rattle.desk.specs.declared.change.Made.{Made};
 ghost use Rattle.keeper.specs.Beginning.{Began};
 ghost use Rattle.keeper.specs.Rules.{DeskStep};
 ghost use Rattle.refinement.specs.Events.{state_after, state_of, Lead, IsRunTo, AnswersOnEntry};
@@ -22,12 +26,21 @@ use tables::Tables;
 
 /// The law that a desk which was opened on tables stands where the machine does after an opening was posted and published.
 pub fn openings_are_events<T: Tables>()
-    ensures { (tables first : _) → Began T.Tables tables first → IsRunTo start (state_of first) }
+    ensures { (tables : T) (first : Posts T) → Began T.Tables tables first → IsRunTo start (state_of first) }
 {}
 
-/// The law that each call which a desk answers takes it where some events take the machine: a change is stored, posted and
-/// published, as far as it is made and shown; a question publishes what waits, if anything. All that the desk had posted was judged,
-/// as that of every desk was.
+/// The law that a change which is made is stored, posted and published, as far as it is shown; and that showing more, as each
+/// refused change, each refresh and each session that is given out may, publishes what waits, if anything. All that the desk had
+/// posted was judged, as that of every desk was.
+pub fn changes_are_events<T: Tables>()
+    ensures made { (old new : Posts T) (change : Change) (made : Made) (receipt : ReceiptFacts)
+        → AreJudged old.posted → IsMade T.Tables old change made receipt new → IsRunTo (state_of old) (state_of new) }
+    ensures shown { (old new : Posts T)
+        → AreJudged old.posted → ShowsMore old new → IsRunTo (state_of old) (state_of new) }
+{}
+
+/// The law that each call which a desk answers takes it where some events take the machine: a change as above, and a question
+/// publishes what waits, if anything.
 pub fn calls_are_events<T: Tables>()
     ensures { (old new : Posts T) (call : Call) (body : List ℕ) (told : Option (ℕ × List ℕ))
         → AreJudged old.posted → DeskStep T.Tables old call body told new → IsRunTo (state_of old) (state_of new) }

@@ -4,4 +4,7 @@
 
 mod law;
 
-pub use law::{calls_are_events, events_lead_on, openings_are_events, questions_are_entries};
+pub use law::{
+    calls_are_events, changes_are_events, events_lead_on, openings_are_events,
+    questions_are_entries,
+};
