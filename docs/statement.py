@@ -1,11 +1,13 @@
 #!/usr/bin/env python3
 """Lists the definitions that a public promise rests on, each with its file and its number of lines.
 
-usage: docs/statement.py [--inside] [CRATE::FUNCTION ..]      (default: runs::run_in)
+usage: docs/statement.py [--calls CALL,..] [--inside] [CRATE::FUNCTION ..]      (default: runs::run_in)
 
 It reads the contract of each function that is named, the definitions of specs/ that its clauses cite, and those that these
-cite in turn, and prints them by file: lowest crate first. --inside prints in their place the files of specs/ of which no
-definition is reached from the contract of any public function: what a reader of the promises can pass over.
+cite in turn, and prints them by file: lowest crate first. With --calls it reads them as whoever makes these calls alone: a
+definition that goes by cases over calls, or over what comes of them, has those of other calls left out. --inside prints the
+files of specs/ of which no definition is reached from the contract of any public function: what a reader of the promises can
+pass over.
 Comments, blank lines and imports are not counted. It reads files and changes nothing.
 """
 import re
@@ -16,6 +18,22 @@ ROOT = Path(__file__).resolve().parent.parent
 WORD = re.compile(r"[^\s(){},;.:]+(?:\.[^\s(){},;.:]+)*")
 HEAD = re.compile(r"^( *)((?:(?:pub|abbrev|unfoldable|opaque|private) )*)(record |data )?([^\s:(){}]+)(?= |$)")
 SKIP = ("use ", "--", "unfolding ", "open ", "infix", "where", "mutual", "abbrev mutual", "module ")
+
+# what stands for each call in definitions by cases: as a call, as a question or a change, as what that is told, and as a step
+CASES = {
+    "check": ["Call.Check", "Question.Check", "Told.Checked"],
+    "read": ["Call.Read", "Question.Read", "Told.Found"],
+    "expand": ["Call.Expand", "Question.Expand", "Told.Expanded"],
+    "leopard": ["Call.Leopard", "Question.Groups", "Told.Grouped"],
+    "watch": ["Call.Watch", "Question.Watch", "Told.Watched"],
+    "state": ["Call.State", "Question.State", "Told.Numbers"],
+    "write": ["Call.Write", "Change.Write", "Made.Commit", "Step.Commit"],
+    "config": ["Call.Config", "Change.Config", "Made.Commit", "Step.Commit"],
+    "trim": ["Call.Trim", "Change.Trim", "Made.Floor", "Step.Trim"],
+    "catchup": ["Call.CatchUp", "Change.CatchUp", "Made.Cursor", "Step.Take"],
+    "hot": ["Call.Hot", "Change.Mark", "Made.Marked", "Step.Marking"],
+    "rebuild": ["Call.Rebuild", "Change.Rebuild", "Made.Base", "Step.Rebase"],
+}
 
 
 def crates():
@@ -57,6 +75,19 @@ class File:
 
     def is_record(self, name):
         return bool(re.match(r" *(?:pub )?(record|data) ", self.definitions[name][0])) if self.definitions[name] else False
+
+    def leave_out(self, cases):
+        """Leaves out the clauses of definitions, with the lines that go on with them, that are for one of these cases."""
+        of_case = {word for word, (path, old) in self.imports.items() if ".".join([*path.split(".")[-2:-1], old]) in cases}
+        for name, lines in self.definitions.items():
+            kept, depth, leaves = [], 0, False
+            for line in lines:
+                indent = len(line) - len(line.lstrip())
+                if not leaves or indent <= depth:
+                    words = re.findall(r"[^\s(){},;.:]+", line.partition("=")[0])
+                    depth, leaves = indent, words[:1] == [name] and not of_case.isdisjoint(words)
+                kept += [] if leaves else [line]
+            self.definitions[name] = kept
 
     def note_import(self, path, names, alias):
         if names is None:
@@ -167,13 +198,23 @@ def count(lines):
 
 
 def main(words):
-    order = crates()
-    files = {}
+    order, files, calls = crates(), {}, None
+    if "--calls" in words:
+        at = words.index("--calls")
+        calls = words[at + 1].split(",") if words[at + 1 :] else []
+        if not calls or not {*calls} <= {*CASES}:
+            print(f"statement.py: --calls takes words of {','.join(CASES)}", file=sys.stderr)
+            return 2
+        words = [*words[:at], *words[at + 2 :]]
     for crate in order:
         folder = ROOT / "crates" / crate / "specs"
         for path in in_order(folder) if folder.exists() else []:
             file = File(crate, path)
             files[file.module] = file
+    if calls:
+        chosen = {case for it in calls for case in CASES[it]}
+        for file in files.values():
+            file.leave_out({case for cases in CASES.values() for case in cases} - chosen)
     inside = "--inside" in words
     wanted = [it for it in words if not it.startswith("--")] or ["runs::run_in"]
     found = reached(files, of_functions(files, None if inside else wanted))
