@@ -6,17 +6,24 @@ usage: docs/promises.py
 
 What carries a promise stands in the last column of a line of README's table, or after `By` below a heading of PROMISES.md. There a group is functions and types, then a colon and
 clauses of one of them: `Desk::open`: `posted`, `kept` (`Agrees`). A function must stand in src/ of a crate of that line or heading, a clause in a contract of one of the group's
-functions, and a definition, which begins with a capital, there or in the crate's specs/. After `Wrong body` and `Test` in WRONG.md a group is crates, a colon, and wrong bodies of one
-of them: files of its wrong/ or must-fail/; of a crate of tests it is their functions.
+functions, and a definition, which begins with a capital, there or in the crate's specs/.
+In WRONG.md an item of a list is a wrong program, a full stop, and groups, parted by semicolons: crates, a colon, and wrong bodies of one of them, which are files of its wrong/ or
+must-fail/, or of a crate of tests its functions. A file with cases stands for a crate, and a path alone for a group.
 In TESTING.md's table of such calls a line has a crate, or that of the line above; calls; and tests: of a crate, a file with cases, or a case. A call is `Rows::commit`, a function or a
 method of the type before it. It is one that may answer so where its type says it (`ANSWERS`); a conversion, and what its crate alone can name as a type or a trait, is none.
 In every document a link leads to a file, and to a heading of it where it says so; a name in code quotes that has the form of a file of a crate (`crates/zanz/stdin`, `zanz/specs/Ran.antt`) or of
-this repository (`docs/promises.py`, `.ci/run`) is one. After a file of a crate further ones may stand with their names alone. Ends with status 1 where a name is missing.
+this repository (`docs/promises.py`, `.ci/run`) is one. After a file of a crate further ones may stand with their names alone.
+In README.md and docs/*.md, outside of blocks of code, no sentence has over 45 words and no line over 200 columns. A sentence ends with its full stop, or with its paragraph, its item of a
+list, its cell of a table or its heading; what stands in code quotes, and the text of a link, counts as it is read. Ends with status 1 where a name is missing, or one of these is too long.
 """
 import os
 import re
 import sys
 
+LONGEST_SENTENCE = 45
+WIDEST_LINE = 200
+# These pages do not hold the two limits yet, and are not looked at. A page goes off this list once it holds them, and none comes on it.
+NOT_YET_SHORT = ("README.md", "docs/API.md", "docs/ARCHITECTURE.md", "docs/DEFINITIONS.md", "docs/PROMISES.md", "docs/TESTING.md")
 ROOT = os.path.dirname(os.path.dirname(os.path.realpath(__file__)))
 NAME = re.compile(r"`([^`]+)`")
 ANSWERS = re.compile(r"\b(AllocError|InsertError|TablesError|Refusal|Refused|Reply|End|Fault|Probe|Post|Outcome|Asked\w*)\b|(?<![:\w])Error\b")
@@ -98,7 +105,7 @@ def promises_by(text):
 
 def items_of(text, mark):
     """The items of a list that begin with the mark, each on one line."""
-    for item in re.findall(rf"(?m)^{re.escape(mark)}(.*(?:\n {{4}}.*)*)", text):
+    for item in re.findall(rf"(?m)^{re.escape(mark)}(.*(?:\n {{{mark.index('-') + 2}}}.*)*)", text):
         yield re.sub(r"\s+", " ", item)
 
 
@@ -106,15 +113,14 @@ def bodies_missing():
     """The wrong bodies, and the tests of crates, that WRONG.md names and no crate has."""
     with open(f"{ROOT}/docs/WRONG.md", encoding="utf-8") as it:
         text = it.read()
-    marks = ("  - Wrong body: ", "  - Wrong body and test: ", "  - Test: ")
-    for item in (item for mark in marks for item in items_of(text, mark)):
+    for item in items_of(text, "- "):
         crates = []
-        for group in item.split(";"):
+        for group in item.partition(". ")[2].split(";"):
             head, colon, names = group.partition(": ")
             crates, names = (NAME.findall(head), names) if colon else (crates, group)
             for name in NAME.findall(names):
-                if crates and not os.path.exists(f"{ROOT}/{name}") and not any(has_body(crate, name) or has_case(crate, name) for crate in crates):
-                    yield f"{', '.join(crates)} has no wrong body or test `{name}`"
+                if not os.path.exists(f"{ROOT}/{name}") and not any(has_body(crate, name) or has_case(crate, name) for crate in crates):
+                    yield f"{', '.join(crates) or 'no crate'} has no wrong body or test `{name}`"
 
 
 def has_body(crate, name):
@@ -239,12 +245,34 @@ def files_missing(file, text):
         folder = os.path.dirname(path) if path.endswith((".antt", ".rt")) else folder
 
 
+def sentences_of(text):
+    """The sentences of a document without its blocks of code, in order."""
+    text = re.sub(r"`([^`]+)`", lambda it: it.group(0).replace(".", "\u2024").replace("|", "\u01c0"), text)
+    text = re.sub(r"\[([^\]]*)\]\([^)\s]*\)", r"\1", text)
+    text = re.sub(r"(?m)^(#.*)$", r"\1\n", text)
+    for block in re.split(r"\n\s*\n|\n(?=\s*(?:[-*+]|\d+\.) |\|)", text):
+        for part in block.split("|") if block.startswith("|") else [block]:
+            yield from re.split(r"(?<=[.!?])[)*\"”]*\s+", part.strip())
+
+
+def lengths_exceeded(file, text):
+    """The sentences of a page that are too long to be read, and the lines that are too wide."""
+    for sentence in sentences_of(text):
+        words = [it for it in sentence.split() if re.search(r"\w", it)]
+        if len(words) > LONGEST_SENTENCE:
+            yield f"a sentence of {len(words)} words: {' '.join(words[:8])} .."
+    for line in text.splitlines():
+        if len(line) > WIDEST_LINE:
+            yield f"a line of {len(line)} columns: {line[:60]} .."
+
+
 def main():
     wrong = 0
     for file in documents():
         with open(f"{ROOT}/{file}", encoding="utf-8") as it:
             text = re.sub(r"(?ms)^```.*?^```", "", it.read())
-        for why in [*links_missing(file, text), *files_missing(file, text)]:
+        is_page = re.fullmatch(r"README\.md|docs/\w+\.md", file) and file not in NOT_YET_SHORT
+        for why in [*links_missing(file, text), *files_missing(file, text), *(lengths_exceeded(file, text) if is_page else [])]:
             print(f"{file}: {why}")
             wrong += 1
     for why in bodies_missing():
