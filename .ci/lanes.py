@@ -4,6 +4,7 @@ Where RT_JOBS says how many there are, rt gives each proof one, also while other
 the one before. So here the first proof of that chain gets a second processor, be it beside one proof more than there are processors; and where fewer proofs may
 begin than processors idle, these are shared out, as far as memory is free. What a proof says is the same with any number of them.
 """
+import collections
 import sys
 from concurrent.futures import FIRST_COMPLETED, ThreadPoolExecutor, wait
 
@@ -18,12 +19,14 @@ MORE = 0.6
 
 
 def works_of(tasks, known):
-    """Returns the work of each task: the minutes that its crate took in the gate that wrote them, or as many as others of so many lines."""
-    found = {}
-    for name, kind in tasks:
-        if name in known:
-            row = dict(zip(minutes.KINDS, known[name]))
-            found[name, kind] = {"proof": row["proof"] + row["builds"], "tests": row["tests"], "edits": row["must-fail"]}[kind]
+    """Returns the work of each task: the minutes that its crate took in the gate that wrote them, or as many as others of so many lines. A task is named by
+    its crate and its kind, one of several edits by its number too; what begins and ends the trial of several has no minutes of its own."""
+    found, edits = {}, collections.Counter(key[:2] for key in tasks)
+    for key in tasks:
+        if key[0] in known:
+            row = dict(zip(minutes.KINDS, known[key[0]]))
+            of_kinds = {"proof": row["proof"] + row["builds"], "tests": row["tests"], "edits": row["must-fail"] / edits[key[:2]]}
+            found[key] = of_kinds.get(key[1], 0)
     lines = sum(tasks[it][1] for it in found)
     of_a_line = sum(found.values()) / lines if lines else 1
     return {it: found.get(it, tasks[it][1] * of_a_line) for it in tasks}
@@ -53,7 +56,7 @@ def in_lanes(lanes, tasks):
     many processors it may use."""
     chains = behind(tasks, works_of(tasks, minutes.read(minutes.KEPT)))
     left, running, given = sorted(tasks, key=lambda it: -chains[it]), {}, {}
-    with ThreadPoolExecutor(lanes) as pool:
+    with rt.ending(), ThreadPoolExecutor(lanes) as pool:
         while left or running:
             most = max(chains[it] for it in [*left, *(key for key, _ in running.values())])
             ready = [it for it in left if all(below in given for below in tasks[it][0])]
@@ -64,7 +67,7 @@ def in_lanes(lanes, tasks):
                 if jobs > 0:
                     left.remove(key)
                     # (an edit's check takes one)
-                    jobs = 1 if key[1] == "edits" else jobs
+                    jobs = jobs if key[1] in ("proof", "tests", "seed") else 1
                     running[pool.submit(call, given, jobs)] = key, jobs
             for it in wait(running, return_when=FIRST_COMPLETED).done:
                 given[running.pop(it)[0]] = it.result()

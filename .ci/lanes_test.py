@@ -43,17 +43,17 @@ class Running(unittest.TestCase):
     def setUp(self):
         self.begun, self.lock, self.now, self.most = [], threading.Lock(), 0, 0
 
-    def task(self, name, after, work, kind="proof", well=True):
+    def task(self, name, after, work, *kind, well=True):
         def call(given, jobs):
             with self.lock:
-                self.begun.append((name, jobs, sorted(it for it, _ in given)))
+                self.begun.append((name, jobs, sorted(it[0] for it in given)))
                 self.now += jobs
                 self.most = max(self.most, self.now)
             with self.lock:
                 self.now -= jobs
             return well
 
-        return (name, kind), ([(it, "proof") for it in after], work, SMALL, call)
+        return (name, *(kind or ["proof"])), ([(it, "proof") for it in after], work, SMALL, call)
 
     def run_tasks(self, number, *tasks):
         with unittest.mock.patch.object(lanes.minutes, "read", lambda file: {}):
@@ -70,13 +70,21 @@ class Running(unittest.TestCase):
         self.assertEqual([it[0] for it in self.begun], ["low", "high", "short"])
 
     def test_chains_are_as_long_as_the_minutes_of_their_crates(self):
-        tasks = dict([self.task("short", [], 90), self.task("long", [], 10), self.task("new", [], 20), self.task("long", [], 0, kind="tests")])
+        tasks = dict([self.task("short", [], 90), self.task("long", [], 10), self.task("new", [], 20), self.task("long", [], 0, "tests")])
         works = lanes.works_of(tasks, {"short": [1, 2, 0, 0, 9], "long": [5, 3, 4, 0, 9]})
         self.assertEqual(works, {("short", "proof"): 1, ("long", "proof"): 9, ("long", "tests"): 3, ("new", "proof"): 2.6})
 
     def test_an_edit_takes_one_processor(self):
-        self.run_tasks(4, self.task("low", [], 1), self.task("low", ["low"], 1, kind="edits"))
+        self.run_tasks(4, self.task("low", [], 1), self.task("low", ["low"], 1, "edits"))
         self.assertEqual(self.begun[1][1], 1)
+
+    def test_several_edits_of_a_crate_are_tasks_of_their_own(self):
+        parts = [("seed",), ("edits", 0), ("edits", 1), ("sound",), ("again", 0), ("again", 1)]
+        tasks = [self.task("low", [], 8), *(self.task("low", ["low"], 8, *it) for it in parts)]
+        self.run_tasks(4, *tasks)
+        self.assertEqual(len(self.begun), 7)
+        works = lanes.works_of(dict(tasks), {"low": [5, 0, 4, 3, 9]})
+        self.assertEqual([*works.values()], [9, 0, 1.5, 1.5, 0, 0, 0])
 
     def test_one_processor_more_is_lent_than_there_are_at_most(self):
         self.run_tasks(3, *[self.task(f"crate{at}", [], at) for at in range(20)])
