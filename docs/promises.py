@@ -1,12 +1,13 @@
 #!/usr/bin/env python3
-"""Sees that each function, clause and definition that PROMISES.md and README's table name is there, each wrong body that WRONG.md names, and each file that a document names or links to;
+"""Sees that each function, clause and definition that PROMISES.md and its table name is there, each wrong body that WRONG.md names, and each file that a document names or links to;
 and that TESTING.md names a test for each public call that may answer want of memory.
 
 usage: docs/promises.py
 
-What carries a promise stands in the last column of a line of README's table, or after `By` below a heading of PROMISES.md. There a group is functions and types, then a colon and
+What carries a promise stands in the last column of a line of the table in PROMISES.md, or after `By` below a heading of it. There a group is functions and types, then a colon and
 clauses of one of them: `Desk::open`: `posted`, `kept` (`Agrees`). A function must stand in src/ of a crate of that line or heading, a clause in a contract of one of the group's
-functions, and a definition, which begins with a capital, there or in the crate's specs/.
+functions, and a definition, which begins with a capital, there or in the crate's specs/. What README.md has in brackets at the end of a
+numbered line is a function or a trait of some crate.
 In WRONG.md an item of a list is a wrong program, a full stop, and groups, parted by semicolons: crates, a colon, and wrong bodies of one of them, which are files of its wrong/ or
 must-fail/, or of a crate of tests its functions. A file with cases stands for a crate, and a path alone for a group.
 In TESTING.md's table of such calls a line has a crate, or that of the line above; calls; and tests: of a crate, a file with cases, or a case. A call is `Rows::commit`, a function or a
@@ -72,10 +73,10 @@ def missing_in(crates, cell):
                 yield f"`{clause}` is no clause of {', '.join(names)}"
 
 
-def rows_of(file):
-    """What a file's table of crates, or its headings of crates, name: the crates, and the last column or what stands after `By`."""
+def promised():
+    """What the table of PROMISES.md and its headings name: the crates, and the last column or what stands after `By`."""
     crates = []
-    with open(f"{ROOT}/{file}", encoding="utf-8") as it:
+    with open(f"{ROOT}/docs/PROMISES.md", encoding="utf-8") as it:
         text = it.read()
     for line in [*table_rows(text), *promises_by(text)]:
         named = NAME.findall(line[0])
@@ -84,6 +85,16 @@ def rows_of(file):
         crates = named or crates
         if crates and all(os.path.isdir(f"{ROOT}/crates/{name}") for name in crates):
             yield crates, line[1]
+
+
+def unfounded():
+    """What stands in brackets at the end of a numbered line of README.md, and that no crate has."""
+    with open(f"{ROOT}/README.md", encoding="utf-8") as it:
+        lines = re.findall(r"(?m)^\d+\. .*\((.*)\)\.$", it.read())
+    text = "\n".join(text_of(crate, "src", ".rt") for crate in sorted(os.listdir(f"{ROOT}/crates")))
+    for name in (name for line in lines for name in NAME.findall(line)):
+        if not contracts_of(text, name):
+            yield f"`{name}` is in no crate"
 
 
 def table_rows(text):
@@ -281,11 +292,13 @@ def main():
     for why in calls_missing():
         print(f"docs/TESTING.md: {why}")
         wrong += 1
-    for file in ("README.md", "docs/PROMISES.md"):
-        for crates, cell in rows_of(file):
-            for why in missing_in(crates, cell):
-                print(f"{file}: {why}")
-                wrong += 1
+    for why in unfounded():
+        print(f"README.md: {why}")
+        wrong += 1
+    for crates, cell in promised():
+        for why in missing_in(crates, cell):
+            print(f"docs/PROMISES.md: {why}")
+            wrong += 1
     return 1 if wrong else 0
 
 
