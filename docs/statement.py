@@ -1,13 +1,13 @@
 #!/usr/bin/env python3
 """Lists the definitions that a public promise rests on, each with its file and its number of lines.
 
-usage: docs/statement.py [--calls CALL,..] [--inside] [CRATE::FUNCTION ..]      (default: runs::run_in)
+usage: docs/statement.py [--calls CALL,..] [--inside | --table] [CRATE::FUNCTION ..]      (default: runs::run_in)
 
 It reads the contract of each function that is named, the definitions of specs/ that its clauses cite, and those that these
 cite in turn, and prints them by file: lowest crate first. With --calls it reads them as whoever makes these calls alone: a
 definition that goes by cases over calls, or over what comes of them, has those of other calls left out. --inside prints the
 files of specs/ of which no definition is reached from the contract of any public function: what a reader of the promises can
-pass over.
+pass over. --table prints the table of PROMISES.md, with its last line.
 Comments, blank lines and imports are not counted. It reads files and changes nothing.
 """
 import re
@@ -197,6 +197,21 @@ def count(lines):
     return sum(1 for it in lines if it.strip())
 
 
+def table_of(listed):
+    """The rows of a table: each crate with its files, those in a folder last, and their lines."""
+    yield "| Crate | Files of `specs/`, with the lines that the headline rests on | Lines |"
+    yield "|---|---|---|"
+    for crate in dict.fromkeys(file.crate for file, _, _ in listed):
+        parts, total = {}, 0
+        for file, _, lines in listed:
+            if file.crate == crate:
+                place = file.path.relative_to(ROOT / "crates" / crate / "specs").with_suffix("")
+                parts.setdefault("/".join(place.parts[:-1]), []).append(f"{place.name} {lines}")
+                total += lines
+        texts = [(f"of {folder}: " if folder else "") + ", ".join(parts[folder]) for folder in sorted(parts)]
+        yield f"| `{crate}` | {'; '.join(texts)} | {total} |"
+
+
 def main(words):
     order, files, calls = crates(), {}, None
     if "--calls" in words:
@@ -223,14 +238,19 @@ def main(words):
             if file.definitions and not any(it[0] is file for it in found):
                 print(file.path.relative_to(ROOT))
         return 0
-    total = names = shown = 0
+    listed = []
     for file in files.values():
         own = [it for it in file.definitions if (file, it) in found]
         if own:
-            lines = sum(count(file.definitions[it]) for it in own)
-            total, names, shown = total + lines, names + len(own), shown + 1
-            print(f"{file.path.relative_to(ROOT)}: {lines} lines: {', '.join(own)}")
-    print(f"{names} definitions, {total} lines, in {shown} of {len(files)} files")
+            listed.append((file, own, sum(count(file.definitions[it]) for it in own)))
+    total = sum(lines for _, _, lines in listed)
+    summed = f"{sum(len(own) for _, own, _ in listed)} definitions, {total} lines, in {len(listed)} of {len(files)} files"
+    if "--table" in words:
+        print("\n".join(table_of(listed)) + f"\n\nIn all {summed}.")
+        return 0
+    for file, own, lines in listed:
+        print(f"{file.path.relative_to(ROOT)}: {lines} lines: {', '.join(own)}")
+    print(summed)
     return 0
 
 
