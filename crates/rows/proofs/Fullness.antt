@@ -1,5 +1,5 @@
 -- How many tuples operations on distinct tuples leave, and how many rows they make.
-use Rattle.std.proofs.Common.{◌≡◌, ℕ, ◌+◌, ◌-◌, ◌<◌, ◌≤◌, List, [], ◌∷◌, length, Bool, true, false, cond, refl, sym, ap, ◌∙◌, arith}
+use Rattle.std.proofs.Common.{◌≡◌, Some, None, ℕ, ◌+◌, ◌-◌, ◌<◌, ◌≤◌, List, [], ◌∷◌, length, Bool, true, false, cond, refl, sym, ap, ◌∙◌, arith}
 use Rattle.std.specs.Prelude.{not, ◌&&◌, ◌||◌, map, count_by, nat_lt}
 use mathlib.Core.Bool.{true≢false}
 use Rattle.std.specs.List.{list_any}
@@ -16,9 +16,10 @@ use Rattle.meaning.specs.Snap.{Snap}
 use Rattle.meaning.specs.TupleSet as set
 use Rattle.meaning.specs.TupleSet.{Tuples}
 use Rattle.meaning.specs.History.{after_kind, after_event, replay, puts_in, puts_of_kind}
-use Rattle.meaning.specs.Verdict.{event_of, kind_of, is_delete, is_twice, is_full}
+use Rattle.meaning.specs.Verdict.{event_of, kind_of, is_insert, is_delete, is_twice, is_full, first_from, inserts_again, deletes_nothing}
 use Rattle.meaning.proofs.TupleSets.{contains_items, len_items, len_insert, len_remove}
 use Rattle.rows.specs.Judging.{puts_tuple, adds_tuple, takes_tuple}
+use Rattle.rows.specs.inside.Counting.{is_new, is_new_by, deletes}
 use Rattle.versions.specs.Versions.{is_put}
 use Rattle.versions.proofs.VersionRuns.{after_one}
 use Rattle.versions.proofs.Bases.{same_turned}
@@ -117,6 +118,41 @@ tuples_left s os once =
     ap (λ n. set.len (replay s (map event_of os)) + n) (sym (counts (takes_tuple s) os))
     ∙ left_len s os once
     ∙ ap (λ n. set.len s + n) (counts (adds_tuple s) os)
+
+-- where a test is true of no operation, two others that differ only there count alike
+alike : (p q r : Op → Bool) → ((o : Op) → r o ≡ false → p o ≡ q o) → (n : ℕ) (os : List Op) → first_from r n os ≡ None → counted p os ≡ counted q os
+alike p q r each n [] h = refl
+alike p q r each n (o ∷ os) h = by_test (r o) refl h (alike p q r each (n + 1) os)
+  where
+    by_test : (b : Bool) → r o ≡ b → cond b (Some n) (first_from r (n + 1) os) ≡ None
+        → (first_from r (n + 1) os ≡ None → counted p os ≡ counted q os) → counted p (o ∷ os) ≡ counted q (o ∷ os)
+    by_test true is h rest = absurd cc
+    by_test false is h rest =
+        ap (λ b. cond b (1 + counted p os) (counted p os)) (each o is)
+        ∙ ap (λ m. cond (q o) (1 + m) m) (rest h)
+
+counts_alike : (p q r : Op → Bool) → ((o : Op) → r o ≡ false → p o ≡ q o) → (os : List Op) → first_from r 0 os ≡ None → count_by p os ≡ count_by q os
+counts_alike p q r each os h = sym (counts p os) ∙ alike p q r each 0 os h ∙ counts q os
+
+new_adds : (k : OpKind) (there : Bool) → (is_insert k && there) ≡ false → is_new_by k there ≡ (not (is_delete k) && not there)
+new_adds Insert true h = absurd (true≢false h)
+new_adds Insert false h = refl
+new_adds Touch there h = refl
+new_adds Delete there h = refl
+
+delete_takes : (k : OpKind) (there : Bool) → (is_delete k && not there) ≡ false → not (not (is_delete k)) ≡ (not (not (is_delete k)) && there)
+delete_takes Insert there h = refl
+delete_takes Touch there h = refl
+delete_takes Delete true h = refl
+delete_takes Delete false h = absurd (true≢false h)
+
+-- where no insert is of a tuple that is there
+pub new_are_added : (s : Tuples) (os : List Op) → first_from (inserts_again s) 0 os ≡ None → count_by (is_new s) os ≡ count_by (adds_tuple s) os
+new_are_added s = counts_alike (is_new s) (adds_tuple s) (inserts_again s) (λ o. new_adds o.kind (set.contains s o.tuple))
+
+-- where no delete is of a tuple that is not
+pub deletes_are_taken : (s : Tuples) (os : List Op) → first_from (deletes_nothing s) 0 os ≡ None → count_by deletes os ≡ count_by (takes_tuple s) os
+deletes_are_taken s = counts_alike deletes (takes_tuple s) (deletes_nothing s) (λ o. delete_takes o.kind (set.contains s o.tuple))
 
 -- the limits
 lt_true : (m n : ℕ) → m < n → nat_lt m n ≡ true

@@ -5,7 +5,8 @@ ghost use Rattle.meaning.specs.History.{puts_in};
 ghost use Rattle.meaning.specs.Verdict.{is_unknown, is_untyped, is_twice, inserts_again, deletes_nothing, first_from, event_of, write_cause, config_cause, is_full};
 ghost use Rattle.rows.specs.Retained.{newest_of};
 ghost use Rattle.rows.specs.Follows.{IsAccepted};
-ghost use Rattle.rows.specs.Judging.{adds_tuple, takes_tuple, puts_tuple, says_unknown, WriteRefused, ConfigRefused};
+ghost use Rattle.rows.specs.Judging.{puts_tuple, says_unknown, WriteRefused, ConfigRefused};
+ghost use Rattle.rows.specs.inside.Counting.{is_new, deletes};
 
 use crate::rows::Rows;
 use crate::twice::is_twice;
@@ -77,11 +78,13 @@ impl Rows {
         requires few { length ops.now ≤ MAX_OPS }
         requires once { is_twice ops.now ≡ false }
         requires newest { view.now ≡ (newest_of self.now).held }
+        requires fresh { first_from (inserts_again view.now.tuples) 0 ops.now ≡ None }
+        requires there { first_from (deletes_nothing view.now.tuples) 0 ops.now ≡ None }
         ensures { result ≡ is_full (newest_of self.now) (map event_of ops.now) }
     {
         let counts = self.counts();
-        let added = count_added(view, ops) as u64;
-        let room = MAX_TUPLES + count_taken(view, ops) as u64;
+        let added = count_new(view, ops) as u64;
+        let room = MAX_TUPLES + count_deletes(ops) as u64;
         if counts.tuples > room || added > room - counts.tuples {
             return true;
         }
@@ -127,22 +130,18 @@ fn first_absent(view: &View<'_>, ops: &[Op]) -> Option<u64>
     None
 }
 
-/// How many operations put a tuple that is not there.
-fn count_added(view: &View<'_>, ops: &[Op]) -> usize
-    ensures { result ≡ count_by (adds_tuple view.now.tuples) ops.now }
+/// How many operations put a tuple that is not there, where no insert is of one that is: no insert is looked up again.
+fn count_new(view: &View<'_>, ops: &[Op]) -> usize
+    ensures { result ≡ count_by (is_new view.now.tuples) ops.now }
 {
-    ops.iter()
-        .filter(|op| puts_tuple(op) && !view.contains(&op.tuple))
-        .count()
+    ops.iter().filter(|op| is_new(view, op)).count()
 }
 
-/// How many operations take away a tuple that is there.
-fn count_taken(view: &View<'_>, ops: &[Op]) -> usize
-    ensures { result ≡ count_by (takes_tuple view.now.tuples) ops.now }
+/// How many operations are deletes.
+fn count_deletes(ops: &[Op]) -> usize
+    ensures { result ≡ count_by deletes ops.now }
 {
-    ops.iter()
-        .filter(|op| !puts_tuple(op) && view.contains(&op.tuple))
-        .count()
+    ops.iter().filter(|op| !puts_tuple(op)).count()
 }
 
 /// How many operations put a tuple.
@@ -187,6 +186,16 @@ fn deletes_nothing(view: &View<'_>, op: &Op) -> bool
         OpKind::Insert => false,
         OpKind::Touch => false,
         OpKind::Delete => !view.contains(&op.tuple),
+    }
+}
+
+fn is_new(view: &View<'_>, op: &Op) -> bool
+    ensures { result ≡ is_new view.now.tuples op.now }
+{
+    match op.kind {
+        OpKind::Insert => true,
+        OpKind::Touch => !view.contains(&op.tuple),
+        OpKind::Delete => false,
     }
 }
 
