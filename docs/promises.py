@@ -1,11 +1,11 @@
 #!/usr/bin/env python3
-"""Sees that each function, clause and definition that PROMISES.md and its table name is there, each wrong body that WRONG.md names, and each file that a document names or links to;
-and that TESTING.md names a test for each public call that may answer want of memory.
+"""Sees that each function, clause and definition that a crate's README names as what carries a promise is there, each wrong body that WRONG.md names, and each file that a document names or
+links to; that TESTING.md names a test for each public call that may answer want of memory; and that the READMEs have their form and the index of PROMISES.md is theirs (docs/index.py).
 
 usage: docs/promises.py
 
-What carries a promise stands in the last column of a line of the table in PROMISES.md, or after `By` below a heading of it. There a group is functions and types, then a colon and
-clauses of one of them: `Desk::open`: `posted`, `kept` (`Agrees`). A function must stand in src/ of a crate of that line or heading, a clause in a contract of one of the group's
+What carries a promise stands after `By` below it in the README of its crate, and that of the headline in the last column of its table in PROMISES.md. There a group is functions and types, then a colon and
+clauses of one of them: `Desk::open`: `posted`, `kept` (`Agrees`). A function must stand in src/ of that crate, a clause in a contract of one of the group's
 functions, and a definition, which begins with a capital, there or in the crate's specs/. What README.md has in brackets at the end of a
 numbered line is a function or a trait of some crate.
 In WRONG.md an item of a list is a wrong program, a full stop, and groups, parted by semicolons: crates, a colon, and wrong bodies of one of them, which are files of its wrong/ or
@@ -14,17 +14,23 @@ In TESTING.md's table of such calls a line has a crate, or that of the line abov
 method of the type before it. It is one that may answer so where its type says it (`ANSWERS`); a conversion, and what its crate alone can name as a type or a trait, is none.
 In every document a link leads to a file, and to a heading of it where it says so; a name in code quotes that has the form of a file of a crate (`crates/zanz/stdin`, `zanz/specs/Ran.antt`) or of
 this repository (`docs/promises.py`, `.ci/run`) is one. After a file of a crate further ones may stand with their names alone.
-In README.md and docs/*.md, outside of blocks of code, no sentence has over 45 words and no line over 200 columns. A sentence ends with its full stop, or with its paragraph, its item of a
-list, its cell of a table or its heading; what stands in code quotes, and the text of a link, counts as it is read. Ends with status 1 where a name is missing, or one of these is too long.
+In README.md, docs/*.md and the crates' READMEs, outside of blocks of code, no sentence has over 45 words and no line over 200 columns; in a crate's README no line has over 160, and there are
+at most 45. A sentence ends with its full stop, or with its paragraph, its item of a list, its cell of a table or its heading; what stands in code quotes, and the text of a link, counts as it is
+read; what stands after `By` is none. Ends with status 1 where a name is missing, or one of these is too long.
 """
 import os
 import re
 import sys
 
+sys.dont_write_bytecode = True
+import index
+
 LONGEST_SENTENCE = 45
 WIDEST_LINE = 200
+WIDEST_LINE_OF_A_CRATE = 160
+MOST_LINES_OF_A_CRATE = 45
 # These pages do not hold the two limits yet, and are not looked at. A page goes off this list once it holds them, and none comes on it.
-NOT_YET_SHORT = ("docs/PROMISES.md",)
+NOT_YET_SHORT = ("README.md", "docs/API.md", "docs/ARCHITECTURE.md", "docs/DEFINITIONS.md")
 ROOT = os.path.dirname(os.path.dirname(os.path.realpath(__file__)))
 NAME = re.compile(r"`([^`]+)`")
 ANSWERS = re.compile(r"\b(AllocError|InsertError|TablesError|Refusal|Refused|Reply|End|Fault|Probe|Post|Outcome|Asked\w*)\b|(?<![:\w])Error\b")
@@ -53,18 +59,18 @@ def contracts_of(text, name):
     return found
 
 
-def missing_in(crates, cell):
-    """What a cell names and the crates lack."""
-    text = "\n".join(text_of(it, "src", ".rt") for it in crates)
-    specs = "\n".join(text_of(it, "specs", ".antt") for it in crates)
-    for group in re.split(r";\s+", cell):
+def missing_in(crate, carriers):
+    """What is named as carrying a promise and the crate lacks."""
+    text = text_of(crate, "src", ".rt")
+    specs = text_of(crate, "specs", ".antt")
+    for group in re.split(r";\s+", carriers):
         head, _, tail = group.partition(":  ") if ":  " in group else re.match(r"(.*?)(?:(?<=`): (.*))?$", group, re.S).group(1, 2, 2)
         names = NAME.findall(head)
         found = []
         for name in names:
             here = contracts_of(text, name)
             if not here and not re.search(rf"\b{re.escape(name.rpartition('::')[2])}\b", text):
-                yield f"`{name}` is not in {', '.join(crates)}"
+                yield f"`{name}` is not in {crate}"
             found += here
         for clause in NAME.findall(tail or ""):
             if clause[0].isupper() and re.search(rf"\b{re.escape(clause)}\b", specs):
@@ -74,17 +80,19 @@ def missing_in(crates, cell):
 
 
 def promised():
-    """What the table of PROMISES.md and its headings name: the crates, and the last column or what stands after `By`."""
-    crates = []
-    with open(f"{ROOT}/docs/PROMISES.md", encoding="utf-8") as it:
-        text = it.read()
-    for line in [*table_rows(text), *promises_by(text)]:
-        named = NAME.findall(line[0])
-        if line[0] and not named:
-            crates = []
-        crates = named or crates
-        if crates and all(os.path.isdir(f"{ROOT}/crates/{name}") for name in crates):
-            yield crates, line[1]
+    """What is said to carry a promise, with its crate and the page: what stands after each `By`, and the last column of the table of the headline in PROMISES.md."""
+    for crate in index.crates():
+        for _, carriers in index.promises_of(crate):
+            yield f"crates/{crate}/README.md", crate, carriers or ""
+    with open(index.PAGE, encoding="utf-8") as it:
+        text = it.read().partition(index.BEGIN)[0]
+    crate = None
+    for line in re.findall(r"(?m)^\|.*$", text):
+        cells = [cell.strip() for cell in line.strip().strip("|").split("|")]
+        if len(cells) == 3:
+            crate = (NAME.findall(cells[0]) or [crate if not cells[0] else None])[0]
+            if crate:
+                yield "docs/PROMISES.md", crate, cells[2]
 
 
 def unfounded():
@@ -95,23 +103,6 @@ def unfounded():
     for name in (name for line in lines for name in NAME.findall(line)):
         if not contracts_of(text, name):
             yield f"`{name}` is in no crate"
-
-
-def table_rows(text):
-    """The first and the last cell of each line of three cells."""
-    for line in re.findall(r"(?m)^\|.*$", text):
-        cells = [cell.strip() for cell in line.strip().strip("|").split("|")]
-        if len(cells) == 3:
-            yield cells[0], cells[2]
-
-
-def promises_by(text):
-    """For each heading of third rank, the heading and what stands after `- By` below it."""
-    for part in re.split(r"(?m)^(?=#+ )", text):
-        heading, _, rest = part.partition("\n")
-        if heading.startswith("### "):
-            for item in items_of(rest, "  - By "):
-                yield heading[4:], item
 
 
 def items_of(text, mark):
@@ -267,14 +258,19 @@ def sentences_of(text):
 
 
 def lengths_exceeded(file, text):
-    """The sentences of a page that are too long to be read, and the lines that are too wide."""
-    for sentence in sentences_of(text):
+    """The sentences of a page that are too long to be read, and the lines that are too wide or, of a crate's README, too many."""
+    is_crate = file.startswith("crates/")
+    widest = WIDEST_LINE_OF_A_CRATE if is_crate else WIDEST_LINE
+    for sentence in sentences_of(re.sub(r"(?m)^  - By .*(?:\n    .*)*", "", text) if is_crate else text):
         words = [it for it in sentence.split() if re.search(r"\w", it)]
         if len(words) > LONGEST_SENTENCE:
             yield f"a sentence of {len(words)} words: {' '.join(words[:8])} .."
-    for line in text.splitlines():
-        if len(line) > WIDEST_LINE:
+    lines = text.splitlines()
+    for line in lines:
+        if len(line) > widest:
             yield f"a line of {len(line)} columns: {line[:60]} .."
+    if is_crate and len(lines) > MOST_LINES_OF_A_CRATE:
+        yield f"{len(lines)} lines"
 
 
 def main():
@@ -282,7 +278,7 @@ def main():
     for file in documents():
         with open(f"{ROOT}/{file}", encoding="utf-8") as it:
             text = re.sub(r"(?ms)^```.*?^```", "", it.read())
-        is_page = re.fullmatch(r"README\.md|docs/\w+\.md", file) and file not in NOT_YET_SHORT
+        is_page = re.fullmatch(r"README\.md|docs/\w+\.md|crates/\w+/README\.md", file) and file not in NOT_YET_SHORT
         for why in [*links_missing(file, text), *files_missing(file, text), *(lengths_exceeded(file, text) if is_page else [])]:
             print(f"{file}: {why}")
             wrong += 1
@@ -295,10 +291,13 @@ def main():
     for why in unfounded():
         print(f"README.md: {why}")
         wrong += 1
-    for crates, cell in promised():
-        for why in missing_in(crates, cell):
-            print(f"docs/PROMISES.md: {why}")
+    for file, crate, carriers in promised():
+        for why in missing_in(crate, carriers):
+            print(f"{file}: {why}")
             wrong += 1
+    for why in index.faults():
+        print(why)
+        wrong += 1
     return 1 if wrong else 0
 
 
