@@ -74,9 +74,9 @@ def index():
     yield "|---|---|---|"
     for crate in crates():
         sections = dict(sections_of(crate))
-        yield f"| [`{crate}`](../crates/{crate}/README.md) | *{first_sentence(sections.get(HEADINGS[0], ''))}* ||"
+        yield f"|[`{crate}`](../crates/{crate}/README.md)|*{first_sentence(sections.get(HEADINGS[0], ''))}*||"
         for promise, by in promises_of(crate):
-            yield f"|| {first_sentence(promise)} | {first_carrier(by)} |"
+            yield f"||{first_sentence(promise)}|{first_carrier(by)}|"
 
 
 def faults():

@@ -7,7 +7,7 @@ It reads the contract of each function that is named, the definitions of specs/ 
 cite in turn, and prints them by file: lowest crate first. With --calls it reads them as whoever makes these calls alone: a
 definition that goes by cases over calls, or over what comes of them, has those of other calls left out. --inside prints the
 files of specs/ of which no definition is reached from the contract of any public function: what a reader of the promises can
-pass over. --table prints the table of PROMISES.md, with its last line.
+pass over. --table prints a table of the files, in the order in which to read them, with the lines of each.
 Comments, blank lines and imports are not counted. It reads files and changes nothing.
 """
 import re
