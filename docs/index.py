@@ -87,6 +87,8 @@ def faults():
             yield f"crates/{crate}/README.md: it is not there"
         elif headings[:1] != [HEADINGS[0]] or headings != [it for it in HEADINGS if it in headings]:
             yield f"crates/{crate}/README.md: its headings are not {', '.join(HEADINGS)}, in this order"
+        if not re.match(r"\n*(- |$)", dict(sections_of(crate)).get(HEADINGS[1], "")):
+            yield f"crates/{crate}/README.md: what a caller may rely on is no list"
         for promise, by in promises_of(crate):
             if not by:
                 yield f"crates/{crate}/README.md: no `By` carries {first_sentence(promise)}"
