@@ -30,7 +30,7 @@ WIDEST_LINE = 200
 WIDEST_LINE_OF_A_CRATE = 160
 MOST_LINES_OF_A_CRATE = 45
 # These pages do not hold the two limits yet, and are not looked at. A page goes off this list once it holds them, and none comes on it.
-NOT_YET_SHORT = ("docs/API.md", "docs/ARCHITECTURE.md", "docs/DEFINITIONS.md")
+NOT_YET_SHORT = ()
 ROOT = os.path.dirname(os.path.dirname(os.path.realpath(__file__)))
 NAME = re.compile(r"`([^`]+)`")
 ANSWERS = re.compile(r"\b(AllocError|InsertError|TablesError|Refusal|Refused|Reply|End|Fault|Probe|Post|Outcome|Asked\w*)\b|(?<![:\w])Error\b")
