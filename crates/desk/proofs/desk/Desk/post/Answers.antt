@@ -1,8 +1,9 @@
 use Rattle.std.proofs.Common.{◌≡◌, ap, sym, ◌∙◌, subst}
 use Rattle.rows.specs.Follows.{IsNext}
 use Rattle.shown.specs.Standing.{Standing, after_step, standing}
-use Rattle.desk.specs.TableChanges.{Adds}
+use Rattle.desk.specs.TableChanges.{Adds, CanChange}
 use Rattle.desk.specs.inside.Latching.{AgreeWith}
+use Rattle.desk.specs.inside.Changing.{plain}
 use Rattle.desk.proofs.Sound.{sound_same, sound_next}
 use Rattle.desk.proofs.Unposted.{no_room, not_stored}
 use Rattle.desk.proofs.desk.Desk.post.Goals as goal
@@ -20,9 +21,10 @@ returns-in_err-step-clause-err g c =
     let stands : inside.own ≡ standing c.args.self.now.posted = c.self.invariant.stands ∙ ap standing (ap (λ d. d.posted) c.self.view_is) in
     let next : IsNext inside.own.kept c.in_ok-kept.kept = subst (IsNext inside.own.kept) (sym c.in_ok-kept.ensures) (subst (λ (s : Standing). IsNext s.kept c.args.commit) (sym stands) c.requires.next) in
     let room = c.reserve.ensures.same in
+    let change = c.commit_change-change in
     not_stored g.T.Tables c.args.self.now inside.tables inside.own inside.publication c.reserve.new.self c.self.view_is c.requires.open c.self.invariant.stands c.self.invariant.beginning c.self.invariant.judged
-    room.0 room.1 room.2 c.from_residual-in_err-step.result c.in_err-step.field-0.0 c.store.new.tables (Adds c.args.commit) (Adds c.in_ok-kept.kept) c.from_residual-in_err-step.ensures.1
-    (ap Adds c.in_ok-kept.ensures) next c.in_err-step.ensures.err c.store.ensures.lasts
+    room.0 room.1 room.2 c.from_residual-in_err-step.result c.in_err-step.field-0.0 c.store.new.tables (Adds c.args.commit) (plain change.result) c.from_residual-in_err-step.ensures.1
+    (change.ensures.plain ∙ ap Adds c.in_ok-kept.ensures) (subst (CanChange inside.own.kept) (sym change.ensures.plain) next) c.in_err-step.ensures.err c.store.ensures.lasts
     (subst (λ (s : Standing). AgreeWith g.T.Tables c.store.new.tables s.kept) c.in_err-step.ensures.undone c.store.ensures.agrees)
 
 pub invariant_of-self-2 : goal.invariant_of-self-2
