@@ -1,6 +1,5 @@
-use Rattle.std.proofs.Common.{◌≡◌, ◌∙◌, ap, sym, subst}
+use Rattle.std.proofs.Common.{◌∙◌, ap, sym, subst}
 use Rattle.names.specs.declared.commit.Commit.{Commit}
-use Rattle.names.specs.declared.commit.Commit.TheVariants as kinds
 use Rattle.meaning.specs.Config.{Configured}
 use Rattle.tables.specs.Changing.{CanStore}
 use Rattle.tables.specs.declared.change.TableChange.{TableChange}
