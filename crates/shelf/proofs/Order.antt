@@ -61,7 +61,7 @@ module _ {V : Type 0} where
   left_all P [] ys h = tt
   left_all P (x ∷ xs) ys h = (h.0, left_all P xs ys h.1)
 
-  right_all : (P : List ℕ → Type 0) (xs ys : List (List ℕ × V)) → AllByRecursion P (keys_of (xs ++ ys)) → AllByRecursion P (keys_of ys)
+  pub right_all : (P : List ℕ → Type 0) (xs ys : List (List ℕ × V)) → AllByRecursion P (keys_of (xs ++ ys)) → AllByRecursion P (keys_of ys)
   right_all P [] ys h = h
   right_all P (x ∷ xs) ys h = right_all P xs ys h.1
 

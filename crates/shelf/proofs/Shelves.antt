@@ -10,7 +10,7 @@ use Rattle.shelf.specs.inside.Walks.{IsShelf}
 both_more : (n m : ℕ) → 0 < n → 0 < m → eqb n 0 ≡ eqb m 0
 both_more n m h k = grind (arith, nat_tests)
 
-no_length : (n m : ℕ) → eqb n 0 ≡ true → n ≡ m → m ≡ 0
+pub no_length : (n m : ℕ) → eqb n 0 ≡ true → n ≡ m → m ≡ 0
 no_length n m h e = grind (arith, nat_tests)
 
 module _ {V : Type 0} where

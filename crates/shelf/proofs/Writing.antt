@@ -89,7 +89,7 @@ module _ {V : Type 0} where
   keys_joined (c ∷ bs) (suc at) b h =
       map-append (λ e. e.0) c (joined (set bs at b)) ∙ ap (λ ks. keys_of c ++ ks) (keys_joined bs at b h) ∙ sym (map-append (λ e. e.0) c (joined bs))
 
-  some_value : (es : List (List ℕ × V)) (i : ℕ) → i < length es → slice_get (values_of es) i ≡ None → ⊥
+  pub some_value : (es : List (List ℕ × V)) (i : ℕ) → i < length es → slice_get (values_of es) i ≡ None → ⊥
   some_value [] i h none = absurd (omega arith)
   some_value (e ∷ es) zero h none = cc
   some_value (e ∷ es) (suc i) h none = some_value es i (omega arith) none

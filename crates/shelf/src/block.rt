@@ -3,7 +3,7 @@ ghost use Rattle.std.specs.Prelude.{◌≡◌, ℕ, ◌+◌, ◌-◌, ◌^◌, �
 ghost use Rattle.std.specs.List.{slice_get, insert};
 ghost use Rattle.std.specs.Map.{keys_of, values_of};
 ghost use Rattle.std.specs.Map.Iter.{deref_pair};
-ghost use Rattle.std.specs.Borrow.{LendsSo, sem};
+ghost use Rattle.std.specs.Borrow.{Lends, LendsSo, sem};
 ghost use Rattle.std.specs.Option.{option_copied_mut};
 ghost use Rattle.shelf.specs.contracts.block.Block.{the_row};
 ghost use Rattle.shelf.specs.inside.Ends.{with_end};
@@ -137,6 +137,15 @@ impl<V> Block<V> {
         ensures value { option_copied_mut result ≡ slice_get (values_of self.old) i }
     {
         self.values.get_mut(i)
+    }
+
+    /// The value at a place that has one, to be written.
+    pub(crate) fn item_mut(&mut self, i: usize) -> &mut V
+        requires { i < length self.old }
+        ensures* writes_back { sem 𝓛 (Lends (the_row V.row) V.row self.entry result (λ w. with_value self.entry.now i w)) }
+        ensures value { slice_get (values_of self.old) i ≡ Some result.now }
+    {
+        &mut self.values[i]
     }
 
     /// Writes the value at a place, and gives the one that was there.

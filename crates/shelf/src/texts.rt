@@ -1,16 +1,17 @@
 //! All texts.
-ghost use Rattle.std.specs.Prelude.{◌≡◌, ◌≤◌, ◌==◌, [], length, None, MatchOption, IfOk, OnOk, OnErr};
+ghost use Rattle.std.specs.Prelude.{◌≡◌, ◌<◌, ◌≤◌, ◌==◌, [], length, None, MatchOption, IfOk, IfErr, OnOk, OnErr};
 ghost use Rattle.std.specs.BTreeMap.{insert_entry};
-ghost use Rattle.std.specs.Option.{option_copied, option_copied_mut};
+ghost use Rattle.std.specs.Option.{option_copied, option_copied_mut, unwrap_or};
 ghost use Rattle.std.specs.List.Sorted.{IsStrictlySortedBy};
 ghost use Rattle.std.specs.Map.{lookup, keys_of, set_value};
 ghost use Rattle.std.specs.BTreeMap.Range.{entries_between};
 ghost use Rattle.std.specs.declared.ops.Bound.TheVariants.{Included, Unbounded};
-ghost use Rattle.std.specs.Borrow.{LendsSo, sem};
+ghost use Rattle.std.specs.Borrow.{LendsSo, LendsSoOk, sem};
 ghost use Rattle.shelf.specs.contracts.texts.Shelf.{the_row};
 ghost use Rattle.shelf.specs.Texts.{text_cmp, is_text};
-ghost use Rattle.shelf.specs.inside.Places.{IsFound, joined};
+ghost use Rattle.shelf.specs.inside.Places.{IsFound, IsMissing, joined};
 ghost use Rattle.shelf.specs.inside.Walks.{IsShelf};
+ghost use Rattle.shelf.specs.inside.Written.{HasEntered};
 
 use crate::block::{Block, block_of};
 use crate::filling::put;
@@ -89,6 +90,20 @@ impl<V> Shelf<V> {
         block.value_mut(i)
     }
 
+    /// The value at a text, to be written; a text that is not there is put in first, with a value. It is looked up
+    /// once. For want of memory nothing changes.
+    pub fn get_or_insert(&mut self, key: &str, value: V) -> Result<&mut V, AllocError>
+    where
+        V: Drop,
+        requires { length key.now ≤ 511 }
+        ensures* writes_back { sem 𝓛 (LendsSoOk (the_row V.row) V.row self.entry result (λ n w. n ≡ insert_entry text_cmp self.entry.now key.now w) (λ n. n ≡ self.entry.now)) }
+        ensures value { IfOk result (λ lent. lent.now ≡ unwrap_or (lookup (is_text key.now) self.old) value) }
+    {
+        let (at, i) = enter(self.alloc, &mut self.blocks, key, value)?;
+        let block = &mut self.blocks[at];
+        Ok(block.item_mut(i))
+    }
+
     /// Puts a text in with its value, or writes the value of one that is there, and gives the value that was
     /// there. For want of memory nothing changes.
     pub fn insert(&mut self, key: &str, value: V) -> Result<Option<V>, AllocError>
@@ -104,13 +119,12 @@ impl<V> Shelf<V> {
             self.blocks.push(block)?;
             return Ok(None);
         }
-        let at = block_of(&self.blocks, key);
-        match self.blocks[at].search(key) {
-            Ok(i) => {
+        match find(&self.blocks, key) {
+            Ok((at, i)) => {
                 let block = &mut self.blocks[at];
                 Ok(Some(block.replace(i, value)))
             }
-            Err(i) => {
+            Err((at, i)) => {
                 put(self.alloc, &mut self.blocks, at, i, key, value)?;
                 Ok(None)
             }
@@ -142,9 +156,47 @@ fn spot<V>(blocks: &[Block<V>], key: &str) -> Option<(usize, usize)>
     if blocks.is_empty() {
         return None;
     }
+    match find(blocks, key) {
+        Ok((at, i)) => Some((at, i)),
+        Err(_) => None,
+    }
+}
+
+/// Where a text is, or where it would be put in.
+fn find<V>(blocks: &[Block<V>], key: &str) -> Result<(usize, usize), (usize, usize)>
+    requires some { 0 < length blocks.now }
+    requires shelf { IsShelf blocks.now }
+    ensures ok { IfOk result (λ p. IsFound key.now p.0 p.1 blocks.now) }
+    ensures err { IfErr result (λ p. IsMissing key.now p.0 p.1 blocks.now) }
+{
     let at = block_of(blocks, key);
     match blocks[at].search(key) {
-        Ok(i) => Some((at, i)),
-        Err(_) => None,
+        Ok(i) => Ok((at, i)),
+        Err(i) => Err((at, i)),
+    }
+}
+
+/// Puts a text in with a value if it is not there, and says where it is. For want of memory no entry changes.
+fn enter<V: Drop>(
+    alloc: Global,
+    blocks: &mut Vec<Block<V>>,
+    key: &str,
+    value: V,
+) -> Result<(usize, usize), AllocError>
+    requires short { length key.now ≤ 511 }
+    requires shelf { IsShelf blocks.old.items }
+    ensures shelf { IsShelf blocks.new.items }
+    ensures found { IfOk result (λ p. IsFound key.now p.0 p.1 blocks.new.items) }
+    ensures entered { OnOk result (HasEntered key.now value (joined blocks.old.items) (joined blocks.new.items)) }
+    ensures err { OnErr result (joined blocks.new.items ≡ joined blocks.old.items) }
+{
+    if blocks.is_empty() {
+        let block = Block::one(alloc, key, value)?;
+        blocks.push(block)?;
+        return Ok((0, 0));
+    }
+    match find(blocks, key) {
+        Ok((at, i)) => Ok((at, i)),
+        Err((at, i)) => put(alloc, blocks, at, i, key, value),
     }
 }
