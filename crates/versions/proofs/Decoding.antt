@@ -1,6 +1,7 @@
 -- The map as it stands in memory, and the tuples that its texts spell.
 use Rattle.std.proofs.Common.{◌≡◌, ℕ, List, [], ◌∷◌, refl, ap, ap₂, sym, subst, ◌∙◌}
 use Rattle.std.specs.Prelude.{Bool, true, false, cond, Option, None, Some, IsSome}
+use Rattle.std.specs.Option.{unwrap_or}
 use Rattle.std.specs.List.{AllByRecursion}
 use Rattle.std.specs.List.Sorted.{IsStrictlySortedBy}
 use Rattle.std.specs.Map.{lookup, set_value, keys_of}
@@ -81,6 +82,10 @@ sorted_tuples (e ∷ es) s sorted = (above es s.1 sorted.0, sorted_tuples es s.1
     above [] x h = h
     above (f ∷ fs) x h = (sym (texts_order e.0 f.0 s.0 x.0) ∙ h.0, above fs x.1 h.1)
 
+or_none : (o : Option (List Version)) (none : List Version) → none ≡ [] → unwrap_or o none ≡ items_or o
+or_none None none h = h
+or_none (Some vs) none h = refl
+
 -- One step: what is at a text that spells the tuple t.
 module _ (text : List ℕ) (is : IsSpelling text) (t : Tuple) (reads : tuple_of text ≡ t) (es : Texts) (s : AreSpelled es) where
   found : lookup (is_text text) es ≡ lookup (is_same_tuple t) (entries_of es)
@@ -88,6 +93,10 @@ module _ (text : List ℕ) (is : IsSpelling text) (t : Tuple) (reads : tuple_of 
 
   pub versions_found : items_or (lookup (is_text text) es) ≡ versions_at (entries_of es) t
   versions_found = ap items_or found
+
+  -- what was lent there, where nothing stands for none
+  pub versions_or_none : (none : List Version) → none ≡ [] → unwrap_or (lookup (is_text text) es) none ≡ versions_at (entries_of es) t
+  versions_or_none none is_none = or_none (lookup (is_text text) es) none is_none ∙ versions_found
 
   has_some : (old : List Version) → Some old ≡ lookup (is_text text) es → IsSome (lookup (is_same_tuple t) (entries_of es))
   has_some old h = subst IsSome (h ∙ found) refl

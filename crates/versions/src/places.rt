@@ -1,7 +1,7 @@
 //! The versions at one text.
-ghost use Rattle.std.specs.Prelude.{◌≡◌, true, OnOk, OnErr};
+ghost use Rattle.std.specs.Prelude.{◌≡◌, true, IfOk, OnOk, OnErr};
 ghost use Rattle.std.specs.Option.{option_map};
-ghost use Rattle.versions.specs.Versions.{items_or, versions_at, is_based, with_version, drop_last, after_settle, base_versions};
+ghost use Rattle.versions.specs.Versions.{items_or, versions_at, is_there, is_based, with_version, drop_last, after_settle, base_versions};
 ghost use Rattle.versions.specs.Texts.{entries_of, AreSpelled, TextsStay, TextsChangeAt};
 
 use crate::version::{Version, Versions};
@@ -20,25 +20,25 @@ pub(crate) fn versions_of<'a>(map: &'a Texts, key: &TupleRef<'_>) -> Option<&'a 
     map.get(key.as_str())
 }
 
+/// Gives the tuple a version more. Says whether its last version before was a put. The tuple is looked up once.
 pub(crate) fn push_version(
     alloc: Global,
     map: &mut Texts,
     key: &TupleRef<'_>,
     version: Version,
-) -> Result<(), AllocError>
+) -> Result<bool, AllocError>
     requires { AreSpelled map.old }
     ensures spelled { AreSpelled map.new }
     ensures ok { OnOk result (TextsChangeAt key.now (with_version version) map.old map.new) }
+    ensures was_there { IfOk result (λ was_there. was_there ≡ is_there (versions_at (entries_of map.old) key.now)) }
     ensures err { OnErr result (TextsStay map.old map.new) }
 {
-    if let Some(versions) = map.get_mut(key.as_str()) {
-        return match versions.add(version) {
-            Ok(()) => Ok(()),
-            Err(e) => Err(e),
-        };
+    let versions = map.get_or_insert(key.as_str(), Versions::none(alloc))?;
+    let was_there = versions.is_there();
+    match versions.add(version) {
+        Ok(()) => Ok(was_there),
+        Err(e) => Err(e),
     }
-    map.insert(key.as_str(), Versions::one(alloc, version))?;
-    Ok(())
 }
 
 pub(crate) fn pop_version(map: &mut Texts, key: &TupleRef<'_>)

@@ -57,6 +57,16 @@ impl Model for Versions {
 }
 
 impl Versions {
+    /// No version. It takes no memory.
+    pub(crate) fn none(alloc: Global) -> Versions
+        ensures { result ≡ [] }
+    {
+        Versions {
+            alloc,
+            kept: Kept::None,
+        }
+    }
+
     pub(crate) fn one(alloc: Global, version: Version) -> Versions
         ensures { result ≡ version ∷ [] }
     {

@@ -98,8 +98,10 @@ impl VersionMap {
         }
     }
 
-    pub(crate) fn push(&mut self, key: &TupleRef<'_>, version: Version) -> Result<(), AllocError>
+    /// Gives the tuple a version more. Says whether its last version before was a put.
+    pub(crate) fn push(&mut self, key: &TupleRef<'_>, version: Version) -> Result<bool, AllocError>
         ensures ok { OnOk result (ChangesAt key.now (with_version version) self.old self.new) }
+        ensures was_there { IfOk result (λ was_there. was_there ≡ is_there (versions_at self.old key.now)) }
         ensures err { OnErr result (HasSame self.old self.new) }
     {
         push_version(self.alloc, &mut self.map, key, version)

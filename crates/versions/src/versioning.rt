@@ -64,9 +64,8 @@ impl VersionMap {
         for i in 0..events.len() {
             let event = events.event(i);
             let version = Version::of(rev, &event);
-            let was_there = self.holds(event.tuple_ref());
             match self.push(event.tuple_ref(), version) {
-                Ok(()) => change = change.and(version.put, was_there),
+                Ok(was_there) => change = change.and(version.put, was_there),
                 Err(e) => {
                     let _ = self.undo_first(events, i);
                     return Err(e);

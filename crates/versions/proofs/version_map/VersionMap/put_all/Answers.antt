@@ -20,7 +20,7 @@ loop-i-preserved c =
     let small : k < length es = subst (λ (n : ℕ). k < n) c.len-i-end.ensures.len c.loop-i-test.true in
     let before = versions_at c.args.self.now in
     let put = ap (λ (m : Version). m.put) c.of-version.ensures in
-    let there = c.holds-was_there.result in
+    let there = c.in-Ok.was_there in
     let come = c.and-change.ensures.come in
     let gone = c.and-change.ensures.gone in
     let come_before = c.loop-i.invariant.come in
@@ -33,11 +33,11 @@ loop-i-preserved c =
       versions = λ q.
           put_one c.args.rev es k e q (before q) (versions_at c.loop-i.self q) (versions_at c.push.new.self q)
           small c.event-event.ensures (c.loop-i.invariant.versions q)
-          (c.in-Ok.ensures.ok q ∙ ap₂ (λ (t : Tuple) (m : Version). cond (is_same_tuple q t) (versions_at c.loop-i.self q ++ m ∷ []) (versions_at c.loop-i.self q)) c.tuple_ref-in-loop-i.ensures c.of-version.ensures)
+          (c.in-Ok.ensures.ok q ∙ ap₂ (λ (t : Tuple) (m : Version). cond (is_same_tuple q t) (versions_at c.loop-i.self q ++ m ∷ []) (versions_at c.loop-i.self q)) c.tuple_ref.ensures c.of-version.ensures)
           ∙ ap (λ (n : ℕ). before q ++ versions_in c.args.rev (take n es) q) next;
       changes = subst (λ n. Changes before (take n es) c.and-change.result) next
           (changes_more before c.args.rev es k e c.loop-i.change c.and-change.result there small c.event-event.ensures
-          (c.holds-was_there.ensures ∙ ap (λ (t : Tuple). is_there (versions_at c.loop-i.self t)) c.tuple_ref.ensures ∙ ap is_there (c.loop-i.invariant.versions e.tuple))
+          (c.in-Ok.ensures.was_there ∙ ap (λ (t : Tuple). is_there (versions_at c.loop-i.self t)) c.tuple_ref.ensures ∙ ap is_there (c.loop-i.invariant.versions e.tuple))
           (come ∙ ap (λ b. c.loop-i.change.come + one (b && not there)) put)
           (gone ∙ ap (λ b. c.loop-i.change.gone + one (not b && there)) put)
           c.loop-i.invariant.changes);
