@@ -124,3 +124,34 @@ fn a_written_value_is_given_back(rt: HostRuntime) -> Result<(), Fail> {
     assert!(rt; written && is_full(rt.alloc(), &shelf)?);
     Ok(())
 }
+
+/// Whether each text of an odd number is put in with it, and each of an even one, which is there, has the value that
+/// was written at it.
+fn enters(alloc: Global, shelf: &mut Shelf<u64>) -> Result<bool, AllocError> {
+    for i in 0..COUNT {
+        let text = text_of(alloc, i)?;
+        if text.as_str().len() > 511 {
+            return Ok(false);
+        }
+        let number = shelf.get_or_insert(text.as_str(), i)?;
+        if *number != if i % 2 == 0 { 7 } else { i } {
+            return Ok(false);
+        }
+        *number = i;
+    }
+    Ok(true)
+}
+
+#[test]
+fn a_text_that_is_not_there_is_put_in(rt: HostRuntime) -> Result<(), Fail> {
+    let mut shelf = Shelf::new(rt.alloc());
+    for i in 0..COUNT {
+        let text = text_of(rt.alloc(), i)?;
+        if i % 2 == 0 && text.as_str().len() <= 511 {
+            let _ = shelf.insert(text.as_str(), 7)?;
+        }
+    }
+    let entered = enters(rt.alloc(), &mut shelf)?;
+    assert!(rt; entered && is_full(rt.alloc(), &shelf)?);
+    Ok(())
+}
