@@ -10,4 +10,4 @@ pub mod Splitting
 pub mod Parting
 pub mod Entering
 pub mod Skipping
-pub mod Finding
+pub mod Spots

@@ -3,6 +3,7 @@
 
 mod block;
 mod filling;
+mod finding;
 mod texts;
 mod walk;
 

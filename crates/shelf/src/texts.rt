@@ -1,5 +1,5 @@
 //! All texts.
-ghost use Rattle.std.specs.Prelude.{◌≡◌, ◌<◌, ◌≤◌, ◌==◌, [], length, None, MatchOption, IfOk, IfErr, OnOk, OnErr};
+ghost use Rattle.std.specs.Prelude.{◌≡◌, ◌≤◌, ◌==◌, [], length, IfOk, OnOk, OnErr};
 ghost use Rattle.std.specs.BTreeMap.{insert_entry};
 ghost use Rattle.std.specs.Option.{option_copied, option_copied_mut, unwrap_or};
 ghost use Rattle.std.specs.List.Sorted.{IsStrictlySortedBy};
@@ -9,12 +9,10 @@ ghost use Rattle.std.specs.declared.ops.Bound.TheVariants.{Included, Unbounded};
 ghost use Rattle.std.specs.Borrow.{LendsSo, LendsSoOk, sem};
 ghost use Rattle.shelf.specs.contracts.texts.Shelf.{the_row};
 ghost use Rattle.shelf.specs.Texts.{text_cmp, is_text};
-ghost use Rattle.shelf.specs.inside.Places.{IsFound, IsMissing, joined};
-ghost use Rattle.shelf.specs.inside.Walks.{IsShelf};
-ghost use Rattle.shelf.specs.inside.Written.{HasEntered};
 
-use crate::block::{Block, block_of};
+use crate::block::Block;
 use crate::filling::put;
+use crate::finding::{enter, find, spot};
 use crate::walk::{Walk, walk_all, walk_from};
 use std::alloc::{AllocError, Global};
 use std::marker::Model;
@@ -145,58 +143,5 @@ impl<V> Shelf<V> {
         ensures ordered { IsStrictlySortedBy text_cmp (keys_of self.now) }
     {
         walk_from(&self.blocks, least)
-    }
-}
-
-/// Where a text is: its block, and its place in it.
-fn spot<V>(blocks: &[Block<V>], key: &str) -> Option<(usize, usize)>
-    requires { IsShelf blocks.now }
-    ensures { MatchOption result (lookup (is_text key.now) (joined blocks.now) ≡ None) (λ p. IsFound key.now p.0 p.1 blocks.now) }
-{
-    if blocks.is_empty() {
-        return None;
-    }
-    match find(blocks, key) {
-        Ok((at, i)) => Some((at, i)),
-        Err(_) => None,
-    }
-}
-
-/// Where a text is, or where it would be put in.
-fn find<V>(blocks: &[Block<V>], key: &str) -> Result<(usize, usize), (usize, usize)>
-    requires some { 0 < length blocks.now }
-    requires shelf { IsShelf blocks.now }
-    ensures ok { IfOk result (λ p. IsFound key.now p.0 p.1 blocks.now) }
-    ensures err { IfErr result (λ p. IsMissing key.now p.0 p.1 blocks.now) }
-{
-    let at = block_of(blocks, key);
-    match blocks[at].search(key) {
-        Ok(i) => Ok((at, i)),
-        Err(i) => Err((at, i)),
-    }
-}
-
-/// Puts a text in with a value if it is not there, and says where it is. For want of memory no entry changes.
-fn enter<V: Drop>(
-    alloc: Global,
-    blocks: &mut Vec<Block<V>>,
-    key: &str,
-    value: V,
-) -> Result<(usize, usize), AllocError>
-    requires short { length key.now ≤ 511 }
-    requires shelf { IsShelf blocks.old.items }
-    ensures shelf { IsShelf blocks.new.items }
-    ensures found { IfOk result (λ p. IsFound key.now p.0 p.1 blocks.new.items) }
-    ensures entered { OnOk result (HasEntered key.now value (joined blocks.old.items) (joined blocks.new.items)) }
-    ensures err { OnErr result (joined blocks.new.items ≡ joined blocks.old.items) }
-{
-    if blocks.is_empty() {
-        let block = Block::one(alloc, key, value)?;
-        blocks.push(block)?;
-        return Ok((0, 0));
-    }
-    match find(blocks, key) {
-        Ok((at, i)) => Ok((at, i)),
-        Err((at, i)) => put(alloc, blocks, at, i, key, value),
     }
 }

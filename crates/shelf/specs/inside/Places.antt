@@ -56,8 +56,3 @@ pub record IsBlockOf {V : Type 0} (key : List ℕ) (i : ℕ) (bs : List (List (L
 pub record IsFound {V : Type 0} (key : List ℕ) (at i : ℕ) (bs : List (List (List ℕ × V))) : Type 0 where
   pub block : IsBlockOf key at bs
   pub there : IsAt key i (slice_index_or bs at [])
-
--- the key is no text, and its place in a block is this
-pub record IsMissing {V : Type 0} (key : List ℕ) (at i : ℕ) (bs : List (List (List ℕ × V))) : Type 0 where
-  pub block : IsBlockOf key at bs
-  pub between : IsBetween key i (slice_index_or bs at [])

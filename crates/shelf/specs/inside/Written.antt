@@ -1,10 +1,6 @@
 -- What is written at a place.
-use Rattle.std.specs.Prelude.{◌≡◌, Some, ℕ, zero, suc, ◌+◌, List, [], ◌∷◌, ◌++◌, take, drop, slice_set, slice_index_or}
+use Rattle.std.specs.Prelude.{ℕ, zero, suc, ◌+◌, List, [], ◌∷◌, ◌++◌, take, drop, slice_set, slice_index_or}
 use Rattle.std.specs.List.{insert}
-use Rattle.std.specs.Map.{lookup, set_value}
-use Rattle.std.specs.BTreeMap.{insert_entry}
-use Rattle.std.specs.Option.{unwrap_or}
-use Rattle.shelf.specs.Texts.{text_cmp, is_text}
 use Rattle.shelf.specs.inside.Places.{joined}
 
 -- with w as the value at a place
@@ -20,8 +16,3 @@ entries_put bs at i e = joined (take at bs) ++ (insert (slice_index_or bs at [])
 -- the blocks, one of them parted
 abbrev pub parted : {V : Type 0} → List (List (List ℕ × V)) → ℕ → ℕ → List (List (List ℕ × V))
 parted bs at cut = insert (slice_set bs at (take cut (slice_index_or bs at []))) (at + 1) (drop cut (slice_index_or bs at []))
-
--- the key is put among the entries with a value, or it was one of them
-pub record HasEntered {V : Type 0} (key : List ℕ) (v : V) (old new : List (List ℕ × V)) : Type 0 where
-  pub written : (w : V) → set_value (is_text key) new w ≡ insert_entry text_cmp old key w
-  pub value : lookup (is_text key) new ≡ Some (unwrap_or (lookup (is_text key) old) v)

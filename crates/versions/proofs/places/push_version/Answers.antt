@@ -1,4 +1,4 @@
-use Rattle.std.proofs.Common.{◌++◌, ◌∷◌, [], ap, refl, sym, subst, ◌∙◌}
+use Rattle.std.proofs.Common.{ap, refl, sym, subst, ◌∙◌}
 use Rattle.std.specs.Result.{IsOk}
 use Rattle.versions.specs.Versions.{versions_at, is_there, with_version}
 use Rattle.versions.specs.Texts.{entries_of}

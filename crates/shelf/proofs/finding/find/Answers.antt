@@ -2,7 +2,7 @@ use Rattle.std.proofs.Common.{subst, [], ◌∙◌}
 use Rattle.std.proofs.lemmas.List.{get_or_default}
 use Rattle.shelf.specs.inside.Places.{IsAt, IsBetween}
 use Rattle.shelf.proofs.Order.{sorted_block}
-use Rattle.shelf.proofs.texts.find.Goals as goal
+use Rattle.shelf.proofs.finding.find.Goals as goal
 
 pub search-requires : goal.search-requires
 search-requires g c = sorted_block c.args.blocks.now c.block_of-at.result c.index-blocks-at.result c.requires.shelf.sorted c.block_of-at.ensures.within c.index-blocks-at.is

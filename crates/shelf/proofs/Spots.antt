@@ -2,8 +2,8 @@
 use Rattle.std.proofs.Common.{◌≡◌, ℕ, zero, suc, ◌<◌, List, [], ◌∷◌, ◌++◌, length, take, drop, get_or, set, refl, ap, sym, subst, ◌∙◌, arith, eqb}
 use Rattle.std.specs.Prelude.{Option, Some, None, cond, Result, Ok, Err, IfOk, OnOk, OnErr, true}
 use Rattle.std.specs.Option.{unwrap_or}
-use Rattle.std.specs.List.{AllByRecursion, slice_get}
-use Rattle.std.specs.Map.{lookup, set_value, keys_of, values_of}
+use Rattle.std.specs.List.{AllByRecursion}
+use Rattle.std.specs.Map.{lookup, set_value, keys_of}
 use Rattle.std.specs.BTreeMap.{insert_entry}
 use Rattle.std.specs.Ordering.{match_ordering, is_eq}
 use Rattle.std.specs.declared.cmp.Ordering.{Ordering}
@@ -11,9 +11,10 @@ use Rattle.std.specs.declared.cmp.Ordering.TheVariants.{Less, Equal, Greater}
 use Rattle.std.proofs.lemmas.List.{get_or_default, nil_from_length}
 use Rattle.std.proofs.lemmas.Map.Keys.{sorted_head, sorted_tail}
 use Rattle.shelf.specs.Texts.{text_cmp, is_text}
-use Rattle.shelf.specs.inside.Places.{AreSorted, AreAbove, AreFilled, IsAt, IsFound, IsMissing, joined}
+use Rattle.shelf.specs.inside.Places.{AreSorted, AreAbove, AreFilled, IsAt, IsFound, joined}
 use Rattle.shelf.specs.inside.Walks.{IsShelf}
-use Rattle.shelf.specs.inside.Written.{with_value, entries_put, HasEntered}
+use Rattle.shelf.specs.inside.Written.{with_value, entries_put}
+use Rattle.shelf.specs.inside.Entered.{IsMissing, HasEntered}
 use Rattle.shelf.proofs.Order.{head_at, text_itself, right_all, sorted_right, sorted_at, joined_at, joined_split, blocks_below}
 use Rattle.shelf.proofs.Looking.{missing}
 use Rattle.shelf.proofs.Writing.{set_entries, found_there, some_value}
