@@ -27,7 +27,7 @@ use Rattle.tables.specs.Storing.{one_more}
 use Rattle.tables.specs.declared.tables.Tables.{Ghosts}
 use Rattle.tables.proofs.Lasting.{lasts_self}
 use Rattle.desk.specs.TableChanges.{TableChange, Adds, Raises, changed, CanChange}
-use Rattle.desk.specs.Posts.{Posts, ShowsMore, SameTables, PostsStep, newest_posted}
+use Rattle.desk.specs.Posts.{Posts, IsSettled, ShowsMore, SameTables, PostsStep, newest_posted}
 use Rattle.published.specs.Receipts.{ReceiptFacts}
 use Rattle.desk.specs.Changes.{Tells, TellsShown, IsStored, WriteAccepted, ConfigAccepted, CatchUpAccepted, TrimAccepted, MarkingAccepted, RebuildAccepted, trim_raises, CatchUpJudged, IsCommitOfWrite, IsRaiseTo, IsNoChange, MayLeave, Touches, leaves_alone, adds_one, Refuses, IsRefused, IsUnopposed}
 use Rattle.desk.specs.inside.Posting.{NoCause}
@@ -65,10 +65,10 @@ refused_exit P (Err why) e was is = subst P (sym was) is
 pub lasts_same : {T : Type 0} (g : Ghosts T) (old new : T) → new ≡ old → Lasts (g.device old) (g.device new)
 lasts_same {T} g old new same = subst (λ (t : T). Lasts (g.device old) (g.device t)) (sym same) (lasts_self (g.device old))
 
-module _ {T : Type 0} (g : Ghosts T) (old mid : Posts T) (more : ShowsMore old mid) (same : SameTables old mid) where
+module _ {T : Type 0} (g : Ghosts T) (old mid : Posts T) (more : ShowsMore old mid) (same : SameTables old mid) (settled : IsSettled g mid) where
   -- nothing was stored yet
   pub refused_early : (made : TableChange → Type 0) (judged : Refusal → Type 0) (why : Refusal) → Refuses g old judged why mid → IsRefused g old made judged why mid
-  refused_early made judged why cause = record { shows = more; cause = cause; touches = leaves_alone same.0; lasts = lasts_same g old.tables mid.tables same.0 }
+  refused_early made judged why cause = record { shows = more; cause = cause; touches = leaves_alone same.0; settled = settled; lasts = lasts_same g old.tables mid.tables same.0 }
 
   -- the tables failed before
   pub not_ready : {A : Type 0} (made : TableChange → Type 0) (judged : Refusal → Type 0) (r : Result A Refusal) (why : Refusal) → IsErrAnd r (λ e. e ≡ why)
@@ -284,6 +284,7 @@ module _ {T : Type 0} (g : Ghosts T) (old mid : Posts T) (more : ShowsMore old m
             shows = shows_on refused.shows;
             cause = cause_on judged why memory refused.cause;
             touches = touches_on made change asked refused.touches;
+            settled = refused.settled;
             lasts = subst (λ (t : T). Lasts (g.device t) (g.device new.tables)) same.0 refused.lasts;
           }
 

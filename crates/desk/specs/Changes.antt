@@ -25,7 +25,7 @@ use Rattle.shown.specs.Standing.{Standing, standing, cursor_of, base_cause}
 use Rattle.shown.specs.Raising.{floor_cause}
 use Rattle.published.specs.Receipts.{ReceiptFacts}
 use Rattle.desk.specs.TableChanges.{TableChange, Adds, Raises, changed, CanChange}
-use Rattle.desk.specs.Posts.{Posts, SameTables, ShowsMore, PostsStep, shown_by, newest_posted}
+use Rattle.desk.specs.Posts.{Posts, IsSettled, SameTables, ShowsMore, PostsStep, shown_by, newest_posted}
 
 -- the receipt tells of the desk as it is, and names the newest posted revision
 pub record Tells {T : Type 0} (receipt : ReceiptFacts) (desk : Posts T) : Type 0 where
@@ -198,11 +198,13 @@ Refuses g old judged why new =
     (old.failed ≡ false) × (new.failed ≡ false) × (new.faults ≡ old.faults)
     × (new.tables ≡ old.tables) × judged why
 
--- nothing is posted, and this is why
+-- Nothing is posted, and this is why. What an earlier refusal may have left beside the posted steps' history is there no more,
+-- unless the tables have failed or were closed.
 pub record IsRefused {T : Type 0}
     (g : Ghosts T) (old : Posts T) (made : TableChange → Type 0) (judged : Refusal → Type 0)
     (why : Refusal) (new : Posts T) : Type 0 where
   pub shows : ShowsMore old new
   pub cause : Refuses g old judged why new
   pub touches : Touches g old made new
+  pub settled : IsSettled g new
   pub lasts : Lasts (g.device old.tables) (g.device new.tables)

@@ -47,6 +47,10 @@ pub record Agrees {T : Type 0} (g : Ghosts T) (failed : Bool) (tables : T) (r : 
   pub follow : All (CanChange r) more
   pub leaves : g.leaves tables (r ∷ map (changed r) more)
 
+-- As long as the tables have not failed and are open, what is left of them now holds the posted steps' history, and no other.
+abbrev pub IsSettled : {T : Type 0} → Ghosts T → Posts T → Type 0
+IsSettled g d = d.failed ≡ false → IsOpen (g.device d.tables) → g.leaves d.tables ((standing d.posted).kept ∷ [])
+
 -- The one posted step opens tables with a history that they hold. Where the device has returned what was
 -- written, it is one that they held before, and no other than each that they held.
 abbrev pub OpensWith : {T : Type 0} → Ghosts T → T → Posts T → Type 0

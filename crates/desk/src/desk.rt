@@ -21,7 +21,7 @@ ghost use Rattle.published.specs.declared.publication.TheConstants.{MAX_SESSIONS
 ghost use Rattle.published.specs.Judged.{AreJudged, WereJudged};
 ghost use Rattle.published.specs.Known.{Begins};
 ghost use Rattle.desk.specs.TableChanges.{Adds, Raises};
-ghost use Rattle.desk.specs.Posts.{Agrees, OpensWith, ComesBack, FailsToLoad, SameTables, ShowsMore, PostsStep, newest_posted, shown_by};
+ghost use Rattle.desk.specs.Posts.{Agrees, OpensWith, ComesBack, FailsToLoad, IsSettled, SameTables, ShowsMore, PostsStep, newest_posted, shown_by};
 ghost use Rattle.desk.specs.Changes.{Tells, TellsShown, IsStored, WriteAccepted, ConfigAccepted, CatchUpAccepted, TrimAccepted, MarkingAccepted, RebuildAccepted, IsRefused, IsCommitOfWrite, IsRaiseTo, IsNoChange, CatchUpJudged, RebuildJudged, receipt_at};
 ghost use Rattle.desk.specs.Made.{IsMade, MayStore, SpeaksAgainst};
 ghost use Rattle.desk.specs.inside.Posting.{NoCause, LeavesHistory};
@@ -327,9 +327,13 @@ impl<T: Tables + Drop, R: Wait + Drop> Desk<T, R> {
         self.publication.newest()
     }
 
-    /// All that is posted was judged on what was posted before it, whether the desk has been asked or changed yet or not.
-    pub fn judged_its_steps(&self)
-        ensures { WereJudged self.now.posted self.now.shown }
+    /// What is true of every desk, whether it has been asked or changed yet or not: what is shown is a beginning of what is
+    /// posted, all of it was judged on what was posted before it, and the tables and the posted steps are one history.
+    pub fn see(&self)
+        ensures beginning { IsPrefix self.now.shown self.now.posted }
+        ensures judged { WereJudged self.now.posted self.now.shown }
+        ensures agrees { Agrees T.Tables self.now.failed self.now.tables (standing self.now.posted).kept }
+        ensures settled { IsSettled T.Tables self.now }
     {
         // A proof knows the invariant where a field is used.
         let _ = &self.publication;
@@ -347,10 +351,12 @@ impl<T: Tables + Drop, R: Wait + Drop> Desk<T, R> {
         ensures more { ShowsMore self.old self.new }
         ensures same { SameTables self.old self.new }
         ensures seats { self.new.seats ≡ self.old.seats }
+        ensures settled { IsSettled T.Tables self.new }
         ensures ok { OnOk result (self.old.failed ≡ false) }
         ensures err { IfErr result (λ why. (why ≡ Reopen) × (self.old.failed ≡ true)) }
     {
         self.publish();
+        self.see();
         if self.has_failed() {
             Err(Refusal::Reopen)
         } else {

@@ -1,16 +1,17 @@
 -- A desk that shows more, and what was refused before that.
-use Rattle.std.proofs.Common.{List, ◌∷◌, refl, sym, ◌∙◌, subst}
+use Rattle.std.proofs.Common.{List, [], ◌∷◌, refl, sym, ◌∙◌, subst}
 use mathlib.Core.List.{IsPrefix}
 use Rattle.names.specs.declared.refusal.Refusal.{Refusal}
 use Rattle.names.specs.declared.refusal.Refusal.TheVariants.{Memory, StoreFault, Reopen}
 use Rattle.rows.specs.Retained.{Retained}
+use Rattle.shown.specs.declared.step.Step.{Step}
 use Rattle.shown.specs.Standing.{standing}
 use Rattle.tables.specs.Device.{IsOpen, HasFailed, Lasts}
 use Rattle.tables.specs.declared.tables.Tables.{Ghosts}
 use Rattle.published.specs.Judged.{WereJudged}
 use Rattle.published.proofs.Prefixes.{prefix_self, prefix_trans}
 use Rattle.desk.specs.TableChanges.{TableChange, changed}
-use Rattle.desk.specs.Posts.{Posts, ShowsMore, SameTables}
+use Rattle.desk.specs.Posts.{Posts, IsSettled, ShowsMore, SameTables}
 use Rattle.desk.specs.Changes.{Touches, leaves_alone, adds_one, Refuses, IsRefused}
 use Rattle.keeper.specs.Showing.{OnlyShows}
 
@@ -22,6 +23,13 @@ shows_itself d beginning judged =
       tables = (refl, refl, refl);
       seats = refl;
     }
+
+-- the tables leave what they left
+settled_still : {T : Type 0} (g : Ghosts T) (mid new : Posts T) → ShowsMore mid new → SameTables mid new → IsSettled g mid → IsSettled g new
+settled_still {T} g mid new more same settled works opened =
+    let tables = subst (λ (t : T). IsOpen (g.device t)) same.0 opened in
+    subst (λ (steps : List Step). g.leaves new.tables ((standing steps).kept ∷ [])) (sym more.posted)
+    (subst (λ (t : T). g.leaves t ((standing mid.posted).kept ∷ [])) (sym same.0) (settled (sym same.1 ∙ works) tables))
 
 -- a change that was refused is so still where more was shown since
 module _ {T : Type 0} (g : Ghosts T) (old mid new : Posts T) (made : TableChange → Type 0) (judged : Refusal → Type 0) (why : Refusal) where
@@ -53,5 +61,6 @@ module _ {T : Type 0} (g : Ghosts T) (old mid new : Posts T) (made : TableChange
         };
         cause = refuses_still why same refused.cause;
         touches = touches_still same refused.touches;
+        settled = settled_still g mid new more same refused.settled;
         lasts = subst (λ (t : T). Lasts (g.device old.tables) (g.device t)) (sym same.0) refused.lasts;
       }

@@ -4,3 +4,4 @@ pub mod Questions
 pub mod Changes
 pub mod calls
 pub mod Rules
+pub mod Failing

@@ -36,9 +36,9 @@ pub fn answer_on<T: Tables + Drop, R: Wait + Drop>(
     ensures known_judged { AreJudged session.new.steps }
     ensures rises { Rises (standing desk.old.shown).kept (standing desk.new.shown).kept }
 {
-    desk.judged_its_steps();
+    desk.see();
     let reply = answer_call(alloc, desk, session, call, body);
-    desk.judged_its_steps();
+    desk.see();
     session.knows_judged_steps();
     reply
 }

@@ -6,6 +6,7 @@ mod answering_desk;
 mod asking;
 mod calls;
 mod changes;
+mod law;
 mod questions;
 
 pub use answer::answer_on;
@@ -13,4 +14,5 @@ pub use answering_desk::Answering;
 pub use asking::is_of_the_future;
 pub use calls::changing::change_on;
 pub use changes::{change_of, is_change, made_reply};
+pub use law::failed_desks_make_no_change;
 pub use questions::{question_of, told_reply};

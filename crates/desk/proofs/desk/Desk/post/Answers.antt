@@ -1,17 +1,29 @@
-use Rattle.std.proofs.Common.{◌≡◌, ap, sym, ◌∙◌, subst}
+use Rattle.std.proofs.Common.{◌≡◌, ap, refl, sym, ◌∙◌, subst}
+use Rattle.std.specs.Prelude.{IfErr}
 use Rattle.rows.specs.Follows.{IsNext}
 use Rattle.shown.specs.Standing.{Standing, after_step, standing}
 use Rattle.desk.specs.TableChanges.{Adds}
+use Rattle.desk.specs.Posts.{Posts}
+use Rattle.desk.specs.Changes.{IsRefused}
 use Rattle.desk.specs.inside.Latching.{AgreeWith}
+use Rattle.desk.specs.inside.Posting.{NoCause}
 use Rattle.desk.proofs.Sound.{sound_same, sound_next}
 use Rattle.desk.proofs.Unposted.{no_room, not_stored}
 use Rattle.desk.proofs.desk.Desk.post.Goals as goal
+
+pub returns-in_err-kept-clause-err : goal.returns-in_err-kept-clause-err
+returns-in_err-kept-clause-err g c =
+    let inside = c.self.inside in
+    let told = c.from_residual in
+    subst (λ (d : Posts g.row.T.Denot). IfErr told.result (λ why. IsRefused g.T.Tables c.args.self.now (λ made. made ≡ Adds c.args.commit) NoCause why d)) c.self.view_is
+    (no_room g.T.Tables c.args.self.now inside.tables inside.own inside.publication inside.publication c.self.view_is c.requires.open c.self.invariant.stands c.self.invariant.beginning c.self.invariant.judged g.met.T.Tables.settled c.self.invariant.agrees
+    refl refl refl told.result (λ made. made ≡ Adds c.args.commit) told.ensures.1)
 
 pub returns-in_err-reserve-clause-err : goal.returns-in_err-reserve-clause-err
 returns-in_err-reserve-clause-err g c =
     let inside = c.self.inside in
     let room = c.reserve.ensures.same in
-    no_room g.T.Tables c.args.self.now inside.tables inside.own inside.publication c.reserve.new.self c.self.view_is c.requires.open c.self.invariant.stands c.self.invariant.beginning c.self.invariant.judged
+    no_room g.T.Tables c.args.self.now inside.tables inside.own inside.publication c.reserve.new.self c.self.view_is c.requires.open c.self.invariant.stands c.self.invariant.beginning c.self.invariant.judged g.met.T.Tables.settled c.self.invariant.agrees
     room.0 room.1 room.2 c.from_residual-in_err-reserve.result _ c.from_residual-in_err-reserve.ensures.1
 
 pub returns-in_err-step-clause-err : goal.returns-in_err-step-clause-err
@@ -20,7 +32,7 @@ returns-in_err-step-clause-err g c =
     let stands : inside.own ≡ standing c.args.self.now.posted = c.self.invariant.stands ∙ ap standing (ap (λ d. d.posted) c.self.view_is) in
     let next : IsNext inside.own.kept c.in_ok-kept.kept = subst (IsNext inside.own.kept) (sym c.in_ok-kept.ensures) (subst (λ (s : Standing). IsNext s.kept c.args.commit) (sym stands) c.requires.next) in
     let room = c.reserve.ensures.same in
-    not_stored g.T.Tables c.args.self.now inside.tables inside.own inside.publication c.reserve.new.self c.self.view_is c.requires.open c.self.invariant.stands c.self.invariant.beginning c.self.invariant.judged
+    not_stored g.T.Tables c.args.self.now inside.tables inside.own inside.publication c.reserve.new.self c.self.view_is c.requires.open c.self.invariant.stands c.self.invariant.beginning c.self.invariant.judged g.met.T.Tables.settled c.self.invariant.agrees
     room.0 room.1 room.2 c.from_residual-in_err-step.result c.in_err-step.field-0.0 c.store.new.tables (Adds c.args.commit) (Adds c.in_ok-kept.kept) c.from_residual-in_err-step.ensures.1
     (ap Adds c.in_ok-kept.ensures) next c.in_err-step.ensures.err c.store.ensures.lasts
     (subst (λ (s : Standing). AgreeWith g.T.Tables c.store.new.tables s.kept) c.in_err-step.ensures.undone c.store.ensures.agrees)

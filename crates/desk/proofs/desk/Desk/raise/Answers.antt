@@ -15,7 +15,7 @@ pub returns-in_err-reserve-clause-err : goal.returns-in_err-reserve-clause-err
 returns-in_err-reserve-clause-err g c =
     let inside = c.self.inside in
     let room = c.reserve.ensures.same in
-    no_room g.T.Tables c.args.self.now inside.tables inside.own inside.publication c.reserve.new.self c.self.view_is c.requires.open c.self.invariant.stands c.self.invariant.beginning c.self.invariant.judged
+    no_room g.T.Tables c.args.self.now inside.tables inside.own inside.publication c.reserve.new.self c.self.view_is c.requires.open c.self.invariant.stands c.self.invariant.beginning c.self.invariant.judged g.met.T.Tables.settled c.self.invariant.agrees
     room.0 room.1 room.2 c.from_residual.result _ c.from_residual.ensures.1
 
 pub returns-in_err-step-clause-err : goal.returns-in_err-step-clause-err
@@ -24,7 +24,7 @@ returns-in_err-step-clause-err g c =
     let stands : inside.own ≡ standing c.args.self.now.posted = c.self.invariant.stands ∙ ap standing (ap (λ d. d.posted) c.self.view_is) in
     let can : CanRaise inside.own c.args.floor = subst (λ (s : Standing). CanRaise s c.args.floor) (sym stands) c.requires.can in
     let room = c.reserve.ensures.same in
-    not_stored g.T.Tables c.args.self.now inside.tables inside.own inside.publication c.reserve.new.self c.self.view_is c.requires.open c.self.invariant.stands c.self.invariant.beginning c.self.invariant.judged
+    not_stored g.T.Tables c.args.self.now inside.tables inside.own inside.publication c.reserve.new.self c.self.view_is c.requires.open c.self.invariant.stands c.self.invariant.beginning c.self.invariant.judged g.met.T.Tables.settled c.self.invariant.agrees
     room.0 room.1 room.2 c.from_residual-in_err-step.result c.in_err-step.field-0.0 c.store_floor.new.tables (Raises c.args.floor) (Raises c.args.floor) c.from_residual-in_err-step.ensures.1
     refl (can.above, can.there) c.in_err-step.ensures.err c.store_floor.ensures.lasts
     (subst (λ (s : Standing). AgreeWith g.T.Tables c.store_floor.new.tables s.kept) c.in_err-step.ensures.undone c.store_floor.ensures.agrees)
