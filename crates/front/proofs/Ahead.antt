@@ -5,6 +5,7 @@ use Rattle.std.specs.Prelude.{◌↔◌, Result, Ok, Err, IfErr, ⊤}
 use Rattle.names.specs.declared.call.Call.{Call}
 use Rattle.names.specs.declared.call.Call.TheVariants.{State}
 use Rattle.names.specs.declared.refusal.Refusal.TheVariants.{Future}
+use Rattle.tables.specs.declared.tables.Tables.{Ghosts}
 use Rattle.published.specs.Known.{Known}
 use Rattle.published.specs.Receipts.{ReceiptFacts}
 use Rattle.published.proofs.Rules.{begins_trans}
@@ -42,5 +43,5 @@ sought s State body question asks ahead a = state_is_not_ahead s body question a
 sought s _ body question asks ahead a = a
 
 -- a session that was refreshed knows what a desk shows, also when it has answered since
-pub still_knows : {T : Type 0} {book : Book} {receipt : ReceiptFacts} (mid new : Known) → ToldByDesk T book receipt mid → KnowsMore mid new → KnowsADesk T book new
-still_knows mid new told later = (told.desk, told.kept, begins_trans (shown_by told.desk) mid new told.known later.0)
+pub still_knows : {T : Type 0} (g : Ghosts T) {book : Book} {receipt : ReceiptFacts} (mid new : Known) → ToldByDesk g book receipt mid → KnowsMore mid new → KnowsADesk g book new
+still_knows g mid new told later = (told.desk, told.kept, begins_trans (shown_by told.desk) mid new told.known later.0)

@@ -17,10 +17,10 @@ use Rattle.front.proofs.Told.{from_later}
 module _ {T : Type 0} (g : Ghosts T) (b : Book) where
   change_later : (old : Known) (call : Call) (body : List ℕ) (told : Option (ℕ × List ℕ)) (new : Known) → ChangeFrom g b old call body told new → Keeps old new
   change_later old call body told new (off_the_desk stays same) = inl same
-  change_later old call body told new (on_a_desk before after kept step later known) = inr later
+  change_later old call body told new (on_a_desk before after kept still step later known) = inr later
 
   tells_later : (changing : Bool) (old : Known) (call : Call) (body : List ℕ) (told : Option (ℕ × List ℕ)) (new : Known)
-      → MatchBool changing (ChangeFrom g b old call body told new) (AskFrom (sought_by call (KnowsADesk T b new)) old call body told new) → Keeps old new
+      → MatchBool changing (ChangeFrom g b old call body told new) (AskFrom (sought_by call (KnowsADesk g b new)) old call body told new) → Keeps old new
   tells_later true old call body told new tells = change_later old call body told new tells
   tells_later false old call body told new tells = from_later old call body told new tells
 

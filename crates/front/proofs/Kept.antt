@@ -8,14 +8,10 @@ use Rattle.shown.specs.declared.step.Step.TheVariants.{Open}
 use Rattle.published.specs.Known.{Known, Begins}
 use Rattle.published.proofs.Prefixes.{prefix_trans}
 use Rattle.published.proofs.Rules.{begins_self, begins_trans}
-use Rattle.desk.specs.Posts.{Posts, ShowsMore}
-use Rattle.front.specs.Kept.{IsOpened, IsKnownIn, IsKept, KnowsMore}
+use Rattle.front.specs.Kept.{IsOpened, IsKnownIn, KnowsMore}
 
 opened_on : (xs ys : List Step) → IsOpened xs → IsPrefix xs ys → IsOpened ys
 opened_on xs ys opened on = record { loaded = opened.loaded; begins = prefix_trans (Open opened.loaded ∷ []) xs ys opened.begins on }
-
-pub kept_on : {T : Type 0} (b : Book) (d e : Posts T) → IsKept b d → ShowsMore d e → IsKept b e
-kept_on b d e kept more = record { of_book = more.book ∙ kept.of_book; opened = opened_on d.shown e.shown kept.opened more.later; judged = more.judged }
 
 -- ---- a session
 

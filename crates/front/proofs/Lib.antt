@@ -1,5 +1,6 @@
 pub mod Crossing
 pub mod Kept
+pub mod Shown
 pub mod NeverBack
 pub mod Ahead
 pub mod Told

@@ -19,14 +19,14 @@ pub data ChangeFrom {T : Type 0} (g : Ghosts T) (book : Book)
     (old : Known) (call : Call) (body : List ℕ) (told : Option (ℕ × List ℕ)) (new : Known) : Type 0 where
   off_the_desk : ((desk : Posts T) → ChangeStep g desk call body told desk) → new ≡ old
       → ChangeFrom g book old call body told new
-  on_a_desk : (before after : Posts T) → IsKept book before → ChangeStep g before call body told after
+  on_a_desk : (before after : Posts T) → IsKept g book before → IsKept g book after → ChangeStep g before call body told after
       → KnowsMore old new → Begins (shown_by after) new → ChangeFrom g book old call body told new
 
 -- A desk of the book told this of itself: its store's number, its newest shown revision, and whether all that is posted is
 -- shown. The session then knows all that the desk shows.
-pub record ToldByDesk (T : Type 0) (book : Book) (receipt : ReceiptFacts) (new : Known) : Type 0 where
+pub record ToldByDesk {T : Type 0} (g : Ghosts T) (book : Book) (receipt : ReceiptFacts) (new : Known) : Type 0 where
   pub desk : Posts T
-  pub kept : IsKept book desk
+  pub kept : IsKept g book desk
   pub tells : TellsShown receipt desk
   pub known : Begins (shown_by desk) new
 
@@ -37,7 +37,7 @@ abbrev pub MayTell : {T : Type 0}
 MayTell {T} g book old call body told new =
     MatchBool (is_change call)
     (ChangeFrom g book old call body told new)
-    (AskFrom (sought_by call (KnowsADesk T book new)) old call body told new)
+    (AskFrom (sought_by call (KnowsADesk g book new)) old call body told new)
 
 -- It may tell so, and no later answer goes back on what its session knew.
 pub record FrontStep {T : Type 0} (g : Ghosts T) (book : Book)

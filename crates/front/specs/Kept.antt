@@ -10,7 +10,7 @@ use Rattle.shown.specs.Standing.{standing}
 use Rattle.published.specs.Known.{Known, Begins}
 use Rattle.published.specs.Judged.{AreJudged, WereJudged}
 use Rattle.published.specs.Rising.{Rises}
-use Rattle.desk.specs.Posts.{Posts, Agrees, shown_by}
+use Rattle.desk.specs.Posts.{Posts, Agrees, IsSettled, shown_by}
 
 -- the steps begin with an opening
 pub record IsOpened (steps : List Step) : Type 0 where
@@ -33,19 +33,27 @@ pub record NeverGoesBack (old new : Known) : Type 0 where
   pub begins : Begins old new
   pub rises : Rises (standing old.steps).kept (standing new.steps).kept
 
--- the desk is of the book, and shows what it was opened with; all that is posted was judged
-pub record IsKept {T : Type 0} (book : Book) (desk : Posts T) : Type 0 where
+-- the desk is of the book, and shows what it was opened with
+pub record IsOfBook {T : Type 0} (book : Book) (desk : Posts T) : Type 0 where
   pub of_book : desk.book ≡ book
   pub opened : IsOpened desk.shown
+
+-- So, and what it shows is a beginning of what is posted. All of that was judged, and its history is the one that the tables
+-- agree with; they leave it alone as long as they are open and have not failed.
+pub record IsKept {T : Type 0} (g : Ghosts T) (book : Book) (desk : Posts T) : Type 0 where
+  pub of_the_book : IsOfBook book desk
+  pub beginning : IsPrefix desk.shown desk.posted
   pub judged : WereJudged desk.posted desk.shown
+  pub agrees : Agrees g desk.failed desk.tables (standing desk.posted).kept
+  pub settled : IsSettled g desk
 
 -- a session that knows this knows all that a desk of the book shows; nobody who has not held the lock can name one
-abbrev pub KnowsADesk : Type 0 → Book → Known → Type 0
-KnowsADesk T book known = (desk : Posts T) × IsKept book desk × Begins (shown_by desk) known
+abbrev pub KnowsADesk : {T : Type 0} → Ghosts T → Book → Known → Type 0
+KnowsADesk {T} g book known = (desk : Posts T) × IsKept g book desk × Begins (shown_by desk) known
 
--- tables that a desk of the book gave back: they agree with what it had posted
+-- tables that a desk of the book gave back: they agree with what it had posted, of which what it showed is a beginning
 pub record WereKept {T : Type 0} (g : Ghosts T) (book : Book) (tables : T) : Type 0 where
   pub desk : Posts T
-  pub kept : IsKept book desk
+  pub kept : IsKept g book desk
   pub same : tables ≡ desk.tables
   pub agrees : Agrees g desk.failed tables (standing desk.posted).kept

@@ -1,3 +1,4 @@
 pub mod Kept
+pub mod Shown
 pub mod Questions
 pub mod Fronts

@@ -50,7 +50,7 @@ impl<'k, T: Tables + Drop, J: Naming, R: Wait + Drop> Front<'k, T, J, R> {
         keeper: &'k Keeper<T, J, R>,
     ) -> Result<Front<'k, T, J, R>, Refusal>
         ensures ok { IfOk result (λ front. IsKnownIn J.book front) }
-        ensures known { IfOk result (λ front. KnowsADesk T J.book front) }
+        ensures known { IfOk result (λ front. KnowsADesk T.Tables J.book front) }
         ensures err { IfErr result (λ why. why ≡ NoSeat) }
     {
         let session = keeper.hold(rt).session()?;
@@ -73,14 +73,14 @@ impl<'k, T: Tables + Drop, J: Naming, R: Wait + Drop> Front<'k, T, J, R> {
     pub fn refresh<W: Wait>(&mut self, rt: &W) -> Receipt
         ensures kept { KnowsMore self.old self.new }
         ensures told { Begins result.published self.new }
-        ensures tells { ToldByDesk T J.book result self.new }
+        ensures tells { ToldByDesk T.Tables J.book result self.new }
     {
         self.keeper.hold(rt).refresh(&mut self.session)
     }
 
     /// Answers a call that asks. A question of the future is asked once more after a refresh.
     pub fn answer_question<W: Wait>(&mut self, rt: &W, call: Call, body: &[u8]) -> Reply
-        ensures { AskFrom (sought_by call (KnowsADesk T J.book self.new))
+        ensures { AskFrom (sought_by call (KnowsADesk T.Tables J.book self.new))
             self.old call body.now (told result) self.new }
     {
         match self.ask(call, body) {

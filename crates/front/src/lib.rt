@@ -5,6 +5,7 @@
 mod counted;
 mod front;
 mod gate;
+mod law;
 mod lock;
 mod locked;
 mod questions;
@@ -13,6 +14,7 @@ mod waking;
 pub use counted::Counted;
 pub use front::Front;
 pub use gate::Gate;
+pub use law::{what_is_shown_is_stored, what_was_shown_is_not_of_the_future};
 pub use lock::{Keeper, KeptDesk};
 pub use locked::Locked;
 pub use questions::{Asked, ask_again, ask_from};

@@ -13,7 +13,7 @@ ghost use Rattle.desk.specs.Changes.{CatchUpAccepted, CatchUpJudged, IsNoChange,
 ghost use Rattle.desk.specs.Made.{IsMade, MayStore, SpeaksAgainst};
 ghost use Rattle.keeper.specs.Changes.{AsksChange};
 ghost use Rattle.keeper.specs.calls.Change.{ChangeStep};
-ghost use Rattle.front.specs.Kept.{IsKept, IsKnownIn, KnowsMore, WereKept};
+ghost use Rattle.front.specs.Kept.{IsKept, IsKnownIn, IsOfBook, KnowsMore, WereKept};
 
 use desk::{Change, Changed, Desk, Posted};
 use keeper::change_on;
@@ -34,7 +34,7 @@ pub struct KeptDesk<T: Tables + Drop, J: Naming, R: Wait + Drop> {
 impl<T: Tables + Drop, J: Naming, R: Wait + Drop> Model for KeptDesk<T, J, R> {
     ghost use Rattle.desk.specs.Posts.{Posts};
     ghost use Rattle.desk.specs.inside.DeskCodes.{coded_posts};
-    ghost use Rattle.front.specs.Kept.{IsKept as IsSound};
+    ghost use Rattle.front.specs.Kept.{IsOfBook as IsSound};
 
     ghost Value = { Posts T };
 
@@ -47,7 +47,7 @@ impl<T: Tables + Drop, J: Naming, R: Wait + Drop> Model for KeptDesk<T, J, R> {
 
 impl<T: Tables + Drop, J: Naming, R: Wait + Drop> KeptDesk<T, J, R> {
     fn of_desk(desk: Desk<T, R>) -> KeptDesk<T, J, R>
-        requires { IsKept J.book desk }
+        requires { IsOfBook J.book desk }
         ensures { result ≡ desk }
     {
         KeptDesk {
@@ -56,17 +56,18 @@ impl<T: Tables + Drop, J: Naming, R: Wait + Drop> KeptDesk<T, J, R> {
         }
     }
 
-    // What is true of every one: a function knows it where it looks at a field.
+    // What is true of every one.
     fn see(&self)
-        ensures { IsKept J.book self.now }
+        ensures { IsKept T.Tables J.book self.now }
     {
-        let _ = &self.desk;
+        self.desk.see();
     }
 
     /// Gives the tables back. Sessions are answered no more.
     fn close(self) -> T
         ensures { WereKept T.Tables J.book result }
     {
+        self.see();
         self.desk.close()
     }
 
@@ -80,8 +81,11 @@ impl<T: Tables + Drop, J: Naming, R: Wait + Drop> KeptDesk<T, J, R> {
         ensures seats { IfOk result (λ _. self.new.seats + 1 ≡ self.old.seats) }
         ensures none { (result ≡ Err NoSeat) ↔ (self.old.seats ≡ 0) }
         ensures err { IfErr result (λ why. (why ≡ NoSeat) × (self.new.seats ≡ self.old.seats)) }
+        ensures sound { IsKept T.Tables J.book self.new }
     {
-        self.desk.session()
+        let given = self.desk.session();
+        self.see();
+        given
     }
 
     /// Lets a session know what is shown now. The receipt names the newest shown revision.
@@ -93,8 +97,11 @@ impl<T: Tables + Drop, J: Naming, R: Wait + Drop> KeptDesk<T, J, R> {
         ensures tells { TellsShown result self.new }
         ensures kept { KnowsMore session.old session.new }
         ensures known { Begins (shown_by self.new) session.new }
+        ensures sound { IsKept T.Tables J.book self.new }
     {
-        self.desk.refresh(session)
+        let receipt = self.desk.refresh(session);
+        self.see();
+        receipt
     }
 
     /// Has a part take so many commits more, or as many as there are.
@@ -104,8 +111,11 @@ impl<T: Tables + Drop, J: Naming, R: Wait + Drop> KeptDesk<T, J, R> {
         ensures err { IfErr result (λ why.
             IsRefused T.Tables self.old IsNoChange (CatchUpJudged commits) why self.new) }
         ensures seats { self.new.seats ≡ self.old.seats }
+        ensures sound { IsKept T.Tables J.book self.new }
     {
-        self.desk.catch_up(part, commits)
+        let taken = self.desk.catch_up(part, commits);
+        self.see();
+        taken
     }
 
     /// Makes a change, for no call.
@@ -115,8 +125,11 @@ impl<T: Tables + Drop, J: Naming, R: Wait + Drop> KeptDesk<T, J, R> {
             IsRefused T.Tables self.old (MayStore self.old change) (SpeaksAgainst self.old change) why self.new) }
         ensures later { IsPrefix self.old.shown self.new.shown }
         ensures seats { self.new.seats ≡ self.old.seats }
+        ensures sound { IsKept T.Tables J.book self.new }
     {
-        self.desk.change(change)
+        let done = self.desk.change(change);
+        self.see();
+        done
     }
 
     /// Makes a change, and tells of it.
@@ -127,8 +140,11 @@ impl<T: Tables + Drop, J: Naming, R: Wait + Drop> KeptDesk<T, J, R> {
         ensures later { IsPrefix self.old.shown self.new.shown }
         ensures kept { KnowsMore session.old session.new }
         ensures known { Begins (shown_by self.new) session.new }
+        ensures sound { IsKept T.Tables J.book self.new }
     {
-        change_on(alloc, &mut self.desk, session, change)
+        let reply = change_on(alloc, &mut self.desk, session, change);
+        self.see();
+        reply
     }
 }
 
@@ -162,7 +178,7 @@ impl<T: Tables + Drop, J: Naming, R: Wait + Drop> Keeper<T, J, R> {
 
     /// The desk, for as long as the guard lives. No other call takes the lock.
     pub fn hold<W: Wait>(&self, rt: &W) -> MutexGuard<'_, KeptDesk<T, J, R>>
-        ensures { IsKept J.book (mutex_guard_value result) }
+        ensures { IsKept T.Tables J.book (mutex_guard_value result) }
     {
         let desk = self.desk.lock(rt);
         desk.see();

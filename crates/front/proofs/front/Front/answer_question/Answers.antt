@@ -17,12 +17,12 @@ returns-in-NotYet g c =
     let q = c.in-NotYet.question in
     let is = c.in-NotYet.ensures in
     let new = c.ask_again.new.session in
-    let From = λ (k : Known). AskFrom (sought_by c.args.call (KnowsADesk g.row.T.Denot g.J.Naming.book k)) c.args.self.now c.args.call c.args.body.now (told c.ask_again.result) k in
+    let From = λ (k : Known). AskFrom (sought_by c.args.call (KnowsADesk g.T.Tables g.J.Naming.book k)) c.args.self.now c.args.call c.args.body.now (told c.ask_again.result) k in
     let later = subst (λ (k : Known). KnowsMore k new) c.self.view_is c.ask_again.ensures.later in
     let again = subst (λ (k : Known). AgainTold k new q (told c.ask_again.result)) c.self.view_is c.ask_again.ensures.told in
     let asked : From new =
     asked_again c.args.self.now c.ask.new.self c.refresh.new.self c.args.call c.args.body.now _ new q is.0 is.1 c.refresh.ensures.kept later again
-    (sought (standing c.ask.new.self.steps) c.args.call c.args.body.now q is.0 is.2 (still_knows c.refresh.new.self new c.refresh.ensures.tells later)) in
+    (sought (standing c.ask.new.self.steps) c.args.call c.args.body.now q is.0 is.2 (still_knows g.T.Tables c.refresh.new.self new c.refresh.ensures.tells later)) in
     elim c.match-question.branch [
       | in-Groups+in-Union-1 w ↦ subst From (sym w.self-is) asked
       | in-Groups+in-Intersection-1 w ↦ subst From (sym w.self-is) asked
