@@ -1,3 +1,4 @@
 pub mod Attending
 pub mod Patience
+pub mod Sides
 pub mod Turns

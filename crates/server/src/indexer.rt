@@ -1,6 +1,7 @@
 //! The indexer: it follows the changes of a keeper with the parts that read them.
 ghost use Rattle.std.specs.Prelude.{◌≡◌, ◌↔◌, IsTrue, IfOk, IfErr, false};
 ghost use Rattle.names.specs.declared.refusal.Refusal.TheVariants.{NoSeat};
+ghost use Rattle.published.specs.Known.{Begins};
 ghost use Rattle.server.specs.Turns.{IsBehind};
 
 use crate::pool::Follows;
@@ -39,7 +40,9 @@ impl<'k, T: Tables + Drop, J: Naming, H: Wait + Drop> Indexer<'k, T, J, H> {
     }
 
     // Takes a turn if a part is behind what is shown. Whether more may be left to take.
-    fn takes_turn<R: Wait>(&mut self, rt: &R) -> bool {
+    fn takes_turn<R: Wait>(&mut self, rt: &R) -> bool
+        ensures { Begins self.old.session self.new.session }
+    {
         match self.session.state() {
             Ok(state) if is_behind(&state) => {}
             _ => return false,
@@ -50,6 +53,11 @@ impl<'k, T: Tables + Drop, J: Naming, H: Wait + Drop> Indexer<'k, T, J, H> {
 }
 
 impl<'k, T: Tables + Drop, J: Naming, H: Wait + Drop> Follows for Indexer<'k, T, J, H> {
+    ghost use Rattle.published.specs.Known.{Begins};
+
+    // Its session knows all that it knew.
+    ghost followed = { λ s t. Begins s.session t.session };
+
     fn follow<R: Wait>(&mut self, rt: &R) {
         for _ in rt.forever() {
             let goes_on = if self.takes_turn(rt) {

@@ -18,6 +18,6 @@ mod worker;
 pub use law::connections_never_go_back;
 pub use peer::Peer;
 pub use serving::run;
-pub use stream::{serve_stream, sides_of, take_leave};
+pub use stream::{Sides, serve_sides, serve_stream, sides_of, take_leave};
 pub use turn::{TURN_COMMITS, Turn, take_turn};
 pub use waiting::{Arrivals, Patience};

@@ -29,8 +29,12 @@ pub(crate) trait Serves {
 
 /// What follows the changes that are made.
 pub(crate) trait Follows {
+    /// What following them did took it from the first state to the second.
+    ghost followed: { Self → Self → Type 0 };
+
     /// Follows them until nobody is left who makes any.
-    fn follow<R: Wait>(&mut self, rt: &R);
+    fn follow<R: Wait>(&mut self, rt: &R)
+        ensures { followed self.old self.new };
 }
 
 /// Serves each connection that the queue gives, one after another, until it gives no more. However one of them ends, the

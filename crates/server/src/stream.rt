@@ -1,8 +1,12 @@
 //! One connection over TCP.
-ghost use Rattle.std.specs.Prelude.{◌≡◌, ◌≤◌, ◌*◌, ◌⊎◌, [], false, true, IfSome};
-ghost use Rattle.std.specs.Io.Buffered.{writer_buffer};
+ghost use Rattle.std.specs.Prelude.{◌≡◌, ◌≤◌, ◌*◌, ◌⊎◌, [], false, true, IfSome, IfNone};
+ghost use Rattle.std.specs.Io.Buffered.{writer_buffer, writer_inner};
+ghost use Rattle.tracked_io.specs.Wrote.{nothing_taken};
+ghost use Rattle.answers.specs.Ends.{is_read_fault, is_write_fault};
 ghost use Rattle.http_api.specs.Routes.{table};
+ghost use Rattle.http_api.specs.Talks.{TalkedAtEachRead};
 ghost use Rattle.server.specs.Attending.{Attended};
+ghost use Rattle.server.specs.Sides.{unread, TalkedOver};
 
 use crate::peer::Peer;
 use crate::waited::PATIENCE;
@@ -12,7 +16,7 @@ use http_api::serve_by;
 use matchit::Router;
 use names::Call;
 use std::alloc::Global;
-use std::io::{BufWriter, Read};
+use std::io::{BufWriter, Read, Write};
 use std::net::{Shutdown, TcpStream};
 use std::time::Duration;
 use tracked_io::{TrackedReader, TrackedWriter};
@@ -27,24 +31,63 @@ const PIECES: u64 = 256;
 const PIECE_LEN: usize = 4_096;
 
 /// What a connection is read and written by.
-pub type Sides<'a, P> = (
-    TrackedReader<&'a Peer<'a, P>>,
-    TrackedWriter<BufWriter<&'a Peer<'a, P>>>,
-);
+pub type Sides<R, W> = (TrackedReader<R>, TrackedWriter<BufWriter<W>>);
 
-/// The sides of a connection, of which what is written goes out at each flush. There are none where there is no memory
-/// for the buffer of what is written.
-pub fn sides_of<'a, P: Patience>(alloc: Global, peer: &'a Peer<'a, P>) -> Option<Sides<'a, P>>
+/// The sides of a connection that is read from this reader and written to this writer, of which what is written goes out
+/// at each flush. There are none where there is no memory for the buffer of what is written.
+pub fn sides_of<R: Read + Drop, W: Write + Drop>(
+    alloc: Global,
+    reader: R,
+    writer: W,
+) -> Option<Sides<R, W>>
     ensures reader { IfSome result (λ sides. sides.0.failed ≡ false) }
+    ensures read_from { IfSome result (λ sides. sides.0.inner ≡ reader) }
+    ensures unread { IfSome result (λ sides. sides.0.reads ≡ []) }
     ensures writer { IfSome result (λ sides. sides.1.failed ≡ false) }
+    ensures written_to { IfSome result (λ sides. writer_inner sides.1.inner ≡ writer) }
     ensures flushed { IfSome result (λ sides. sides.1.flushed ≡ true) }
-    ensures unwritten { IfSome result (λ sides. sides.1.taken.bytes ≡ []) }
+    ensures unwritten { IfSome result (λ sides. sides.1.taken ≡ nothing_taken (W.contents writer)) }
     ensures empty { IfSome result (λ sides. writer_buffer sides.1.inner ≡ []) }
 {
-    let Ok(out) = BufWriter::new(alloc, peer) else {
+    let Ok(out) = BufWriter::new(alloc, writer) else {
         return None;
     };
-    Some((TrackedReader::new(peer), TrackedWriter::new(out)))
+    Some((TrackedReader::new(reader), TrackedWriter::new(out)))
+}
+
+/// Serves one connection that is read from this reader and written to this writer, and gives back its two sides. Where there
+/// is no memory for the buffer of what is written, there are none. The routes are those that
+/// [`routes`](http_api::routes) made.
+pub fn serve_sides<R: Read + Drop, W: Write + Drop, A: Answers>(
+    alloc: Global,
+    routes: &Router<Call>,
+    reader: R,
+    writer: W,
+    answers: &mut A,
+) -> (End, Option<Sides<R, W>>)
+    requires { routes.now ≡ table }
+
+    // The calls are those that were read of this reader, and this writer took the replies.
+    ensures talked { IfSome result.1 (λ sides. TalkedOver A.step R.remaining reader (nothing_taken (W.contents writer))
+        answers.old result.0 answers.new sides.0 sides.1.taken) }
+
+    // At each read, also of one that failed, each whole request of what was read before had its reply, handed on.
+    ensures each_read { IfSome result.1 (λ sides.
+        TalkedAtEachRead A.step answers.old (nothing_taken (W.contents writer)) (unread reader) sides.0) }
+
+    // A fault is told exactly where the flag of the reader or writer is set. Where the writer's is not, nothing is held back.
+    ensures read_failed { IfSome result.1 (λ sides. sides.0.failed ≡ is_read_fault result.0) }
+    ensures write_failed { IfSome result.1 (λ sides. sides.1.failed ≡ is_write_fault result.0) }
+    ensures flushed { IfSome result.1 (λ sides. sides.1.failed ≡ false → sides.1.flushed ≡ true) }
+    ensures unserved { IfNone result.1 ((result.0 ≡ End.Memory) × (answers.new ≡ answers.old)) }
+{
+    match sides_of(alloc, reader, writer) {
+        Some((mut read, mut written)) => {
+            let end = serve_by(alloc, routes, &mut read, &mut written, answers);
+            (end, Some((read, written)))
+        }
+        None => (End::Memory, None),
+    }
 }
 
 /// Serves one connection, as patiently as it may. The routes are those that [`routes`](http_api::routes) made.
@@ -59,12 +102,8 @@ pub fn serve_stream<A: Answers, P: Patience>(
     ensures { Attended A.step answers.old result answers.new }
 {
     let peer = Peer::new(stream, patience);
-    match sides_of(alloc, &peer) {
-        Some((mut reader, mut writer)) => {
-            serve_by(alloc, routes, &mut reader, &mut writer, answers)
-        }
-        None => End::Memory,
-    }
+    let (end, _sides) = serve_sides(alloc, routes, &peer, &peer, answers);
+    end
 }
 
 /// Before a connection is closed that ended so: where its peer was refused, it ends the sending side, and reads for a

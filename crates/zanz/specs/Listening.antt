@@ -1,5 +1,8 @@
 -- What the program says where it listens.
 use Rattle.std.specs.Prelude.{ℕ, ◌≡◌, ◌≢◌, ◌⊎◌, true, false, ◌++◌, ◌∷◌, [], List, codes, decimal}
+use Rattle.std.specs.declared.net.socket_addr.SocketAddr.{SocketAddr}
+use Rattle.std.specs.Net.Addr.{IsV4And, ipv4_octets}
+use Rattle.std.specs.Net.Socket.{socket_ip}
 use Rattle.tracked_io.specs.Tracking.{TrackedWriting}
 use Rattle.tracked_io.specs.Wrote.{Took, WroteSome}
 use Rattle.names.specs.declared.refusal.Refusal.TheVariants.{Memory, NoSeat}
@@ -10,6 +13,10 @@ use Rattle.command_line.specs.declared.fault.Fault.TheVariants.{Refused, CannotW
 -- the line that says on which port it listens
 abbrev pub listening_line : ℕ → List ℕ
 listening_line port = codes "listening 127.0.0.1:" ++ (decimal port ++ 10 ∷ [])
+
+-- 127.0.0.1, at which no other machine reaches this one
+abbrev pub IsOwnAddress : SocketAddr → Type 0
+IsOwnAddress address = IsV4And (socket_ip address) (λ ip. ipv4_octets ip ≡ 127 ∷ 0 ∷ 0 ∷ 1 ∷ [])
 
 -- a port that is had where this one is asked for: the same, or any where 0 is
 abbrev pub IsPortFor : ℕ → ℕ → Type 0

@@ -1,9 +1,14 @@
 //! Listening for connections, and serving them.
-ghost use Rattle.std.specs.Prelude.{◌≡◌, ◌≢◌, ◌⊎◌, ◌↔◌, true, false, IsTrue, IfOk, IfErr, OnOk, string_bytes};
+ghost use Rattle.std.specs.Prelude.{◌≡◌, ◌≢◌, ◌⊎◌, ◌↔◌, true, false, IsTrue, IfOk, IfErr, IfSome, IfNone, OnOk, string_bytes};
+ghost use Rattle.std.specs.Net.Socket.{socket_port};
+ghost use Rattle.tracked_io.specs.Wrote.{WroteSome, nothing_taken};
+ghost use Rattle.answers.specs.Ends.{is_read_fault, is_write_fault};
 ghost use Rattle.http_api.specs.Routes.{table};
-ghost use Rattle.tracked_io.specs.Wrote.{WroteSome};
+ghost use Rattle.http_api.specs.Talks.{TalkedAtEachRead};
+ghost use Rattle.keeper.specs.Rules.{DeskStep};
+ghost use Rattle.server.specs.Sides.{unread, TalkedOver};
 ghost use Rattle.runs.specs.Connections.{StaysServing};
-ghost use Rattle.zanz.specs.Listening.{Announced, IsPortFor, IsStartFault, NotAnnounced, listening_line};
+ghost use Rattle.zanz.specs.Listening.{Announced, IsOwnAddress, IsPortFor, IsStartFault, NotAnnounced, listening_line};
 
 use answers::End;
 use command_line::Fault;
@@ -12,10 +17,10 @@ use keeper::Answering;
 use matchit::Router;
 use names::{Call, Refusal};
 use runs::talk;
-use server::{Arrivals, Patience, Peer, sides_of, take_leave};
+use server::{Arrivals, Patience, Peer, Sides, sides_of, take_leave};
 use std::alloc::{AllocError, Global};
-use std::io::Write;
-use std::net::{Ipv4Addr, Net, TcpListener, TcpStream};
+use std::io::{Read, Write};
+use std::net::{IpAddr, Ipv4Addr, Net, SocketAddr, TcpListener, TcpStream};
 use std::sync::Wait;
 use std::thread;
 use std::time::Duration;
@@ -31,6 +36,16 @@ fn line_of(alloc: Global, port: u16) -> Result<String, AllocError>
     format!(in alloc; "listening 127.0.0.1:{port}\n")
 }
 
+// Whether it is this machine's own address.
+fn is_own(address: &SocketAddr) -> bool
+    ensures { IsTrue result ↔ IsOwnAddress address.now }
+{
+    match address.ip() {
+        IpAddr::V4(ip) => matches!(ip.octets(), [127, 0, 0, 1]),
+        IpAddr::V6(_) => false,
+    }
+}
+
 // Whether it is a port that is had where `asked` is asked for.
 fn is_port_for(asked: u16, port: u16) -> bool
     ensures { IsTrue result ↔ IsPortFor asked port }
@@ -38,12 +53,13 @@ fn is_port_for(asked: u16, port: u16) -> bool
     port != 0 && (asked == 0 || port == asked)
 }
 
-// Listens on this machine's own address, and tells on which port.
+// Listens on this machine's own address, and tells where the system says that this is.
 fn bind<N: Net<Listener = TcpListener, Stream = TcpStream>>(
     net: &N,
     asked: u16,
-) -> Result<(TcpListener, u16), Fault>
-    ensures port { IfOk result (λ bound. IsPortFor asked bound.1) }
+) -> Result<(TcpListener, SocketAddr), Fault>
+    ensures address { IfOk result (λ bound. IsOwnAddress bound.1) }
+    ensures port { IfOk result (λ bound. IsPortFor asked (socket_port bound.1)) }
     ensures cause { IfErr result (λ fault. fault ≡ Fault.CannotListen) }
     ensures start { IfErr result IsStartFault }
 {
@@ -51,7 +67,9 @@ fn bind<N: Net<Listener = TcpListener, Stream = TcpStream>>(
         return Err(Fault::CannotListen);
     };
     match listener.local_addr() {
-        Ok(address) if is_port_for(asked, address.port()) => Ok((listener, address.port())),
+        Ok(address) if is_own(&address) && is_port_for(asked, address.port()) => {
+            Ok((listener, address))
+        }
         _ => Err(Fault::CannotListen),
     }
 }
@@ -85,11 +103,44 @@ pub(crate) fn listen<N: Net<Listener = TcpListener, Stream = TcpStream>, W: Writ
     ensures failed { IfErr result (λ fault. NotAnnounced port fault writer.old writer.new) }
 {
     let (listener, bound) = bind(net, port)?;
-    let line = line_of(alloc, bound)?;
+    let line = line_of(alloc, bound.port())?;
     let Ok(()) = say(writer, line.as_bytes()) else {
         return Err(Fault::CannotWrite);
     };
     Ok(listener)
+}
+
+// Serves one connection from a desk, that is read from this reader and written to this writer, and gives back its two sides.
+// Where there is no memory for the buffer of what is written, there are none.
+fn talk_over<T: Tables + Drop, H: Wait + Drop, R: Read + Drop, W: Write + Drop>(
+    alloc: Global,
+    routes: &Router<Call>,
+    answering: &mut Answering<T, H>,
+    reader: R,
+    writer: W,
+) -> (End, Option<Sides<R, W>>)
+    requires { routes.now ≡ table }
+
+    // The calls are those that were read of this reader, and this writer took the replies.
+    ensures talked { IfSome result.1 (λ sides. TalkedOver (DeskStep T.Tables) R.remaining reader (nothing_taken (W.contents writer))
+        answering.old result.0 answering.new sides.0 sides.1.taken) }
+
+    // At each read, also of one that failed, each whole request of what was read before had its reply, handed on.
+    ensures each_read { IfSome result.1 (λ sides.
+        TalkedAtEachRead (DeskStep T.Tables) answering.old (nothing_taken (W.contents writer)) (unread reader) sides.0) }
+    ensures read_failed { IfSome result.1 (λ sides. sides.0.failed ≡ is_read_fault result.0) }
+    ensures write_failed { IfSome result.1 (λ sides. sides.1.failed ≡ is_write_fault result.0) }
+    ensures flushed { IfSome result.1 (λ sides. sides.1.failed ≡ false → sides.1.flushed ≡ true) }
+    ensures unserved { IfNone result.1 ((result.0 ≡ End.Memory) × (answering.new ≡ answering.old)) }
+    ensures goes_on { StaysServing T.Tables answering.old answering.new }
+{
+    match sides_of(alloc, reader, writer) {
+        Some((mut read, mut written)) => {
+            let end = talk(alloc, routes, answering, &mut read, &mut written);
+            (end, Some((read, written)))
+        }
+        None => (End::Memory, None),
+    }
 }
 
 // Serves one connection, as patiently as it may.
@@ -104,12 +155,8 @@ fn serve_stream<T: Tables + Drop, H: Wait + Drop, P: Patience>(
     ensures { StaysServing T.Tables answering.old answering.new }
 {
     let peer = Peer::new(stream, patience);
-    match sides_of(alloc, &peer) {
-        Some((mut reader, mut writer)) => {
-            talk(alloc, routes, answering, &mut reader, &mut writer)
-        }
-        None => End::Memory,
-    }
+    let (end, _sides) = talk_over(alloc, routes, answering, &peer, &peer);
+    end
 }
 
 // Serves the next connection, as patiently as it may. Where none can be had there is a pause.

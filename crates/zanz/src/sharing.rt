@@ -23,7 +23,9 @@ use tracked_io::TrackedWriter;
 struct AlwaysOpen;
 
 impl Gate for AlwaysOpen {
-    fn more(&self, _accepted: u64) -> bool {
+    fn more(&self, _accepted: u64) -> bool
+        ensures { result ≡ true }
+    {
         true
     }
 

@@ -1,0 +1,6 @@
+use Rattle.published.specs.Known.{Begins}
+use Rattle.server.proofs.indexer.IndexerFollows.follow.Given as goal
+
+abbrev pub invariant-loop : goal.invariant-loop
+invariant-loop g l =
+    (goal.iterator-loop g).can_next l.iterator' × (goal.iterator-loop g).is_finite l.iterator' × Begins l.initial.self.session l.self.session
