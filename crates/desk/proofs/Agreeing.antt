@@ -1,11 +1,15 @@
 -- What tables agree with, after a call.
-use Rattle.std.proofs.Common.{◌≡◌, Bool, false, List, [], ◌∷◌, map, inl, inr}
+use Rattle.std.proofs.Common.{◌≡◌, Bool, false, List, [], ◌∷◌, map, inl, inr, subst}
 use Rattle.std.proofs.lemmas.List.Elements.{All-nil, All-cons}
 use Rattle.rows.specs.Retained.{Retained}
 use Rattle.tables.specs.Leaving.{AreAmong}
+use Rattle.tables.specs.Changing.{with_change}
+use Rattle.tables.specs.declared.change.TableChange.{TableChange}
 use Rattle.tables.specs.declared.tables.Tables.{Ghosts}
-use Rattle.desk.specs.TableChanges.{TableChange, changed, CanChange}
+use Rattle.desk.specs.TableChanges.{changed, CanChange}
 use Rattle.desk.specs.Posts.{Agrees}
+use Rattle.desk.specs.inside.Changing.{plain}
+use Rattle.desk.proofs.Changing.{changed_alike}
 
 swap : (a b : Retained) (rs : List Retained) → AreAmong (a ∷ b ∷ rs) (b ∷ a ∷ rs)
 swap a b rs x (inl is) = inr (inl is)
@@ -19,14 +23,15 @@ module _ {T : Type 0} (g : Ghosts T) where
 
   -- the call may have added a change to what they leave
   pub agrees_on : ((t : T) (rs ss : List Retained) → AreAmong rs ss → g.leaves t rs → g.leaves t ss)
-      → (was failed : Bool) (old new : T) (r : Retained) (change : TableChange) → Agrees g was old r → CanChange r change → (failed ≡ false → g.holds new r)
-      → ((rs : List Retained) → g.leaves old rs → g.leaves new (changed r change ∷ rs)) → Agrees g failed new r
+      → (was failed : Bool) (old new : T) (r : Retained) (change : TableChange) → Agrees g was old r → CanChange r (plain change) → (failed ≡ false → g.holds new r)
+      → ((rs : List Retained) → g.leaves old rs → g.leaves new (with_change r change ∷ rs)) → Agrees g failed new r
   agrees_on weaker was failed old new r change agrees can held adds =
-      let one = changed r change in
+      let one = changed r (plain change) in
       let others = map (changed r) agrees.more in
       record {
         holds = held;
-        more = change ∷ agrees.more;
-        follow = All-cons (CanChange r) change agrees.more can agrees.follow;
-        leaves = weaker new (one ∷ r ∷ others) (r ∷ one ∷ others) (swap one r others) (adds (r ∷ others) agrees.leaves);
+        more = plain change ∷ agrees.more;
+        follow = All-cons (CanChange r) (plain change) agrees.more can agrees.follow;
+        leaves = weaker new (one ∷ r ∷ others) (r ∷ one ∷ others) (swap one r others)
+            (subst (λ (q : Retained). g.leaves new (q ∷ r ∷ others)) (changed_alike r change) (adds (r ∷ others) agrees.leaves));
       }

@@ -1,4 +1,5 @@
 pub mod Standings
+pub mod Changing
 pub mod Agreeing
 pub mod Accepting
 pub mod Sound

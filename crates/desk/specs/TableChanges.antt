@@ -1,4 +1,4 @@
--- One change of the history that tables hold.
+-- One change of the history that tables hold, without what spares them a look-up.
 use Rattle.std.specs.Prelude.{ℕ, ◌<◌, ◌≤◌}
 use Rattle.names.specs.declared.commit.Commit.{Commit}
 use Rattle.meaning.specs.Config.{Configured}

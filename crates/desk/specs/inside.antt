@@ -2,3 +2,4 @@
 pub mod Latching
 pub mod Posting
 pub mod DeskCodes
+pub mod Changing

@@ -29,7 +29,7 @@ ghost use Rattle.desk.specs.inside.Posting.{NoCause, LeavesHistory};
 use crate::change::{Change, Changed, Made};
 use crate::latched_tables::{LatchedTables, load};
 use crate::opening::publish_first;
-use crate::storing::{store, store_floor};
+use crate::storing::{commit_change, floor_change, store};
 use config::Config;
 use names::limits::MAX_CATCH_UP;
 use names::{Commit, Marking, Part, Refusal, Write};
@@ -416,7 +416,8 @@ impl<T: Tables + Drop, R: Wait + Drop> Desk<T, R> {
     {
         let kept = keep(self.alloc, commit)?;
         self.publication.reserve()?;
-        let step = store(&mut self.tables, &mut self.own, &kept, puts)?;
+        let change = commit_change(&self.own, kept, puts);
+        let step = store(&mut self.tables, &mut self.own, change)?;
         self.publication.post(step);
         let shown = self.publish();
         Ok(self.receipt(self.own.newest(), shown))
@@ -504,7 +505,8 @@ impl<T: Tables + Drop, R: Wait + Drop> Desk<T, R> {
         ensures seats { self.new.seats ≡ self.old.seats }
     {
         self.publication.reserve()?;
-        let step = store_floor(&mut self.tables, &mut self.own, floor)?;
+        let trim = floor_change(&self.own, floor);
+        let step = store(&mut self.tables, &mut self.own, trim)?;
         self.publication.post(step);
         Ok(self.tell_floor())
     }

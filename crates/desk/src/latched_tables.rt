@@ -1,18 +1,19 @@
 //! Tables that are known to have failed.
-ghost use Rattle.std.specs.Prelude.{◌≡◌, ◌<◌, ◌∷◌, [], List, true, false, Err, IfOk, IfErr, OnOk, OnErr};
-ghost use Rattle.rows.specs.Retained.{Retained, with_commit, after_trim};
+ghost use Rattle.std.specs.Prelude.{◌≡◌, ◌∷◌, [], List, true, false, Err, IfOk, IfErr, OnOk, OnErr};
+ghost use Rattle.rows.specs.Retained.{Retained};
 ghost use Rattle.rows.specs.Loads.{retained_of, IsWithin};
 ghost use Rattle.tables.specs.Device.{IsClean, IsOpen, Lasts};
-ghost use Rattle.tables.specs.Storing.{IsNextAt, CanStore, IsTrimTo, CanTrim};
+ghost use Rattle.tables.specs.Changing.{IsChangeOf, with_change, CanStore};
 ghost use Rattle.tables.specs.Opening.{CannotOpen};
 ghost use Rattle.desk.specs.Posts.{Agrees, ComesBack, FailsToLoad};
+ghost use Rattle.desk.specs.TableChanges.{CanChange};
 ghost use Rattle.desk.specs.inside.Latching.{IsLatched, AgreeWith};
+ghost use Rattle.desk.specs.inside.Changing.{plain};
 
 use names::Refusal;
 use rows::Loaded;
 use std::alloc::Global;
-use tables::{Puts, Tables, TablesError};
-use tuple_keys::KeptCommit;
+use tables::{TableChange, Tables, TablesError};
 
 /// Tables, and whether they failed. Nothing outside this file can say that they did.
 #[derive(Drop)]
@@ -56,56 +57,28 @@ impl<T: Tables + Drop> LatchedTables<T> {
         Refusal::StoreFault
     }
 
-    /// Stores a commit, and notes a fault.
-    pub(crate) fn write(&mut self, rev: u64, commit: &KeptCommit, puts: Puts) -> Result<(), Refusal>
+    /// Stores a change, and notes a fault.
+    pub(crate) fn change(&mut self, change: &TableChange) -> Result<(), Refusal>
         requires works { self.old.failed ≡ false }
-        requires next { CanStore (T.holds self.old.tables) rev commit.now puts }
+        requires can { CanStore (T.holds self.old.tables) change.now }
         ensures ok { OnOk result (self.new.failed ≡ false) }
         ensures open { OnOk result (IsOpen (T.device self.new.tables)) }
         ensures quiet { OnOk result (T.count self.new.tables ≡ T.count self.old.tables) }
         ensures err { IfErr result (λ why. IsLatched T.Tables self.old why self.new) }
-        ensures stored { (r : Retained) → AgreeWith T.Tables self.old r → IsNextAt r rev commit.now puts
-            → OnOk result (AgreeWith T.Tables self.new (with_commit r commit.now)) }
-        ensures held { (r : Retained) → AgreeWith T.Tables self.old r → IsNextAt r rev commit.now puts
-            → OnOk result (T.holds self.new.tables (with_commit r commit.now)) }
-        ensures settled { (r : Retained) → AgreeWith T.Tables self.old r → IsNextAt r rev commit.now puts
-            → OnOk result (T.leaves self.new.tables (with_commit r commit.now ∷ [])) }
-        ensures unstored { (r : Retained) → AgreeWith T.Tables self.old r → IsNextAt r rev commit.now puts
-            → OnErr result (AgreeWith T.Tables self.new r) }
+        ensures stored { (r : Retained) → AgreeWith T.Tables self.old r → IsChangeOf r change.now
+            → OnOk result (AgreeWith T.Tables self.new (with_change r change.now)) }
+        ensures held { (r : Retained) → AgreeWith T.Tables self.old r → IsChangeOf r change.now
+            → OnOk result (T.holds self.new.tables (with_change r change.now)) }
+        ensures settled { (r : Retained) → AgreeWith T.Tables self.old r → IsChangeOf r change.now
+            → OnOk result (T.leaves self.new.tables (with_change r change.now ∷ [])) }
+        ensures unstored { (r : Retained) → AgreeWith T.Tables self.old r → IsChangeOf r change.now
+            → CanChange r (plain change.now) → OnErr result (AgreeWith T.Tables self.new r) }
         ensures left { (r : Retained) (rs : List Retained) → AgreeWith T.Tables self.old r
-            → IsNextAt r rev commit.now puts → T.leaves self.old.tables rs
-            → T.leaves self.new.tables (with_commit r commit.now ∷ rs) }
+            → IsChangeOf r change.now → T.leaves self.old.tables rs
+            → T.leaves self.new.tables (with_change r change.now ∷ rs) }
         ensures lasts { Lasts (T.device self.old.tables) (T.device self.new.tables) }
     {
-        match self.tables.write(rev, commit, puts) {
-            Ok(()) => Ok(()),
-            Err(TablesError::Memory) => Err(Refusal::Memory),
-            Err(TablesError::Fault) => Err(self.note_fault()),
-        }
-    }
-
-    /// Raises the floor, and notes a fault.
-    pub(crate) fn trim(&mut self, floor: u64, first: u64) -> Result<(), Refusal>
-        requires works { self.old.failed ≡ false }
-        requires can { CanTrim (T.holds self.old.tables) floor first }
-        ensures ok { OnOk result (self.new.failed ≡ false) }
-        ensures open { OnOk result (IsOpen (T.device self.new.tables)) }
-        ensures quiet { OnOk result (T.count self.new.tables ≡ T.count self.old.tables) }
-        ensures err { IfErr result (λ why. IsLatched T.Tables self.old why self.new) }
-        ensures stored { (r : Retained) → AgreeWith T.Tables self.old r → IsTrimTo r floor first
-            → OnOk result (AgreeWith T.Tables self.new (after_trim r floor)) }
-        ensures held { (r : Retained) → AgreeWith T.Tables self.old r → IsTrimTo r floor first
-            → OnOk result (T.holds self.new.tables (after_trim r floor)) }
-        ensures settled { (r : Retained) → AgreeWith T.Tables self.old r → IsTrimTo r floor first
-            → OnOk result (T.leaves self.new.tables (after_trim r floor ∷ [])) }
-        ensures unstored { (r : Retained) → AgreeWith T.Tables self.old r → IsTrimTo r floor first
-            → r.floor < floor → OnErr result (AgreeWith T.Tables self.new r) }
-        ensures left { (r : Retained) (rs : List Retained) → AgreeWith T.Tables self.old r
-            → IsTrimTo r floor first → T.leaves self.old.tables rs
-            → T.leaves self.new.tables (after_trim r floor ∷ rs) }
-        ensures lasts { Lasts (T.device self.old.tables) (T.device self.new.tables) }
-    {
-        match self.tables.trim(floor, first) {
+        match self.tables.change(change) {
             Ok(()) => Ok(()),
             Err(TablesError::Memory) => Err(Refusal::Memory),
             Err(TablesError::Fault) => Err(self.note_fault()),

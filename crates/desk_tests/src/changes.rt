@@ -11,13 +11,12 @@ use std::alloc::Global;
 use std::process::Abort;
 use std::sync::Wait;
 use std::test::*;
-use tables::{Listed, Puts, Tables, TablesError};
-use tuple_keys::KeptCommit;
+use tables::{Listed, TableChange, Tables, TablesError};
 use zookie::{Consistency, Zookie};
 
 const GROUPS: &str = r#"{"namespaces":{"group":{"member":{"types":["user"]}},"user":{}}}"#;
 
-/// Tables that store nothing: each write and each trim is a fault.
+/// Tables that store nothing: each change is a fault.
 #[derive(Drop)]
 struct Broken {
     inner: Listed,
@@ -42,12 +41,7 @@ impl Tables for Broken {
         }
     }
 
-    fn write(&mut self, _rev: u64, _commit: &KeptCommit, _puts: Puts) -> Result<(), TablesError> {
-        self.faults = self.faults.saturating_add(1);
-        Err(TablesError::Fault)
-    }
-
-    fn trim(&mut self, _floor: u64, _first: u64) -> Result<(), TablesError> {
+    fn change(&mut self, _change: &TableChange) -> Result<(), TablesError> {
         self.faults = self.faults.saturating_add(1);
         Err(TablesError::Fault)
     }

@@ -2,7 +2,7 @@
 
 use config::Config;
 use std::alloc::Global;
-use tables::{Listed, Puts, Tables, TablesError};
+use tables::{Listed, Puts, TableChange, Tables, TablesError};
 use tuple_keys::KeptCommit;
 
 fn stores_one(alloc: Global) -> Result<bool, TablesError> {
@@ -10,7 +10,11 @@ fn stores_one(alloc: Global) -> Result<bool, TablesError> {
     let Ok(commit) = KeptCommit::of_config(alloc, Config::empty(alloc)) else {
         return Err(TablesError::Memory);
     };
-    tables.write(1, &commit, Puts::Absent)?;
+    tables.change(&TableChange::Commit {
+        rev: 1,
+        commit,
+        puts: Puts::Absent,
+    })?;
     let loaded = tables.load(alloc)?;
     let commits = loaded.commits.as_slice().len();
     Ok(loaded.number == 7 && loaded.floor == 0 && commits == 1 && tables.faults() == 0)

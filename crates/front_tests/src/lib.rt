@@ -3,6 +3,8 @@
 #![tactic(auto)]
 
 #[cfg(test)]
+mod histories;
+#[cfg(test)]
 mod lent;
 #[cfg(test)]
 mod script;

@@ -8,7 +8,8 @@ use Rattle.meaning.specs.Config.{Configured}
 use Rattle.meaning.specs.TupleSet as set
 use Rattle.rows.specs.Retained.{Retained, empty_store, newest, newest_of}
 use Rattle.rows.specs.Follows.{IsNext}
-use Rattle.tables.specs.Storing.{CanStore}
+use Rattle.tables.specs.Changing.{CanStore}
+use Rattle.tables.specs.declared.change.TableChange.TheVariants as changes
 use Rattle.tables.specs.declared.puts.Puts.{Puts}
 use Rattle.sqlite_tables.specs.Steps.{new_store}
 use Rattle.store.specs.Written.{Written, IsSpan, IsSound, IsConfigAt, IsHistory}
@@ -47,7 +48,7 @@ rev_most r (kinds.Tuples es) next = (accepted (newest_of r) es next).revs
 rev_most r (kinds.Config config) next = (accepted_config (newest_of r) config next).revs
 
 -- a revision that can be stored is above 0 and far below the greatest integer of a row
-pub small_rev : (Holds : Retained → Type 0) (rev : ℕ) (commit : Commit Configured) (puts : Puts) → CanStore Holds rev commit puts → (0 < rev) × (rev ≤ 2 ^ 40)
+pub small_rev : (Holds : Retained → Type 0) (rev : ℕ) (commit : Commit Configured) (puts : Puts) → CanStore Holds (changes.Commit rev commit puts) → (0 < rev) × (rev ≤ 2 ^ 40)
 small_rev Holds rev commit puts (r, held, next) = within (rev_most r commit next.0) next.1
   where
     within : newest r + 1 ≤ MAX_REV → rev ≡ newest r + 1 → (0 < rev) × (rev ≤ 2 ^ 40)

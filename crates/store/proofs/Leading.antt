@@ -11,7 +11,9 @@ use Rattle.meaning.specs.Config.{Configured}
 use Rattle.config.specs.Causes.{Accepts}
 use Rattle.rows.specs.Retained.{Retained, newest, newest_of, with_commit, after_trim}
 use Rattle.rows.proofs.Committing.{length_push}
-use Rattle.tables.specs.Storing.{IsNextAt, IsTrimTo, CanTrim}
+use Rattle.tables.specs.Changing.{CanStore}
+use Rattle.tables.specs.Storing.{IsNextAt, IsTrimTo}
+use Rattle.tables.specs.declared.change.TableChange.TheVariants.{Trim}
 use Rattle.tables.specs.declared.puts.Puts.{Puts}
 use Rattle.sqlite_tables.specs.declared.stored.StoredEvent as stored
 use Rattle.sqlite_tables.specs.Caused.{CanConfigure, CanDrop, CanTake, IsBefore}
@@ -56,7 +58,7 @@ trim_lead r floor first to =
     let below = to.below in
     record { follows = λ h is. trim_next h r floor first is to; more = omega (arith, left, above, below); within = omega arith }
 
-pub small_trim : (Holds : Retained → Type 0) (floor first : ℕ) → CanTrim Holds floor first → (floor < 2 ^ 63) × (first < 2 ^ 63)
+pub small_trim : (Holds : Retained → Type 0) (floor first : ℕ) → CanStore Holds (Trim floor first) → (floor < 2 ^ 63) × (first < 2 ^ 63)
 small_trim Holds floor first can =
     let small = can.2.small in
     let low = first_below can.0 floor first can.2 in

@@ -13,18 +13,16 @@ use Rattle.sqlite.specs.State.{State, HasCleanDisk, IsUnchanged, Survives}
 use Rattle.sqlite.specs.View.{doubt}
 use Rattle.sqlite.specs.Held.{Held, state}
 use Rattle.sqlite.proofs.StateLemmas.{survives_then, survives_weaker}
-use Rattle.names.specs.declared.commit.Commit.{Commit}
-use Rattle.meaning.specs.Config.{Configured}
-use Rattle.rows.specs.Retained.{Retained, newest, with_commit, after_trim}
+use Rattle.rows.specs.Retained.{Retained, newest}
+use Rattle.tables.specs.Changing.{IsChangeOf, with_change}
 use Rattle.tables.specs.Device.{HasFailed, Lasts}
-use Rattle.tables.specs.Storing.{IsNextAt, IsTrimTo}
-use Rattle.tables.specs.declared.puts.Puts.{Puts}
+use Rattle.tables.specs.declared.change.TableChange.{TableChange}
 use Rattle.sqlite_tables.specs.Format.{schema}
 use Rattle.sqlite_tables.specs.Numbered.{IsNumbered, AreNumbered, AreNumberedTo}
 use Rattle.sqlite_tables.specs.Tables.{Contents, Holds}
 use Rattle.sqlite_tables.specs.Steps.{Alters, Stores, Stays, Undoes, LeavesAtMost, MayStore}
 use Rattle.store.specs.Written.{IsHistory}
-use Rattle.store.specs.History.{TreesHold, HasCommitted, KeepsHistory, KeepsOn, LeavesHistory, LeavesAlone, HoldNext, LeavesNext, HoldTrimmed, LeavesTrimmed, KeptBefore, IsSettled, device_of}
+use Rattle.store.specs.History.{TreesHold, HasCommitted, KeepsHistory, KeepsOn, LeavesHistory, LeavesAlone, HoldChanged, LeavesChanged, KeptBefore, IsSettled, device_of}
 
 pub clean_before : (old new : State) (P : Trees → Type 0) → Survives old new P → HasCleanDisk new → HasCleanDisk old
 clean_before old new P survives clean = omega (arith, survives.clean, clean)
@@ -105,15 +103,15 @@ module _ {S : Type 0} (g : Ghosts S) where
       let new_is = altered_hold (state g old) (state g new).now f last r x k did.made leads in
       committed_with (state g new) new_is.0 x did.committed new_is.1 new_is.2 new_is.3 new_is.4
 
-  -- what a crash may leave of a commit
-  pub leaves_next : (old new : Held S) (rev : ℕ) (commit : Commit Configured) (puts : Puts) (f : Contents → Contents) (last : ℕ) → LeavesAtMost g old new f last
-      → ((r : Retained) → IsNextAt r rev commit puts → LeadsTo f last r (with_commit r commit)) → LeavesNext g old new rev commit puts
-  leaves_next old new rev commit puts f last survives leads =
-      survives_weaker (state g old) (state g new) (MayStore (state g old) f last) (HoldNext g old rev commit puts)
-      (λ clean trees may r keeps next.
+  -- what a crash may leave of a change
+  pub leaves_changed : (old new : Held S) (change : TableChange) (f : Contents → Contents) (last : ℕ) → LeavesAtMost g old new f last
+      → ((r : Retained) → IsChangeOf r change → LeadsTo f last r (with_change r change)) → LeavesChanged g old new change
+  leaves_changed old new change f last survives leads =
+      survives_weaker (state g old) (state g new) (MayStore (state g old) f last) (HoldChanged g old change)
+      (λ clean trees may r keeps is.
       let k = keeps (clean_before (state g old) (state g new) (MayStore (state g old) f last) survives clean) may.was_open in
-      let it = altered_hold (state g old) may.db f last r (with_commit r commit) k may.made (leads r next) in
-      subst (λ (t : Trees). TreesHold t (with_commit r commit)) (sym may.is) (trees_hold may.db it.0 (with_commit r commit) it.1 it.2 it.3 it.4))
+      let it = altered_hold (state g old) may.db f last r (with_change r change) k may.made (leads r is) in
+      subst (λ (t : Trees). TreesHold t (with_change r change)) (sym may.is) (trees_hold may.db it.0 (with_change r change) it.1 it.2 it.3 it.4))
       survives
 
   pub leaves_alone : (old new : Held S) → LeavesAlone g old new → (rs : List Retained) → LeavesHistory g old rs → LeavesHistory g new rs
@@ -123,31 +121,12 @@ module _ {S : Type 0} (g : Ghosts S) where
         | inr none ↦ absurd none
       ]
 
-  pub leaves_more : (old new : Held S) (rev : ℕ) (commit : Commit Configured) (puts : Puts) → LeavesNext g old new rev commit puts → (r : Retained) (rs : List Retained) → KeepsHistory g old r → LeavesHistory g old rs
-      → IsNextAt r rev commit puts → LeavesHistory g new (with_commit r commit ∷ rs)
-  leaves_more old new rev commit puts survives r rs keeps leaves next clean trees left =
+  pub leaves_more : (old new : Held S) (change : TableChange) → LeavesChanged g old new change → (r : Retained) (rs : List Retained) → KeepsHistory g old r → LeavesHistory g old rs
+      → IsChangeOf r change → LeavesHistory g new (with_change r change ∷ rs)
+  leaves_more old new change survives r rs keeps leaves is clean trees left =
       elim (survives.crash clean trees left) [
-        | inl was ↦ let it = leaves (clean_before (state g old) (state g new) (HoldNext g old rev commit puts) survives clean) trees was in (it.0, inr it.1, it.2)
-        | inr hold ↦ (with_commit r commit, inl refl, hold r keeps next)
-      ]
-
-  -- what a crash may leave of a trim
-  pub leaves_trimmed : (old new : Held S) (floor first : ℕ) (f : Contents → Contents) (last : ℕ) → LeavesAtMost g old new f last
-      → ((r : Retained) → IsTrimTo r floor first → LeadsTo f last r (after_trim r floor)) → LeavesTrimmed g old new floor first
-  leaves_trimmed old new floor first f last survives leads =
-      survives_weaker (state g old) (state g new) (MayStore (state g old) f last) (HoldTrimmed g old floor first)
-      (λ clean trees may r keeps to.
-      let k = keeps (clean_before (state g old) (state g new) (MayStore (state g old) f last) survives clean) may.was_open in
-      let it = altered_hold (state g old) may.db f last r (after_trim r floor) k may.made (leads r to) in
-      subst (λ (t : Trees). TreesHold t (after_trim r floor)) (sym may.is) (trees_hold may.db it.0 (after_trim r floor) it.1 it.2 it.3 it.4))
-      survives
-
-  pub leaves_either : (old new : Held S) (floor first : ℕ) → LeavesTrimmed g old new floor first → (r : Retained) (rs : List Retained) → KeepsHistory g old r → LeavesHistory g old rs
-      → IsTrimTo r floor first → LeavesHistory g new (after_trim r floor ∷ rs)
-  leaves_either old new floor first survives r rs keeps leaves to clean trees left =
-      elim (survives.crash clean trees left) [
-        | inl was ↦ let it = leaves (clean_before (state g old) (state g new) (HoldTrimmed g old floor first) survives clean) trees was in (it.0, inr it.1, it.2)
-        | inr hold ↦ (after_trim r floor, inl refl, hold r keeps to)
+        | inl was ↦ let it = leaves (clean_before (state g old) (state g new) (HoldChanged g old change) survives clean) trees was in (it.0, inr it.1, it.2)
+        | inr hold ↦ (with_change r change, inl refl, hold r keeps is)
       ]
 
   -- ---- a call that was refused

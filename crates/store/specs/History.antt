@@ -6,15 +6,13 @@ use Rattle.sqlite.specs.State.{State, HasCleanDisk, Survives}
 use Rattle.sqlite.specs.Held.{Held, state}
 use Rattle.sqlite.specs.View.{doubt}
 use Rattle.sqlite.specs.Effect.{IsDatabase}
-use Rattle.names.specs.declared.commit.Commit.{Commit}
-use Rattle.meaning.specs.Config.{Configured}
-use Rattle.rows.specs.Retained.{Retained, empty_store, newest, with_commit, after_trim}
+use Rattle.rows.specs.Retained.{Retained, empty_store, newest}
 use Rattle.rows.specs.Loads.{retained_of}
 use Rattle.rows.specs.declared.loaded.Loaded.{Loaded}
 use Rattle.tables.specs.Device.{Device, HasFailed, IsClean, IsOpen}
 use Rattle.tables.specs.Leaving.{IsOneOf}
-use Rattle.tables.specs.Storing.{IsNextAt, IsTrimTo}
-use Rattle.tables.specs.declared.puts.Puts.{Puts}
+use Rattle.tables.specs.Changing.{IsChangeOf, with_change}
+use Rattle.tables.specs.declared.change.TableChange.{TableChange}
 use Rattle.tables.specs.declared.tables.TablesError.{TablesError}
 use Rattle.tables.specs.declared.tables.TablesError.TheVariants as refusals
 use Rattle.sqlite_tables.specs.Format.{schema}
@@ -92,34 +90,20 @@ abbrev pub HasNoneOrFailed : {S : Type 0} → Ghosts S → Held S → Held S →
 HasNoneOrFailed g old new result = result ≡ Err refusals.Fault → IsOpen (device_below g old)
     → HasFailed (device_below g old) (device_below g new) ⊎ ((r : Retained) → IsClean (device_below g old) → ¬ (KeepsHistory g old r))
 
--- ---- one commit
+-- ---- one change
 
--- after the commit they hold its history, where it is the next of what they held
-abbrev pub Commits : {S A : Type 0} → Ghosts S → Held S → Held S → ℕ → Commit Configured → Puts → Result A TablesError → Type 0
-Commits g old new rev commit puts result = (r : Retained) → KeepsHistory g old r → IsNextAt r rev commit puts → OnOk result (KeepsHistory g new (with_commit r commit))
+-- after the change they hold the history with it, where it is one of what they held
+abbrev pub Changes : {S A : Type 0} → Ghosts S → Held S → Held S → TableChange → Result A TablesError → Type 0
+Changes g old new change result = (r : Retained) → KeepsHistory g old r → IsChangeOf r change → OnOk result (KeepsHistory g new (with_change r change))
 
--- such trees hold the history with its next commit
-abbrev pub HoldNext : {S : Type 0} → Ghosts S → Held S → ℕ → Commit Configured → Puts → Trees → Type 0
-HoldNext g old rev commit puts trees = (r : Retained) → KeepsHistory g old r → IsNextAt r rev commit puts → TreesHold trees (with_commit r commit)
+-- such trees hold the history with the change
+abbrev pub HoldChanged : {S : Type 0} → Ghosts S → Held S → TableChange → Trees → Type 0
+HoldChanged g old change trees = (r : Retained) → KeepsHistory g old r → IsChangeOf r change → TreesHold trees (with_change r change)
 
--- nothing is forgotten, and a crash leaves what it left before, or the history with the commit
-abbrev pub LeavesNext : {S : Type 0} → Ghosts S → Held S → Held S → ℕ → Commit Configured → Puts → Type 0
-LeavesNext g old new rev commit puts = Survives (state g old) (state g new) (HoldNext g old rev commit puts)
+-- nothing is forgotten, and a crash leaves what it left before, or the history with the change
+abbrev pub LeavesChanged : {S : Type 0} → Ghosts S → Held S → Held S → TableChange → Type 0
+LeavesChanged g old new change = Survives (state g old) (state g new) (HoldChanged g old change)
 
 -- it is a fault only where the device failed
 abbrev pub HasFailedIf : {S A : Type 0} → Ghosts S → Held S → Held S → Result A TablesError → Type 0
 HasFailedIf g old new result = result ≡ Err refusals.Fault → IsOpen (device_below g old) → HasFailed (device_below g old) (device_below g new)
-
--- ---- a higher floor
-
--- they hold the history from the floor on, where it can be raised so
-abbrev pub Trims : {S A : Type 0} → Ghosts S → Held S → Held S → ℕ → ℕ → Result A TablesError → Type 0
-Trims g old new floor first result = (r : Retained) → KeepsHistory g old r → IsTrimTo r floor first → OnOk result (KeepsHistory g new (after_trim r floor))
-
--- such trees hold the history from the floor on
-abbrev pub HoldTrimmed : {S : Type 0} → Ghosts S → Held S → ℕ → ℕ → Trees → Type 0
-HoldTrimmed g old floor first trees = (r : Retained) → KeepsHistory g old r → IsTrimTo r floor first → TreesHold trees (after_trim r floor)
-
--- nothing is forgotten, and a crash leaves what it left before, or the history from the floor on
-abbrev pub LeavesTrimmed : {S : Type 0} → Ghosts S → Held S → Held S → ℕ → ℕ → Type 0
-LeavesTrimmed g old new floor first = Survives (state g old) (state g new) (HoldTrimmed g old floor first)

@@ -11,9 +11,9 @@ ghost use Rattle.names.specs.declared.commit.Commit.TheVariants as kinds;
 ghost use Rattle.rows.specs.Loads.{IsWithin, retained_of};
 ghost use Rattle.rows.specs.Retained.{empty_store};
 ghost use Rattle.tables.specs.Device.{HasFailed, IsClean, IsOpen};
-ghost use Rattle.tables.specs.Storing.{CanStore, CanTrim};
+ghost use Rattle.tables.specs.Changing.{CanStore};
 ghost use Rattle.store.specs.inside.Asking.{told_as};
-ghost use Rattle.store.specs.History.{KeepsHistory, KeepsOn, LeavesAlone, LeavesAtMostNew, LeavesNext, LeavesTrimmed, FindsHistory, KeptBefore, HasNoneOrFailed, HasFailedIf, IsSettled, Commits, Trims, device_below};
+ghost use Rattle.store.specs.History.{KeepsHistory, KeepsOn, LeavesAlone, LeavesAtMostNew, LeavesChanged, FindsHistory, KeptBefore, HasNoneOrFailed, HasFailedIf, IsSettled, Changes, device_below};
 
 use crate::reading::read;
 use crate::texts::events_of;
@@ -22,8 +22,8 @@ use rows::Loaded;
 use sqlite::{Alter, Connection, Error, ErrorCode};
 use sqlite_tables::{Probe, ask, configure, create, load, trim, write};
 use std::alloc::Global;
-use tables::{Puts, TablesError};
-use tuple_keys::{KeptCommit, KeptEvents};
+use tables::{Puts, TableChange, TablesError};
+use tuple_keys::KeptEvents;
 
 fn is_memory(error: &Error) -> bool
     ensures yes { IsTrue result → error.now ≡ SqliteFailure OutOfMemory }
@@ -81,14 +81,14 @@ fn write_events<S: Alter>(
     events: &KeptEvents,
     puts: Puts,
 ) -> Result<(), TablesError>
-    requires next { CanStore (KeepsHistory S.Store conn.old) rev (kinds.Tuples events.now) puts }
+    requires next { CanStore (KeepsHistory S.Store conn.old) (TableChange.Commit rev (kinds.Tuples events.now) puts) }
     requires idle { conn.old.in_transaction ≡ false }
     requires unlimited { conn.old.step_limit ≡ None }
     ensures idle { conn.new.in_transaction ≡ false }
-    ensures done { Commits S.Store conn.old conn.new rev (kinds.Tuples events.now) puts result }
+    ensures done { Changes S.Store conn.old conn.new (TableChange.Commit rev (kinds.Tuples events.now) puts) result }
     ensures open { OnOk result (IsOpen (device_below S.Store conn.new)) }
     ensures undone { OnErr result (KeepsOn S.Store conn.old conn.new) }
-    ensures crash { LeavesNext S.Store conn.old conn.new rev (kinds.Tuples events.now) puts }
+    ensures crash { LeavesChanged S.Store conn.old conn.new (TableChange.Commit rev (kinds.Tuples events.now) puts) }
     ensures caused { HasFailedIf S.Store conn.old conn.new result }
 {
     let Ok(texts) = events_of(alloc, events, puts) else {
@@ -108,14 +108,14 @@ fn write_config<S: Alter>(
     config: &Config,
     puts: Puts,
 ) -> Result<(), TablesError>
-    requires next { CanStore (KeepsHistory S.Store conn.old) rev (kinds.Config config.now) puts }
+    requires next { CanStore (KeepsHistory S.Store conn.old) (TableChange.Commit rev (kinds.Config config.now) puts) }
     requires idle { conn.old.in_transaction ≡ false }
     requires unlimited { conn.old.step_limit ≡ None }
     ensures idle { conn.new.in_transaction ≡ false }
-    ensures done { Commits S.Store conn.old conn.new rev (kinds.Config config.now) puts result }
+    ensures done { Changes S.Store conn.old conn.new (TableChange.Commit rev (kinds.Config config.now) puts) result }
     ensures open { OnOk result (IsOpen (device_below S.Store conn.new)) }
     ensures undone { OnErr result (KeepsOn S.Store conn.old conn.new) }
-    ensures crash { LeavesNext S.Store conn.old conn.new rev (kinds.Config config.now) puts }
+    ensures crash { LeavesChanged S.Store conn.old conn.new (TableChange.Commit rev (kinds.Config config.now) puts) }
     ensures caused { HasFailedIf S.Store conn.old conn.new result }
 {
     let Ok(text) = config.to_json(alloc) else {
@@ -127,53 +127,54 @@ fn write_config<S: Alter>(
     Err(why(conn, &error))
 }
 
-/// Stores one commit in one transaction.
-pub(crate) fn write_commit<S: Alter>(
-    alloc: Global,
-    conn: &mut Connection<S>,
-    rev: u64,
-    commit: &KeptCommit,
-    puts: Puts,
-) -> Result<(), TablesError>
-    requires next { CanStore (KeepsHistory S.Store conn.old) rev commit.now puts }
-    requires idle { conn.old.in_transaction ≡ false }
-    requires unlimited { conn.old.step_limit ≡ None }
-    ensures idle { conn.new.in_transaction ≡ false }
-    ensures done { Commits S.Store conn.old conn.new rev commit.now puts result }
-    ensures open { OnOk result (IsOpen (device_below S.Store conn.new)) }
-    ensures undone { OnErr result (KeepsOn S.Store conn.old conn.new) }
-    ensures crash { LeavesNext S.Store conn.old conn.new rev commit.now puts }
-    ensures caused { HasFailedIf S.Store conn.old conn.new result }
-{
-    match commit.events() {
-        Some(events) => write_events(alloc, conn, rev, events, puts),
-        None => match commit.config() {
-            Some(config) => write_config(alloc, conn, rev, config, puts),
-            None => unreachable!(),
-        },
-    }
-}
-
-/// Raises the floor, and takes out what no revision from it on looks at, in one transaction.
-pub(crate) fn trim_tables<S: Alter>(
+// Raises the floor, and takes out what no revision from it on looks at.
+fn trim_tables<S: Alter>(
     conn: &mut Connection<S>,
     floor: u64,
     first: u64,
 ) -> Result<(), TablesError>
-    requires can { CanTrim (KeepsHistory S.Store conn.old) floor first }
+    requires can { CanStore (KeepsHistory S.Store conn.old) (TableChange.Trim floor first) }
     requires idle { conn.old.in_transaction ≡ false }
     requires unlimited { conn.old.step_limit ≡ None }
     ensures idle { conn.new.in_transaction ≡ false }
-    ensures done { Trims S.Store conn.old conn.new floor first result }
+    ensures done { Changes S.Store conn.old conn.new (TableChange.Trim floor first) result }
     ensures open { OnOk result (IsOpen (device_below S.Store conn.new)) }
     ensures undone { OnErr result (KeepsOn S.Store conn.old conn.new) }
-    ensures crash { LeavesTrimmed S.Store conn.old conn.new floor first }
+    ensures crash { LeavesChanged S.Store conn.old conn.new (TableChange.Trim floor first) }
     ensures caused { HasFailedIf S.Store conn.old conn.new result }
 {
     let Err(error) = trim(conn, floor, first) else {
         return Ok(());
     };
     Err(why(conn, &error))
+}
+
+/// Stores one change in one transaction.
+pub(crate) fn change_history<S: Alter>(
+    alloc: Global,
+    conn: &mut Connection<S>,
+    change: &TableChange,
+) -> Result<(), TablesError>
+    requires can { CanStore (KeepsHistory S.Store conn.old) change.now }
+    requires idle { conn.old.in_transaction ≡ false }
+    requires unlimited { conn.old.step_limit ≡ None }
+    ensures idle { conn.new.in_transaction ≡ false }
+    ensures done { Changes S.Store conn.old conn.new change.now result }
+    ensures open { OnOk result (IsOpen (device_below S.Store conn.new)) }
+    ensures undone { OnErr result (KeepsOn S.Store conn.old conn.new) }
+    ensures crash { LeavesChanged S.Store conn.old conn.new change.now }
+    ensures caused { HasFailedIf S.Store conn.old conn.new result }
+{
+    match change {
+        TableChange::Commit { rev, commit, puts } => match commit.events() {
+            Some(events) => write_events(alloc, conn, *rev, events, *puts),
+            None => match commit.config() {
+                Some(config) => write_config(alloc, conn, *rev, config, *puts),
+                None => unreachable!(),
+            },
+        },
+        TableChange::Trim { floor, first } => trim_tables(conn, *floor, *first),
+    }
 }
 
 /// Makes the tables of a store that has this number and no commit, in one transaction. Where there is a table, an

@@ -1,13 +1,12 @@
 //! The tables of a store.
 ghost use Rattle.std.specs.Prelude.{◌≡◌, false, None};
 
-use crate::history::{load_history, make_tables, trim_tables, write_commit};
+use crate::history::{change_history, load_history, make_tables};
 use rows::Loaded;
 use sqlite::{Alter, Connection};
 use sqlite_tables::is_format;
 use std::alloc::Global;
-use tables::{Puts, Tables, TablesError};
-use tuple_keys::KeptCommit;
+use tables::{TableChange, Tables, TablesError};
 
 /// The tables of one store over a connection.
 #[derive(Drop)]
@@ -117,19 +116,8 @@ impl<S: Alter> Tables for Store<S> {
         }
     }
 
-    fn write(&mut self, rev: u64, commit: &KeptCommit, puts: Puts) -> Result<(), TablesError> {
-        match write_commit(self.alloc, &mut self.conn, rev, commit, puts) {
-            Ok(()) => Ok(()),
-            Err(TablesError::Memory) => Err(TablesError::Memory),
-            Err(TablesError::Fault) => {
-                self.faults = self.faults.saturating_add(1);
-                Err(TablesError::Fault)
-            }
-        }
-    }
-
-    fn trim(&mut self, floor: u64, first: u64) -> Result<(), TablesError> {
-        match trim_tables(&mut self.conn, floor, first) {
+    fn change(&mut self, change: &TableChange) -> Result<(), TablesError> {
+        match change_history(self.alloc, &mut self.conn, change) {
             Ok(()) => Ok(()),
             Err(TablesError::Memory) => Err(TablesError::Memory),
             Err(TablesError::Fault) => {

@@ -25,8 +25,6 @@ use Rattle.rows.specs.Follows.{IsNext}
 use Rattle.rows.specs.declared.loaded.Loaded.{Loaded}
 use Rattle.rows.proofs.Admitting.{newest_admitted, none_admitted, of_all}
 use Rattle.rows.proofs.Loading as loading
-use Rattle.tables.specs.declared.puts.Puts.{Puts}
-use Rattle.tables.specs.Storing.{CanStore}
 use Rattle.tables.specs.Limits.{IsLoadable}
 use Rattle.tables.specs.Listing.{listed, IsListed}
 use Rattle.tables.proofs.Room.{stays_within, trims_within, renumbered}
@@ -109,10 +107,10 @@ none_listed number rows h empty none =
 
 -- ---- a copy of the commit was pushed
 
-pub pushed_listed : (number : ℕ) (rows t : Retained) (xs ys zs : History) (c d : Commit Configured) (rev : ℕ) (puts : Puts) → listed number rows xs ≡ t → IsListed number rows xs → CanStore (λ r. t ≡ r) rev d puts
+pub pushed_listed : (number : ℕ) (rows t : Retained) (xs ys zs : History) (c d : Commit Configured) → listed number rows xs ≡ t → IsListed number rows xs → IsNext t d
     → ((r : Retained) (e : Commit Configured) → AreAdmitted (newest_of r).held → IsNext r e → HasRoom r e) → ys ≡ xs → c ≡ d → zs ≡ ys ++ c ∷ [] → IsListed number rows zs
-pushed_listed number rows t xs ys zs c d rev puts is held can room same copy pushed =
-    let next : IsNext (listed number rows xs) d = subst (λ (r : Retained). IsNext r d) (sym (is ∙ can.1)) can.2.0 in
+pushed_listed number rows t xs ys zs c d is held can room same copy pushed =
+    let next : IsNext (listed number rows xs) d = subst (λ (r : Retained). IsNext r d) (sym is) can in
     let all : xs ++ d ∷ [] ≡ zs = cc in
     subst (IsListed number rows) all (record {
       first = held.first ∙ sym (take-append-le (length rows.commits) xs (d ∷ []) (first_fits rows.commits xs held.first));

@@ -43,20 +43,12 @@ PutsAbsent r (Config config) = Unit {0}
 abbrev pub IsNextAt : Retained → ℕ → Commit Configured → Puts → Type 0
 IsNextAt r rev commit puts = IsNext r commit × (rev ≡ newest r + 1) × (puts ≡ Absent → PutsAbsent r commit)
 
--- some history that the tables hold can go on so
-abbrev pub CanStore : (Retained → Type 0) → ℕ → Commit Configured → Puts → Type 0
-CanStore Holds rev commit puts = (r : Retained) × Holds r × IsNextAt r rev commit puts
-
 -- the floor can be raised to the revision, and the last configuration that goes into what it holds is of the other, or there is none and that is 0
 pub record IsTrimTo (r : Retained) (floor first : ℕ) : Type 0 where
   pub above : r.floor ≤ floor
   pub below : floor ≤ newest r
   pub small : floor ≤ MAX_REV
   pub first_is : first ≡ last_config 0 r.floor (commits_between r r.floor floor)
-
--- the floor of some history that the tables hold can be raised so
-abbrev pub CanTrim : (Retained → Type 0) → ℕ → ℕ → Type 0
-CanTrim Holds floor first = (r : Retained) × Holds r × IsTrimTo r floor first
 
 -- one refusal more; at its greatest number a count stays, and this counts as more
 abbrev pub one_more : ℕ → ℕ

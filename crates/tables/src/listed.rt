@@ -1,11 +1,12 @@
 //! Tables in memory.
-ghost use Rattle.std.specs.Prelude.{◌≡◌, ◌≤◌, ◌+◌, length, take, drop, OnOk};
-ghost use Rattle.rows.specs.Retained.{empty_store, newest};
+ghost use Rattle.std.specs.Prelude.{◌≡◌, ◌≤◌, ◌+◌, length, take, drop, OnOk, IfErr};
+ghost use Rattle.rows.specs.Follows.{IsNext};
+ghost use Rattle.rows.specs.Retained.{empty_store, newest, with_commit, after_trim};
 ghost use Rattle.tables.specs.Limits.{IsLoadable};
 ghost use Rattle.tables.specs.Listing.{listed};
 
+use crate::change::TableChange;
 use crate::copy::commits_again;
-use crate::puts::Puts;
 use crate::tables::{Tables, TablesError};
 use names::Items;
 use rows::{Loaded, Rows, what_follows_has_room};
@@ -49,6 +50,39 @@ impl Listed {
             commits: Vec::new(alloc),
         }
     }
+
+    // Puts a commit behind the others.
+    fn push(&mut self, commit: &KeptCommit) -> Result<(), TablesError>
+        requires { IsNext self.old commit.now }
+        ensures ok { OnOk result (self.new ≡ with_commit self.old commit.now) }
+        ensures err { IfErr result (λ why. (why ≡ TablesError.Memory) × (self.new ≡ self.old)) }
+    {
+        if self.commits.reserve(1).is_err() {
+            return Err(TablesError::Memory);
+        }
+        let Ok(commit) = commit.again() else {
+            return Err(TablesError::Memory);
+        };
+        what_follows_has_room();
+        self.commits.push_reserved(commit);
+        Ok(())
+    }
+
+    // Raises the floor: the commits up to it go into what stands there.
+    fn raise(&mut self, floor: u64) -> Result<(), TablesError>
+        requires above { self.old.floor ≤ floor }
+        requires there { floor ≤ newest self.old }
+        ensures ok { OnOk result (self.new ≡ after_trim self.old floor) }
+        ensures err { IfErr result (λ why. (why ≡ TablesError.Memory) × (self.new ≡ self.old)) }
+    {
+        let Ok(()) = absorb_up_to(&mut self.base, &self.commits, floor) else {
+            return Err(TablesError::Memory);
+        };
+        let count = (floor - self.base.floor()) as usize;
+        self.base.trim(floor);
+        drop_first(&mut self.commits, count);
+        Ok(())
+    }
 }
 
 impl Tables for Listed {
@@ -85,26 +119,11 @@ impl Tables for Listed {
         })
     }
 
-    fn write(&mut self, _rev: u64, commit: &KeptCommit, _puts: Puts) -> Result<(), TablesError> {
-        if self.commits.reserve(1).is_err() {
-            return Err(TablesError::Memory);
+    fn change(&mut self, change: &TableChange) -> Result<(), TablesError> {
+        match change {
+            TableChange::Commit { commit, .. } => self.push(commit),
+            TableChange::Trim { floor, .. } => self.raise(*floor),
         }
-        let Ok(commit) = commit.again() else {
-            return Err(TablesError::Memory);
-        };
-        what_follows_has_room();
-        self.commits.push_reserved(commit);
-        Ok(())
-    }
-
-    fn trim(&mut self, floor: u64, _first: u64) -> Result<(), TablesError> {
-        let Ok(()) = absorb_up_to(&mut self.base, &self.commits, floor) else {
-            return Err(TablesError::Memory);
-        };
-        let count = (floor - self.base.floor()) as usize;
-        self.base.trim(floor);
-        drop_first(&mut self.commits, count);
-        Ok(())
     }
 
     fn faults(&self) -> u64 {

@@ -1,27 +1,27 @@
 //! Where a store's history is stored.
 
-use crate::puts::Puts;
+use crate::change::TableChange;
 use rows::Loaded;
 use std::alloc::Global;
-use tuple_keys::KeptCommit;
 
 /// Why tables refuse.
 #[derive(Clone, Copy, Debug, PartialEq, Eq)]
 pub enum TablesError {
     /// A growth was refused. Nothing was changed.
     Memory,
-    /// Any other cause. The one commit that was to be stored may be or not.
+    /// Any other cause. The one change that was to be stored may be or not.
     Fault,
 }
 
 /// Tables that hold the history of one store.
 pub trait Tables {
     ghost use Rattle.std.specs.Prelude.{◌≡◌, ◌⊎◌, ℕ, List, [], ◌∷◌, IfOk, OnOk, Err};
-    ghost use Rattle.rows.specs.Retained.{Retained, with_commit, after_trim};
+    ghost use Rattle.rows.specs.Retained.{Retained};
     ghost use Rattle.rows.specs.Loads.{retained_of, IsWithin};
     ghost use Rattle.tables.specs.Device.{Device, IsOpen, IsClean, Lasts, HasFailed};
     ghost use Rattle.tables.specs.Leaving.{AreAmong};
-    ghost use Rattle.tables.specs.Storing.{IsNextAt, CanStore, IsTrimTo, CanTrim, one_more};
+    ghost use Rattle.tables.specs.Changing.{IsChangeOf, with_change, CanStore};
+    ghost use Rattle.tables.specs.Storing.{one_more};
 
     // The history that they hold, as far as they are open.
     ghost holds: { Self → Retained → Type 0 };
@@ -56,35 +56,16 @@ pub trait Tables {
         ensures memory { result ≡ Err TablesError.Memory → count self.new ≡ count self.old }
         ensures told { result ≡ Err TablesError.Fault → count self.new ≡ one_more (count self.old) };
 
-    /// Stores one commit, wholly or not at all. Its revision is the next.
-    fn write(&mut self, rev: u64, commit: &KeptCommit, puts: Puts) -> Result<(), TablesError>
-        requires { CanStore (holds self.old) rev commit.now puts }
-        ensures done { (r : Retained) → holds self.old r → IsNextAt r rev commit.now puts
-            → OnOk result (holds self.new (with_commit r commit.now)) }
+    /// Stores one change, wholly or not at all.
+    fn change(&mut self, change: &TableChange) -> Result<(), TablesError>
+        requires { CanStore (holds self.old) change.now }
+        ensures done { (r : Retained) → holds self.old r → IsChangeOf r change.now
+            → OnOk result (holds self.new (with_change r change.now)) }
         ensures open { OnOk result (IsOpen (device self.new)) }
         ensures undone { (r : Retained) → holds self.old r → result ≡ Err TablesError.Memory
             → holds self.new r }
         ensures left { (r : Retained) (rs : List Retained) → holds self.old r → leaves self.old rs
-            → IsNextAt r rev commit.now puts → leaves self.new (with_commit r commit.now ∷ rs) }
-        ensures lasts { Lasts (device self.old) (device self.new) }
-        ensures caused { result ≡ Err TablesError.Fault → IsOpen (device self.old)
-            → HasFailed (device self.old) (device self.new) }
-        ensures quiet { OnOk result (count self.new ≡ count self.old) }
-        ensures memory { result ≡ Err TablesError.Memory → count self.new ≡ count self.old }
-        ensures told { result ≡ Err TablesError.Fault → count self.new ≡ one_more (count self.old) };
-
-    /// Raises the floor to a revision that is retained, wholly or not at all: what no revision from it on looks at
-    /// goes. `first` is the revision of the last configuration that comes to be below or at the floor, or 0 where
-    /// none does.
-    fn trim(&mut self, floor: u64, first: u64) -> Result<(), TablesError>
-        requires { CanTrim (holds self.old) floor first }
-        ensures done { (r : Retained) → holds self.old r → IsTrimTo r floor first
-            → OnOk result (holds self.new (after_trim r floor)) }
-        ensures open { OnOk result (IsOpen (device self.new)) }
-        ensures undone { (r : Retained) → holds self.old r → result ≡ Err TablesError.Memory
-            → holds self.new r }
-        ensures left { (r : Retained) (rs : List Retained) → holds self.old r → leaves self.old rs
-            → IsTrimTo r floor first → leaves self.new (after_trim r floor ∷ rs) }
+            → IsChangeOf r change.now → leaves self.new (with_change r change.now ∷ rs) }
         ensures lasts { Lasts (device self.old) (device self.new) }
         ensures caused { result ≡ Err TablesError.Fault → IsOpen (device self.old)
             → HasFailed (device self.old) (device self.new) }

@@ -23,5 +23,5 @@ none_ordered = tt
 can_follow : (config : Configured) → or_else (in_the_way (find (λ t. not (admits config t)) (items empty_snap.tuples))) None ≡ None
 can_follow config = ap (λ (ts : List Tuple). or_else (in_the_way (find (λ t. not (admits config t)) ts)) None) (items_from_list [] none_ordered)
 
-pub write-requires : goal.write-requires
-write-requires c = (empty_store 7, c.new-tables.ensures, (subst (λ (m : Commit Configured). IsNext (empty_store 7) m) (sym c.in-Ok.ensures) (can_follow c.empty.result), refl, λ is. subst (λ (m : Commit Configured). PutsAbsent (empty_store 7) m) (sym c.in-Ok.ensures) tt))
+pub change-requires : goal.change-requires
+change-requires c = (empty_store 7, c.new-tables.ensures, (subst (λ (m : Commit Configured). IsNext (empty_store 7) m) (sym c.in-Ok.ensures) (can_follow c.empty.result), refl, λ is. subst (λ (m : Commit Configured). PutsAbsent (empty_store 7) m) (sym c.in-Ok.ensures) tt))

@@ -4,9 +4,10 @@ use Rattle.sqlite.specs.declared.error.Error.TheVariants.{SqliteFailure}
 use Rattle.sqlite.specs.declared.error.ErrorCode.TheVariants.{OutOfMemory}
 use Rattle.rows.specs.Retained as retained
 use Rattle.sqlite_tables.specs.Steps.{after_trim, MayStore}
-use Rattle.store.specs.History.{KeepsHistory, HoldTrimmed}
+use Rattle.tables.specs.declared.change.TableChange.TheVariants.{Trim}
+use Rattle.store.specs.History.{KeepsHistory, HoldChanged}
 use Rattle.store.proofs.Leading.{trim_lead, small_trim, can_drop}
-use Rattle.store.proofs.Leaving.{clean_before, survives_quiet, holds_stored, leaves_trimmed, keeps_undone, keeps_twice, failed_in_two}
+use Rattle.store.proofs.Leaving.{clean_before, survives_quiet, holds_stored, leaves_changed, keeps_undone, keeps_twice, failed_in_two}
 use Rattle.store.proofs.history.trim_tables.Goals as goal
 
 pub trim-requires-clause-small : goal.trim-requires-clause-small
@@ -20,7 +21,7 @@ returns-in_default-clause-done g c = λ r keeps to.
 
 pub returns-in_default-clause-crash : goal.returns-in_default-clause-crash
 returns-in_default-clause-crash g c =
-    leaves_trimmed g.S.Store c.args.conn.now c.trim.new.conn c.args.floor c.args.first (after_trim c.args.floor c.args.first) 0 c.trim.ensures.crash (λ r to. trim_lead r c.args.floor c.args.first to)
+    leaves_changed g.S.Store c.args.conn.now c.trim.new.conn (Trim c.args.floor c.args.first) (after_trim c.args.floor c.args.first) 0 c.trim.ensures.crash (λ r to. trim_lead r c.args.floor c.args.first to)
 
 pub returns-in_default-clause-open : goal.returns-in_default-clause-open
 returns-in_default-clause-open g c = λ clean. (c.in_default.ensures.done clean).is_open
@@ -33,8 +34,8 @@ returns-clause-undone g c =
 
 pub returns-clause-crash : goal.returns-clause-crash
 returns-clause-crash g c =
-    survives_quiet (state g.S.Store c.args.conn.now) (state g.S.Store c.trim.new.conn) (state g.S.Store c.why.new.conn) (HoldTrimmed g.S.Store c.args.conn.now c.args.floor c.args.first)
-    (leaves_trimmed g.S.Store c.args.conn.now c.trim.new.conn c.args.floor c.args.first (after_trim c.args.floor c.args.first) 0 c.trim.ensures.crash (λ r to. trim_lead r c.args.floor c.args.first to)) c.why.ensures.quiet
+    survives_quiet (state g.S.Store c.args.conn.now) (state g.S.Store c.trim.new.conn) (state g.S.Store c.why.new.conn) (HoldChanged g.S.Store c.args.conn.now (Trim c.args.floor c.args.first))
+    (leaves_changed g.S.Store c.args.conn.now c.trim.new.conn (Trim c.args.floor c.args.first) (after_trim c.args.floor c.args.first) 0 c.trim.ensures.crash (λ r to. trim_lead r c.args.floor c.args.first to)) c.why.ensures.quiet
 
 pub returns-clause-caused : goal.returns-clause-caused
 returns-clause-caused g c = λ is was clean.

@@ -7,10 +7,11 @@ use Rattle.config.specs.Causes.{Accepts}
 use Rattle.rows.specs.Retained.{with_commit}
 use Rattle.sqlite_tables.specs.Steps.{after_configure, MayStore}
 use Rattle.store.specs.Written.{canonical}
-use Rattle.store.specs.History.{KeepsHistory, HoldNext}
+use Rattle.tables.specs.declared.change.TableChange.TheVariants.{Commit}
+use Rattle.store.specs.History.{KeepsHistory, HoldChanged}
 use Rattle.store.proofs.Beginning.{small_rev}
 use Rattle.store.proofs.Leading.{config_lead, can_configure}
-use Rattle.store.proofs.Leaving.{clean_before, survives_quiet, survives_same, holds_stored, leaves_next, keeps_undone, keeps_twice, failed_in_two}
+use Rattle.store.proofs.Leaving.{clean_before, survives_quiet, survives_same, holds_stored, leaves_changed, keeps_undone, keeps_twice, failed_in_two}
 use Rattle.store.proofs.history.write_config.Goals as goal
 
 pub configure-requires-clause-small : goal.configure-requires-clause-small
@@ -23,7 +24,7 @@ pub returns-in_default-clause-undone : goal.returns-in_default-clause-undone
 returns-in_default-clause-undone g c = λ r keeps. keeps
 
 pub returns-in_default-clause-crash : goal.returns-in_default-clause-crash
-returns-in_default-clause-crash g c = survives_same (state g.S.Store c.args.conn.now) (HoldNext g.S.Store c.args.conn.now c.args.rev (kinds.Config c.args.config.now) c.args.puts)
+returns-in_default-clause-crash g c = survives_same (state g.S.Store c.args.conn.now) (HoldChanged g.S.Store c.args.conn.now (Commit c.args.rev (kinds.Config c.args.config.now) c.args.puts))
 
 pub returns-in_default-configure-clause-done : goal.returns-in_default-configure-clause-done
 returns-in_default-configure-clause-done g c = λ r keeps next.
@@ -39,7 +40,7 @@ returns-in_default-configure-clause-crash g c =
     let text = c.as_str.result.now in
     let text_is : text ≡ canonical c.args.config.now = c.as_str.ensures.value ∙ c.in-Ok.ensures.text in
     let accepts : Accepts text c.args.config.now = subst (λ (t : List ℕ). Accepts t c.args.config.now) (sym c.as_str.ensures.value) c.in-Ok.ensures.read_back in
-    leaves_next g.S.Store c.args.conn.now c.configure.new.conn c.args.rev (kinds.Config c.args.config.now) c.args.puts (after_configure c.args.rev text) 0 c.configure.ensures.crash
+    leaves_changed g.S.Store c.args.conn.now c.configure.new.conn (Commit c.args.rev (kinds.Config c.args.config.now) c.args.puts) (after_configure c.args.rev text) 0 c.configure.ensures.crash
     (λ r next. config_lead r c.args.rev c.args.puts text c.args.config.now next text_is accepts)
 
 pub returns-in_default-configure-clause-open : goal.returns-in_default-configure-clause-open
@@ -56,9 +57,9 @@ returns-clause-crash g c =
     let text = c.as_str.result.now in
     let text_is : text ≡ canonical c.args.config.now = c.as_str.ensures.value ∙ c.in-Ok.ensures.text in
     let accepts : Accepts text c.args.config.now = subst (λ (t : List ℕ). Accepts t c.args.config.now) (sym c.as_str.ensures.value) c.in-Ok.ensures.read_back in
-    let next_trees = HoldNext g.S.Store c.args.conn.now c.args.rev (kinds.Config c.args.config.now) c.args.puts in
+    let next_trees = HoldChanged g.S.Store c.args.conn.now (Commit c.args.rev (kinds.Config c.args.config.now) c.args.puts) in
     survives_quiet (state g.S.Store c.args.conn.now) (state g.S.Store c.configure.new.conn) (state g.S.Store c.why.new.conn) next_trees
-    (leaves_next g.S.Store c.args.conn.now c.configure.new.conn c.args.rev (kinds.Config c.args.config.now) c.args.puts (after_configure c.args.rev text) 0 c.configure.ensures.crash
+    (leaves_changed g.S.Store c.args.conn.now c.configure.new.conn (Commit c.args.rev (kinds.Config c.args.config.now) c.args.puts) (after_configure c.args.rev text) 0 c.configure.ensures.crash
     (λ r next. config_lead r c.args.rev c.args.puts text c.args.config.now next text_is accepts))
     c.why.ensures.quiet
 

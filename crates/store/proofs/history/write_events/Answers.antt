@@ -7,13 +7,14 @@ use Rattle.names.specs.Spelling.{IsTuple}
 use Rattle.rows.specs.Retained.{newest_of, with_commit}
 use Rattle.sqlite_tables.specs.Steps.{after_write, MayStore}
 use Rattle.store.specs.inside.EventTexts.{event_texts_in}
-use Rattle.store.specs.History.{KeepsHistory, HoldNext}
+use Rattle.tables.specs.declared.change.TableChange.TheVariants.{Commit}
+use Rattle.store.specs.History.{KeepsHistory, HoldChanged}
 use Rattle.store.proofs.Picking.{all_in}
 use Rattle.store.proofs.Causes.{few_events}
 use Rattle.store.proofs.Beginning.{small_rev}
 use Rattle.store.proofs.Fitting.{same_length}
 use Rattle.store.proofs.Leading.{events_lead, can_take}
-use Rattle.store.proofs.Leaving.{clean_before, survives_quiet, survives_same, holds_stored, leaves_next, keeps_undone, keeps_twice, failed_in_two}
+use Rattle.store.proofs.Leaving.{clean_before, survives_quiet, survives_same, holds_stored, leaves_changed, keeps_undone, keeps_twice, failed_in_two}
 use Rattle.store.proofs.history.write_events.Goals as goal
 
 pub write-requires-clause-small : goal.write-requires-clause-small
@@ -33,7 +34,7 @@ pub returns-in_default-clause-undone : goal.returns-in_default-clause-undone
 returns-in_default-clause-undone g c = λ r keeps. keeps
 
 pub returns-in_default-clause-crash : goal.returns-in_default-clause-crash
-returns-in_default-clause-crash g c = survives_same (state g.S.Store c.args.conn.now) (HoldNext g.S.Store c.args.conn.now c.args.rev (kinds.Tuples c.args.events.now) c.args.puts)
+returns-in_default-clause-crash g c = survives_same (state g.S.Store c.args.conn.now) (HoldChanged g.S.Store c.args.conn.now (Commit c.args.rev (kinds.Tuples c.args.events.now) c.args.puts))
 
 pub returns-in_default-write-clause-done : goal.returns-in_default-write-clause-done
 returns-in_default-write-clause-done g c = λ r keeps next.
@@ -47,7 +48,7 @@ pub returns-in_default-write-clause-crash : goal.returns-in_default-write-clause
 returns-in_default-write-clause-crash g c =
     let xs = c.as_slice.result.now in
     let texts_is = ap (map event_texts_in) c.as_slice.ensures.value ∙ c.in-Ok.ensures.texts in
-    leaves_next g.S.Store c.args.conn.now c.write.new.conn c.args.rev (kinds.Tuples c.args.events.now) c.args.puts (after_write c.args.rev xs) (256 * c.args.rev) c.write.ensures.crash
+    leaves_changed g.S.Store c.args.conn.now c.write.new.conn (Commit c.args.rev (kinds.Tuples c.args.events.now) c.args.puts) (after_write c.args.rev xs) (256 * c.args.rev) c.write.ensures.crash
     (λ r next. events_lead r c.args.rev c.args.puts xs c.args.events.now next texts_is (all_in (λ e. IsTuple e.tuple) c.args.events.now c.in-Ok.ensures.spelled))
 
 pub returns-in_default-write-clause-open : goal.returns-in_default-write-clause-open
@@ -63,9 +64,9 @@ pub returns-clause-crash : goal.returns-clause-crash
 returns-clause-crash g c =
     let xs = c.as_slice.result.now in
     let texts_is = ap (map event_texts_in) c.as_slice.ensures.value ∙ c.in-Ok.ensures.texts in
-    let next_trees = HoldNext g.S.Store c.args.conn.now c.args.rev (kinds.Tuples c.args.events.now) c.args.puts in
+    let next_trees = HoldChanged g.S.Store c.args.conn.now (Commit c.args.rev (kinds.Tuples c.args.events.now) c.args.puts) in
     survives_quiet (state g.S.Store c.args.conn.now) (state g.S.Store c.write.new.conn) (state g.S.Store c.why.new.conn) next_trees
-    (leaves_next g.S.Store c.args.conn.now c.write.new.conn c.args.rev (kinds.Tuples c.args.events.now) c.args.puts (after_write c.args.rev xs) (256 * c.args.rev) c.write.ensures.crash
+    (leaves_changed g.S.Store c.args.conn.now c.write.new.conn (Commit c.args.rev (kinds.Tuples c.args.events.now) c.args.puts) (after_write c.args.rev xs) (256 * c.args.rev) c.write.ensures.crash
     (λ r next. events_lead r c.args.rev c.args.puts xs c.args.events.now next texts_is (all_in (λ e. IsTuple e.tuple) c.args.events.now c.in-Ok.ensures.spelled)))
     c.why.ensures.quiet
 
