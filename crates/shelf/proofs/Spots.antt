@@ -1,6 +1,6 @@
 -- Where a text is, or would be put in, and a text that was put in where it was not there.
 use Rattle.std.proofs.Common.{◌≡◌, ℕ, zero, suc, ◌<◌, List, [], ◌∷◌, ◌++◌, length, take, drop, get_or, set, refl, ap, sym, subst, ◌∙◌, arith, eqb}
-use Rattle.std.specs.Prelude.{Option, Some, None, cond, Result, Ok, Err, IfOk, OnOk, OnErr, true}
+use Rattle.std.specs.Prelude.{slice_index_or, Option, Some, None, cond, Result, Ok, Err, IfOk, OnOk, OnErr, true}
 use Rattle.std.specs.Option.{unwrap_or}
 use Rattle.std.specs.List.{AllByRecursion}
 use Rattle.std.specs.Map.{lookup, set_value, keys_of}
@@ -11,16 +11,25 @@ use Rattle.std.specs.declared.cmp.Ordering.TheVariants.{Less, Equal, Greater}
 use Rattle.std.proofs.lemmas.List.{get_or_default, nil_from_length}
 use Rattle.std.proofs.lemmas.Map.Keys.{sorted_head, sorted_tail}
 use Rattle.shelf.specs.Texts.{text_cmp, is_text}
-use Rattle.shelf.specs.inside.Places.{AreSorted, AreAbove, AreFilled, IsAt, IsFound, joined}
+use Rattle.shelf.specs.inside.Places.{AreSorted, AreAbove, AreFilled, IsAt, IsBetween, IsBlockOf, IsFound, joined}
 use Rattle.shelf.specs.inside.Walks.{IsShelf}
 use Rattle.shelf.specs.inside.Written.{with_value, entries_put}
-use Rattle.shelf.specs.inside.Entered.{IsMissing, HasEntered}
 use Rattle.shelf.proofs.Order.{head_at, text_itself, right_all, sorted_right, sorted_at, joined_at, joined_split, blocks_below}
 use Rattle.shelf.proofs.Looking.{missing}
 use Rattle.shelf.proofs.Writing.{set_entries, found_there, some_value}
 use Rattle.shelf.proofs.Shelves.{no_length}
 use Rattle.shelf.proofs.Parting.{ok_then}
 use Rattle.shelf.proofs.Entering.{entered, entered_shelf, replaced}
+
+-- the key is no text, and its place in a block is this
+abbrev pub IsMissing : {V : Type 0} → List ℕ → ℕ → ℕ → List (List (List ℕ × V)) → Type 0
+IsMissing key at i bs = IsBlockOf key at bs × IsBetween key i (slice_index_or bs at [])
+
+-- the key is put among the entries with a value, or it was one of them
+abbrev pub HasEntered : {V : Type 0} → List ℕ → V → List (List ℕ × V) → List (List ℕ × V) → Type 0
+HasEntered {V} key v old new =
+    ((w : V) → set_value (is_text key) new w ≡ insert_entry text_cmp old key w)
+    × (lookup (is_text key) new ≡ Some (unwrap_or (lookup (is_text key) old) v))
 
 module _ {V : Type 0} where
   -- a block is what is read there, whatever stands for none
@@ -89,10 +98,10 @@ module _ {V : Type 0} (key : List ℕ) where
 
   -- the text was not there
   pub has_put : (old new : List (List ℕ × V)) (v : V) → None ≡ lookup (is_text key) old → new ≡ insert_entry text_cmp old key v → HasEntered key v old new
-  has_put old new v none is = record {
-    written = λ w. ap (λ es. set_value (is_text key) es w) is ∙ set_put old v w;
-    value = ap (lookup (is_text key)) is ∙ value_put old v ∙ ap (λ o. Some (unwrap_or o v)) none;
-  }
+  has_put old new v none is = (
+    (λ w. ap (λ es. set_value (is_text key) es w) is ∙ set_put old v w),
+    (ap (lookup (is_text key)) is ∙ value_put old v ∙ ap (λ o. Some (unwrap_or o v)) none),
+  )
 
   -- there was none
   pub has_first : (bs now : List (List (List ℕ × V))) (b : List (List ℕ × V)) (v : V) (n : ℕ) → eqb n 0 ≡ true → n ≡ length bs → b ≡ (key, v) ∷ [] → now ≡ bs ++ b ∷ [] → HasEntered key v (joined bs) (joined now)
@@ -115,24 +124,24 @@ module _ {V : Type 0} (key : List ℕ) where
         replaced key at i bs shelf found.block b reads (subst (IsAt key i) (sym (reads ∙ get_or_default bs at b [] found.block.within)) found.there) v c same
 
     pub has_found : (v : V) → HasEntered key v (joined bs) (joined bs)
-    has_found v = record {
-      written = λ w.
+    has_found v = (
+      (λ w.
           let b = get_or bs at [] in
           let reads = itself bs at found.block.within in
-          sym (set_entries key at i bs shelf found b reads w (with_value b i w) refl) ∙ written_there b reads w (with_value b i w) refl;
-      value = some_same (lookup (is_text key) (joined bs)) v (λ none. some_value (get_or bs at []) i found.there.within (found_there key at i bs shelf found (get_or bs at []) (itself bs at found.block.within) ∙ none));
-    }
+          sym (set_entries key at i bs shelf found b reads w (with_value b i w) refl) ∙ written_there b reads w (with_value b i w) refl),
+      (some_same (lookup (is_text key) (joined bs)) v (λ none. some_value (get_or bs at []) i found.there.within (found_there key at i bs shelf found (get_or bs at []) (itself bs at found.block.within) ∙ none))),
+    )
 
   -- the text is not there, and where it is put in
   module _ (at i : ℕ) (bs : List (List (List ℕ × V))) (is : IsMissing key at i bs) where
     pub none_there : None ≡ lookup (is_text key) (joined bs)
-    none_there = missing key at bs is.block (get_or bs at []) (itself bs at is.block.within) i is.between
+    none_there = missing key at bs is.0 (get_or bs at []) (itself bs at is.0.within) i is.1
 
     pub put_there : (v : V) → entries_put bs at i (key, v) ≡ insert_entry text_cmp (joined bs) key v
-    put_there v = entered key at i bs is.block (get_or bs at []) (itself bs at is.block.within) is.between v
+    put_there v = entered key at i bs is.0 (get_or bs at []) (itself bs at is.0.within) is.1 v
 
     pub entered_there : (v : V) → AreSorted (joined bs) → (now : List (List (List ℕ × V))) → AreFilled now → joined now ≡ entries_put bs at i (key, v) → IsShelf now
-    entered_there v sorted now filled same = entered_shelf key at i bs is.block (get_or bs at []) (itself bs at is.block.within) is.between v sorted now filled same
+    entered_there v sorted now filled same = entered_shelf key at i bs is.0 (get_or bs at []) (itself bs at is.0.within) is.1 v sorted now filled same
 
     pub put_shelf : {T E : Type 0} (r : Result T E) (v : V) → AreSorted (joined bs) → (now : List (List (List ℕ × V))) → AreFilled now
         → OnOk r (joined now ≡ entries_put bs at i (key, v)) → OnErr r (joined now ≡ joined bs) → IsShelf now

@@ -1,9 +1,10 @@
 //! Where a text is among the blocks, or would be put in.
-ghost use Rattle.std.specs.Prelude.{◌≡◌, ◌<◌, ◌≤◌, length, None, MatchOption, IfOk, IfErr, OnOk, OnErr};
-ghost use Rattle.std.specs.Map.{lookup};
-ghost use Rattle.shelf.specs.Texts.{is_text};
-ghost use Rattle.shelf.specs.inside.Entered.{IsMissing, HasEntered};
-ghost use Rattle.shelf.specs.inside.Places.{IsFound, joined};
+ghost use Rattle.std.specs.Prelude.{◌≡◌, ◌<◌, ◌≤◌, [], length, slice_index_or, None, Some, MatchOption, IfOk, IfErr, OnOk, OnErr};
+ghost use Rattle.std.specs.BTreeMap.{insert_entry};
+ghost use Rattle.std.specs.Map.{lookup, set_value};
+ghost use Rattle.std.specs.Option.{unwrap_or};
+ghost use Rattle.shelf.specs.Texts.{is_text, text_cmp};
+ghost use Rattle.shelf.specs.inside.Places.{IsBetween, IsBlockOf, IsFound, joined};
 ghost use Rattle.shelf.specs.inside.Walks.{IsShelf};
 
 use crate::block::{Block, block_of};
@@ -29,7 +30,8 @@ pub(crate) fn find<V>(blocks: &[Block<V>], key: &str) -> Result<(usize, usize), 
     requires some { 0 < length blocks.now }
     requires shelf { IsShelf blocks.now }
     ensures ok { IfOk result (λ p. IsFound key.now p.0 p.1 blocks.now) }
-    ensures err { IfErr result (λ p. IsMissing key.now p.0 p.1 blocks.now) }
+    ensures err { IfErr result (λ p. IsBlockOf key.now p.0 blocks.now
+        × IsBetween key.now p.1 (slice_index_or blocks.now p.0 [])) }
 {
     let at = block_of(blocks, key);
     match blocks[at].search(key) {
@@ -49,7 +51,12 @@ pub(crate) fn enter<V: Drop>(
     requires shelf { IsShelf blocks.old.items }
     ensures shelf { IsShelf blocks.new.items }
     ensures found { IfOk result (λ p. IsFound key.now p.0 p.1 blocks.new.items) }
-    ensures entered { OnOk result (HasEntered key.now value (joined blocks.old.items) (joined blocks.new.items)) }
+    // The key is put among the entries with the value, or it was one of them.
+    ensures entered { OnOk result (
+        ((w : V) → set_value (is_text key.now) (joined blocks.new.items) w
+        ≡ insert_entry text_cmp (joined blocks.old.items) key.now w)
+        × (lookup (is_text key.now) (joined blocks.new.items)
+        ≡ Some (unwrap_or (lookup (is_text key.now) (joined blocks.old.items)) value))) }
     ensures err { OnErr result (joined blocks.new.items ≡ joined blocks.old.items) }
 {
     if blocks.is_empty() {

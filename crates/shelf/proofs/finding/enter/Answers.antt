@@ -1,8 +1,7 @@
 use Rattle.std.proofs.Common.{sym, subst, ◌∙◌}
 use Rattle.shelf.specs.inside.Places.{IsFound}
-use Rattle.shelf.specs.inside.Entered.{IsMissing}
 use Rattle.shelf.proofs.Shelves.{one_shelf}
-use Rattle.shelf.proofs.Spots.{has_first, has_found, has_entered, put_shelf, put_found}
+use Rattle.shelf.proofs.Spots.{IsMissing, has_first, has_found, has_entered, put_shelf, put_found}
 use Rattle.shelf.proofs.finding.enter.Goals as goal
 
 pub returns-then-is_empty-clause-shelf : goal.returns-then-is_empty-clause-shelf

@@ -14,7 +14,7 @@ returns-in-Ok-clause-ok g c = record {
 }
 
 pub returns-in-Err-clause-err : goal.returns-in-Err-clause-err
-returns-in-Err-clause-err g c = record {
-  block = c.block_of-at.ensures;
-  between = subst (IsBetween c.args.key.now c.in-Err.i) (c.index-blocks-at.is ∙ get_or_default c.args.blocks.now c.block_of-at.result c.index-blocks-at.result [] c.block_of-at.ensures.within) c.in-Err.ensures.err;
-}
+returns-in-Err-clause-err g c = (
+  c.block_of-at.ensures,
+  subst (IsBetween c.args.key.now c.in-Err.i) (c.index-blocks-at.is ∙ get_or_default c.args.blocks.now c.block_of-at.result c.index-blocks-at.result [] c.block_of-at.ensures.within) c.in-Err.ensures.err,
+)

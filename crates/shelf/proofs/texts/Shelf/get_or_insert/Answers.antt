@@ -17,11 +17,11 @@ returns g c =
     let same : Some c.item_mut.result.now ≡ Some (unwrap_or (lookup (is_text key) c.args.self.now) c.args.value) =
     sym c.item_mut.ensures.value
     ∙ found_there key c.in_ok-at.at c.in_ok-at.i _ c.enter.ensures.shelf c.in_ok-at.ensures.found _ c.index_mut-block.ensures.value
-    ∙ has.value ∙ ap (λ es. Some (unwrap_or (lookup (is_text key) es) c.args.value)) c.self.view_is in (
+    ∙ has.1 ∙ ap (λ es. Some (unwrap_or (lookup (is_text key) es) c.args.value)) c.self.view_is in (
       (
         refl,
         λ w _. set_entries key c.in_ok-at.at c.in_ok-at.i _ c.enter.ensures.shelf c.in_ok-at.ensures.found _ c.index_mut-block.ensures.value w _ refl
-            ∙ has.written w ∙ ap (λ es. insert_entry text_cmp es key w) c.self.view_is,
+            ∙ has.0 w ∙ ap (λ es. insert_entry text_cmp es key w) c.self.view_is,
         tt,
       ),
       cc,

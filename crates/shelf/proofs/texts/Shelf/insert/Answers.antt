@@ -3,10 +3,9 @@ use Rattle.std.specs.Map.{lookup}
 use Rattle.std.specs.BTreeMap.{insert_entry}
 use Rattle.shelf.specs.Texts.{text_cmp, is_text}
 use Rattle.shelf.specs.inside.Places.{IsFound}
-use Rattle.shelf.specs.inside.Entered.{IsMissing}
 use Rattle.shelf.proofs.Shelves.{one_shelf}
 use Rattle.shelf.proofs.Writing.{set_shelf, found_value}
-use Rattle.shelf.proofs.Spots.{written_there, none_there, put_there, entered_there}
+use Rattle.shelf.proofs.Spots.{IsMissing, written_there, none_there, put_there, entered_there}
 use Rattle.shelf.proofs.texts.Shelf.insert.Goals as goal
 
 pub invariant_of-self-then-is_empty : goal.invariant_of-self-then-is_empty
