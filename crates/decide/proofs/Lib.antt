@@ -1,6 +1,7 @@
 pub mod Elements
 pub mod Nodes
 pub mod Few
+pub mod ReadTuples
 pub mod SearchLemmas
 pub mod Pushing
 pub mod Popping
@@ -12,5 +13,6 @@ pub mod Settling
 pub mod Parts
 pub mod Found
 pub mod Relations
+pub mod Named
 pub mod Turns
 pub mod Turning

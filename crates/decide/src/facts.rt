@@ -6,23 +6,21 @@ ghost use Rattle.meaning.specs.Config.{Has, IsAt, rel_of};
 ghost use Rattle.meaning.specs.Membership.{HasOne, HasSet};
 ghost use Rattle.meaning.specs.Snap.{Snap};
 ghost use Rattle.meaning.specs.TupleSet as set;
-ghost use Rattle.names.specs.Spelling.{IsNode};
 ghost use Rattle.names.specs.declared.node.Node.{Node};
 ghost use Rattle.names.specs.declared.object.Object.{Object};
 ghost use Rattle.versions.specs.Named.{objects_in, nodes_in};
 ghost use Rattle.tuple_keys.specs.Named.{user_tuple, is_at, is_of};
-ghost use Rattle.tuple_keys.specs.Spelled.{spelled_node};
-ghost use Rattle.decide.specs.inside.Reading.{AreNamed, AreRead, IsReadAt};
+ghost use Rattle.decide.specs.inside.Reading.{AreAt, AreNamed, AreRead, IsReadAt};
 ghost use Rattle.decide.specs.inside.Reads.{AreNodesOf, node_with};
 
 use crate::numbers::{Numbers, key_of_object};
+use crate::read_tuple::{ReadTuple, read_tuples};
 use config::Config;
 use config_text::Rewrite;
 use names::{Name, Node, Object};
 use rows::View;
 use std::alloc::{AllocError, Global};
 use std::marker::Model;
-use tuple_keys::{Scratch, Start, TupleRef};
 
 /// So many tuples of an object are few.
 const FEW: usize = 8;
@@ -31,7 +29,7 @@ const FEW: usize = 8;
 #[derive(Drop)]
 pub(crate) struct Read<'a> {
     object: Object,
-    few: Option<Vec<TupleRef<'a>>>,
+    few: Option<Vec<ReadTuple<'a>>>,
     named: Option<Named>,
 }
 
@@ -78,7 +76,7 @@ impl<'a> Reads<'a> {
     }
 
     /// The object's tuples, where they were read and are few.
-    fn few_of(&self, object: &Object) -> Option<&[TupleRef<'a>]>
+    fn few_of(&self, object: &Object) -> Option<&[ReadTuple<'a>]>
         ensures { IfSome result (λ ts. (S : Snap) → AreRead S self.now
             → ts.now ≡ filter (is_at object.now) (set.items S.tuples)) }
     {
@@ -218,6 +216,13 @@ impl<'a> Facts<'a> {
         }
     }
 
+    /// The objects that the object's tuples of the tupleset name, where they were read.
+    pub(crate) fn known_objects(&self, object: &Object, tupleset: &Name) -> Option<&[Object]>
+        ensures { IfSome result (λ os. AreNamed self.now object.now tupleset.now os.now) }
+    {
+        self.reads.named(object, tupleset)
+    }
+
     /// The nodes of the relation, of the objects that the tupleset's tuples name.
     pub(crate) fn parents_of(
         &self,
@@ -227,10 +232,6 @@ impl<'a> Facts<'a> {
     ) -> Result<Vec<Node>, AllocError>
         ensures { IfOk result (λ v. AreNodesOf self.now node.now tupleset.now relation.now v.items) }
     {
-        if let Some(objects) = self.reads.named(&node.object, tupleset) {
-            let known = nodes_of(self.alloc, objects, relation)?;
-            return Ok(known);
-        }
         let from = node_of(&node.object, tupleset)?;
         let objects = self.objects_of(&from)?;
         let nodes = nodes_of(self.alloc, &objects, relation)?;
@@ -275,7 +276,7 @@ fn read_object<'a>(
         }
         Err(key) => key,
     };
-    let few = view.few_of(alloc, object, FEW)?;
+    let few = few_of(alloc, view, object)?;
     let named = named_by(alloc, &few, rewrite, object)?;
     let read = Read {
         object: object.clone()?,
@@ -289,13 +290,31 @@ fn read_object<'a>(
     Ok(())
 }
 
+/// The object's tuples, where it has few.
+fn few_of<'a>(
+    alloc: Global,
+    view: &View<'a>,
+    object: &Object,
+) -> Result<Option<Vec<ReadTuple<'a>>>, AllocError>
+    ensures { IfOk result (λ o. IfSome o (λ v. v.items ≡ filter (is_at object.now) (set.items view.now.tuples))) }
+{
+    match view.few_of(alloc, object, FEW)? {
+        Some(tuples) => {
+            let read = read_tuples(alloc, &tuples)?;
+            Ok(Some(read))
+        }
+        None => Ok(None),
+    }
+}
+
 /// What those of the object's tuples name that are of the rewrite's tupleset, where it has few.
 fn named_by(
     alloc: Global,
-    few: &Option<Vec<TupleRef<'_>>>,
+    few: &Option<Vec<ReadTuple<'_>>>,
     rewrite: &Rewrite,
     object: &Object,
 ) -> Result<Option<Named>, AllocError>
+    requires { IfSome few.now (λ v. AreAt object.now v.items) }
     ensures { IfOk result (λ o. IfSome o (λ named. (S : Snap)
         → IfSome few.now (λ v. v.items ≡ filter (is_at object.now) (set.items S.tuples))
         → AreNamed S object.now named.tupleset named.objects.items)) }
@@ -344,54 +363,40 @@ fn own_tupleset(rewrite: &Rewrite) -> Option<&Name> {
 }
 
 /// Whether one of the tuples is the node's of the user.
-fn names_user(tuples: &[TupleRef<'_>], node: &Node, user: &Object) -> bool
+fn names_user(tuples: &[ReadTuple<'_>], node: &Node, user: &Object) -> bool
+    requires { AreAt node.now.object tuples.now }
     ensures { IsTrue result ↔ Contains tuples.now (user_tuple node.now user.now) }
 {
-    let asked = Scratch::of_user(node, user);
-    stands_among(tuples, &asked.tuple_ref())
-}
-
-fn stands_among(tuples: &[TupleRef<'_>], asked: &TupleRef<'_>) -> bool
-    ensures { IsTrue result ↔ Contains tuples.now asked.now }
-{
     for tuple in tuples {
-        if is_same(tuple, asked) {
+        if tuple.is_users(node, user) {
             return true;
         }
     }
     false
 }
 
-fn is_same(tuple: &TupleRef<'_>, other: &TupleRef<'_>) -> bool
-    ensures { IsTrue result ↔ (tuple.now ≡ other.now) }
-{
-    tuple.as_str() == other.as_str()
-}
-
 /// The nodes whose members those of the tuples name that are the node's.
-fn named_nodes(alloc: Global, tuples: &[TupleRef<'_>], node: &Node) -> Result<Vec<Node>, AllocError>
+fn named_nodes(
+    alloc: Global,
+    tuples: &[ReadTuple<'_>],
+    node: &Node,
+) -> Result<Vec<Node>, AllocError>
+    requires { AreAt node.now.object tuples.now }
     ensures { IfOk result (λ v. v.items ≡ nodes_in (filter (is_of node.now) tuples.now)) }
 {
-    let start = Start::of_node(node);
     let mut nodes = Vec::new(alloc);
     for tuple in tuples {
-        push_node(&mut nodes, tuple, node, &start)?;
+        push_node(&mut nodes, tuple, node)?;
     }
     Ok(nodes)
 }
 
 /// Adds the node whose members the tuple names, where it is the node's and names those of one.
-fn push_node(
-    nodes: &mut Vec<Node>,
-    tuple: &TupleRef<'_>,
-    node: &Node,
-    start: &Start,
-) -> Result<(), AllocError>
-    requires start { start.now ≡ spelled_node node.now }
-    requires is { IsNode node.now }
+fn push_node(nodes: &mut Vec<Node>, tuple: &ReadTuple<'_>, node: &Node) -> Result<(), AllocError>
+    requires { tuple.now.node.object ≡ node.now.object }
     ensures { OnOk result (nodes.new.items ≡ nodes.old.items ++ nodes_in (filter (is_of node.now) (tuple.now ∷ []))) }
 {
-    if is_of(tuple, node, start) {
+    if tuple.is_of(node) {
         if let Some(named) = tuple.subject().node() {
             nodes.push(named)?;
         }
@@ -402,15 +407,15 @@ fn push_node(
 /// The objects that those of the tuples name that are the node's.
 fn named_objects(
     alloc: Global,
-    tuples: &[TupleRef<'_>],
+    tuples: &[ReadTuple<'_>],
     node: &Node,
 ) -> Result<Vec<Object>, AllocError>
+    requires { AreAt node.now.object tuples.now }
     ensures { IfOk result (λ v. v.items ≡ objects_in (filter (is_of node.now) tuples.now)) }
 {
-    let start = Start::of_node(node);
     let mut objects = Vec::new(alloc);
     for tuple in tuples {
-        push_object(&mut objects, tuple, node, &start)?;
+        push_object(&mut objects, tuple, node)?;
     }
     Ok(objects)
 }
@@ -418,31 +423,17 @@ fn named_objects(
 /// Adds the object that the tuple names, where it is the node's and names one.
 fn push_object(
     objects: &mut Vec<Object>,
-    tuple: &TupleRef<'_>,
+    tuple: &ReadTuple<'_>,
     node: &Node,
-    start: &Start,
 ) -> Result<(), AllocError>
-    requires start { start.now ≡ spelled_node node.now }
-    requires is { IsNode node.now }
+    requires { tuple.now.node.object ≡ node.now.object }
     ensures { OnOk result (objects.new.items ≡ objects.old.items ++ objects_in (filter (is_of node.now) (tuple.now ∷ []))) }
 {
-    if is_of(tuple, node, start) {
+    if tuple.is_of(node) {
         let subject = tuple.subject();
         if subject.relation().is_none() {
             objects.push(subject.object())?;
         }
     }
     Ok(())
-}
-
-/// Whether the tuple is the node's, with whose text it begins then.
-fn is_of(tuple: &TupleRef<'_>, node: &Node, start: &Start) -> bool
-    requires start { start.now ≡ spelled_node node.now }
-    requires is { IsNode node.now }
-    ensures { result ≡ is_of node.now tuple.now }
-{
-    match start.rest_of(tuple.as_str()) {
-        Some(_) => true,
-        None => false,
-    }
 }

@@ -10,6 +10,7 @@ mod facts;
 mod law;
 mod numbers;
 mod oracle;
+mod read_tuple;
 mod rewrites;
 mod search;
 

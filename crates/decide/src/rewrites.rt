@@ -3,24 +3,24 @@ ghost use Rattle.std.specs.Prelude.{◌≡◌, ℕ, Contains, Option, IfOk, IfSo
 ghost use Rattle.meaning.specs.Config.{Has, rel_of};
 ghost use Rattle.meaning.specs.Membership.{HasOne};
 ghost use Rattle.meaning.specs.Form.{This, Computed, TupleTo, Union, Intersection};
-ghost use Rattle.names.specs.declared.object.Object.{Object};
+ghost use Rattle.names.specs.declared.object.Object.{Object as ObjectValue};
 ghost use Rattle.config.specs.Places.{StandsAt};
 ghost use Rattle.config_text.specs.Forms.{form_of, rewrite_forms};
 ghost use Rattle.decide.specs.inside.Asked.{IsAsking, IsCounted, IsLeft, GoesOn};
 ghost use Rattle.decide.specs.inside.Running.{IsRunning};
-ghost use Rattle.decide.specs.inside.Reads.{AreOwn, AreNodesOf};
+ghost use Rattle.decide.specs.inside.Reads.{AreOwn, AreNodesOf, node_with};
 ghost use Rattle.decide.specs.inside.Given.{Gave, BaseGives, HasNode, HasSome, RelationGave, opposite, no_or_later};
 
 use crate::asking::{Asking, Found};
 use crate::facts::{Facts, node_of};
 use crate::search::{Parents, Search};
 use config_text::Rewrite;
-use names::{Name, Node};
+use names::{Name, Node, Object};
 use std::alloc::AllocError;
 
 /// Where the node's relation stands, if it is there.
 fn place_of(facts: &Facts, search: &Search, node: &Node) -> Option<usize>
-    ensures some { IfSome result (λ p. (u : Object) (but : Option ℕ) → IsRunning facts.now u search.now but
+    ensures some { IfSome result (λ p. (u : ObjectValue) (but : Option ℕ) → IsRunning facts.now u search.now but
         → StandsAt facts.now.config (rel_of node.now) p) }
     ensures none { IfNone result (Has facts.now.config (rel_of node.now) → ⊥) }
 {
@@ -197,8 +197,53 @@ fn parents_of(
     Ok(nodes)
 }
 
+/// Whether one of the objects' nodes of the relation counts and has the user.
+fn some_of(
+    facts: &Facts,
+    search: &mut Search,
+    asking: &Asking,
+    objects: &[Object],
+    relation: &Name,
+) -> Result<Found, AllocError>
+    requires asking { IsAsking facts.now search.old asking.now }
+    ensures goes_on { OnOk result (GoesOn facts.now search.old search.new asking.now) }
+    ensures found { IfOk result
+        (HasSome facts.now search.new asking.now (map (node_with relation.now) objects.now)) }
+{
+    let mut later = false;
+    for object in objects {
+        let node = node_of(object, relation)?;
+        match asked(facts, search, asking, &node)? {
+            Found::Yes => return Ok(Found::Yes),
+            Found::No => {}
+            Found::Later => later = true,
+        }
+    }
+    Ok(no_or_later(later))
+}
+
 /// A relation of the objects that the tupleset's tuples name.
 fn through(
+    facts: &Facts,
+    search: &mut Search,
+    asking: &Asking,
+    tupleset: &Name,
+    relation: &Name,
+) -> Result<Found, AllocError>
+    requires asking { IsAsking facts.now search.old asking.now }
+    ensures goes_on { OnOk result (GoesOn facts.now search.old search.new asking.now) }
+    ensures found { IfOk result (Gave facts.now search.new asking.now
+        (TupleTo tupleset.now relation.now)) }
+{
+    if let Some(objects) = facts.known_objects(&asking.node.object, tupleset) {
+        let found = some_of(facts, search, asking, objects, relation)?;
+        return Ok(found);
+    }
+    through_list(facts, search, asking, tupleset, relation)
+}
+
+/// The same, where the objects were not read with the asker's.
+fn through_list(
     facts: &Facts,
     search: &mut Search,
     asking: &Asking,

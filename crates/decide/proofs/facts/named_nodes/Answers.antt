@@ -6,7 +6,11 @@ use Rattle.names.specs.declared.tuple.Tuple.{Tuple}
 use Rattle.versions.specs.Named.{nodes_in}
 use Rattle.tuple_keys.specs.Named.{is_of, node_in}
 use Rattle.decide.proofs.Few.{picked_more}
+use Rattle.decide.proofs.ReadTuples.{each_at}
 use Rattle.decide.proofs.facts.named_nodes.Goals as goal
+
+pub push_node-requires : goal.push_node-requires
+push_node-requires c = each_at c.args.node.now.object c.args.tuples.now c.loop-tuple.tuple-index c.tuple-item.result c.requires c.loop-tuple-test.true c.tuple-item.is
 
 pub loop-tuple-preserved : goal.loop-tuple-preserved
 loop-tuple-preserved c =

@@ -4,6 +4,8 @@ use Rattle.names.specs.declared.object.Object.{Object}
 use Rattle.meaning.specs.Membership.{HasOne}
 use Rattle.meaning.specs.Snap.{Snap}
 use Rattle.decide.proofs.Few.{few_objects, ok_mapped}
+use Rattle.meaning.specs.TupleSet as set
+use Rattle.decide.proofs.ReadTuples.{kept_at}
 use Rattle.decide.proofs.facts.Facts.objects_of.Goals as goal
 
 pub returns-in-Some : goal.returns-in-Some
@@ -16,3 +18,8 @@ returns-in-Some c =
 pub returns-in-None : goal.returns-in-None
 returns-in-None c =
     subst (λ (S : Snap). IfOk c.objects_of.result (λ v. (p : Object) → Contains v.items p ↔ HasOne S c.args.node.now p)) c.self.view_is c.objects_of.ensures
+
+pub named_objects-requires : goal.named_objects-requires
+named_objects-requires c =
+    let view = c.self.inside.view.now in
+    kept_at c.args.node.now.object (set.items view.tuples) c.in-Some.few.now (c.in-Some.ensures view c.self.invariant.1)

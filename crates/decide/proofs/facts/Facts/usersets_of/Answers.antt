@@ -5,6 +5,8 @@ use Rattle.meaning.specs.Config.{Has, rel_of}
 use Rattle.meaning.specs.Membership.{HasSet}
 use Rattle.meaning.specs.Snap.{Snap}
 use Rattle.decide.proofs.Few.{few_nodes, ok_mapped}
+use Rattle.meaning.specs.TupleSet as set
+use Rattle.decide.proofs.ReadTuples.{kept_at}
 use Rattle.decide.proofs.facts.Facts.usersets_of.Goals as goal
 
 pub returns-in-Some-clause-only : goal.returns-in-Some-clause-only
@@ -24,3 +26,8 @@ returns-in-Some-clause-all c =
 pub returns-in-None-clause-only : goal.returns-in-None-clause-only
 returns-in-None-clause-only c =
     subst (λ (S : Snap). IfOk c.usersets_of.result (λ v. (m : Node) → Contains v.items m → HasSet S c.args.node.now m)) c.self.view_is c.usersets_of.ensures.only
+
+pub named_nodes-requires : goal.named_nodes-requires
+named_nodes-requires c =
+    let view = c.self.inside.view.now in
+    kept_at c.args.node.now.object (set.items view.tuples) c.in-Some.few.now (c.in-Some.ensures view c.self.invariant.1)
