@@ -14,9 +14,12 @@ use Rattle.meaning.specs.Snap.{one}
 use Rattle.tuple_keys.specs.Named.{is_at, is_of, user_tuple}
 use Rattle.tuple_keys.proofs.Spellings.{same_object}
 use Rattle.rows.proofs.Naming.{contains_kept, of_node, is_of_itself}
-use Rattle.decide.specs.inside.Reading.{AreAt}
 use Rattle.decide.proofs.Elements.{contains_at}
 use Rattle.decide.proofs.Nodes.{node_parts}
+
+-- the tuples are of the object
+abbrev pub AreAt : Object → List Tuple → Type 0
+AreAt o ts = (t : Tuple) → Contains ts t → t.node.object ≡ o
 
 same_is : (xs ys : List ℕ) → xs ≡ ys → pointwise nat_eq xs ys ≡ true
 same_is xs ys e = ap (λ (zs : List ℕ). pointwise nat_eq zs ys) e ∙ nat_list_eq_equiv.refl ys

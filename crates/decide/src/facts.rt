@@ -8,9 +8,10 @@ ghost use Rattle.meaning.specs.Snap.{Snap};
 ghost use Rattle.meaning.specs.TupleSet as set;
 ghost use Rattle.names.specs.declared.node.Node.{Node};
 ghost use Rattle.names.specs.declared.object.Object.{Object};
+ghost use Rattle.names.specs.declared.tuple.Tuple.{Tuple};
 ghost use Rattle.versions.specs.Named.{objects_in, nodes_in};
 ghost use Rattle.tuple_keys.specs.Named.{user_tuple, is_at, is_of};
-ghost use Rattle.decide.specs.inside.Reading.{AreAt, AreNamed, AreRead, IsReadAt};
+ghost use Rattle.decide.specs.inside.Reading.{AreNamed, AreRead, IsReadAt};
 ghost use Rattle.decide.specs.inside.Reads.{AreNodesOf, node_with};
 
 use crate::numbers::{Numbers, key_of_object};
@@ -314,7 +315,7 @@ fn named_by(
     rewrite: &Rewrite,
     object: &Object,
 ) -> Result<Option<Named>, AllocError>
-    requires { IfSome few.now (λ v. AreAt object.now v.items) }
+    requires { IfSome few.now (λ v. (t : Tuple) → Contains v.items t → t.node.object ≡ object.now) }
     ensures { IfOk result (λ o. IfSome o (λ named. (S : Snap)
         → IfSome few.now (λ v. v.items ≡ filter (is_at object.now) (set.items S.tuples))
         → AreNamed S object.now named.tupleset named.objects.items)) }
@@ -364,7 +365,7 @@ fn own_tupleset(rewrite: &Rewrite) -> Option<&Name> {
 
 /// Whether one of the tuples is the node's of the user.
 fn names_user(tuples: &[ReadTuple<'_>], node: &Node, user: &Object) -> bool
-    requires { AreAt node.now.object tuples.now }
+    requires { (t : Tuple) → Contains tuples.now t → t.node.object ≡ node.now.object }
     ensures { IsTrue result ↔ Contains tuples.now (user_tuple node.now user.now) }
 {
     for tuple in tuples {
@@ -381,7 +382,7 @@ fn named_nodes(
     tuples: &[ReadTuple<'_>],
     node: &Node,
 ) -> Result<Vec<Node>, AllocError>
-    requires { AreAt node.now.object tuples.now }
+    requires { (t : Tuple) → Contains tuples.now t → t.node.object ≡ node.now.object }
     ensures { IfOk result (λ v. v.items ≡ nodes_in (filter (is_of node.now) tuples.now)) }
 {
     let mut nodes = Vec::new(alloc);
@@ -410,7 +411,7 @@ fn named_objects(
     tuples: &[ReadTuple<'_>],
     node: &Node,
 ) -> Result<Vec<Object>, AllocError>
-    requires { AreAt node.now.object tuples.now }
+    requires { (t : Tuple) → Contains tuples.now t → t.node.object ≡ node.now.object }
     ensures { IfOk result (λ v. v.items ≡ objects_in (filter (is_of node.now) tuples.now)) }
 {
     let mut objects = Vec::new(alloc);

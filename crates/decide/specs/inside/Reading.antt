@@ -1,7 +1,6 @@
 -- What was read of a view.
 use Rattle.std.specs.Prelude.{◌≡◌, ◌<◌, ◌↔◌, ℕ, List, Contains, IfSome, filter, length, slice_index_or}
 use Rattle.names.specs.declared.object.Object.{Object}
-use Rattle.names.specs.declared.tuple.Tuple.{Tuple}
 use Rattle.meaning.specs.TupleSet as set
 use Rattle.meaning.specs.Snap.{Snap}
 use Rattle.meaning.specs.Membership.{HasOne}
@@ -13,10 +12,6 @@ use Rattle.decide.specs.inside.Reads.{node_with}
 -- the objects that the object's tuples of the tupleset name
 abbrev pub AreNamed : Snap → Object → List ℕ → List Object → Type 0
 AreNamed S o tupleset objects = (p : Object) → Contains objects p ↔ HasOne S (node_with tupleset o) p
-
--- the tuples are of the object
-abbrev pub AreAt : Object → List Tuple → Type 0
-AreAt o ts = (t : Tuple) → Contains ts t → t.node.object ≡ o
 
 -- where an object's tuples are few, those that were read are all
 pub record IsRead (S : Snap) (r : Read) : Type 0 where

@@ -5,7 +5,8 @@ use Rattle.names.specs.declared.object.Object.{Object}
 use Rattle.meaning.specs.Membership.{HasOne}
 use Rattle.meaning.specs.TupleSet as set
 use Rattle.tuple_keys.specs.Named.{is_at}
-use Rattle.decide.specs.inside.Reading.{AreAt, AreNamed}
+use Rattle.decide.specs.inside.Reading.{AreNamed}
+use Rattle.decide.proofs.ReadTuples.{AreAt}
 use Rattle.decide.proofs.Few.{few_objects}
 use Rattle.decide.proofs.facts.named_by.Goals as goal
 
