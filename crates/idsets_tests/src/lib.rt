@@ -1,7 +1,0 @@
-//! Tests of `idsets` by its public calls: that they succeed where memory is there, at values from outside.
-#![tactic(auto)]
-
-#[cfg(test)]
-mod naming;
-#[cfg(test)]
-mod sets;
