@@ -1,36 +1,24 @@
 //! Random changes of what a revision holds.
 
 use crate::dice::Dice;
-use crate::universe::{DOCUMENTS, MANY};
+use crate::universe::count_of;
 use config::Config;
 use names::{Commit, EventKind, Items, Node, Op, OpKind, Refusal, Subject, Tuple};
 use rows::events_of;
 use snapshots::Snapshot;
 use std::alloc::{AllocError, Global};
 
-const KINDS: &str =
-    "group#member@user group#member@user group#member@user group#admin@user group#admin@user \
-group#member@group#member group#member@group#member group#member@group#admin group#admin@group#admin \
-group#admin@group#member doc#parent@doc doc#parent@doc doc#banned@user doc#banned@group#member doc#editor@user \
-doc#editor@group#member doc#editor@group#admin doc#viewer@user doc#viewer@group#member doc#viewer@doc#editor \
-doc#guest@user doc#guest@group#admin";
-
 // Any object of the namespace, with the relation where there is one.
 fn any_of(alloc: Global, dice: &mut Dice, kind: &str) -> Result<String, AllocError> {
-    let count = if kind.starts_with("doc") {
-        DOCUMENTS
-    } else {
-        MANY
-    };
-    let number = dice.roll(count);
+    let number = dice.roll(count_of(kind));
     match kind.split_once('#') {
         Some((namespace, relation)) => format!(in alloc; "{namespace}:{number}#{relation}"),
         None => format!(in alloc; "{kind}:{number}"),
     }
 }
 
-fn any_tuple(alloc: Global, dice: &mut Dice) -> Result<Tuple, Refusal> {
-    let kind = dice.word(KINDS);
+fn any_tuple(alloc: Global, dice: &mut Dice, kinds: &str) -> Result<Tuple, Refusal> {
+    let kind = dice.word(kinds);
     let Some((node, subject)) = kind.split_once('@') else {
         return Err(Refusal::Malformed);
     };
@@ -75,6 +63,7 @@ fn put(snapshot: &Snapshot, ops: &mut Vec<Op>, tuple: Tuple) -> Result<(), Alloc
 pub(crate) fn any_changes(
     alloc: Global,
     snapshot: &Snapshot,
+    kinds: &str,
     dice: &mut Dice,
 ) -> Result<Commit<Config>, Refusal> {
     let mut ops = Vec::new(alloc);
@@ -94,7 +83,7 @@ pub(crate) fn any_changes(
         dice.roll(6)
     };
     for _ in 0..puts {
-        let tuple = any_tuple(alloc, dice)?;
+        let tuple = any_tuple(alloc, dice, kinds)?;
         put(snapshot, &mut ops, tuple)?;
     }
     Ok(Commit::Tuples(events_of(Items::of(ops))?))

@@ -2,11 +2,13 @@
 
 use crate::followed::Followed;
 use crate::score::{Asked, Score};
-use crate::table::{OfNode, Table};
+use crate::table::{OfNode, Table, answer_of};
+use crate::universe::Universe;
 use group_index::At;
 use hot::Hot;
 use leopard::Expr;
 use names::{Node, Object, Refusal};
+use snapshots::Snapshot;
 use std::alloc::{AllocError, Global};
 use std::collections::BTreeSet;
 
@@ -103,6 +105,33 @@ pub(crate) fn compare_checks(
         asked.part = "check that asks nothing";
         let found = followed.check_alone(rev, node, user)?;
         score.compare(alloc, found == of_node.answer, asked)?;
+    }
+    Ok(())
+}
+
+/// Compares checks of each node and each user at the newest revision, of which the snapshot is given, by searches that ask
+/// nothing.
+pub(crate) fn compare_all_checks(
+    alloc: Global,
+    followed: &Followed,
+    snapshot: &Snapshot,
+    universe: &Universe,
+    score: &mut Score,
+) -> Result<(), Refusal> {
+    let rev = followed.newest();
+    for node in &universe.nodes {
+        for user in &universe.users {
+            let wanted = answer_of(alloc, snapshot, node, user)?;
+            let found = followed.check_alone(rev, node, user)?;
+            let asked = Asked {
+                part: "check of each user",
+                rev,
+                node: Some(node),
+                user: Some(user),
+            };
+            score.count_check(wanted);
+            score.judge(alloc, found == wanted, asked)?;
+        }
     }
     Ok(())
 }

@@ -1,6 +1,7 @@
 //! Random configurations.
 
 use crate::dice::Dice;
+use crate::policies::Policy;
 use crate::rewriting::{Shape, rewrite};
 use config::Config;
 use names::Refusal;
@@ -88,8 +89,15 @@ fn documents(alloc: Global, dice: &mut Dice) -> Result<String, AllocError> {
     format!(in alloc; "{parent},{banned},{editor},{viewer},{guest}")
 }
 
-/// A random configuration.
-pub(crate) fn any_config(alloc: Global, dice: &mut Dice) -> Result<Config, Refusal> {
+/// The policy's configuration, or a random one.
+pub(crate) fn config_of(alloc: Global, policy: Policy, dice: &mut Dice) -> Result<Config, Refusal> {
+    match policy.config {
+        Some(text) => Config::from_json(alloc, text.as_bytes()),
+        None => any_config(alloc, dice),
+    }
+}
+
+fn any_config(alloc: Global, dice: &mut Dice) -> Result<Config, Refusal> {
     for _ in 0..TRIES {
         let groups = groups(alloc, dice)?;
         let documents = documents(alloc, dice)?;

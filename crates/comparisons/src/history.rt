@@ -1,8 +1,8 @@
 //! One random history, compared after each commit.
 
 use crate::changes::{any_changes, clearing, follow};
-use crate::comparing::{compare_checks, compare_groups, compare_members};
-use crate::configurations::any_config;
+use crate::comparing::{compare_all_checks, compare_checks, compare_groups, compare_members};
+use crate::configurations::config_of;
 use crate::dice::Dice;
 use crate::followed::Followed;
 use crate::score::Score;
@@ -17,11 +17,12 @@ use std::alloc::{AllocError, Global};
 const TURNS: u64 = 12;
 
 /// A history and what is kept of it, with the same by the definitions: the snapshot of its newest revision, a table of each
-/// revision from 0 on, and the nodes that are marked.
+/// revision from 0 on, and the nodes that are marked. A whole one is asked about each node and user at each revision.
 #[derive(Drop)]
 struct Run<'a> {
     alloc: Global,
     universe: &'a Universe,
+    whole: bool,
     dice: Dice,
     snapshot: Snapshot,
     tables: Vec<Table>,
@@ -37,6 +38,10 @@ impl Run<'_> {
         }
         follow(self.alloc, &mut self.snapshot, commit)?;
         score.count_commit(self.followed.newest());
+        if self.whole {
+            let (alloc, universe) = (self.alloc, self.universe);
+            compare_all_checks(alloc, &self.followed, &self.snapshot, universe, score)?;
+        }
         self.tell()
     }
 
@@ -70,11 +75,13 @@ impl Run<'_> {
 
     // A commit, or two.
     fn grow(&mut self, score: &mut Score) -> Result<(), Refusal> {
+        let universe = self.universe;
         if self.followed.newest() > 0 && self.dice.roll(6) > 0 {
-            let commit = any_changes(self.alloc, &self.snapshot, &mut self.dice)?;
+            let kinds = universe.policy.kinds;
+            let commit = any_changes(self.alloc, &self.snapshot, kinds, &mut self.dice)?;
             return self.add(&commit, score);
         }
-        let config = any_config(self.alloc, &mut self.dice)?;
+        let config = config_of(self.alloc, universe.policy, &mut self.dice)?;
         let commit = clearing(self.alloc, &self.snapshot, &config)?;
         self.add(&commit, score)?;
         self.add(&Commit::Config(config), score)
@@ -151,11 +158,17 @@ fn any_user(universe: &Universe, dice: &mut Dice) -> Result<Object, Refusal> {
     }
 }
 
-fn begun(alloc: Global, universe: &Universe, seed: u64) -> Result<Run<'_>, AllocError> {
+fn begun(
+    alloc: Global,
+    universe: &Universe,
+    seed: u64,
+    whole: bool,
+) -> Result<Run<'_>, AllocError> {
     let followed = Followed::new(alloc)?;
     Ok(Run {
         alloc,
         universe,
+        whole,
         dice: Dice::new(seed),
         snapshot: Snapshot::empty(alloc),
         tables: Vec::new(alloc),
@@ -164,13 +177,14 @@ fn begun(alloc: Global, universe: &Universe, seed: u64) -> Result<Run<'_>, Alloc
     })
 }
 
-/// Compares a history of the seed, up to the first difference.
+/// Compares a history of the seed, up to the first difference, and a whole one also at each node and user of each revision.
 pub(crate) fn compare(
     alloc: Global,
     universe: &Universe,
     seed: u64,
+    whole: bool,
     score: &mut Score,
 ) -> Result<(), Refusal> {
-    let mut run = begun(alloc, universe, seed)?;
+    let mut run = begun(alloc, universe, seed, whole)?;
     run.go_on(score)
 }

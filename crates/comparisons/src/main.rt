@@ -13,18 +13,23 @@ mod groups;
 mod history;
 mod known;
 mod leading;
+mod policies;
 mod rewriting;
 mod score;
 mod table;
 mod universe;
 
 use names::Refusal;
+use policies::{CYCLES, DRAWN, GROUPS, NESTED, Policy};
 use score::Score;
 use std::process::ExitCode;
 use universe::Universe;
 
-/// So many histories, where no word says how many.
+/// So many histories under random configurations, where no word says how many.
 const MANY: u64 = 3_000;
+
+/// Of so many of them one is asked about each node and user, and as many of each configuration of `policies`.
+const SHARE: u64 = 30;
 
 fn main(rt: HostRuntime) -> ExitCode {
     let status = match told(&rt) {
@@ -40,31 +45,46 @@ fn told(rt: &HostRuntime) -> Result<bool, Refusal> {
     let numbers = numbers_asked(rt)?;
     let count = numbers.first().copied().unwrap_or(MANY);
     let first = numbers.get(1).copied().unwrap_or(1);
-    let universe = Universe::new(rt.alloc())?;
+    let few = count / SHARE;
+    for (policy, count) in [(DRAWN, count), (GROUPS, few), (CYCLES, few), (NESTED, few)] {
+        if !is_alike(rt, policy, first, count)? {
+            return Ok(false);
+        }
+    }
+    Ok(true)
+}
+
+// Whether nothing differs in so many histories of the policy, from that of a seed on.
+fn is_alike(rt: &HostRuntime, policy: Policy, first: u64, count: u64) -> Result<bool, Refusal> {
+    let universe = Universe::new(rt.alloc(), policy)?;
+    let name = policy.name;
     let mut score = Score::new();
     for number in 0..count {
         let seed = first.wrapping_add(number);
-        history::compare(rt.alloc(), &universe, seed, &mut score)?;
+        let whole = policy.config.is_some() || number % SHARE == 0;
+        history::compare(rt.alloc(), &universe, seed, whole, &mut score)?;
         if let Some(difference) = &score.difference {
-            print_difference(rt, seed, difference.as_str())?;
+            let text = format!(in rt.alloc(); "{name}: a difference at seed {seed}, {difference}")?;
+            print(rt, text.as_str())?;
             return Ok(false);
         }
     }
     let Score {
         commits,
         questions,
+        checks,
+        members,
         ..
     } = score;
-    match println!(rt;
-        "{count} histories, {commits} commits, {questions} questions: no difference"
-    ) {
-        Ok(()) => Ok(true),
-        Err(_) => Err(Refusal::Memory),
-    }
+    let text = format!(in rt.alloc();
+        "{name}: {count} histories, {commits} commits, {questions} questions; {checks} checks, {members} of members: no difference"
+    )?;
+    print(rt, text.as_str())?;
+    Ok(true)
 }
 
-fn print_difference(rt: &HostRuntime, seed: u64, difference: &str) -> Result<(), Refusal> {
-    match println!(rt; "a difference at seed {seed}, {difference}") {
+fn print(rt: &HostRuntime, text: &str) -> Result<(), Refusal> {
+    match println!(rt; "{text}") {
         Ok(()) => Ok(()),
         Err(_) => Err(Refusal::Memory),
     }

@@ -12,11 +12,14 @@ pub(crate) struct Asked<'a> {
     pub(crate) user: Option<&'a Object>,
 }
 
-/// How much was compared, the commit after which it was compared last, and where the first difference is.
+/// How much was compared, also of each node and each user, how many of these are members, the commit after which it was
+/// compared last, and where the first difference is.
 #[derive(Drop)]
 pub(crate) struct Score {
     pub(crate) commits: u64,
     pub(crate) questions: u64,
+    pub(crate) checks: u64,
+    pub(crate) members: u64,
     pub(crate) commit: u64,
     pub(crate) difference: Option<String>,
 }
@@ -26,6 +29,8 @@ impl Score {
         Score {
             commits: 0,
             questions: 0,
+            checks: 0,
+            members: 0,
             commit: 0,
             difference: None,
         }
@@ -37,7 +42,15 @@ impl Score {
         self.commit = rev;
     }
 
-    /// Counts a question. The first whose answers are not the same is kept.
+    /// Counts a check of a node and a user, of which the definition has the answer.
+    pub(crate) fn count_check(&mut self, answer: Option<bool>) {
+        self.checks = self.checks.saturating_add(1);
+        if answer == Some(true) {
+            self.members = self.members.saturating_add(1);
+        }
+    }
+
+    /// Counts a question, and judges its answers.
     pub(crate) fn compare(
         &mut self,
         alloc: Global,
@@ -45,6 +58,16 @@ impl Score {
         asked: Asked<'_>,
     ) -> Result<(), AllocError> {
         self.questions = self.questions.saturating_add(1);
+        self.judge(alloc, same, asked)
+    }
+
+    /// The first question whose answers are not the same is kept.
+    pub(crate) fn judge(
+        &mut self,
+        alloc: Global,
+        same: bool,
+        asked: Asked<'_>,
+    ) -> Result<(), AllocError> {
         if !same && self.difference.is_none() {
             self.difference = Some(told(alloc, self.commit, asked)?);
         }

@@ -72,7 +72,8 @@ fn of_node(
     })
 }
 
-fn answer_of(
+/// Whether the user is a member of the node by the definition, where the relation is there.
+pub(crate) fn answer_of(
     alloc: Global,
     snapshot: &Snapshot,
     node: &Node,
