@@ -5,8 +5,7 @@ use names::{Commit, Items, Op, OpKind, Refusal, Tuple};
 use rows::{Rows, events_of};
 use std::alloc::{AllocError, Global};
 
-/// Whether the commit can follow, and did.
-pub(crate) fn is_committed(rows: &mut Rows, commit: &Commit<Config>) -> Result<bool, AllocError> {
+fn is_committed(rows: &mut Rows, commit: &Commit<Config>) -> Result<bool, AllocError> {
     if rows.refuses(commit)? {
         return Ok(false);
     }
@@ -51,11 +50,17 @@ fn add(alloc: Global, rows: &mut Rows, line: &str) -> Result<(), Refusal> {
     }
 }
 
+/// Adds a commit for each line. Whoever owns the history lends it, so that one function drops it.
+pub(crate) fn fill(alloc: Global, rows: &mut Rows, lines: &[&str]) -> Result<(), Refusal> {
+    for line in lines {
+        add(alloc, rows, line)?;
+    }
+    Ok(())
+}
+
 /// A history with a commit for each line.
 pub(crate) fn history(alloc: Global, lines: &[&str]) -> Result<Rows, Refusal> {
     let mut rows = Rows::empty(alloc);
-    for line in lines {
-        add(alloc, &mut rows, line)?;
-    }
+    fill(alloc, &mut rows, lines)?;
     Ok(rows)
 }

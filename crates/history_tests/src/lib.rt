@@ -1,26 +1,18 @@
-//! Tests of a history, `rows`, and of what is read off its revisions (`watch`, `expand`, `decide` beside `plain`), by their
-//! public calls: what no run of the program shows.
+//! Tests of a history, `rows`, and of what is read off its revisions (`watch`, `expand`, and of groups `leopard`), of the policies (`config`,
+//! `snapshots` and `plain`), and of a session's answers, `answer_cache`, by their public calls: what no run of the program shows.
 #![tactic(auto)]
 
 #[cfg(test)]
-mod alike;
-#[cfg(test)]
-mod asked;
-#[cfg(test)]
-mod choices;
-#[cfg(test)]
-mod dice;
-#[cfg(test)]
-mod growth;
+mod groups;
 #[cfg(test)]
 mod histories;
 #[cfg(test)]
 mod history;
 #[cfg(test)]
+mod kept;
+#[cfg(test)]
+mod memberships;
+#[cfg(test)]
 mod pages;
-#[cfg(test)]
-mod policies;
-#[cfg(test)]
-mod random_policies;
 #[cfg(test)]
 mod trees;

@@ -1,6 +1,6 @@
 //! Questions about groups, answered by an index and from the tuples.
 
-use crate::history::fill;
+use crate::histories::fill;
 use idsets::{IdSet, Ids};
 use leopard::{
     Built, Expr, Found, answers_are_one, first_named, found_of, groups_at,
@@ -128,7 +128,7 @@ fn are_answered(alloc: Global, asked: &Asked<'_>) -> Result<bool, Refusal> {
 }
 
 fn chains_have_an_index(alloc: Global, rows: &mut Rows) -> Result<bool, Refusal> {
-    fill(alloc, rows, CONFIG, CHAIN)?;
+    fill(alloc, rows, &[CONFIG, CHAIN])?;
     let built = Built::of(alloc, &rows.at(rows.newest()), rows.newest())?;
     are_answered(
         alloc,
@@ -181,7 +181,7 @@ fn cycles_end(alloc: Global, asked: &Asked<'_>) -> Result<bool, Refusal> {
 }
 
 fn cycles_have_an_index(alloc: Global, rows: &mut Rows) -> Result<bool, Refusal> {
-    fill(alloc, rows, GUESTS, CYCLE)?;
+    fill(alloc, rows, &[GUESTS, CYCLE])?;
     let built = Built::of(alloc, &rows.at(rows.newest()), rows.newest())?;
     cycles_end(
         alloc,
@@ -221,7 +221,7 @@ fn causes_come_in_order(alloc: Global, built: &Built) -> Result<bool, Refusal> {
 }
 
 fn refuses(alloc: Global, rows: &mut Rows) -> Result<bool, Refusal> {
-    fill(alloc, rows, CONFIG, CHAIN)?;
+    fill(alloc, rows, &[CONFIG, CHAIN])?;
     let built = Built::of(alloc, &rows.at(rows.newest()), rows.newest())?;
     Ok(causes_come_in_order(alloc, &built)? && built.rev() == rows.newest())
 }
@@ -254,7 +254,7 @@ fn are_named(alloc: Global, rows: &Rows, names: &mut Ids<Node>) -> Result<bool, 
 }
 
 fn names_ids(alloc: Global, rows: &mut Rows) -> Result<bool, Refusal> {
-    fill(alloc, rows, CONFIG, CHAIN)?;
+    fill(alloc, rows, &[CONFIG, CHAIN])?;
     let mut names = Ids::new(alloc);
     are_named(alloc, rows, &mut names)
 }
