@@ -1,14 +1,14 @@
 use Rattle.std.proofs.Common.{◌≡◌, true, ℕ, set, refl, ap, ◌∙◌, sym, subst, ⊎_elim, arith, inl, inr}
-use Rattle.std.specs.Prelude.{Vec, Contains}
-use Rattle.std.specs.Global.{Global}
+use Rattle.std.specs.Prelude.{Contains}
 use Rattle.std.proofs.lemmas.List.{length-set, set-set}
 use Rattle.decide.specs.declared.search.Opened.{Opened}
 use Rattle.decide.specs.declared.search.Search.{Search}
 use Rattle.decide.specs.inside.Searches.{IsStacked}
+use Rattle.decide.specs.inside.Waiters.{Waiters}
 use Rattle.decide.proofs.Elements.{Holds, holds_same, holds_stored}
 use Rattle.decide.proofs.Giving.{Gave, gave_numbers, gave_running, gave_sures, as_long, stored_before, stored_after}
 use Rattle.decide.proofs.search.Search.give.Goals as goal
-use Rattle.decide.proofs.search.Search.give.Goals.{After-deref, After-drop-waiting-2}
+use Rattle.decide.proofs.search.Search.give.Goals.{After-drop-waiting-2}
 
 pub wake_all-requires : goal.wake_all-requires
 wake_all-requires c w asked =
@@ -17,7 +17,7 @@ wake_all-requires c w asked =
     let e = c.index_mut.result.now in
     let b : Opened = record { node = e.node; level = e.level; place = e.place; sure = e.sure; waiting = c.replace-waiting.new.dest; own = e.own; parents = e.parents } in
     let stood : Holds xs number e = (c.requires.number, sym c.index_mut.ensures.value) in
-    let waits : Contains e.waiting.items w = subst (λ ys. Contains ys w) (c.deref.ensures.value ∙ ap (λ (x : Vec ℕ Global). x.items) c.replace-waiting.ensures.value) asked in
+    let waits : Contains e.waiting.items w = subst (λ (x : Waiters). Contains x.items w) c.replace-waiting.ensures.value asked in
     let there = c.requires.there w number e stood waits in
     let lt = there.0 in (
       omega (arith, lt, length-set xs number b),
@@ -56,8 +56,8 @@ same c =
     let now : Holds c.wake_all.new.self.opened.items c.args.number (emptied c) = subst (λ ys. Holds ys c.args.number (emptied c)) (sym c.in_ok-wake_all.ensures.opened) stored in
     holds_same c.wake_all.new.self.opened.items c.args.number c.index_mut-2.result.now (emptied c) (now.0, sym c.index_mut-2.ensures.value) now
 
-waited : (c : After-drop-waiting-2) → c.deref.result.now ≡ (before c).waiting.items
-waited c = c.deref.ensures.value ∙ ap (λ (x : Vec ℕ Global). x.items) c.replace-waiting.ensures.value
+waited : (c : After-drop-waiting-2) → c.replace-waiting.result.items ≡ (before c).waiting.items
+waited c = ap (λ (x : Waiters). x.items) c.replace-waiting.ensures.value
 
 gave : (c : After-drop-waiting-2) → Gave c.args.self.now (given c) c.args.number (before c) (after c)
 gave c =
@@ -70,7 +70,7 @@ gave c =
       level = ap (λ (x : Opened). x.level) (same c);
       place = ap (λ (x : Opened). x.place) (same c);
       sure = refl;
-      alone = ap (λ (x : Opened). x.waiting.items) (same c) ∙ ap (λ (x : Vec ℕ Global). x.items) c.replace-waiting.ensures.after ∙ c.new.ensures.items;
+      alone = ap (λ (x : Opened). x.waiting.items) (same c) ∙ ap (λ (x : Waiters). x.items) c.replace-waiting.ensures.after ∙ c.none.ensures;
       own = ap (λ (x : Opened). x.own) (same c);
       parents = ap (λ (x : Opened). x.parents) (same c);
       long = wakes.long;
