@@ -499,8 +499,10 @@ def keys_of(path):
         has_only(whole, "tuples", "tuple_keys", "continuation_token")
         more = bool(member_or(whole, "continuation_token", str, ""))
         listed = member(whole, "tuple_keys" if "tuple_keys" in whole else "tuples", list)
+    elif isinstance(whole, list):
+        listed = whole
     else:
-        listed = is_of(whole, list, place, "what it says, which is not an object either,")
+        raise Unreadable(f"{at(place)}: the tuples are neither a list nor an object")
     keys = []
     for it in listed:
         it = is_of(it, Located, place, "a tuple")
@@ -767,7 +769,6 @@ def put(lines):
 
 
 def main(words):
-    signal.signal(signal.SIGINT, signal.SIG_DFL)
     try:
         if words in (["--help"], ["-h"]):
             put([__doc__.strip()])
@@ -791,4 +792,5 @@ def main(words):
 
 
 if __name__ == "__main__":
+    signal.signal(signal.SIGINT, signal.SIG_DFL)
     sys.exit(main(sys.argv[1:]))
