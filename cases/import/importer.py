@@ -23,7 +23,7 @@ sys.dont_write_bytecode = True
 HERE = os.path.dirname(os.path.realpath(__file__))
 IMPORTER = f"{os.path.dirname(os.path.dirname(HERE))}/tools/import.py"
 LIMIT = int(os.environ.get("CASE_SECONDS", "10"))
-SCHEMAS = 300
+SCHEMAS = 100
 
 
 def loaded():
@@ -47,9 +47,13 @@ def imported(folder, *words, **how):
 
 
 def answers(program, folder, lines):
-    """The status of each answer of the program."""
+    """Each answer of the program: its status and its body."""
     ran = subprocess.run([program, "run"], cwd=folder, input=lines.encode(), capture_output=True, timeout=LIMIT, check=True)
-    return [it.split(" ")[0] for it in ran.stdout.decode().splitlines()]
+    return [(status, json.loads(body)) for status, _, body in (it.partition(" ") for it in ran.stdout.decode().splitlines())]
+
+
+def statuses(program, folder, lines):
+    return [status for status, _ in answers(program, folder, lines)]
 
 
 def same(what, wanted, got):
@@ -69,8 +73,8 @@ def given_back(text):
 
 def ids_come_back_and_do_not_meet(program, folder):
     choose = random.Random(1)
-    ids = ["".join(it) for length in range(1, 6) for it in itertools.product(".2Ea@", repeat=length)]
-    ids += ["".join(chr(choose.choice((choose.randrange(33, 127), choose.randrange(0xA1, 0x2FF), 0x1F600))) for _ in range(5)) for _ in range(2000)]
+    ids = ["".join(it) for length in range(1, 5) for it in itertools.product(".2Ea@", repeat=length)]
+    ids += ["".join(chr(choose.choice((choose.randrange(33, 127), choose.randrange(0xA1, 0x2FF), 0x1F600))) for _ in range(5)) for _ in range(500)]
     ids = list(dict.fromkeys(it for it in ids if "#" not in it))
     tuples = [{"user": f"user:{it}", "relation": "viewer", "object": "doc:a"} for it in ids]
     words = [written(folder, "model", json.dumps(MODEL)), written(folder, "tuples", json.dumps(tuples))]
@@ -80,7 +84,7 @@ def ids_come_back_and_do_not_meet(program, folder):
     same("ids", ids, [given_back(it) for it in found])
     for it in found:
         assert re.fullmatch(r"[A-Za-z0-9._-]{1,64}", it), f"{it} is no id\n"
-    same("answers", {"200"}, set(answers(program, folder, lines)))
+    same("answers", {"200"}, set(statuses(program, folder, lines)))
 
 
 # -- limits
@@ -129,7 +133,7 @@ def limits_of_a_configuration_are_kept(program, folder):
     for name, kept, passed, wanted in schemas_at_a_limit():
         status, lines, told = imported(folder, "spicedb", written(folder, "model", kept))
         same(name, (0, ""), (status, told))
-        same(f"{name}: answers", ["200"], answers(program, folder, lines))
+        same(f"{name}: answers", ["200"], statuses(program, folder, lines))
         same(name, (1, "", wanted), imported(folder, "spicedb", written(folder, "model", passed)))
 
 
@@ -146,7 +150,7 @@ def writes_have_256_operations_and_65536_bytes_at_most(program, folder):
         same("operations", wanted, [len(json.loads(it)["ops"]) for it in bodies])
         same("tuples", lines, [it["tuple"] for body in bodies for it in json.loads(body)["ops"]])
         assert all(len(it) <= 65536 for it in bodies)
-        same("answers", {"200"}, set(answers(program, folder, wrote)))
+        same("answers", {"200"}, set(statuses(program, folder, wrote)))
 
 
 # -- inputs that cannot be read
@@ -268,7 +272,7 @@ def judged(program, folder, count, seed):
         importer.judge(model)
         refused.append([text for _, text in model.refused])
         lines.append(f"config {importer.configuration(model)}\n")
-    found = answers(program, folder, "".join(lines))
+    found = statuses(program, folder, "".join(lines))
     same("answers", count, len(found))
     for text, why, status in zip(texts, refused, found):
         assert bool(why) == (status == "400"), f"{text}is answered {status}, and the importer tells {why}\n"
@@ -280,6 +284,75 @@ def random_schemas_are_judged_as_the_program_judges_them(program, folder):
     assert min(accepted, refused) > SCHEMAS // 10, f"{accepted} accepted, {refused} refused\n"
 
 
+# -- random permissions
+
+USERS = ["".join(it) for size in range(5) for it in itertools.combinations("abcd", size)]
+SIGNS = {"union": " + ", "intersection": " & ", "exclusion": " - "}
+
+
+def random_tree(choose, depth):
+    """A leaf, which is a relation or an arrow to one, or a kind of rewrite with its parts."""
+    kind = choose.choice(("leaf", *SIGNS)) if depth else "leaf"
+    if kind == "leaf":
+        return choose.choice(("computed", "tuple_to")), choose.choice("abcd")
+    return kind, [random_tree(choose, depth - 1) for _ in range(2 if kind == "exclusion" else choose.choice((2, 3)))]
+
+
+def set_of(tree):
+    """Whom it gives of the users, each of whom has the relations in its name at a thing, and all others at what is above it."""
+    kind, parts = tree
+    if kind in ("computed", "tuple_to"):
+        return {it for it in USERS if (parts in it) == (kind == "computed")}
+    operation = {"union": set.union, "intersection": set.intersection, "exclusion": set.difference}[kind]
+    return operation(*map(set_of, parts))
+
+
+def expression_of(tree):
+    kind, parts = tree
+    if kind in SIGNS:
+        return "(" + SIGNS[kind].join(map(expression_of, parts)) + ")"
+    return parts if kind == "computed" else f"up->{parts}"
+
+
+def userset_of(tree):
+    kind, parts = tree
+    if kind == "exclusion":
+        return {"difference": dict(zip(("base", "subtract"), map(userset_of, parts)))}
+    if kind in SIGNS:
+        return {kind: {"child": [userset_of(it) for it in parts]}}
+    computed = {"computedUserset": {"relation": parts}}
+    return computed if kind == "computed" else {"tupleToUserset": {"tupleset": {"relation": "up"}, **computed}}
+
+
+def both_forms(folder, trees, tuples):
+    """The same relations, with a permission for each tree, and the same tuples, as both projects have them. What the importer makes of each."""
+    relations = {**{it: "user" for it in "abcd"}, "up": "thing"}
+    said = [f"relation {name}: {kind}" for name, kind in relations.items()] + [f"permission p{number} = {expression_of(it)}" for number, it in enumerate(trees)]
+    schema = "definition user {}\ndefinition thing {\n%s\n}" % "\n".join(said)
+    yield imported(folder, "spicedb", written(folder, "schema", schema), written(folder, "relationships", "\n".join(f"{node}@{user}" for node, user in tuples)))
+    thing = {"type": "thing", "relations": {**{it: {"this": {}} for it in relations}, **{f"p{number}": userset_of(it) for number, it in enumerate(trees)}}}
+    thing["metadata"] = {"relations": {it: {"directly_related_user_types": [{"type": kind}]} for it, kind in relations.items()}}
+    model = {"schema_version": "1.1", "type_definitions": [{"type": "user"}, thing]}
+    keys = [dict(zip(("object", "relation", "user"), (*node.split("#"), user))) for node, user in tuples]
+    yield imported(folder, "openfga", written(folder, "model", json.dumps(model)), written(folder, "tuples", json.dumps(keys)))
+
+
+def random_permissions_give_whom_sets_give(program, folder):
+    choose = random.Random(3)
+    trees = [random_tree(choose, 3) for _ in range(12)]
+    tuples = [("thing:t#up", "thing:top")] + [(f"thing:{'t' if it in user else 'top'}#{it}", f"user:u{user}") for user in USERS for it in "abcd"]
+    first, second = both_forms(folder, trees, tuples)
+    same("what is made of both", first, second)
+    status, lines, told = first
+    same("status and what is told", (0, ""), (status, told))
+    questions = [(number, user) for number in range(len(trees)) for user in USERS]
+    asked = "".join(f'check {{"node":"thing:t#p{number}","user":"user:u{user}"}}\n' for number, user in questions)
+    found = answers(program, folder, lines + asked)
+    same("changes", ["200", "200"], [status for status, _ in found[:2]])
+    for (number, user), (_, body) in zip(questions, found[2:], strict=True):
+        same(f"{expression_of(trees[number])} of u{user}", user in set_of(trees[number]), body.get("allowed"))
+
+
 CASES = [
     ids_come_back_and_do_not_meet,
     limits_of_a_configuration_are_kept,
@@ -288,6 +361,7 @@ CASES = [
     an_output_that_takes_nothing_is_told,
     changed_inputs_are_told_without_a_traceback,
     random_schemas_are_judged_as_the_program_judges_them,
+    random_permissions_give_whom_sets_give,
 ]
 
 
