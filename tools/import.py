@@ -93,7 +93,6 @@ class Model:
     def __init__(self, path):
         self.path = path
         self.namespaces = {}
-        self.places = {}
         self.refused = []
 
     def refuse(self, place, name, why):
@@ -105,7 +104,6 @@ class Model:
         elif not NAME.fullmatch(name):
             self.refuse(place, name, NO_NAME)
         self.namespaces.setdefault(name, {})
-        self.places.setdefault(name, place)
 
     def add_relation(self, namespace, name, relation):
         if name in self.namespaces[namespace]:
@@ -338,6 +336,8 @@ class Tuples:
 
 class Located(dict):
     """An object of JSON that knows where it stands."""
+
+    __slots__ = ("place",)
 
 
 class Json(JSONDecoder):
