@@ -216,23 +216,31 @@ def changed(choose, text):
     return text[:first] + choose.choice(("", "", text[first:last] * 2, other)) + choose.choice((text[last:], text[last:], ""))
 
 
-def changed_inputs_are_told_without_a_traceback(_program, folder):
+def outcome_of(importer, folder, words):
+    """The status of the importer and what it wrote, after a look at whether that and what it told have the form that goes with the status."""
+    out, err = io.StringIO(), io.StringIO()
+    with contextlib.redirect_stdout(out), contextlib.redirect_stderr(err):
+        status = importer.main([words[0], *(f"{folder}/{it}" for it in words[1:])])
+    wrote, told = out.getvalue(), err.getvalue().split("\n")[:-1]
+    fits = {0: wrote and not told, 1: told and not wrote, 2: len(told) == 1 and told[0].startswith("import: ") and not wrote}
+    assert fits[status], f"status {status}, and {told}\n"
+    return status, wrote
+
+
+def changed_inputs_are_told_or_taken(program, folder):
     importer, choose = loaded(), random.Random(2)
-    seen = set()
+    seen = [0, 0, 0]
     for words, texts in texts_of_cases():
         for _ in range(150):
             touched = choose.choice(words[1:])
             for file, text in texts.items():
                 text = changed(choose, text) if file == touched else text
                 written(folder, file, text.encode("utf-8", "surrogatepass"))
-            out, err = io.StringIO(), io.StringIO()
-            with contextlib.redirect_stdout(out), contextlib.redirect_stderr(err):
-                status = importer.main([words[0], *(f"{folder}/{it}" for it in words[1:])])
-            told = err.getvalue().split("\n")[:-1]
-            fits = {0: not told, 1: bool(told) and not out.getvalue(), 2: len(told) == 1 and told[0].startswith("import: ") and not out.getvalue()}
-            assert fits[status], f"status {status}, and {told}\n"
-            seen.add(status)
-    same("statuses", {0, 1, 2}, seen)
+            status, lines = outcome_of(importer, folder, words)
+            seen[status] += 1
+            if status == 0 and seen[0] % 10 == 0:
+                same(f"answers to {lines}", {"200"}, set(statuses(program, folder, lines)))
+    assert min(seen) > 50, f"{seen} of each status\n"
 
 
 # -- random schemas
@@ -359,7 +367,7 @@ CASES = [
     writes_have_256_operations_and_65536_bytes_at_most,
     files_that_cannot_be_read_are_told,
     an_output_that_takes_nothing_is_told,
-    changed_inputs_are_told_without_a_traceback,
+    changed_inputs_are_told_or_taken,
     random_schemas_are_judged_as_the_program_judges_them,
     random_permissions_give_whom_sets_give,
 ]
