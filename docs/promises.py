@@ -1,6 +1,6 @@
 #!/usr/bin/env python3
 """Sees that each function, clause and definition that a crate's README names as what carries a promise is there, each wrong body that WRONG.md names, and each file that a document names or
-links to; that TESTING.md names a test for each public call that may answer want of memory; and that the READMEs have their form and the index of PROMISES.md is theirs (docs/index.py).
+links to; that TESTING.md names a test for each public call that may answer want of memory; that the READMEs have their form and the index of PROMISES.md is theirs (docs/index.py); and that no count, limit or time is old (docs/counts.py).
 
 usage: docs/promises.py
 
@@ -23,6 +23,7 @@ import re
 import sys
 
 sys.dont_write_bytecode = True
+import counts
 import index
 
 LONGEST_SENTENCE = 45
@@ -295,7 +296,7 @@ def main():
         for why in missing_in(crate, carriers):
             print(f"{file}: {why}")
             wrong += 1
-    for why in index.faults():
+    for why in [*index.faults(), *counts.faults()]:
         print(why)
         wrong += 1
     return 1 if wrong else 0
