@@ -5,7 +5,8 @@ usage: docs/index.py [--check]
 
 It writes what stands between two marker lines of PROMISES.md. With --check it changes nothing, and ends with status 1 where that is old, or a README is not of the form:
 each library and program of crates.txt has one, with headings of `HEADINGS` alone, in their order and the first always. Below the second each item of the list is one promise, with an item `By`.
-A line of the index has the first sentence of a promise, and the first of what carries it. A crate stands below all that it uses.
+What a crate is, and each promise, begins with its short form in bold, of at most `LONGEST_LEAD` words. A line of the index has the short form of a promise, and the first of what carries it. A crate
+stands below all that it uses, and one that promises nothing has no line.
 """
 import os
 import re
@@ -17,6 +18,7 @@ BEGIN = "<!-- from here docs/index.py writes -->"
 END = "<!-- up to here -->"
 HEADINGS = ("What it is", "What a caller may rely on", "Only tested", "Neither", "Trusted")
 WIDEST_LINE = 200
+LONGEST_LEAD = 12
 
 
 def crates():
@@ -58,9 +60,10 @@ def in_one_line(text):
     return re.sub(r"\s+", " ", text).strip()
 
 
-def first_sentence(text):
-    """The first sentence of a text, without its stress."""
-    return re.match(r".*?(?:\.(?= |$)|$)", in_one_line(text).replace("**", "")).group()
+def lead(text):
+    """What a text begins with in bold, as a sentence, or nothing."""
+    found = re.match(r"\*\*(.+?)\.?\*\*", in_one_line(text))
+    return f"{found.group(1)}." if found else ""
 
 
 def first_carrier(by):
@@ -74,24 +77,30 @@ def index():
     yield "|---|---|---|"
     for crate in crates():
         sections = dict(sections_of(crate))
-        yield f"|[`{crate}`](../crates/{crate}/README.md)|*{first_sentence(sections.get(HEADINGS[0], ''))}*||"
+        if not sections.get(HEADINGS[1]):
+            continue
+        yield f"|[`{crate}`](../crates/{crate}/README.md)|*{lead(sections.get(HEADINGS[0], ''))}*||"
         for promise, by in promises_of(crate):
-            yield f"||{first_sentence(promise)}|{first_carrier(by)}|"
+            yield f"||{lead(promise)}|{first_carrier(by)}|"
 
 
 def faults():
     """What is not of the form in the READMEs, and whether the index is old."""
     for crate in crates():
+        sections = dict(sections_of(crate))
         headings = [heading for heading, _ in sections_of(crate)]
         if not headings:
             yield f"crates/{crate}/README.md: it is not there"
         elif headings[:1] != [HEADINGS[0]] or headings != [it for it in HEADINGS if it in headings]:
             yield f"crates/{crate}/README.md: its headings are not {', '.join(HEADINGS)}, in this order"
-        if not re.match(r"\n*(- |$)", dict(sections_of(crate)).get(HEADINGS[1], "")):
+        if not re.match(r"\n*(- |$)", sections.get(HEADINGS[1], "")):
             yield f"crates/{crate}/README.md: what a caller may rely on is no list"
+        for text in [sections.get(HEADINGS[0], ""), *(promise for promise, _ in promises_of(crate))]:
+            if not 1 <= len(lead(text).split()) <= LONGEST_LEAD:
+                yield f"crates/{crate}/README.md: no short form of at most {LONGEST_LEAD} words in bold begins {in_one_line(text)[:60]} .."
         for promise, by in promises_of(crate):
             if not by:
-                yield f"crates/{crate}/README.md: no `By` carries {first_sentence(promise)}"
+                yield f"crates/{crate}/README.md: no `By` carries {lead(promise)}"
     for line in index():
         if len(line) > WIDEST_LINE:
             yield f"docs/PROMISES.md: a line of the index would have {len(line)} columns: {line[:60]} .."

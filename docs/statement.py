@@ -1,13 +1,15 @@
 #!/usr/bin/env python3
 """Lists the definitions that a public promise rests on, each with its file and its number of lines.
 
-usage: docs/statement.py [--calls CALL,..] [--inside | --table] [CRATE::FUNCTION ..]      (default: runs::run_in)
+usage: docs/statement.py [--calls CALL,..] [--inside | --table] [CRATE::FUNCTION ..]      (default: runs::run_in, and runs::run with --calls)
+       docs/statement.py --chapters
 
 It reads the contract of each function that is named, the definitions of specs/ that its clauses cite, and those that these
-cite in turn, and prints them by file: lowest crate first. With --calls it reads them as whoever makes these calls alone: a
-definition that goes by cases over calls, or over what comes of them, has those of other calls left out. --inside prints the
-files of specs/ of which no definition is reached from the contract of any public function: what a reader of the promises can
-pass over. --table prints a table of the files, in the order in which to read them, with the lines of each.
+cite in turn, and prints them by file: lowest crate first. With --calls it reads them as whoever makes these calls alone, of
+any tables: a definition that goes by cases over calls, or over what comes of them, has those of other calls left out, and what
+tables hold and how they fail is the last chapter. --chapters prints how large each chapter is: four calls, all the others, and
+the tables. --inside prints the files of specs/ of which no definition is reached from the contract of any public function: what
+a reader of the promises can pass over. --table prints a table of the files, in the order in which to read them, with the lines of each.
 Comments, blank lines and imports are not counted. It reads files and changes nothing.
 """
 import re
@@ -34,6 +36,10 @@ CASES = {
     "hot": ["Call.Hot", "Change.Mark", "Made.Marked", "Step.Marking"],
     "rebuild": ["Call.Rebuild", "Change.Rebuild", "Made.Base", "Step.Rebase"],
 }
+
+# the calls that the first chapter is of, and the crates whose definitions say what tables hold, in a file too, and how they fail
+FIRST = ["check", "write", "config", "state"]
+TABLES = ("sqlite_tables", "tables", "store")
 
 
 def crates():
@@ -136,14 +142,16 @@ def of_constructor(file, word):
     return None
 
 
-def reached(files, first):
-    found, left = set(first), list(first)
+def reached(files, first, without=()):
+    """Returns the definitions that these rest on, and they themselves, none of which is of a crate that is left out."""
+    left = [it for it in first if it[0].crate not in without]
+    found = set(left)
     while left:
         file, name = left.pop()
         for word in WORD.findall("\n".join(file.definitions[name])):
             for part in {word, word.split(".")[0]}:
                 it = resolve(files, file.imports, file.opened, file, part)
-                if it and it not in found:
+                if it and it not in found and it[0].crate not in without:
                     found.add(it)
                     left.append(it)
     return found
@@ -212,8 +220,68 @@ def table_of(listed):
         yield f"| `{crate}` | {'; '.join(texts)} | {total} |"
 
 
+def read_all():
+    """Returns all files of definitions by their modules: lowest crate first."""
+    files = {}
+    for crate in crates():
+        folder = ROOT / "crates" / crate / "specs"
+        for path in in_order(folder) if folder.exists() else []:
+            file = File(crate, path)
+            files[file.module] = file
+    return files
+
+
+def as_of(calls):
+    """Returns the files as whoever makes these calls alone reads them."""
+    files, chosen = read_all(), {case for it in calls for case in CASES[it]}
+    for file in files.values():
+        file.leave_out({case for cases in CASES.values() for case in cases} - chosen)
+    return files
+
+
+def listing(files, found):
+    """Returns each file with those of its definitions that were found, and their lines."""
+    own = ((file, [it for it in file.definitions if (file, it) in found]) for file in files.values())
+    return [(file, names, sum(count(file.definitions[it]) for it in names)) for file, names in own if names]
+
+
+def sum_of(listed):
+    return f"{sum(len(own) for _, own, _ in listed)} definitions, {sum(lines for _, _, lines in listed)} lines"
+
+
+def tell(listed):
+    for file, own, lines in listed:
+        print(f"{file.path.relative_to(ROOT)}: {lines} lines: {', '.join(own)}")
+
+
+def tell_calls(calls, wanted):
+    """Prints what these calls rest on whatever the tables are, and then what tables are."""
+    files = as_of(calls)
+    first = of_functions(files, wanted)
+    whatever = reached(files, first, TABLES)
+    for of, found in [(f"the calls {', '.join(calls)}, of any tables", whatever), ("the tables", reached(files, first) - whatever)]:
+        listed = listing(files, found)
+        tell(listed)
+        print(f"{of}: {sum_of(listed)}")
+
+
+def tell_chapters():
+    """Prints how many definitions and lines each chapter has: one caller of any tables, with few calls and with all, and then a file."""
+    few, files = as_of(FIRST), read_all()
+    chapters = [(few, "runs::run", TABLES, f"{', '.join(FIRST)}, of any tables"), (files, "runs::run", TABLES, "with all other calls"), (files, "runs::run_in", (), "with the file")]
+    for of, function, without, said in chapters:
+        print(f"{said}: {sum_of(listing(of, reached(of, of_functions(of, [function]), without)))}")
+
+
+def tell_inside(files):
+    found = reached(files, of_functions(files, None))
+    for file in files.values():
+        if file.definitions and not any(it[0] is file for it in found):
+            print(file.path.relative_to(ROOT))
+
+
 def main(words):
-    order, files, calls = crates(), {}, None
+    calls = None
     if "--calls" in words:
         at = words.index("--calls")
         calls = words[at + 1].split(",") if words[at + 1 :] else []
@@ -221,36 +289,22 @@ def main(words):
             print(f"statement.py: --calls takes words of {','.join(CASES)}", file=sys.stderr)
             return 2
         words = [*words[:at], *words[at + 2 :]]
-    for crate in order:
-        folder = ROOT / "crates" / crate / "specs"
-        for path in in_order(folder) if folder.exists() else []:
-            file = File(crate, path)
-            files[file.module] = file
+    wanted = [it for it in words if not it.startswith("--")] or ["runs::run" if calls else "runs::run_in"]
     if calls:
-        chosen = {case for it in calls for case in CASES[it]}
-        for file in files.values():
-            file.leave_out({case for cases in CASES.values() for case in cases} - chosen)
-    inside = "--inside" in words
-    wanted = [it for it in words if not it.startswith("--")] or ["runs::run_in"]
-    found = reached(files, of_functions(files, None if inside else wanted))
-    if inside:
-        for file in files.values():
-            if file.definitions and not any(it[0] is file for it in found):
-                print(file.path.relative_to(ROOT))
-        return 0
-    listed = []
-    for file in files.values():
-        own = [it for it in file.definitions if (file, it) in found]
-        if own:
-            listed.append((file, own, sum(count(file.definitions[it]) for it in own)))
-    total = sum(lines for _, _, lines in listed)
-    summed = f"{sum(len(own) for _, own, _ in listed)} definitions, {total} lines, in {len(listed)} of {len(files)} files"
-    if "--table" in words:
-        print("\n".join(table_of(listed)) + f"\n\nIn all {summed}.")
-        return 0
-    for file, own, lines in listed:
-        print(f"{file.path.relative_to(ROOT)}: {lines} lines: {', '.join(own)}")
-    print(summed)
+        tell_calls(calls, wanted)
+    elif "--chapters" in words:
+        tell_chapters()
+    elif "--inside" in words:
+        tell_inside(read_all())
+    else:
+        files = read_all()
+        listed = listing(files, reached(files, of_functions(files, wanted)))
+        summed = f"{sum_of(listed)}, in {len(listed)} of {len(files)} files"
+        if "--table" in words:
+            print("\n".join(table_of(listed)) + f"\n\nIn all {summed}.")
+        else:
+            tell(listed)
+            print(summed)
     return 0
 
 

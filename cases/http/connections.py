@@ -37,9 +37,12 @@ def same(what, wanted, got):
 class Server:
     """The program, while it serves."""
 
-    def __init__(self, program, folder, *words, port=0):
-        how = {"cwd": folder, "stdin": subprocess.DEVNULL, "stdout": subprocess.PIPE, "stderr": subprocess.PIPE}
-        self.process = subprocess.Popen([program, "serve", *words, "--port", str(port)], **how)
+    def __init__(self, program, folder, *words, port=0, **more):
+        self.begin([program, "serve", *words, "--port", str(port)], folder, **more)
+
+    def begin(self, words, folder, **more):
+        how = {"cwd": folder, "stdin": subprocess.DEVNULL, "stdout": subprocess.PIPE, "stderr": subprocess.PIPE, **more}
+        self.process = subprocess.Popen(words, **how)
         said = self.said()
         found = re.fullmatch(rb"listening 127\.0\.0\.1:([1-9][0-9]*)\n", said)
         if not found:
