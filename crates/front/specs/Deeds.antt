@@ -1,5 +1,6 @@
 -- What is done to a desk under a keeper's lock, and what a desk is by all that was done to it.
-use Rattle.std.specs.Prelude.{ℕ, ◌≡◌, ◌⊎◌, ◌+◌, List}
+use Rattle.std.specs.Prelude.{ℕ, ◌≡◌, ◌⊎◌, ◌+◌, List, [], ◌∷◌, ◌++◌}
+use mathlib.Core.List.{IsPrefix}
 use Rattle.names.specs.declared.part.Part.{Part}
 use Rattle.names.specs.declared.refusal.Refusal.{Refusal}
 use Rattle.tables.specs.declared.tables.Tables.{Ghosts}
@@ -10,11 +11,21 @@ use Rattle.desk.specs.Made.{IsMade, MayStore, SpeaksAgainst}
 use Rattle.desk.specs.declared.change.Change.{Change}
 use Rattle.desk.specs.declared.change.Made.{Made}
 use Rattle.keeper.specs.calls.Change.{ChangeStep}
-use Rattle.one_history.specs.History.{Hand}
+use Rattle.one_history.specs.History.{Hand, signed, entries_by}
 use Rattle.one_history.specs.Runs.{RanFrom, IsDone}
 use Rattle.one_history.specs.declared.entry.Entry.{Entry}
 use Rattle.front.specs.declared.deeds.Deed.{Deed}
 use Rattle.front.specs.declared.deeds.Deed.TheVariants.{Answered, CaughtUp, Changed, Refreshed, Seated}
+
+-- A worker's deed stands behind all others, of which it had seen a beginning. It has seen all of them now, and its own among them
+-- are those that it did, of which this is the last.
+pub record IsNoted (old : Hand Deed) (log : List (Entry Deed)) (deed : Deed) (new : Hand Deed) (now : List (Entry Deed)) : Type 0 where
+  pub noted : now ≡ log ++ signed old.by (deed ∷ [])
+  pub begins : IsPrefix old.seen log
+  pub by : new.by ≡ old.by
+  pub seen : new.seen ≡ now
+  pub mine : new.mine ≡ old.mine ++ signed old.by (deed ∷ [])
+  pub own : entries_by new.by now ≡ new.mine
 
 -- the part took the commits, or was refused them
 pub data CatchesUp {T : Type 0} (g : Ghosts T) (before : Posts T) (part : Part) (commits : ℕ) (after : Posts T) : Type 0 where

@@ -1,9 +1,11 @@
 //! What is noted of a desk under a keeper's lock, and by whom.
-ghost use Rattle.std.specs.Prelude.{◌≡◌, ◌++◌, []};
-ghost use mathlib.Core.List.{IsPrefix};
-ghost use Rattle.one_history.specs.History.{entries_by, signed};
+ghost use Rattle.std.specs.Prelude.{◌≡◌, [], ◌∷◌};
+ghost use Rattle.names.specs.Calls.{told};
+ghost use Rattle.front.specs.declared.deeds.Deed.{Deed};
+ghost use Rattle.front.specs.declared.deeds.Deed.TheVariants.{Answered, CaughtUp};
+ghost use Rattle.front.specs.Deeds.{IsNoted};
 
-use names::{Call, Part};
+use names::{Call, Part, Reply};
 use one_history::{History, HistoryName, Log, Noted, Worker};
 use published::Naming;
 use std::collections::LinkedList;
@@ -68,16 +70,42 @@ impl<'k, J: HistoryName> Place<'k, J> {
         Place { history, worker }
     }
 
-    // Notes what was done.
+    // Notes the deed that `N` names.
     pub(crate) fn note<N: Noted<Deed>, W: Wait>(&mut self, rt: &W, log: &mut Log<Deed, J>)
         requires { N.by ≡ self.old.by }
-        ensures noted { log.new ≡ log.old ++ signed self.old.by N.what }
-        ensures begins { IsPrefix self.old.seen log.old }
-        ensures by { self.new.by ≡ self.old.by }
-        ensures seen { self.new.seen ≡ log.new }
-        ensures mine { self.new.mine ≡ self.old.mine ++ signed self.old.by N.what }
-        ensures own { entries_by self.new.by log.new ≡ self.new.mine }
+        ensures { (deed : Deed) → N.what ≡ deed ∷ [] → IsNoted self.old log.old deed self.new log.new }
     {
         log.note::<N, W>(rt, self.history, &mut self.worker);
+    }
+
+    // Notes how a call with this body was answered.
+    pub(crate) fn note_answered<N: Noted<Deed>, W: Wait>(
+        &mut self,
+        rt: &W,
+        log: &mut Log<Deed, J>,
+        call: Call,
+        body: &[u8],
+        reply: &Reply,
+    )
+        requires by { N.by ≡ self.old.by }
+        requires what { N.what ≡ Answered call body.now (told reply.now) ∷ [] }
+        ensures { IsNoted self.old log.old (Answered call body.now (told reply.now)) self.new log.new }
+    {
+        self.note::<N, W>(rt, log);
+    }
+
+    // Notes that a part was to take so many commits.
+    pub(crate) fn note_caught_up<N: Noted<Deed>, W: Wait>(
+        &mut self,
+        rt: &W,
+        log: &mut Log<Deed, J>,
+        part: Part,
+        commits: u64,
+    )
+        requires by { N.by ≡ self.old.by }
+        requires what { N.what ≡ CaughtUp part commits ∷ [] }
+        ensures { IsNoted self.old log.old (CaughtUp part commits) self.new log.new }
+    {
+        self.note::<N, W>(rt, log);
     }
 }

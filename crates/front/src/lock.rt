@@ -183,7 +183,7 @@ impl<T: Tables + Drop, J: KeeperName<T>, R: Wait + Drop> KeptDesk<T, J, R> {
         ensures noted { IsDoneTo T.Tables J.starts place.old self.old (CaughtUp part commits) self.new place.new }
     {
         let taken = self.desk.catch_up(part, commits);
-        place.note::<Brand, W>(rt, &mut self.log);
+        place.note_caught_up::<Brand, W>(rt, &mut self.log, part, commits);
         self.desk.see();
         taken
     }
@@ -230,7 +230,7 @@ impl<T: Tables + Drop, J: KeeperName<T>, R: Wait + Drop> KeptDesk<T, J, R> {
     {
         let ChangeAsked { call, body, change } = asked;
         let reply = change_on(alloc, &mut self.desk, session, change);
-        place.note::<Brand, W>(rt, &mut self.log);
+        place.note_answered::<Brand, W>(rt, &mut self.log, call, body, &reply);
         self.desk.see();
         reply
     }

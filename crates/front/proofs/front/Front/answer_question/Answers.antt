@@ -12,12 +12,12 @@ use Rattle.front.proofs.front.Front.answer_question.Goals.{in-Groups+in-Union-1,
 
 pub returns-in-Told : goal.returns-in-Told
 returns-in-Told g c =
-    record { asked = alone c.args.self.now.known c.args.call c.args.body.now _ c.ask.new.self.known c.in-Told.ensures; deeds = inl c.ask.ensures.deeds }
+    record { asked = alone c.args.self.now.known c.args.call c.args.body.now _ c.ask.new.self.known c.in-Told.ensures.told; deeds = inl c.ask.ensures.deeds }
 
 pub returns-in-NotYet : goal.returns-in-NotYet
 returns-in-NotYet g c =
     let q = c.in-NotYet.question in
-    let is = c.in-NotYet.ensures in
+    let is = c.in-NotYet.ensures.told in
     let old = c.args.self.now in
     let mid = c.refresh.new.self in
     let new : FrontState = record { known = c.ask_again.new.session; hand = c.self.inside.place } in

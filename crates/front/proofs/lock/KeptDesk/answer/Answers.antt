@@ -2,18 +2,15 @@ use Rattle.std.proofs.Common.{subst}
 use Rattle.names.specs.Calls.{told}
 use Rattle.desk.specs.Posts.{Posts}
 use Rattle.keeper.specs.calls.Change.{ChangeStep}
-use Rattle.one_history.proofs.Runs.{done_by}
 use Rattle.front.specs.declared.deeds.Deed.TheVariants.{Answered}
-use Rattle.front.specs.Deeds.{Does, IsDoneTo}
-use Rattle.front.proofs.Doing.{kept_next}
+use Rattle.front.proofs.Doing.{done_to, kept_next}
 use Rattle.front.proofs.lock.KeptDesk.answer.Goals as goal
 
 pub invariant_of-self : goal.invariant_of-self
 invariant_of-self g c =
-    let asked = c.args.asked in
-    let does = c.change_on-reply.ensures.step asked.call asked.body.now c.requires.asks in
-    kept_next g.T.Tables c.self.inside.desk c.change_on-reply.new.desk g.J.Naming.book g.J.KeeperName.starts c.args.place.now.by (Answered asked.call asked.body.now (told c.change_on-reply.result))
-    c.self.inside.log c.note.new.log c.self.invariant does c.note.ensures.noted
+    let after = c.change_on-reply.new.desk in
+    kept_next g.T.Tables c.self.inside.desk after g.J.Naming.book g.J.KeeperName.starts (Answered c.args.asked.call c.args.asked.body.now (told c.change_on-reply.result)) c.args.place.now c.note_answered.new.self c.self.inside.log c.note_answered.new.log
+    c.self.invariant (c.change_on-reply.ensures.step c.args.asked.call c.args.asked.body.now c.requires.asks) c.note_answered.ensures
 
 pub returns-clause-step : goal.returns-clause-step
 returns-clause-step g c =
@@ -23,13 +20,9 @@ returns-clause-step g c =
 
 pub returns-clause-noted : goal.returns-clause-noted
 returns-clause-noted g c =
-    let asked = c.args.asked in
-    let deed = Answered asked.call asked.body.now (told c.change_on-reply.result) in
-    let before = c.self.inside.desk in
     let after = c.change_on-reply.new.desk in
-    subst (λ (d : Posts g.row.T.Denot). IsDoneTo g.T.Tables g.J.KeeperName.starts c.args.place.now d deed after c.note.new.self) c.self.view_is
-    (done_by (Does g.T.Tables) g.J.KeeperName.starts c.args.place.now c.note.new.self c.self.inside.log c.note.new.log before deed after
-    c.note.ensures.begins c.self.invariant.1 (c.change_on-reply.ensures.step asked.call asked.body.now c.requires.asks) c.note.ensures.noted c.note.ensures.by c.note.ensures.seen c.note.ensures.mine c.note.ensures.own)
+    done_to g.T.Tables c.self.inside.desk after g.J.Naming.book g.J.KeeperName.starts (Answered c.args.asked.call c.args.asked.body.now (told c.change_on-reply.result)) c.args.place.now c.note_answered.new.self c.self.inside.log c.note_answered.new.log c.args.self.now c.self.view_is
+    c.self.invariant (c.change_on-reply.ensures.step c.args.asked.call c.args.asked.body.now c.requires.asks) c.note_answered.ensures
 
 pub returns-clause-sound : goal.returns-clause-sound
 returns-clause-sound g c =

@@ -1,25 +1,20 @@
-use Rattle.std.proofs.Common.{subst}
-use Rattle.desk.specs.Posts.{Posts}
-use Rattle.one_history.proofs.Runs.{done_by}
 use Rattle.front.specs.declared.deeds.Deed.TheVariants.{CaughtUp}
-use Rattle.front.specs.Deeds.{Does, IsDoneTo}
-use Rattle.front.proofs.Doing.{kept_next, caught_up}
+use Rattle.front.proofs.Doing.{caught_up, done_to, kept_next}
 use Rattle.front.proofs.lock.KeptDesk.catch_up.Goals as goal
 
 pub invariant_of-self : goal.invariant_of-self
 invariant_of-self g c =
-    let before = c.self.inside.desk in
-    let after = c.catch_up-taken.new.self in
-    kept_next g.T.Tables before after g.J.Naming.book g.J.KeeperName.starts c.args.place.now.by (CaughtUp c.args.part c.args.commits) c.self.inside.log c.note.new.log c.self.invariant (caught_up g.T.Tables before after (λ p. p.value) (λ p. p.receipt) c.args.part c.args.commits c.catch_up-taken.result c.catch_up-taken.ensures.ok c.catch_up-taken.ensures.err, c.catch_up-taken.ensures.seats) c.note.ensures.noted
+    let taken = c.catch_up-taken in
+    let after = taken.new.self in
+    kept_next g.T.Tables c.self.inside.desk after g.J.Naming.book g.J.KeeperName.starts (CaughtUp c.args.part c.args.commits) c.args.place.now c.note_caught_up.new.self c.self.inside.log c.note_caught_up.new.log
+    c.self.invariant (caught_up g.T.Tables c.self.inside.desk after (λ p. p.value) (λ p. p.receipt) c.args.part c.args.commits taken.result taken.ensures.ok taken.ensures.err, taken.ensures.seats) c.note_caught_up.ensures
 
 pub returns-clause-noted : goal.returns-clause-noted
 returns-clause-noted g c =
-    let before = c.self.inside.desk in
-    let after = c.catch_up-taken.new.self in
-    let deed = CaughtUp c.args.part c.args.commits in
-    subst (λ (d : Posts g.row.T.Denot). IsDoneTo g.T.Tables g.J.KeeperName.starts c.args.place.now d deed after c.note.new.self) c.self.view_is
-    (done_by (Does g.T.Tables) g.J.KeeperName.starts c.args.place.now c.note.new.self c.self.inside.log c.note.new.log before deed after
-    c.note.ensures.begins c.self.invariant.1 (caught_up g.T.Tables before after (λ p. p.value) (λ p. p.receipt) c.args.part c.args.commits c.catch_up-taken.result c.catch_up-taken.ensures.ok c.catch_up-taken.ensures.err, c.catch_up-taken.ensures.seats) c.note.ensures.noted c.note.ensures.by c.note.ensures.seen c.note.ensures.mine c.note.ensures.own)
+    let taken = c.catch_up-taken in
+    let after = taken.new.self in
+    done_to g.T.Tables c.self.inside.desk after g.J.Naming.book g.J.KeeperName.starts (CaughtUp c.args.part c.args.commits) c.args.place.now c.note_caught_up.new.self c.self.inside.log c.note_caught_up.new.log c.args.self.now c.self.view_is
+    c.self.invariant (caught_up g.T.Tables c.self.inside.desk after (λ p. p.value) (λ p. p.receipt) c.args.part c.args.commits taken.result taken.ensures.ok taken.ensures.err, taken.ensures.seats) c.note_caught_up.ensures
 
 pub returns-clause-sound : goal.returns-clause-sound
 returns-clause-sound g c =

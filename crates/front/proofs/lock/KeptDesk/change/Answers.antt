@@ -1,25 +1,21 @@
-use Rattle.std.proofs.Common.{subst}
-use Rattle.desk.specs.Posts.{Posts}
-use Rattle.one_history.proofs.Runs.{done_by}
+use Rattle.std.proofs.Common.{refl}
 use Rattle.front.specs.declared.deeds.Deed.TheVariants.{Changed}
-use Rattle.front.specs.Deeds.{Does, IsDoneTo}
-use Rattle.front.proofs.Doing.{kept_next, changed}
+use Rattle.front.proofs.Doing.{changed, done_to, kept_next}
 use Rattle.front.proofs.lock.KeptDesk.change.Goals as goal
 
 pub invariant_of-self : goal.invariant_of-self
 invariant_of-self g c =
-    let before = c.self.inside.desk in
-    let after = c.change-done.new.self in
-    kept_next g.T.Tables before after g.J.Naming.book g.J.KeeperName.starts c.args.place.now.by (Changed) c.self.inside.log c.note.new.log c.self.invariant (changed g.T.Tables before after (λ p. p.made) (λ p. p.receipt) c.args.change c.change-done.result c.change-done.ensures.ok c.change-done.ensures.err, c.change-done.ensures.seats) c.note.ensures.noted
+    let done = c.change-done in
+    let after = done.new.self in
+    kept_next g.T.Tables c.self.inside.desk after g.J.Naming.book g.J.KeeperName.starts (Changed) c.args.place.now c.note.new.self c.self.inside.log c.note.new.log
+    c.self.invariant (changed g.T.Tables c.self.inside.desk after (λ p. p.made) (λ p. p.receipt) c.args.change done.result done.ensures.ok done.ensures.err, done.ensures.seats) (c.note.ensures Changed refl)
 
 pub returns-clause-noted : goal.returns-clause-noted
 returns-clause-noted g c =
-    let before = c.self.inside.desk in
-    let after = c.change-done.new.self in
-    let deed = Changed in
-    subst (λ (d : Posts g.row.T.Denot). IsDoneTo g.T.Tables g.J.KeeperName.starts c.args.place.now d deed after c.note.new.self) c.self.view_is
-    (done_by (Does g.T.Tables) g.J.KeeperName.starts c.args.place.now c.note.new.self c.self.inside.log c.note.new.log before deed after
-    c.note.ensures.begins c.self.invariant.1 (changed g.T.Tables before after (λ p. p.made) (λ p. p.receipt) c.args.change c.change-done.result c.change-done.ensures.ok c.change-done.ensures.err, c.change-done.ensures.seats) c.note.ensures.noted c.note.ensures.by c.note.ensures.seen c.note.ensures.mine c.note.ensures.own)
+    let done = c.change-done in
+    let after = done.new.self in
+    done_to g.T.Tables c.self.inside.desk after g.J.Naming.book g.J.KeeperName.starts (Changed) c.args.place.now c.note.new.self c.self.inside.log c.note.new.log c.args.self.now c.self.view_is
+    c.self.invariant (changed g.T.Tables c.self.inside.desk after (λ p. p.made) (λ p. p.receipt) c.args.change done.result done.ensures.ok done.ensures.err, done.ensures.seats) (c.note.ensures Changed refl)
 
 pub returns-clause-sound : goal.returns-clause-sound
 returns-clause-sound g c =

@@ -3,4 +3,4 @@ use Rattle.front.specs.declared.deeds.Deed.TheVariants.{Changed}
 use Rattle.front.proofs.lock.KeptDesk.change.Given as goal
 
 abbrev pub ghosts-note : goal.ghosts-note
-ghosts-note g a = record { by = a.place.now.by; what = Changed ∷ [] }
+ghosts-note g a = record { by = a.self.now.by; what = Changed ∷ [] }

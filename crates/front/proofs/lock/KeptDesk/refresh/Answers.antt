@@ -1,25 +1,21 @@
-use Rattle.std.proofs.Common.{subst}
-use Rattle.desk.specs.Posts.{Posts}
-use Rattle.one_history.proofs.Runs.{done_by}
+use Rattle.std.proofs.Common.{refl}
 use Rattle.front.specs.declared.deeds.Deed.TheVariants.{Refreshed}
-use Rattle.front.specs.Deeds.{Does, IsDoneTo}
-use Rattle.front.proofs.Doing.{kept_next}
+use Rattle.front.proofs.Doing.{done_to, kept_next}
 use Rattle.front.proofs.lock.KeptDesk.refresh.Goals as goal
 
 pub invariant_of-self : goal.invariant_of-self
 invariant_of-self g c =
-    let before = c.self.inside.desk in
-    let after = c.refresh-receipt.new.self in
-    kept_next g.T.Tables before after g.J.Naming.book g.J.KeeperName.starts c.args.place.now.by (Refreshed) c.self.inside.log c.note.new.log c.self.invariant ((c.refresh-receipt.ensures.more, c.refresh-receipt.ensures.same), c.refresh-receipt.ensures.seats) c.note.ensures.noted
+    let shown = c.refresh-receipt in
+    let after = shown.new.self in
+    kept_next g.T.Tables c.self.inside.desk after g.J.Naming.book g.J.KeeperName.starts (Refreshed) c.args.place.now c.note.new.self c.self.inside.log c.note.new.log
+    c.self.invariant ((shown.ensures.more, shown.ensures.same), shown.ensures.seats) (c.note.ensures Refreshed refl)
 
 pub returns-clause-noted : goal.returns-clause-noted
 returns-clause-noted g c =
-    let before = c.self.inside.desk in
-    let after = c.refresh-receipt.new.self in
-    let deed = Refreshed in
-    subst (λ (d : Posts g.row.T.Denot). IsDoneTo g.T.Tables g.J.KeeperName.starts c.args.place.now d deed after c.note.new.self) c.self.view_is
-    (done_by (Does g.T.Tables) g.J.KeeperName.starts c.args.place.now c.note.new.self c.self.inside.log c.note.new.log before deed after
-    c.note.ensures.begins c.self.invariant.1 ((c.refresh-receipt.ensures.more, c.refresh-receipt.ensures.same), c.refresh-receipt.ensures.seats) c.note.ensures.noted c.note.ensures.by c.note.ensures.seen c.note.ensures.mine c.note.ensures.own)
+    let shown = c.refresh-receipt in
+    let after = shown.new.self in
+    done_to g.T.Tables c.self.inside.desk after g.J.Naming.book g.J.KeeperName.starts (Refreshed) c.args.place.now c.note.new.self c.self.inside.log c.note.new.log c.args.self.now c.self.view_is
+    c.self.invariant ((shown.ensures.more, shown.ensures.same), shown.ensures.seats) (c.note.ensures Refreshed refl)
 
 pub returns-clause-sound : goal.returns-clause-sound
 returns-clause-sound g c =
