@@ -16,12 +16,10 @@ returns-in-Ok-clause-noted g c =
     let given = c.session-given in
     let after = given.new.self in (
       c.new-place.result,
-      (
-        c.new-place.ensures.mine,
-        done_to g.T.Tables c.self.inside.desk after g.J.Naming.book g.J.KeeperName.starts Seated c.new-place.result c.note.new.self c.new-place.new.log c.note.new.log c.args.self.now c.self.view_is
-            (kept_by g.T.Tables g.J.Naming.book g.J.KeeperName.starts c.self.inside.desk c.self.inside.log c.new-place.new.log c.new-place.ensures.same c.self.invariant)
-            (seated g.T.Tables c.self.inside.desk after given.result given.ensures.more given.ensures.same given.ensures.seats given.ensures.err) (c.note.ensures Seated refl),
-      ),
+      c.new-place.ensures.mine,
+      done_to g.T.Tables c.self.inside.desk after g.J.Naming.book g.J.KeeperName.starts Seated c.new-place.result c.note.new.self c.new-place.new.log c.note.new.log c.args.self.now c.self.view_is
+          (kept_by g.T.Tables g.J.Naming.book g.J.KeeperName.starts c.self.inside.desk c.self.inside.log c.new-place.new.log c.new-place.ensures.same c.self.invariant)
+          (seated g.T.Tables c.self.inside.desk after given.result given.ensures.more given.ensures.same given.ensures.seats given.ensures.err) (c.note.ensures Seated refl),
     )
 
 pub returns-in-Ok-clause-sound : goal.returns-in-Ok-clause-sound
