@@ -1,5 +1,5 @@
 -- What of a keeper and its fronts may be sent to another thread, or shared with one.
-use denote.Param.Send.{IsSend, IsSync, sendable, recorded_send, shr_send, struct_send, view_send}
+use denote.Param.Send.{IsSend, IsSync, sendable, recorded_send, recorded_sync, shr_send, struct_send, struct_sync, view_send}
 use denote.RattleType.{RattleType}
 use denote.Ref.{NamedLft}
 use denote.Struct.Declared as S
@@ -9,6 +9,7 @@ use Rattle.crossbeam_channel.proofs.channel.Receiver.TheSendSync as Receiver
 use Rattle.one_history.proofs.log.Log.TheSendSync as Log
 use Rattle.one_history.proofs.opening.History.TheSendSync as History
 use Rattle.front.proofs.Crossing.{crosses_published, Session-send}
+use Rattle.front.proofs.deeds.Deed.TheSendSync as Deed
 use Rattle.front.proofs.deeds.Place.TheSendSync as Place
 use Rattle.desk.specs.contracts.desk.Desk as Desk
 use Rattle.front.specs.contracts.lock.KeptDesk as KeptDesk
@@ -35,7 +36,10 @@ pub KeptDesk-send : (T J H : RattleType) (g : _) (j k l : _) → IsSend T → Is
 KeptDesk-send T J H g j k l t s h = search (KeptDesk-inside-send, sendable) depth 10
 
 pub Keeper-sync : (T J H : RattleType) (g : _) (j k l : _) → IsSend T → IsSend J → IsSync J → IsSend H → IsSync (Keeper.the_row T J H g j k l)
-Keeper-sync T J H g j k l t s y h = search (KeptDesk-send, History.the_sync, crosses, sendable) depth 40
+Keeper-sync T J H g j k l t s y h =
+    let K = Keeper.the_type T J H g j k l in
+    recorded_sync _ _ K.to K.to_one (struct_sync (S.shape K)
+    ((search (History.the_field_sync, Deed.the_send, Deed.the_sync, crosses, sendable) depth 40), ((search (KeptDesk-send, crosses, sendable) depth 40), tt)))
 
 Front-inside-send : (lives : NamedLft) (T J H : RattleType) (g : _) (j k l : _) → IsSend T → IsSend J → IsSync J → IsSend H → IsSend (Front.TheInside.the_row lives T J H g j k l)
 Front-inside-send lives T J H g j k l t s y h = search (Keeper-sync, Place.the_send, crosses_published, crosses, sendable) depth 40
