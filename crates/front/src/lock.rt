@@ -220,13 +220,13 @@ impl<T: Tables + Drop, J: KeeperName<T>, R: Wait + Drop> KeptDesk<T, J, R> {
     ) -> Reply
         requires book { session.old.book ≡ J.book }
         requires asks { AsksChange asked.call asked.body.now asked.change }
-        ensures step { ChangeStep T.Tables self.old asked.call asked.body.now (told result) self.new }
+        ensures step { ChangeStep T.Tables self.old asked.entry.call asked.entry.body.now (told result) self.new }
         ensures later { IsPrefix self.old.shown self.new.shown }
         ensures kept { KnowsMore session.old session.new }
         ensures known { Begins (shown_by self.new) session.new }
         ensures sound { IsKept T.Tables J.book self.new }
         ensures noted { IsDoneTo T.Tables J.starts place.old self.old
-            (Answered asked.call asked.body.now (told result)) self.new place.new }
+            (Answered asked.entry.call asked.entry.body.now (told result)) self.new place.new }
     {
         let ChangeAsked { call, body, change } = asked;
         let reply = change_on(alloc, &mut self.desk, session, change);
