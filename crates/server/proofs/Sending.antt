@@ -9,7 +9,6 @@ use Rattle.crossbeam_channel.proofs.channel.Receiver.TheSendSync as Receiver
 use Rattle.one_history.proofs.log.Log.TheSendSync as Log
 use Rattle.one_history.proofs.opening.History.TheSendSync as History
 use Rattle.front.proofs.Crossing.{crosses_published, Session-send}
-use Rattle.front.proofs.deeds.Deed.TheSendSync as Deed
 use Rattle.front.proofs.deeds.Place.TheSendSync as Place
 use Rattle.desk.specs.contracts.desk.Desk as Desk
 use Rattle.front.specs.contracts.lock.KeptDesk as KeptDesk
@@ -39,7 +38,7 @@ pub Keeper-sync : (T J H : RattleType) (g : _) (j k l : _) → IsSend T → IsSe
 Keeper-sync T J H g j k l t s y h =
     let K = Keeper.the_type T J H g j k l in
     recorded_sync _ _ K.to K.to_one (struct_sync (S.shape K)
-    ((search (History.the_field_sync, Deed.the_send, Deed.the_sync, crosses, sendable) depth 40), ((search (KeptDesk-send, crosses, sendable) depth 40), tt)))
+    ((search (History.the_field_sync, crosses, sendable) depth 40), ((search (KeptDesk-send, crosses, sendable) depth 40), tt)))
 
 Front-inside-send : (lives : NamedLft) (T J H : RattleType) (g : _) (j k l : _) → IsSend T → IsSend J → IsSync J → IsSend H → IsSend (Front.TheInside.the_row lives T J H g j k l)
 Front-inside-send lives T J H g j k l t s y h = search (Keeper-sync, Place.the_send, crosses_published, crosses, sendable) depth 40
@@ -50,7 +49,7 @@ Front-send lives T J H g j k l t s y h = view_send _ _ _ _ _ (Front-inside-send 
 Locked-inside-send : (lives : NamedLft) (T J H R : RattleType) (g : _) (j k l : _) → IsSend T → IsSend J → IsSync J → IsSend H → IsSync R → IsSend (Locked.TheInside.the_row lives T J H R g j k l)
 Locked-inside-send lives T J H R g j k l t s y h r =
     let L = Locked.TheInside.the_type lives T J H R g j k l in
-    recorded_send _ _ L.to L.to_one (struct_send (S.shape L) (shr_send _ _ _ r, (Front-send _ T J H g j k l t s y h, tt)))
+    recorded_send _ _ L.to L.to_one (struct_send (S.shape L) (shr_send _ _ _ r, (Front-send _ T J H _ _ _ _ t s y h, tt)))
 
 pub Locked-send : (lives : NamedLft) (T J H R : RattleType) (g : _) (j k l : _) → IsSend T → IsSend J → IsSync J → IsSend H → IsSync R → IsSend (Locked.the_row lives T J H R g j k l)
 Locked-send lives T J H R g j k l t s y h r = view_send _ _ _ _ _ (Locked-inside-send lives T J H R g j k l t s y h r)
@@ -66,4 +65,4 @@ Waking-send lives A R a s =
 pub Indexer-send : (lives : NamedLft) (T J H : RattleType) (g : _) (j k l : _) → IsSend T → IsSend J → IsSync J → IsSend H → IsSend (Indexer.the_row lives T J H g j k l)
 Indexer-send lives T J H g j k l t s y h =
     let I = Indexer.the_type lives T J H g j k l in
-    recorded_send _ _ I.to I.to_one (struct_send (S.shape I) (shr_send _ _ _ (Keeper-sync T J H g j k l t s y h), (Session-send, ((search (Place.the_send, crosses, sendable) depth 40), ((search (Receiver.the_send, crosses, sendable) depth 40 fits 30000), tt)))))
+    recorded_send _ _ I.to I.to_one (struct_send (S.shape I) (shr_send _ _ _ (Keeper-sync T J H _ _ _ _ t s y h), (Session-send, ((search (Place.the_send, crosses, sendable) depth 40), ((search (Receiver.the_send, crosses, sendable) depth 40 fits 30000), tt)))))
