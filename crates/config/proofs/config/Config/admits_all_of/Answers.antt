@@ -15,8 +15,8 @@ returns-then-not-declares_all-clause-no c = λ _.
     let config = c.args.self.now in
     some_refused config c.args.earlier.now
     (sym (ap (λ (rs : List Relation). list_all (admits_types config) (map defined_of rs)) c.deref-relation-items.ensures.value ∙ ap (λ (x : Configured). list_all (admits_types config) x.relations) c.earlier.view_is)
-        ∙ one_failed (admits_types config) defined_of items c.loop-relation.relation-index c.loop-relation.invariant c.relation-item.result c.loop-relation-test.true c.relation-item.is
-        (sym (ap (λ (types : List SubjectType). list_all (λ type. admits config (of_type c.relation-item.result.name type)) types) c.deref.ensures.value) ∙ sym c.if-not-declares_all.ensures))
+    ∙ one_failed (admits_types config) defined_of items c.loop-relation.relation-index c.loop-relation.invariant c.relation-item.result c.loop-relation-test.true c.relation-item.is
+    (sym (ap (λ (types : List SubjectType). list_all (λ type. admits config (of_type c.relation-item.result.name type)) types) c.deref.ensures.value) ∙ sym c.if-not-declares_all.ensures))
 
 pub returns-clause-yes : goal.returns-clause-yes
 returns-clause-yes c = λ _.
@@ -24,4 +24,4 @@ returns-clause-yes c = λ _.
     let config = c.args.self.now in
     each_admitted config c.args.earlier.now
     (sym (ap (λ (rs : List Relation). list_all (admits_types config) (map defined_of rs)) c.deref-relation-items.ensures.value ∙ ap (λ (x : Configured). list_all (admits_types config) x.relations) c.earlier.view_is)
-        ∙ all_passed (admits_types config) defined_of items c.loop-relation.relation-index c.loop-relation.invariant (omega (arith, c.loop-relation-test.false)))
+    ∙ all_passed (admits_types config) defined_of items c.loop-relation.relation-index c.loop-relation.invariant (omega (arith, c.loop-relation-test.false)))
