@@ -2,6 +2,7 @@
 pub mod Asking
 pub mod EventTexts
 pub mod Following
+pub mod Kinds
 pub mod Moves
 pub mod Reading
 pub mod Settling

@@ -1,9 +1,13 @@
-use Rattle.std.proofs.Common.{map, refl}
+use Rattle.std.proofs.Common.{map, refl, subst}
 use Rattle.store.specs.Written.{IsSpan}
 use Rattle.store.specs.inside.Reading.{as_span, as_config}
+use Rattle.store.specs.inside.Kinds.{IsSince}
 use Rattle.store.specs.Refused.{IsAdmittedTo}
 use Rattle.store.proofs.Deserving.{one_of}
 use Rattle.store.proofs.configs.are_admitted.Goals as goal
+
+pub is_admitted-requires-clause-since : goal.is_admitted-requires-clause-since
+is_admitted-requires-clause-since c = subst (λ t. IsSince c.args.configs.now t c.since_in-since.result) c.tuple-tuple.ensures c.since_in-since.ensures.since
 
 pub returns-then-not-is_admitted-clause-refuses : goal.returns-then-not-is_admitted-clause-refuses
 returns-then-not-is_admitted-clause-refuses c = λ _ newest good spans admitted.

@@ -1,0 +1,60 @@
+-- Tuples of one kind are admitted alike.
+use Rattle.std.proofs.Common.{◌≡◌, ℕ, ◌-◌, ◌<◌, ◌≤◌, ◌⊎◌, inl, inr, List, [], ◌∷◌, ◌++◌, length, get_or, ap, sym, subst, ◌∙◌, arith}
+use Rattle.std.specs.Prelude.{◌&&◌, Bool, true, All, Contains, nat_eq}
+use Rattle.std.specs.List.{list_any}
+use Rattle.std.specs.Cmp.Lexicographic.{pointwise, same_text}
+use Rattle.std.proofs.lemmas.Bool.{and_parts, cases_lt}
+use Rattle.std.proofs.lemmas.List.{get_or_default}
+use Rattle.std.proofs.lemmas.List.Elements.{All-push, All-contains}
+use Rattle.names.specs.declared.relation.RelationName.{RelationName}
+use Rattle.names.specs.declared.relation.SubjectType.{SubjectType}
+use Rattle.names.specs.declared.tuple.Tuple.{Tuple}
+use Rattle.meaning.specs.Config.{Configured, rel_of, relation_in}
+use Rattle.meaning.specs.Admits.{admits, is_relation, is_type, type_of}
+use Rattle.meaning.proofs.AdmitsLemmas.{type_is}
+use Rattle.store.specs.inside.Kinds.{is_alike, IsSince, AreSince, Keeps}
+use Rattle.store.specs.declared.kinds.Kind.{Kind}
+use Rattle.store.specs.declared.parts.ReadConfig.{ReadConfig}
+
+-- what a configuration says of a tuple, by its relation and its subject's type
+abbrev says : Configured → RelationName → SubjectType → Bool
+says config r type = list_any (λ d. is_relation r d && list_any (is_type type) d.types) config.relations
+
+admitted_alike : (config : Configured) (a b : Tuple) → is_alike a b ≡ true → admits config a ≡ admits config b
+admitted_alike config a b alike =
+    let first = and_parts (pointwise nat_eq a.node.object.namespace b.node.object.namespace) (pointwise nat_eq a.node.relation b.node.relation && is_type (type_of a.subject) (type_of b.subject)) alike in
+    let others = and_parts (pointwise nat_eq a.node.relation b.node.relation) (is_type (type_of a.subject) (type_of b.subject)) first.1 in
+    ap (λ n. says config (relation_in n a.node.relation) (type_of a.subject)) (same_text a.node.object.namespace b.node.object.namespace (sym first.0))
+    ∙ ap (λ n. says config (relation_in b.node.object.namespace n) (type_of a.subject)) (same_text a.node.relation b.node.relation (sym others.0))
+    ∙ ap (says config (rel_of b.node)) (type_is (type_of a.subject) (type_of b.subject) others.1)
+
+-- the place that is kept is one for the tuple
+pub since_alike : (configs : List ReadConfig) (kinds : List Kind) (t : Tuple) (since : ℕ) → AreSince configs kinds → Keeps kinds t since → IsSince configs t since
+since_alike configs kinds t since are (kind, has, alike, same) =
+    let of_kind = All-contains (λ (k : Kind). IsSince configs k.tuple k.since) kinds kind are has in
+    subst (IsSince configs t) same (record {
+      within = of_kind.within;
+      admitted = λ k d from lt. sym (admitted_alike (get_or configs k d).config kind.tuple t alike) ∙ of_kind.admitted k d from lt;
+    })
+
+-- no configuration is from the end on
+pub since_end : (configs : List ReadConfig) (t : Tuple) → IsSince configs t (length configs)
+since_end configs t = record { within = omega arith; admitted = λ k d from lt. absurd (omega (arith, from, lt)) }
+
+-- one more configuration admits it
+pub since_before : (configs : List ReadConfig) (t : Tuple) (since : ℕ) (x : ReadConfig) → IsSince configs t since → 0 < since → x ≡ get_or configs (since - 1) x → admits x.config t ≡ true → IsSince configs t (since - 1)
+since_before configs t since x is some here one = record {
+  within = let within = is.within in omega (arith, within);
+  admitted = λ k d from lt. by_place k d from lt (cases_lt (since - 1) k);
+}
+  where
+    by_place : (k : ℕ) (d : ReadConfig) → since - 1 ≤ k → k < length configs → (since - 1 < k) ⊎ (k ≤ since - 1) → admits (get_or configs k d).config t ≡ true
+    by_place k d from lt (inl later) = is.admitted k d (omega (arith, some, later)) lt
+    by_place k d from lt (inr at) =
+        let same : since - 1 ≡ k = omega (arith, from, at) in
+        let there : get_or configs (since - 1) x ≡ get_or configs k d = ap (λ n. get_or configs n x) same ∙ get_or_default configs k x d lt in
+        ap (λ (c : ReadConfig). admits c.config t) (sym there ∙ sym here) ∙ one
+
+pub since_kept : (configs : List ReadConfig) (old new : List Kind) (kind : Kind) → AreSince configs old → IsSince configs kind.tuple kind.since → (new ≡ old) ⊎ (new ≡ old ++ kind ∷ []) → AreSince configs new
+since_kept configs old new kind are one (inl same) = subst (AreSince configs) (sym same) are
+since_kept configs old new kind are one (inr more) = subst (AreSince configs) (sym more) (All-push (λ (k : Kind). IsSince configs k.tuple k.since) old kind are one)

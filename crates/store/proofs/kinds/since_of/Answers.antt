@@ -1,0 +1,10 @@
+use Rattle.std.proofs.Common.{◌<◌, sym, arith}
+use Rattle.store.proofs.Kinds.{since_end, since_before}
+use Rattle.store.proofs.kinds.since_of.Goals as goal
+
+pub loop-since-init : goal.loop-since-init
+loop-since-init c = since_end c.args.configs.now c.args.tuple.now
+
+pub loop-since-preserved : goal.loop-since-preserved
+loop-since-preserved c =
+    since_before c.args.configs.now c.args.tuple.now c.loop-since.since c.index-configs-since.result c.loop-since.invariant (omega (arith, c.loop-since-test.true)) c.index-configs-since.is (sym c.if-not-allows.ensures)
