@@ -36,4 +36,4 @@ pub mod RowSteps
 pub mod Slots
 pub mod Ordered
 pub mod Sound
-pub mod Kinds
+pub mod Alike

@@ -1,7 +1,7 @@
 use Rattle.std.proofs.Common.{List, subst}
 use Rattle.store.specs.inside.Kinds.{Keeps}
 use Rattle.store.specs.declared.kinds.Kind.{Kind}
-use Rattle.store.proofs.Kinds.{since_alike, since_kept}
+use Rattle.store.proofs.Alike.{since_alike, since_kept}
 use Rattle.store.proofs.kinds.since_in.Goals as goal
 
 pub returns-in-Some-clause-since : goal.returns-in-Some-clause-since

@@ -1,5 +1,5 @@
 use Rattle.std.proofs.Common.{◌<◌, sym, arith}
-use Rattle.store.proofs.Kinds.{since_end, since_before}
+use Rattle.store.proofs.Alike.{since_end, since_before}
 use Rattle.store.proofs.kinds.since_of.Goals as goal
 
 pub loop-since-init : goal.loop-since-init
