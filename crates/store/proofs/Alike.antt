@@ -1,7 +1,8 @@
 -- Tuples of one kind are admitted alike.
-use Rattle.std.proofs.Common.{◌≡◌, ℕ, ◌-◌, ◌<◌, ◌≤◌, ◌⊎◌, inl, inr, List, [], ◌∷◌, ◌++◌, length, get_or, ap, sym, subst, ◌∙◌, arith}
-use Rattle.std.specs.Prelude.{◌&&◌, Bool, true, All, Contains, nat_eq}
+use Rattle.std.proofs.Common.{◌≡◌, ℕ, ◌-◌, ◌<◌, ◌≤◌, ◌⊎◌, inl, inr, List, [], ◌∷◌, ◌++◌, length, get_or, refl, ap, sym, subst, ◌∙◌, arith}
+use Rattle.std.specs.Prelude.{◌&&◌, Bool, true, All, Contains, Option, Some, None, nat_eq}
 use Rattle.std.specs.List.{list_any}
+use Rattle.std.specs.Option.{option_eq}
 use Rattle.std.specs.Cmp.Lexicographic.{pointwise, same_text}
 use Rattle.std.proofs.lemmas.Bool.{and_parts, cases_lt}
 use Rattle.std.proofs.lemmas.List.{get_or_default}
@@ -11,10 +12,20 @@ use Rattle.names.specs.declared.relation.SubjectType.{SubjectType}
 use Rattle.names.specs.declared.tuple.Tuple.{Tuple}
 use Rattle.meaning.specs.Config.{Configured, rel_of, relation_in}
 use Rattle.meaning.specs.Admits.{admits, is_relation, is_type, type_of}
-use Rattle.meaning.proofs.AdmitsLemmas.{type_is}
 use Rattle.store.specs.inside.Kinds.{is_alike, IsSince, AreSince, Keeps}
 use Rattle.store.specs.declared.kinds.Kind.{Kind}
 use Rattle.store.specs.declared.parts.ReadConfig.{ReadConfig}
+
+same_option : (a b : Option (List ℕ)) → option_eq (pointwise nat_eq) a b ≡ true → a ≡ b
+same_option None None e = refl
+same_option None (Some b) e = cc
+same_option (Some a) None e = cc
+same_option (Some a) (Some b) e = ap Some (same_text a b (sym e))
+
+type_is : (a b : SubjectType) → is_type a b ≡ true → a ≡ b
+type_is a b e =
+    let parts = and_parts (pointwise nat_eq a.namespace b.namespace) (option_eq (pointwise nat_eq) a.relation b.relation) e in
+    ap (λ x. record { namespace = x; relation = a.relation }) (same_text a.namespace b.namespace (sym parts.0)) ∙ ap (λ x. record { namespace = b.namespace; relation = x }) (same_option a.relation b.relation parts.1)
 
 -- what a configuration says of a tuple, by its relation and its subject's type
 abbrev says : Configured → RelationName → SubjectType → Bool
@@ -22,11 +33,11 @@ says config r type = list_any (λ d. is_relation r d && list_any (is_type type) 
 
 admitted_alike : (config : Configured) (a b : Tuple) → is_alike a b ≡ true → admits config a ≡ admits config b
 admitted_alike config a b alike =
-    let first = and_parts (pointwise nat_eq a.node.object.namespace b.node.object.namespace) (pointwise nat_eq a.node.relation b.node.relation && is_type (type_of a.subject) (type_of b.subject)) alike in
-    let others = and_parts (pointwise nat_eq a.node.relation b.node.relation) (is_type (type_of a.subject) (type_of b.subject)) first.1 in
-    ap (λ n. says config (relation_in n a.node.relation) (type_of a.subject)) (same_text a.node.object.namespace b.node.object.namespace (sym first.0))
-    ∙ ap (λ n. says config (relation_in b.node.object.namespace n) (type_of a.subject)) (same_text a.node.relation b.node.relation (sym others.0))
-    ∙ ap (says config (rel_of b.node)) (type_is (type_of a.subject) (type_of b.subject) others.1)
+    let both = and_parts (pointwise nat_eq a.node.object.namespace b.node.object.namespace && pointwise nat_eq a.node.relation b.node.relation) (is_type (type_of a.subject) (type_of b.subject)) alike in
+    let names = and_parts (pointwise nat_eq a.node.object.namespace b.node.object.namespace) (pointwise nat_eq a.node.relation b.node.relation) both.0 in
+    ap (λ n. says config (relation_in n a.node.relation) (type_of a.subject)) (same_text a.node.object.namespace b.node.object.namespace (sym names.0))
+    ∙ ap (λ n. says config (relation_in b.node.object.namespace n) (type_of a.subject)) (same_text a.node.relation b.node.relation (sym names.1))
+    ∙ ap (says config (rel_of b.node)) (type_is (type_of a.subject) (type_of b.subject) both.1)
 
 -- the place that is kept is one for the tuple
 pub since_alike : (configs : List ReadConfig) (kinds : List Kind) (t : Tuple) (since : ℕ) → AreSince configs kinds → Keeps kinds t since → IsSince configs t since

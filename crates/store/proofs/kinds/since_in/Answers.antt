@@ -6,7 +6,7 @@ use Rattle.store.proofs.kinds.since_in.Goals as goal
 
 pub returns-in-Some-clause-since : goal.returns-in-Some-clause-since
 returns-in-Some-clause-since c =
-    since_alike c.args.configs.now c.kinds.old.items c.args.tuple c.in-Some.since c.requires (subst (λ (ks : List Kind). Keeps ks c.args.tuple c.in-Some.since) c.as_slice.ensures.value c.in-Some.ensures)
+    since_alike c.args.configs.now c.args.kinds.now.items c.args.tuple c.in-Some.since c.requires (subst (λ (ks : List Kind). Keeps ks c.args.tuple c.in-Some.since) c.as_slice.ensures.value c.in-Some.ensures)
 
 pub returns-clause-kinds : goal.returns-clause-kinds
 returns-clause-kinds c = since_kept c.args.configs.now _ _ _ c.requires c.since_of-since.ensures c.keep.ensures
