@@ -6,19 +6,24 @@ use names::{Commit, Refusal};
 use std::alloc::Global;
 use std::test::Fail;
 
-const BASE: &str = r#"{"namespaces":{"doc":{"owner":{"types":["user"]},"reader":{"rewrite":{"computed":"viewer"}},"viewer":{"types":["user","group#member"]}},"group":{"member":{"types":["user"]}},"user":{}}}"#;
+const BASE: &str =
+    r#"{"namespaces":{"doc":{"owner":{"types":["user"]},"reader":{"rewrite":{"computed":"viewer"}},"viewer":{"types":["user","group#member"]}},"group":{"member":{"types":["user"]}},"user":{}}}"#;
 
 // A relation more, and a type more; the types of a viewer come the other way round. A reader, who has no types, is gone.
-const MORE: &str = r#"{"namespaces":{"doc":{"editor":{"types":["user"]},"owner":{"types":["user","group#member"]},"viewer":{"types":["group#member","user"]}},"group":{"member":{"types":["user"]}},"user":{}}}"#;
+const MORE: &str =
+    r#"{"namespaces":{"doc":{"editor":{"types":["user"]},"owner":{"types":["user","group#member"]},"viewer":{"types":["group#member","user"]}},"group":{"member":{"types":["user"]}},"user":{}}}"#;
 
 // A viewer is no member of a group.
-const USERS: &str = r#"{"namespaces":{"doc":{"owner":{"types":["user"]},"viewer":{"types":["user"]}},"group":{"member":{"types":["user"]}},"user":{}}}"#;
+const USERS: &str =
+    r#"{"namespaces":{"doc":{"owner":{"types":["user"]},"viewer":{"types":["user"]}},"group":{"member":{"types":["user"]}},"user":{}}}"#;
 
 // A viewer is a group, and not its members.
-const GROUPS: &str = r#"{"namespaces":{"doc":{"owner":{"types":["user"]},"viewer":{"types":["user","group"]}},"group":{"member":{"types":["user"]}},"user":{}}}"#;
+const GROUPS: &str =
+    r#"{"namespaces":{"doc":{"owner":{"types":["user"]},"viewer":{"types":["user","group"]}},"group":{"member":{"types":["user"]}},"user":{}}}"#;
 
 // There is no owner.
-const NO_OWNER: &str = r#"{"namespaces":{"doc":{"viewer":{"types":["user","group#member"]}},"group":{"member":{"types":["user"]}},"user":{}}}"#;
+const NO_OWNER: &str =
+    r#"{"namespaces":{"doc":{"viewer":{"types":["user","group#member"]}},"group":{"member":{"types":["user"]}},"user":{}}}"#;
 
 fn admits_all(alloc: Global, config: &str, earlier: &str) -> Result<bool, Refusal> {
     let config = Config::from_json(alloc, config.as_bytes())?;

@@ -1,4 +1,4 @@
-use Rattle.std.proofs.Common.{◌<◌, ap, sym, ◌∙◌, arith}
+use Rattle.std.proofs.Common.{ap, sym, ◌∙◌, arith}
 use Rattle.meaning.specs.Admits.{admits}
 use Rattle.store.specs.declared.parts.ReadConfig.{ReadConfig}
 use Rattle.store.proofs.Alike.{since_end, since_before}

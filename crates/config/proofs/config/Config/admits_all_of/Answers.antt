@@ -1,4 +1,4 @@
-use Rattle.std.proofs.Common.{◌≡◌, List, length, map, ap, sym, ◌∙◌, arith}
+use Rattle.std.proofs.Common.{List, map, ap, sym, ◌∙◌, arith}
 use Rattle.std.specs.List.{list_all}
 use Rattle.names.specs.declared.relation.SubjectType.{SubjectType}
 use Rattle.meaning.specs.Admits.{admits}
