@@ -1,5 +1,6 @@
 -- What no promise rests on, which a reader of the promises can pass over.
 pub mod Under
+pub mod Waiters
 pub mod Searches
 pub mod Ending
 pub mod Reads

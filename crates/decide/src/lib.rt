@@ -13,6 +13,7 @@ mod oracle;
 mod read_tuple;
 mod rewrites;
 mod search;
+mod waiting;
 
 pub use deciding::check_at;
 pub use law::there_is_one_answer;
