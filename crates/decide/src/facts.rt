@@ -398,7 +398,7 @@ fn push_node(nodes: &mut Vec<Node>, tuple: &ReadTuple<'_>, node: &Node) -> Resul
     ensures { OnOk result (nodes.new.items ≡ nodes.old.items ++ nodes_in (filter (is_of node.now) (tuple.now ∷ []))) }
 {
     if tuple.is_of(node) {
-        if let Some(named) = tuple.subject().node() {
+        if let Some(named) = tuple.named_node() {
             nodes.push(named)?;
         }
     }
@@ -431,9 +431,8 @@ fn push_object(
     ensures { OnOk result (objects.new.items ≡ objects.old.items ++ objects_in (filter (is_of node.now) (tuple.now ∷ []))) }
 {
     if tuple.is_of(node) {
-        let subject = tuple.subject();
-        if subject.relation().is_none() {
-            objects.push(subject.object())?;
+        if let Some(named) = tuple.named_object() {
+            objects.push(named)?;
         }
     }
     Ok(())

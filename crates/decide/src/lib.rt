@@ -5,6 +5,7 @@
 #![tactic(auto)]
 
 mod asking;
+mod cuts;
 mod deciding;
 mod facts;
 mod law;
