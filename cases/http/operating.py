@@ -560,10 +560,15 @@ def as_another_user(program, folder):
     """The program, and how it is run, where it is not run as root, who may read and write everything."""
     if os.geteuid():
         return program, {}
+    how = {"user": NOBODY, "group": NOBODY, "extra_groups": []}
+    try:
+        subprocess.run(["true"], check=True, timeout=LIMIT, **how)
+    except OSError:
+        raise SkipTest("no other user") from None
     shutil.copy(program, f"{folder}/zanz")
     os.chmod(f"{folder}/zanz", 0o755)
     os.chmod(folder, 0o777)
-    return f"{folder}/zanz", {"user": NOBODY, "group": NOBODY, "extra_groups": []}
+    return f"{folder}/zanz", how
 
 
 @runs("ls -ld . FILE*")
