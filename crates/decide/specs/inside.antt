@@ -6,5 +6,6 @@ pub mod Ending
 pub mod Reads
 pub mod Running
 pub mod Reading
+pub mod Placed
 pub mod Asked
 pub mod Given
