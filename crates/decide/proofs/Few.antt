@@ -1,5 +1,6 @@
 -- The tuples of an object of which few were read.
 use Rattle.std.proofs.Common.{◌≡◌, ℕ, suc, ◌<◌, ◌+◌, List, [], ◌∷◌, ◌++◌, length, get_or, take, ap, ◌∙◌, sym, subst, arith, ⊎_elim, Bool, true, refl}
+use Rattle.std.specs.Borrow.{Bor}
 use Rattle.std.specs.Global.{Global}
 use Rattle.std.specs.Prelude.{◌↔◌, Vec, Result, Ok, Err, IfOk, Contains, Option, Some, None, IfSome, filter}
 use Rattle.std.specs.List.{filter_map}
@@ -19,7 +20,7 @@ use Rattle.rows.proofs.Naming.{contains_kept, kept_contains, of_node, is_of_itse
 use Rattle.decide.specs.declared.facts.Named.{Named}
 use Rattle.decide.specs.declared.facts.Read.{Read}
 use Rattle.decide.specs.declared.facts.Reads.{Reads}
-use Rattle.decide.specs.inside.Reading.{AreNamed, IsRead, AreRead, IsReadAt}
+use Rattle.decide.specs.inside.Reading.{AreNamed, IsRead, AreRead, IsReadAt, IsReadOf}
 
 pub object_parts : (o p : Object) → o.namespace ≡ p.namespace → o.id ≡ p.id → o ≡ p
 object_parts o p namespace id = ap (λ x. record { namespace = x; id = o.id }) namespace ∙ ap (λ x. record { namespace = p.namespace; id = x }) id
@@ -36,24 +37,29 @@ read_more S old now o r more object before few named q at = ⊎_elim
     }))
     (Contains-push_cases old r q (subst (λ rs. Contains rs q) more at))
 
--- what was read at the object's place has its tuples
-pub read_held : (S : Snap) (reads : Reads) (o : Object) (i : ℕ) (r : Read) (v : Vec Tuple Global) (ts : List Tuple) → AreRead S reads → IsReadAt reads o i → r ≡ get_or reads.read.items i r → r.few ≡ Some v → ts ≡ v.items
-    → ts ≡ filter (is_at o) (set.items S.tuples)
-read_held S reads o i r v ts are (lt, at) is some items =
-    let object : r.object ≡ o = ap (λ (q : Read). q.object) is ∙ at r in
-    let all = (are r (i, lt, sym is)).few in
-    let read : v.items ≡ filter (is_at r.object) (set.items S.tuples) = subst (λ f. IfSome f (λ w. w.items ≡ filter (is_at r.object) (set.items S.tuples))) some all in
-    items ∙ read ∙ ap (λ p. filter (is_at p) (set.items S.tuples)) object
+-- what was read at the object's place is the object's
+pub read_there : (S : Snap) (reads : Reads) (o : Object) (i : ℕ) (r : Read) → AreRead S reads → IsReadAt reads o i → r ≡ get_or reads.read.items i r → IsRead S r × (r.object ≡ o)
+read_there S reads o i r are (lt, at) is = (are r (i, lt, sym is), ap (λ (q : Read). q.object) is ∙ at r)
 
--- what was read at the object's place has what its tupleset names
-pub read_named : (S : Snap) (reads : Reads) (o : Object) (i : ℕ) (r : Read) (n : Named) (tupleset : List ℕ) (objects : List Object) → AreRead S reads → IsReadAt reads o i → r ≡ get_or reads.read.items i r → r.named ≡ Some n
-    → n.tupleset ≡ tupleset → objects ≡ n.objects.items → AreNamed S o tupleset objects
-read_named S reads o i r n tupleset objects are (lt, at) is some same items =
-    let object : r.object ≡ o = ap (λ (q : Read). q.object) is ∙ at r in
-    let all = (are r (i, lt, sym is)).named in
-    let read : AreNamed S r.object n.tupleset n.objects.items = subst (λ f. IfSome f (λ m. AreNamed S r.object m.tupleset m.objects.items)) some all in
+held_of : (S : Snap) (o : Object) (read : Option (Bor Read)) (r : Bor Read) → read ≡ Some r → IsReadOf S o read → IsRead S r.now × (r.now.object ≡ o)
+held_of S o read r is held = subst (IsReadOf S o) is held
+
+-- what was read of the object has its tuples
+pub read_few : (S : Snap) (o : Object) (read : Option (Bor Read)) (r : Bor Read) (v : Vec Tuple Global) (ts : List Tuple) → read ≡ Some r → r.now.few ≡ Some v → ts ≡ v.items → IsReadOf S o read
+    → ts ≡ filter (is_at o) (set.items S.tuples)
+read_few S o read r v ts is some items held =
+    let both = held_of S o read r is held in
+    let all : v.items ≡ filter (is_at r.now.object) (set.items S.tuples) = subst (λ f. IfSome f (λ w. w.items ≡ filter (is_at r.now.object) (set.items S.tuples))) some both.0.few in
+    items ∙ all ∙ ap (λ p. filter (is_at p) (set.items S.tuples)) both.1
+
+-- what was read of the object has what its tupleset names
+pub read_names : (S : Snap) (o : Object) (read : Option (Bor Read)) (r : Bor Read) (n : Named) (tupleset : List ℕ) (objects : List Object) → read ≡ Some r → r.now.named ≡ Some n
+    → n.tupleset ≡ tupleset → objects ≡ n.objects.items → IsReadOf S o read → AreNamed S o tupleset objects
+read_names S o read r n tupleset objects is some same items held =
+    let both = held_of S o read r is held in
+    let all : AreNamed S r.now.object n.tupleset n.objects.items = subst (λ f. IfSome f (λ m. AreNamed S r.now.object m.tupleset m.objects.items)) some both.0.named in
     subst (AreNamed S o tupleset) (sym items)
-    (subst (λ t. AreNamed S o t n.objects.items) same (subst (λ p. AreNamed S p n.tupleset n.objects.items) object read))
+    (subst (λ t. AreNamed S o t n.objects.items) same (subst (λ p. AreNamed S p n.tupleset n.objects.items) both.1 all))
 
 -- an object's tuples are all of those of its nodes
 pub held : (S : Snap) (o : Object) (ts : List Tuple) → ts ≡ filter (is_at o) (set.items S.tuples) → (t : Tuple) → t.node.object ≡ o → Contains ts t ↔ Contains (set.items S.tuples) t

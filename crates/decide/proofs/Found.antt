@@ -1,5 +1,6 @@
 -- What is found of nodes and of parts.
 use Rattle.std.proofs.Common.{◌≡◌, ℕ, suc, ◌<◌, ◌≤◌, ◌+◌, List, Bool, true, false, length, get_or, drop, cond, ap, ◌∙◌, sym, subst, refl, inr, ⊎_elim, arith}
+use Rattle.std.specs.Borrow.{Bor}
 use Rattle.std.specs.Prelude.{Option, Some, Contains}
 use Rattle.names.specs.declared.node.Node.{Node}
 use Rattle.meaning.specs.Snap.{Snap}
@@ -15,6 +16,8 @@ use Rattle.meaning.proofs.ReadsLemmas.{below_level}
 use Rattle.decide.specs.declared.search.Search.{Search}
 use Rattle.decide.specs.declared.search.Opened.{Opened}
 use Rattle.decide.specs.declared.asking.Asking.{Asking}
+use Rattle.decide.specs.declared.facts.Read.{Read}
+use Rattle.decide.specs.inside.Reading.{IsReadOf}
 use Rattle.decide.specs.inside.Under.{Under}
 use Rattle.decide.specs.inside.Searches.{Stands, IsStacked, Waits, Grew, IsNodeAt, IsNumberOf}
 use Rattle.decide.specs.inside.Running.{IsRunning}
@@ -50,7 +53,7 @@ module _ (S : Snap) (a : Asking) where
   goes_trans s t v g h = record { asking = h.asking; grew = grew_trans s t v g.grew h.grew }
 
   pub goes_on : (s t : Search) → IsAsking S s a → Grew s t → IsRunning S a.user.now t (Some a.number) → GoesOn S s t a
-  goes_on s t h g run = record { asking = record { running = run; number = grew_number s t a.number a.node.now a.level g h.number }; grew = g }
+  goes_on s t h g run = record { asking = record { running = run; number = grew_number s t a.number a.node.now a.level g h.number; read = h.read }; grew = g }
 
   -- more was kept of the asker, or less
   pub goes_read : (s t : Search) → IsAsking S s a → Grew s t → (IsRunning S a.user.now s (Some a.number) → IsRunning S a.user.now t (Some a.number)) → GoesOn S s t a
@@ -210,10 +213,27 @@ module _ (S : Snap) (a : Asking) where
   union_found s parts false k end left unfinished = λ g. some_none S a.user.now a.node.now (IsLeft S s a) (Under S a.user.now a.level) parts k end (left refl s (grew_refl s) g)
 
   pub asking_subtracted : (s : Search) (b : Asking) → b ≡ record a { plain = false } → IsAsking S s a → IsAsking S s b
-  asking_subtracted s b e h = subst (IsAsking S s) (sym e) (record { running = h.running; number = h.number })
+  asking_subtracted s b e h = subst (IsAsking S s) (sym e) (record { running = h.running; number = h.number; read = h.read })
 
   pub asking_back : (s : Search) (b : Asking) → b ≡ record a { plain = false } → IsAsking S s b → IsAsking S s a
-  asking_back s b e h = let d : IsAsking S s (record a { plain = false }) = subst (IsAsking S s) e h in record { running = d.running; number = d.number }
+  asking_back s b e h = let d : IsAsking S s (record a { plain = false }) = subst (IsAsking S s) e h in record { running = d.running; number = d.number; read = d.read }
+
+  -- the asker with what was read of its object
+  pub asking_reading : (s : Search) (b : Asking) (x : Option (Bor Read)) → b ≡ record a { read = x } → IsReadOf S a.node.now.object x → IsAsking S s a → IsAsking S s b
+  asking_reading s b x e held h = subst (IsAsking S s) (sym e) (record { running = h.running; number = h.number; read = held })
+
+  pub goes_reading : (s t : Search) (b : Asking) (x : Option (Bor Read)) → b ≡ record a { read = x } → IsReadOf S a.node.now.object a.read → GoesOn S s t b → GoesOn S s t a
+  goes_reading s t b x e held g =
+      let d : IsAsking S t (record a { read = x }) = subst (IsAsking S t) e g.asking in
+      record { asking = record { running = d.running; number = d.number; read = held }; grew = g.grew }
+
+  same_gave : (s : Search) (w : Form) (f : Found) (x : Option (Bor Read)) → Gave S s (record a { read = x }) w f → Gave S s a w f
+  same_gave s w found.Yes x g = g
+  same_gave s w found.No x g = g
+  same_gave s w found.Later x g = g
+
+  pub reading_gave : (s : Search) (w : Form) (f : Found) (b : Asking) (x : Option (Bor Read)) → b ≡ record a { read = x } → Gave S s b w f → Gave S s a w f
+  reading_gave s w f b x e g = same_gave s w f x (subst (λ y. Gave S s y w f) e g)
 
   exclusion_of : (s : Search) (v w : Form) (f : Found) → Gives S a.user.now a.node.now v (Counts S a) (Under S a.user.now a.level) → Gave S s (record a { plain = false }) w f → Gave S s a (Exclusion v w) (opposite f)
   exclusion_of s v w found.Yes base less = λ g. g.1 less

@@ -13,7 +13,12 @@ use Rattle.meaning.proofs.Lists.{contains_map, contains_map_back}
 use Rattle.config_text.specs.declared.relation.Relation.{Relation}
 use Rattle.config_text.specs.Forms.{defined_of, form_of}
 use Rattle.config.specs.Levels.{AreLevels}
+use Rattle.config_text.specs.Order.{IsOrdered, relation_cmp}
+use Rattle.config_text.specs.Parts.{configured}
 use Rattle.config.specs.Places.{StandsAt}
+use Rattle.config.proofs.Distinct.{same_relation}
+use Rattle.config.proofs.Searching.{found_place}
+use Rattle.decide.specs.inside.Reading.{IsNamedAt}
 use Rattle.decide.specs.inside.Reads.{AreNodesOf, node_with}
 
 pub element : {A : Type 0} (xs : List A) (i : ℕ) → i < length xs → (x : A) × (get_or xs i x ≡ x)
@@ -54,3 +59,10 @@ nodes_are S n from t c objects nodes e are all m = (
       subst (λ ns. Contains ns m) (sym all)
       (subst (Contains (map (node_with c) objects)) is (contains_map (node_with c) objects p ((are p).1 (subst (λ f. HasOne S f p) (sym e) one)))),
 )
+
+-- a relation with the name is the one that has it
+pub named_stands : (config : Configured) (rs : List Relation) (t : RelationName) (i : ℕ) → map defined_of rs ≡ config.relations → IsOrdered config → IsNamedAt rs t i → StandsAt config t i
+named_stands config rs t i are ordered (lt, named) =
+    let same : configured config.namespaces rs ≡ config = ap (λ (ds : List Defined). record { namespaces = config.namespaces; relations = ds }) are in
+    subst (λ (x : Configured). StandsAt x t i) same
+    (found_place config.namespaces rs t (subst IsOrdered (sym same) ordered) i lt (λ r. ap (λ (n : RelationName). relation_cmp n t) (named r) ∙ same_relation t))

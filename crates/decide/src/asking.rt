@@ -2,20 +2,22 @@
 ghost use Rattle.std.specs.Prelude.{◌≡◌, ◌+◌, ◌<◌, ◌^◌, false};
 ghost use Rattle.decide.specs.inside.Asked.{high};
 
+use crate::facts::Read;
 use names::{Node, Object};
 
-/// The node that is looked at, with its number and level, the user who is sought, and whether the part of its
-/// rewrite is not subtracted.
+/// The node that is looked at, with its number and level, the user who is sought, whether the part of its
+/// rewrite is not subtracted, and what was read of its object.
 #[derive(Clone, Copy)]
-pub(crate) struct Asking<'a> {
+pub(crate) struct Asking<'a, 'r> {
     pub(crate) number: usize,
     pub(crate) node: &'a Node,
     pub(crate) level: usize,
     pub(crate) user: &'a Object,
     pub(crate) plain: bool,
+    pub(crate) read: Option<&'r Read<'r>>,
 }
 
-impl<'a> Asking<'a> {
+impl<'a, 'r> Asking<'a, 'r> {
     /// Nodes below this level count.
     pub(crate) fn high(&self) -> usize
         requires { self.now.level + 1 < 2 ^ 64 }
@@ -28,8 +30,22 @@ impl<'a> Asking<'a> {
         }
     }
 
+    /// The same, with what was read of the object.
+    pub(crate) fn reading<'s>(&self, read: Option<&'s Read<'s>>) -> Asking<'a, 's>
+        ensures { result ≡ record self.now { read = read.entry } }
+    {
+        Asking {
+            number: self.number,
+            node: self.node,
+            level: self.level,
+            user: self.user,
+            plain: self.plain,
+            read,
+        }
+    }
+
     /// The same for a subtracted part.
-    pub(crate) fn subtracted(&self) -> Asking<'a>
+    pub(crate) fn subtracted(&self) -> Asking<'a, 'r>
         ensures { result ≡ record self.now { plain = false } }
     {
         Asking {

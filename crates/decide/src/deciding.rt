@@ -146,6 +146,7 @@ fn look<O: Oracle>(
                 level,
                 user,
                 plain: true,
+                read: None,
             };
             step(facts, search, &asking)
         }

@@ -11,13 +11,13 @@ ghost use Rattle.names.specs.declared.object.Object.{Object};
 ghost use Rattle.names.specs.declared.tuple.Tuple.{Tuple};
 ghost use Rattle.versions.specs.Named.{objects_in, nodes_in};
 ghost use Rattle.tuple_keys.specs.Named.{user_tuple, is_at, is_of};
-ghost use Rattle.decide.specs.inside.Reading.{AreNamed, AreRead, IsReadAt};
+ghost use Rattle.decide.specs.inside.Reading.{AreNamed, AreRead, IsNamedAt, IsReadAt, IsReadOf};
 ghost use Rattle.decide.specs.inside.Reads.{AreNodesOf, node_with};
 
 use crate::numbers::{Numbers, key_of_object};
 use crate::read_tuple::{ReadTuple, read_tuples};
 use config::Config;
-use config_text::Rewrite;
+use config_text::{Relation, Rewrite};
 use names::{Name, Node, Object};
 use rows::View;
 use std::alloc::{AllocError, Global};
@@ -25,6 +25,9 @@ use std::marker::Model;
 
 /// So many tuples of an object are few.
 const FEW: usize = 8;
+
+/// So many relations are gone over, one after the other.
+const FIRST: usize = 16;
 
 /// What was read of an object: its tuples, where they are few, and the objects that those of a tupleset name.
 #[derive(Drop)]
@@ -74,38 +77,6 @@ impl<'a> Reads<'a> {
         ensures { IsTrue result → IsReadAt self.now object.now place }
     {
         place < self.read.len() && self.read[place].object == *object
-    }
-
-    /// The object's tuples, where they were read and are few.
-    fn few_of(&self, object: &Object) -> Option<&[ReadTuple<'a>]>
-        ensures { IfSome result (λ ts. (S : Snap) → AreRead S self.now
-            → ts.now ≡ filter (is_at object.now) (set.items S.tuples)) }
-    {
-        let Ok(place) = self.seen(object) else {
-            return None;
-        };
-        match &self.read[place].few {
-            Some(few) => Some(few.as_slice()),
-            None => None,
-        }
-    }
-
-    /// The objects that the object's tuples of the tupleset name, where they were read.
-    fn named(&self, object: &Object, tupleset: &Name) -> Option<&[Object]>
-        ensures { IfSome result (λ os. (S : Snap) → AreRead S self.now → AreNamed S object.now tupleset.now os.now) }
-    {
-        let Ok(place) = self.seen(object) else {
-            return None;
-        };
-        match &self.read[place].named {
-            Some(named) => {
-                if named.tupleset == *tupleset {
-                    return Some(named.objects.as_slice());
-                }
-                None
-            }
-            None => None,
-        }
     }
 }
 
@@ -162,7 +133,10 @@ impl<'a> Facts<'a> {
         ensures some { IfSome result (StandsAt self.now.config (rel_of node.now)) }
         ensures none { IfNone result (Has self.now.config (rel_of node.now) → ⊥) }
     {
-        self.config.place_of(node)
+        match first_place(self.config.relations(), node) {
+            Some(place) => Some(place),
+            None => self.config.place_of(node),
+        }
     }
 
     /// The level of the relation at a place.
@@ -185,58 +159,122 @@ impl<'a> Facts<'a> {
         }
     }
 
+    /// What was read of the object, if that was done.
+    pub(crate) fn read_of(&self, object: &Object) -> Option<&Read<'a>>
+        ensures { IsReadOf self.now object.now result }
+    {
+        match self.reads.seen(object) {
+            Ok(place) => Some(&self.reads.read[place]),
+            Err(_) => None,
+        }
+    }
+
     /// Whether the user has the node by a tuple of its own.
-    pub(crate) fn has(&self, node: &Node, user: &Object) -> bool
+    pub(crate) fn has(&self, read: Option<&Read<'_>>, node: &Node, user: &Object) -> bool
+        requires { IsReadOf self.now node.now.object read }
         ensures { IsTrue result ↔ HasOne self.now node.now user.now }
     {
-        match self.reads.few_of(&node.object) {
+        match few_in(read) {
             Some(few) => names_user(few, node, user),
             None => self.view.has(node, user),
         }
     }
 
     /// The nodes whose members the node's tuples name, as far as the configuration has their relations.
-    pub(crate) fn usersets_of(&self, node: &Node) -> Result<Vec<Node>, AllocError>
+    pub(crate) fn usersets_of(
+        &self,
+        read: Option<&Read<'_>>,
+        node: &Node,
+    ) -> Result<Vec<Node>, AllocError>
+        requires { IsReadOf self.now node.now.object read }
         ensures only { IfOk result (λ v. (m : Node) → Contains v.items m → HasSet self.now node.now m) }
         ensures all { IfOk result
             (λ v. (m : Node) → HasSet self.now node.now m → Has self.now.config (rel_of m) → Contains v.items m) }
     {
-        match self.reads.few_of(&node.object) {
+        match few_in(read) {
             Some(few) => named_nodes(self.alloc, few, node),
             None => self.view.usersets_of(self.alloc, node),
         }
     }
 
     /// The objects that the node's tuples name.
-    fn objects_of(&self, node: &Node) -> Result<Vec<Object>, AllocError>
+    fn objects_of(&self, read: Option<&Read<'_>>, node: &Node) -> Result<Vec<Object>, AllocError>
+        requires { IsReadOf self.now node.now.object read }
         ensures { IfOk result (λ v. (p : Object) → Contains v.items p ↔ HasOne self.now node.now p) }
     {
-        match self.reads.few_of(&node.object) {
+        match few_in(read) {
             Some(few) => named_objects(self.alloc, few, node),
             None => self.view.objects_of(self.alloc, node),
         }
     }
 
-    /// The objects that the object's tuples of the tupleset name, where they were read.
-    pub(crate) fn known_objects(&self, object: &Object, tupleset: &Name) -> Option<&[Object]>
-        ensures { IfSome result (λ os. AreNamed self.now object.now tupleset.now os.now) }
-    {
-        self.reads.named(object, tupleset)
-    }
-
     /// The nodes of the relation, of the objects that the tupleset's tuples name.
     pub(crate) fn parents_of(
         &self,
+        read: Option<&Read<'_>>,
         node: &Node,
         tupleset: &Name,
         relation: &Name,
     ) -> Result<Vec<Node>, AllocError>
+        requires { IsReadOf self.now node.now.object read }
         ensures { IfOk result (λ v. AreNodesOf self.now node.now tupleset.now relation.now v.items) }
     {
         let from = node_of(&node.object, tupleset)?;
-        let objects = self.objects_of(&from)?;
+        let objects = self.objects_of(read, &from)?;
         let nodes = nodes_of(self.alloc, &objects, relation)?;
         Ok(nodes)
+    }
+}
+
+/// Where the node's relation stands, if it is one of the first: most configurations have no others, and most names are
+/// told apart by their lengths.
+fn first_place(relations: &[Relation], node: &Node) -> Option<usize>
+    ensures { IfSome result (IsNamedAt relations.now (rel_of node.now)) }
+{
+    for place in 0..relations.len().min(FIRST) {
+        if has_name_of(&relations[place], node) {
+            return Some(place);
+        }
+    }
+    None
+}
+
+fn has_name_of(relation: &Relation, node: &Node) -> bool
+    ensures { IsTrue result → relation.now.name ≡ rel_of node.now }
+{
+    relation.name.relation == node.relation && relation.name.namespace == node.object.namespace
+}
+
+/// The object's tuples, where they were read and are few.
+fn few_in<'b>(read: Option<&'b Read<'_>>) -> Option<&'b [ReadTuple<'b>]>
+    ensures { IfSome result (λ ts. (S : Snap) (o : Object) → IsReadOf S o read.entry
+        → ts.now ≡ filter (is_at o) (set.items S.tuples)) }
+{
+    let Some(read) = read else {
+        return None;
+    };
+    match &read.few {
+        Some(few) => Some(few.as_slice()),
+        None => None,
+    }
+}
+
+/// The objects that the object's tuples of the tupleset name, where they were read.
+pub(crate) fn named_in<'b>(read: Option<&'b Read<'_>>, tupleset: &Name) -> Option<&'b [Object]>
+    ensures { IfSome result (λ os. (S : Snap) (o : Object) → IsReadOf S o read.entry
+        → AreNamed S o tupleset.now os.now) }
+{
+    let Some(read) = read else {
+        return None;
+    };
+    match &read.named {
+        Some(named) => {
+            if named.tupleset == *tupleset {
+                return Some(named.objects.as_slice());
+            }
+            None
+        }
+        None => None,
     }
 }
 

@@ -1,5 +1,5 @@
 //! Numbers, found by a hash of texts.
-ghost use Rattle.std.specs.Prelude.{◌≡◌, ◌<◌, IfOk, OnOk, length};
+ghost use Rattle.std.specs.Prelude.{◌≡◌, ◌<◌, ◌≤◌, ◌+◌, IfOk, OnOk, length};
 
 use names::{Node, Object};
 use std::alloc::{AllocError, Global};
@@ -139,10 +139,58 @@ fn first_byte(text: &str) -> usize {
     }
 }
 
-/// FNV-1a's step for each byte.
-fn mixed(mut hash: u64, text: &str) -> u64 {
-    for byte in text.as_bytes() {
-        hash = (hash ^ *byte as u64).wrapping_mul(0x0000_0100_0000_01b3);
+/// The hash with a text, eight bytes a step.
+fn mixed(hash: u64, text: &str) -> u64 {
+    let bytes = text.as_bytes();
+    let count = bytes.len();
+    let mut hash = hash ^ count as u64;
+    if count < 8 {
+        return stepped(hash, short(bytes));
     }
-    hash
+    for i in 0..count / 8 {
+        hash = stepped(hash, eight(bytes, 8 * i));
+    }
+    stepped(hash, eight(bytes, count - 8))
+}
+
+/// A product's upper half has all bits of the word.
+fn stepped(hash: u64, word: u64) -> u64 {
+    let product = (hash ^ word).wrapping_mul(0x9e37_79b9_7f4a_7c15);
+    product ^ (product >> 32)
+}
+
+/// The bytes of a text that has fewer than eight.
+fn short(bytes: &[u8]) -> u64
+    requires { length bytes.now < 8 }
+{
+    let count = bytes.len();
+    if count >= 4 {
+        return (four(bytes, 0) << 32) ^ four(bytes, count - 4);
+    }
+    let mut word = 0u64;
+    for byte in bytes {
+        word = word.rotate_left(8) ^ *byte as u64;
+    }
+    word
+}
+
+fn four(bytes: &[u8], i: usize) -> u64
+    requires { i + 4 ≤ length bytes.now }
+{
+    u32::from_le_bytes([bytes[i], bytes[i + 1], bytes[i + 2], bytes[i + 3]]) as u64
+}
+
+fn eight(bytes: &[u8], i: usize) -> u64
+    requires { i + 8 ≤ length bytes.now }
+{
+    u64::from_le_bytes([
+        bytes[i],
+        bytes[i + 1],
+        bytes[i + 2],
+        bytes[i + 3],
+        bytes[i + 4],
+        bytes[i + 5],
+        bytes[i + 6],
+        bytes[i + 7],
+    ])
 }

@@ -12,7 +12,7 @@ ghost use Rattle.decide.specs.inside.Reads.{AreOwn, AreNodesOf, node_with};
 ghost use Rattle.decide.specs.inside.Given.{Gave, BaseGives, HasNode, HasSome, RelationGave, opposite, no_or_later};
 
 use crate::asking::{Asking, Found};
-use crate::facts::{Facts, node_of};
+use crate::facts::{Facts, named_in, node_of};
 use crate::search::{Parents, Search};
 use config_text::Rewrite;
 use names::{Name, Node, Object};
@@ -136,10 +136,10 @@ fn own_of(
     if let Some(sets) = search.take_own(asking.number) {
         return Ok(Some(sets));
     }
-    if facts.has(asking.node, asking.user) {
+    if facts.has(asking.read, asking.node, asking.user) {
         return Ok(None);
     }
-    let sets = facts.usersets_of(asking.node)?;
+    let sets = facts.usersets_of(asking.read, asking.node)?;
     Ok(Some(sets))
 }
 
@@ -193,7 +193,7 @@ fn parents_of(
             return Ok(kept.nodes);
         }
     }
-    let nodes = facts.parents_of(asking.node, tupleset, relation)?;
+    let nodes = facts.parents_of(asking.read, asking.node, tupleset, relation)?;
     Ok(nodes)
 }
 
@@ -235,7 +235,7 @@ fn through(
     ensures found { IfOk result (Gave facts.now search.new asking.now
         (TupleTo tupleset.now relation.now)) }
 {
-    if let Some(objects) = facts.known_objects(&asking.node.object, tupleset) {
+    if let Some(objects) = named_in(asking.read, tupleset) {
         let found = some_of(facts, search, asking, objects, relation)?;
         return Ok(found);
     }
@@ -393,6 +393,7 @@ pub(crate) fn relation_gives(
     let place = search.place_of(asking.number);
     let relation = &facts.config().relations()[place];
     facts.read_for(&relation.rewrite, &asking.node.object)?;
-    let found = gives(facts, search, asking, &relation.rewrite)?;
+    let reading = asking.reading(facts.read_of(&asking.node.object));
+    let found = gives(facts, search, &reading, &relation.rewrite)?;
     Ok(found)
 }

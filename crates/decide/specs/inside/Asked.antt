@@ -9,6 +9,7 @@ use Rattle.decide.specs.declared.search.Search.{Search}
 use Rattle.decide.specs.inside.Under.{Under}
 use Rattle.decide.specs.inside.Searches.{Waits, Grew, IsNumberOf}
 use Rattle.decide.specs.inside.Running.{IsRunning}
+use Rattle.decide.specs.inside.Reading.{IsReadOf}
 
 -- Nodes below this level count: a part that is not subtracted looks up the node's own level, a subtracted one only those below it.
 abbrev pub high : Asking → ℕ
@@ -26,10 +27,11 @@ IsLeft S s a m = Counts S a m × (a.plain ≡ true → Waits s m a.number → �
 abbrev pub IsCounted : Snap → Search → Asking → Node → ℕ → Type 0
 IsCounted S s a m i = (k : ℕ) × IsNumberOf s i m k × IsAt S.config m k × (k < high a)
 
--- the asker is being looked at
+-- the asker is being looked at, and what was read is its object's
 pub record IsAsking (S : Snap) (s : Search) (a : Asking) : Type 0 where
   pub running : IsRunning S a.user.now s (Some a.number)
   pub number : IsNumberOf s a.number a.node.now a.level
+  pub read : IsReadOf S a.node.now.object a.read
 
 -- the asker goes on, in a search that grew
 pub record GoesOn (S : Snap) (s t : Search) (a : Asking) : Type 0 where

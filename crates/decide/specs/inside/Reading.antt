@@ -1,6 +1,9 @@
 -- What was read of a view.
-use Rattle.std.specs.Prelude.{◌≡◌, ◌<◌, ◌↔◌, ℕ, List, Contains, IfSome, filter, length, slice_index_or}
+use Rattle.std.specs.Prelude.{◌≡◌, ◌<◌, ◌↔◌, ℕ, List, Option, Contains, IfSome, filter, length, slice_index_or}
+use Rattle.std.specs.Borrow.{Bor}
 use Rattle.names.specs.declared.object.Object.{Object}
+use Rattle.names.specs.declared.relation.RelationName.{RelationName}
+use Rattle.config_text.specs.declared.relation.Relation.{Relation}
 use Rattle.meaning.specs.TupleSet as set
 use Rattle.meaning.specs.Snap.{Snap}
 use Rattle.meaning.specs.Membership.{HasOne}
@@ -24,3 +27,11 @@ AreRead S reads = (r : Read) → Contains reads.read.items r → IsRead S r
 -- what was read of the object stands at the place
 abbrev pub IsReadAt : Reads → Object → ℕ → Type 0
 IsReadAt reads o i = (i < length reads.read.items) × ((r : Read) → (slice_index_or reads.read.items i r).object ≡ o)
+
+-- what was read is the object's
+abbrev pub IsReadOf : Snap → Object → Option (Bor Read) → Type 0
+IsReadOf S o read = IfSome read (λ r. IsRead S r.now × (r.now.object ≡ o))
+
+-- the relation with the name stands at the place
+abbrev pub IsNamedAt : List Relation → RelationName → ℕ → Type 0
+IsNamedAt relations name i = (i < length relations) × ((r : Relation) → (slice_index_or relations i r).name ≡ name)

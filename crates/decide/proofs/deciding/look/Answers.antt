@@ -25,6 +25,7 @@ pub step-requires-clause-asking : goal.step-requires-clause-asking
 step-requires-clause-asking g c = record {
   running = c.requires.running;
   number = number_here c.args.facts.now c.args.user.now c.args.search.now c.args.number c.level_of-level.result c.in_ok-node.node c.requires.number c.in_ok-node.ensures c.level_of-level.ensures;
+  read = tt;
 }
 
 pub step-requires-clause-unsure : goal.step-requires-clause-unsure

@@ -1,7 +1,4 @@
-use Rattle.std.proofs.Common.{subst, refl}
-use Rattle.std.specs.Prelude.{◌↔◌, IsTrue}
-use Rattle.meaning.specs.Membership.{HasOne}
-use Rattle.meaning.specs.Snap.{Snap}
+use Rattle.std.proofs.Common.{refl}
 use Rattle.tuple_keys.specs.Named.{user_tuple}
 use Rattle.decide.proofs.Few.{held, both_ways}
 use Rattle.meaning.specs.TupleSet as set
@@ -11,12 +8,10 @@ use Rattle.decide.proofs.facts.Facts.has.Goals as goal
 pub returns-in-Some : goal.returns-in-Some
 returns-in-Some c =
     let n = c.args.node.now in
-    let u = c.args.user.now in
-    let view = c.self.inside.view.now in
-    let all = held view n.object c.in-Some.few.now (c.in-Some.ensures view c.self.invariant.1) (user_tuple n u) refl in
-    subst (λ (S : Snap). IsTrue c.names_user.result ↔ HasOne S n u) c.self.view_is (both_ways c.names_user.ensures all)
+    let S = c.args.self.now in
+    both_ways c.names_user.ensures (held S n.object c.in-Some.few.now (c.in-Some.ensures S n.object c.requires) (user_tuple n c.args.user.now) refl)
 
 pub names_user-requires : goal.names_user-requires
 names_user-requires c =
-    let view = c.self.inside.view.now in
-    kept_at c.args.node.now.object (set.items view.tuples) c.in-Some.few.now (c.in-Some.ensures view c.self.invariant.1)
+    let S = c.args.self.now in
+    kept_at c.args.node.now.object (set.items S.tuples) c.in-Some.few.now (c.in-Some.ensures S c.args.node.now.object c.requires)

@@ -1,4 +1,6 @@
-use Rattle.std.proofs.Common.{ap, ◌∙◌, map}
+use Rattle.std.proofs.Common.{ap, ◌∙◌, map, subst, sym}
+use Rattle.names.specs.declared.node.Node.{Node}
+use Rattle.decide.specs.inside.Reading.{IsReadOf}
 use Rattle.decide.specs.inside.Reads.{node_with}
 use Rattle.decide.proofs.Relations.{nodes_are}
 use Rattle.decide.proofs.facts.Facts.parents_of.Goals as goal
@@ -9,3 +11,6 @@ returns c =
     c.in_ok-from.ensures
     c.in_ok-objects.ensures
     (c.in_ok-nodes.ensures ∙ ap (map (node_with c.args.relation.now)) c.deref.ensures.value)
+
+pub objects_of-requires : goal.objects_of-requires
+objects_of-requires c = subst (λ (n : Node). IsReadOf c.args.self.now n.object c.args.read) (sym c.in_ok-from.ensures) c.requires

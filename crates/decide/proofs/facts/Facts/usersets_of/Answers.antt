@@ -12,16 +12,14 @@ use Rattle.decide.proofs.facts.Facts.usersets_of.Goals as goal
 pub returns-in-Some-clause-only : goal.returns-in-Some-clause-only
 returns-in-Some-clause-only c =
     let n = c.args.node.now in
-    let view = c.self.inside.view.now in
-    subst (λ (S : Snap). IfOk c.named_nodes.result (λ v. (m : Node) → Contains v.items m → HasSet S n m)) c.self.view_is
-    (ok_mapped c.named_nodes.result _ _ (λ v named m at. (few_nodes view n c.in-Some.few.now (c.in-Some.ensures view c.self.invariant.1) v.items named m).0 at) c.named_nodes.ensures)
+    let S = c.args.self.now in
+    ok_mapped c.named_nodes.result _ _ (λ v named m at. (few_nodes S n c.in-Some.few.now (c.in-Some.ensures S n.object c.requires) v.items named m).0 at) c.named_nodes.ensures
 
 pub returns-in-Some-clause-all : goal.returns-in-Some-clause-all
 returns-in-Some-clause-all c =
     let n = c.args.node.now in
-    let view = c.self.inside.view.now in
-    subst (λ (S : Snap). IfOk c.named_nodes.result (λ v. (m : Node) → HasSet S n m → Has S.config (rel_of m) → Contains v.items m)) c.self.view_is
-    (ok_mapped c.named_nodes.result _ _ (λ v named m has _. (few_nodes view n c.in-Some.few.now (c.in-Some.ensures view c.self.invariant.1) v.items named m).1 has) c.named_nodes.ensures)
+    let S = c.args.self.now in
+    ok_mapped c.named_nodes.result _ _ (λ v named m at there. (few_nodes S n c.in-Some.few.now (c.in-Some.ensures S n.object c.requires) v.items named m).1 at) c.named_nodes.ensures
 
 pub returns-in-None-clause-only : goal.returns-in-None-clause-only
 returns-in-None-clause-only c =
@@ -29,5 +27,5 @@ returns-in-None-clause-only c =
 
 pub named_nodes-requires : goal.named_nodes-requires
 named_nodes-requires c =
-    let view = c.self.inside.view.now in
-    kept_at c.args.node.now.object (set.items view.tuples) c.in-Some.few.now (c.in-Some.ensures view c.self.invariant.1)
+    let S = c.args.self.now in
+    kept_at c.args.node.now.object (set.items S.tuples) c.in-Some.few.now (c.in-Some.ensures S c.args.node.now.object c.requires)
