@@ -1,5 +1,5 @@
 #!/usr/bin/env python3
-"""Cases of tools/import.py that no file holds: ids, limits, inputs that are cut or changed at random, and random schemas.
+"""Cases of tools/import.py: the tables beside this file, ids, limits, inputs that are cut or changed at random, and random models.
 
 usage: importer.py PROGRAM [--schemas N] [--seed N]      2,000 random schemas, each judged as the program judges it
 
@@ -58,6 +58,47 @@ def statuses(program, folder, lines):
 
 def same(what, wanted, got):
     assert wanted == got, f"{what}: wanted {str(wanted)[:400]}, got {str(got)[:400]}\n"
+
+
+def outcome_of(importer, folder, words):
+    """The same of the module, after a look at whether what it wrote and told has the form that goes with its status."""
+    out, err = io.StringIO(), io.StringIO()
+    with contextlib.redirect_stdout(out), contextlib.redirect_stderr(err):
+        status = importer.main([words[0], *(f"{folder}/{it}" for it in words[1:])])
+    wrote, told = out.getvalue(), err.getvalue().replace(f"{folder}/", "").split("\n")[:-1]
+    fits = {0: wrote and not told, 1: told and not wrote, 2: len(told) == 1 and told[0].startswith("import: ") and not wrote}
+    assert fits[status], f"status {status}, and {told}\n"
+    return status, wrote, told
+
+
+# -- what is refused, and what cannot be read
+
+
+def hold_rows(table, status, folder):
+    """Sees what is told of each model of a table, with the tuples that stand below it."""
+    importer = loaded()
+    with open(f"{HERE}/{table}", encoding="utf-8") as it:
+        blocks = [[line for line in block.split("\n") if line and not line.startswith("# ")] for block in it.read().split("\n\n")]
+    for first, *rest in filter(None, blocks):
+        kind, _, model = first.partition(" ")
+        tuples = [it.removeprefix("tuples ") for it in rest if it.startswith("tuples ")]
+        words = [kind, written(folder, "model", model + "\n")]
+        if tuples:
+            words.append(written(folder, "tuples", "\n".join(tuples) + "\n"))
+        wanted = [it for it in rest if not it.startswith("tuples ")]
+        same(first, (status, "", wanted), outcome_of(importer, folder, words))
+
+
+def what_no_line_can_say_of_openfga_is_refused(_program, folder):
+    hold_rows("refused_of_openfga.table", 1, folder)
+
+
+def what_no_line_can_say_of_spicedb_is_refused(_program, folder):
+    hold_rows("refused_of_spicedb.table", 1, folder)
+
+
+def what_has_no_form_is_told_on_one_line(_program, folder):
+    hold_rows("unreadable.table", 2, folder)
 
 
 # -- ids
@@ -153,7 +194,7 @@ def writes_have_256_operations_and_65536_bytes_at_most(program, folder):
         same("answers", {"200"}, set(statuses(program, folder, wrote)))
 
 
-# -- inputs that cannot be read
+# -- files, and what is cut or changed in them
 
 
 def files_that_cannot_be_read_are_told(_program, folder):
@@ -216,17 +257,6 @@ def changed(choose, text):
     return text[:first] + choose.choice(("", "", text[first:last] * 2, other)) + choose.choice((text[last:], text[last:], ""))
 
 
-def outcome_of(importer, folder, words):
-    """The status of the importer and what it wrote, after a look at whether that and what it told have the form that goes with the status."""
-    out, err = io.StringIO(), io.StringIO()
-    with contextlib.redirect_stdout(out), contextlib.redirect_stderr(err):
-        status = importer.main([words[0], *(f"{folder}/{it}" for it in words[1:])])
-    wrote, told = out.getvalue(), err.getvalue().split("\n")[:-1]
-    fits = {0: wrote and not told, 1: told and not wrote, 2: len(told) == 1 and told[0].startswith("import: ") and not wrote}
-    assert fits[status], f"status {status}, and {told}\n"
-    return status, wrote
-
-
 def changed_inputs_are_told_or_taken(program, folder):
     importer, choose = loaded(), random.Random(2)
     seen = [0, 0, 0]
@@ -236,7 +266,7 @@ def changed_inputs_are_told_or_taken(program, folder):
             for file, text in texts.items():
                 text = changed(choose, text) if file == touched else text
                 written(folder, file, text.encode("utf-8", "surrogatepass"))
-            status, lines = outcome_of(importer, folder, words)
+            status, lines, _ = outcome_of(importer, folder, words)
             seen[status] += 1
             if status == 0 and seen[0] % 10 == 0:
                 same(f"answers to {lines}", {"200"}, set(statuses(program, folder, lines)))
@@ -362,6 +392,9 @@ def random_permissions_give_whom_sets_give(program, folder):
 
 
 CASES = [
+    what_no_line_can_say_of_openfga_is_refused,
+    what_no_line_can_say_of_spicedb_is_refused,
+    what_has_no_form_is_told_on_one_line,
     ids_come_back_and_do_not_meet,
     limits_of_a_configuration_are_kept,
     writes_have_256_operations_and_65536_bytes_at_most,
