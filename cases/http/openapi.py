@@ -227,7 +227,7 @@ def the_routes_are_those_of_the_table(_program, _folder):
 def the_calls_are_those_of_the_page(_program, _folder):
     whole, page = document(), text_of("docs/API.md")
     verbs = {call: verb for verb, call in re.findall(r"`(GET|POST) /v1/(\w+)`", part_of(page, "\n## HTTP\n", "\n### "))}
-    listed = part_of(page, "\nEach call with its body", "\nEach change makes")
+    listed = part_of(page, "\nEach call with its body", "\nEach write and each configuration makes")
     listed = re.findall(r"(?ms)^- `(\w+)`((?: (?:or )?`[^`]*`)*)[:;].*?^  - Answer: (.*?)\.?$", listed)
     same("calls", sorted(operations(whole)), sorted(call for call, *_ in listed))
     for call, asked, told in listed:
