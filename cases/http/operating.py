@@ -377,6 +377,9 @@ def as_process_1_it_is_ended_by_sigkill_alone(program, folder, lines):
         with Contained(program, folder, inner(first)) as server:
             same("port", 8080, server.port)
             same("process 1", b"zanz\n", content("/proc", f"{server.number}/comm")[0])
+            # (while one thread begins another it has signals blocked, and a signal then ends process 1 too)
+            server.asked_inside(request("state", "", "Connection: close"), server.port, "tcp")
+            time.sleep(0.5)
             for how in (signal.SIGTERM, signal.SIGINT):
                 same(f"whether it ends by {how}", False, server.ends(how, 0.3))
                 reply = server.asked_inside(request("state", "", "Connection: close"), server.port, "tcp")
