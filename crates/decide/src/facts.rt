@@ -11,14 +11,13 @@ ghost use Rattle.names.specs.declared.object.Object.{Object};
 ghost use Rattle.names.specs.declared.tuple.Tuple.{Tuple};
 ghost use Rattle.versions.specs.Named.{objects_in, nodes_in};
 ghost use Rattle.tuple_keys.specs.Named.{user_tuple, is_at, is_of};
-ghost use Rattle.decide.specs.inside.Placed.{IsNamedAt};
 ghost use Rattle.decide.specs.inside.Reading.{AreNamed, AreRead, IsReadAt};
 ghost use Rattle.decide.specs.inside.Reads.{AreNodesOf, node_with};
 
 use crate::numbers::{Numbers, key_of_object};
 use crate::read_tuple::{ReadTuple, read_tuples};
 use config::Config;
-use config_text::{Relation, Rewrite};
+use config_text::Rewrite;
 use names::{Name, Node, Object};
 use rows::View;
 use std::alloc::{AllocError, Global};
@@ -26,9 +25,6 @@ use std::marker::Model;
 
 /// So many tuples of an object are few.
 const FEW: usize = 8;
-
-/// So many relations are gone over, one after the other.
-const FIRST: usize = 16;
 
 /// What was read of an object: its tuples, where they are few, and the objects that those of a tupleset name.
 #[derive(Drop)]
@@ -166,10 +162,7 @@ impl<'a> Facts<'a> {
         ensures some { IfSome result (StandsAt self.now.config (rel_of node.now)) }
         ensures none { IfNone result (Has self.now.config (rel_of node.now) → ⊥) }
     {
-        match first_place(self.config.relations(), node) {
-            Some(place) => Some(place),
-            None => self.config.place_of(node),
-        }
+        self.config.place_of(node)
     }
 
     /// The level of the relation at a place.
@@ -245,25 +238,6 @@ impl<'a> Facts<'a> {
         let nodes = nodes_of(self.alloc, &objects, relation)?;
         Ok(nodes)
     }
-}
-
-/// Where the node's relation stands, if it is one of the first: most configurations have few others, and most names are
-/// told apart by their lengths.
-fn first_place(relations: &[Relation], node: &Node) -> Option<usize>
-    ensures { IfSome result (IsNamedAt relations.now (rel_of node.now)) }
-{
-    for place in 0..relations.len().min(FIRST) {
-        if has_name_of(&relations[place], node) {
-            return Some(place);
-        }
-    }
-    None
-}
-
-fn has_name_of(relation: &Relation, node: &Node) -> bool
-    ensures { IsTrue result → relation.now.name ≡ rel_of node.now }
-{
-    relation.name.relation == node.relation && relation.name.namespace == node.object.namespace
 }
 
 /// The nodes of the relation of the objects.
@@ -424,7 +398,7 @@ fn push_node(nodes: &mut Vec<Node>, tuple: &ReadTuple<'_>, node: &Node) -> Resul
     ensures { OnOk result (nodes.new.items ≡ nodes.old.items ++ nodes_in (filter (is_of node.now) (tuple.now ∷ []))) }
 {
     if tuple.is_of(node) {
-        if let Some(named) = tuple.named_node() {
+        if let Some(named) = tuple.subject().node() {
             nodes.push(named)?;
         }
     }
@@ -457,8 +431,9 @@ fn push_object(
     ensures { OnOk result (objects.new.items ≡ objects.old.items ++ objects_in (filter (is_of node.now) (tuple.now ∷ []))) }
 {
     if tuple.is_of(node) {
-        if let Some(named) = tuple.named_object() {
-            objects.push(named)?;
+        let subject = tuple.subject();
+        if subject.relation().is_none() {
+            objects.push(subject.object())?;
         }
     }
     Ok(())

@@ -5,7 +5,6 @@
 #![tactic(auto)]
 
 mod asking;
-mod cuts;
 mod deciding;
 mod facts;
 mod law;
@@ -14,7 +13,6 @@ mod oracle;
 mod read_tuple;
 mod rewrites;
 mod search;
-mod waiting;
 
 pub use deciding::check_at;
 pub use law::there_is_one_answer;

@@ -14,7 +14,6 @@ ghost use Rattle.decide.specs.inside.Reads.{AreOwn, AreParents};
 ghost use Rattle.decide.specs.inside.Running.{IsRunning};
 
 use crate::numbers::{KINDS, Numbers, key_of, kind_of};
-use crate::waiting::Waiting;
 use names::{Name, Node};
 use std::alloc::{AllocError, Global};
 use std::mem::replace;
@@ -31,7 +30,7 @@ pub(crate) struct Opened {
     level: usize,
     place: usize,
     sure: bool,
-    waiting: Waiting,
+    waiting: Vec<usize>,
     own: Option<Vec<Node>>,
     parents: Option<Parents>,
 }
@@ -138,7 +137,7 @@ impl Search {
             level,
             place,
             sure: false,
-            waiting: Waiting::none(self.alloc),
+            waiting: Vec::new(self.alloc),
             own: None,
             parents: None,
         })?;
@@ -240,10 +239,10 @@ impl Search {
         ensures running { OnOk result ((S : Snap) (u : Object) (but : Option ℕ) → asker < length self.old.opened.items
             → IsRunning S u self.old but → IsRunning S u self.new but) }
     {
-        if self.opened[number].waiting.contains(asker) {
+        if self.opened[number].waiting.contains(&asker) {
             return Ok(());
         }
-        self.opened[number].waiting.add(asker)?;
+        self.opened[number].waiting.push(asker)?;
         Ok(())
     }
 
@@ -279,13 +278,13 @@ impl Search {
         Ok(())
     }
 
-    fn wake_all(&mut self, waiting: &Waiting) -> Result<(), AllocError>
-        requires { (w : ℕ) → Contains waiting.now.items w → (w < length self.old.opened.items) × IsThere self.old w }
+    fn wake_all(&mut self, waiting: &[usize]) -> Result<(), AllocError>
+        requires { (w : ℕ) → Contains waiting.now w → (w < length self.old.opened.items) × IsThere self.old w }
         ensures opened { OnOk result (self.new.opened.items ≡ self.old.opened.items) }
-        ensures wakes { OnOk result (Wakes self.old self.new waiting.now.items) }
+        ensures wakes { OnOk result (Wakes self.old self.new waiting.now) }
     {
-        for i in 0..waiting.len() {
-            self.wake(waiting.get(i))?;
+        for asker in waiting {
+            self.wake(*asker)?;
         }
         Ok(())
     }
@@ -304,7 +303,7 @@ impl Search {
         ensures sures { OnOk result ((e : Opened) → Stands self.old number e → e.sure ≡ false
             → sures self.old < sures self.new) }
     {
-        let waiting = replace(&mut self.opened[number].waiting, Waiting::none(self.alloc));
+        let waiting = replace(&mut self.opened[number].waiting, Vec::new(self.alloc));
         self.wake_all(&waiting)?;
         self.opened[number].sure = true;
         Ok(())
