@@ -5,21 +5,13 @@ use Rattle.std.specs.Prelude.{◌↔◌, Result, Ok, Err, IfErr, ⊤}
 use Rattle.names.specs.declared.call.Call.{Call}
 use Rattle.names.specs.declared.call.Call.TheVariants.{State}
 use Rattle.names.specs.declared.refusal.Refusal.TheVariants.{Future}
-use Rattle.tables.specs.declared.tables.Tables.{Ghosts}
-use Rattle.published.specs.Known.{Known}
-use Rattle.published.specs.Receipts.{ReceiptFacts}
-use Rattle.published.proofs.Rules.{begins_trans}
-use Rattle.logbook.specs.Pages.{Book}
 use Rattle.shown.specs.declared.answer.Refused.{Refused}
 use Rattle.shown.specs.declared.question.Question.{Question}
 use Rattle.shown.specs.declared.question.Question.TheVariants as asked
 use Rattle.shown.specs.Standing.{Standing}
 use Rattle.shown.specs.Asked.{IsAhead}
-use Rattle.desk.specs.Posts.{shown_by}
 use Rattle.keeper.specs.Questions.{Asks}
-use Rattle.front.specs.Kept.{KnowsMore, KnowsADesk}
 use Rattle.front.specs.Questions.{sought_by}
-use Rattle.front.specs.Fronts.{ToldByDesk}
 
 module _ {A : Type 0} where
   -- it is not
@@ -41,7 +33,3 @@ state_is_not_ahead s body _ asks ahead = absurd asks
 pub sought : {A : Type 0} (s : Standing) (call : Call) (body : List ℕ) (question : Question) → Asks call body question → IsAhead s question → A → sought_by call A
 sought s State body question asks ahead a = state_is_not_ahead s body question asks ahead
 sought s _ body question asks ahead a = a
-
--- a session that was refreshed knows what a desk shows, also when it has answered since
-pub still_knows : {T : Type 0} (g : Ghosts T) {book : Book} {receipt : ReceiptFacts} (mid new : Known) → ToldByDesk g book receipt mid → KnowsMore mid new → KnowsADesk g book new
-still_knows g mid new told later = (told.desk, told.kept, begins_trans (shown_by told.desk) mid new told.known later.0)

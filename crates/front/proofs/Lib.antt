@@ -1,4 +1,5 @@
 pub mod Crossing
+pub mod Doing
 pub mod Kept
 pub mod Shown
 pub mod NeverBack

@@ -1,5 +1,5 @@
--- What a worker's front may answer to a call, and what its session knows after that.
-use Rattle.std.specs.Prelude.{ℕ, ◌≡◌, List, Option}
+-- What a worker's front knows, what it may answer to a call, and what it knows after that.
+use Rattle.std.specs.Prelude.{ℕ, ◌≡◌, ◌⊎◌, List, [], Option}
 use Rattle.std.specs.Bool.{MatchBool}
 use Rattle.names.specs.declared.call.Call.{Call}
 use Rattle.tables.specs.declared.tables.Tables.{Ghosts}
@@ -10,37 +10,72 @@ use Rattle.desk.specs.Posts.{Posts, shown_by}
 use Rattle.desk.specs.Changes.{TellsShown}
 use Rattle.keeper.specs.Changes.{is_change}
 use Rattle.keeper.specs.calls.Change.{ChangeStep}
-use Rattle.front.specs.Kept.{IsKept, KnowsADesk, KnowsMore, NeverGoesBack}
+use Rattle.one_history.specs.History.{Hand}
+use Rattle.front.specs.declared.deeds.Deed.{Deed}
+use Rattle.front.specs.declared.deeds.Deed.TheVariants.{Answered, Refreshed, Seated}
+use Rattle.front.specs.Deeds.{IsDoneTo}
+use Rattle.front.specs.Kept.{IsKept, KnowsMore, NeverGoesBack}
 use Rattle.front.specs.Questions.{AskFrom, sought_by}
 
--- A change: whatever a desk holds, it would tell this and stay as it is, and no desk was asked; or a desk of the book was,
--- which its rules let tell this, and the session then knows no less than it did, and all that the desk shows after it.
-pub data ChangeFrom {T : Type 0} (g : Ghosts T) (book : Book)
-    (old : Known) (call : Call) (body : List ℕ) (told : Option (ℕ × List ℕ)) (new : Known) : Type 0 where
+-- what its session knows, and what it knows of the deeds under the lock
+pub record FrontState : Type 0 where
+  pub known : Known
+  pub hand : Hand Deed
+
+-- A change: whatever a desk holds, it would tell this and stay as it is, and nothing was done; or the desk under the lock was
+-- asked, whose rules let it tell this, and no other deed is this worker's meanwhile. Its session then knows no less than it did,
+-- and all that the desk shows after it.
+pub data ChangeFrom {T : Type 0} (g : Ghosts T) (book : Book) (starts : Posts T → Type 0)
+    (old : FrontState) (call : Call) (body : List ℕ) (told : Option (ℕ × List ℕ)) (new : FrontState) : Type 0 where
   off_the_desk : ((desk : Posts T) → ChangeStep g desk call body told desk) → new ≡ old
-      → ChangeFrom g book old call body told new
-  on_a_desk : (before after : Posts T) → IsKept g book before → IsKept g book after → ChangeStep g before call body told after
-      → KnowsMore old new → Begins (shown_by after) new → ChangeFrom g book old call body told new
+      → ChangeFrom g book starts old call body told new
+  on_the_desk : (before after : Posts T) → IsKept g book before → IsKept g book after
+      → IsDoneTo g starts old.hand before (Answered call body told) after new.hand
+      → KnowsMore old.known new.known → Begins (shown_by after) new.known
+      → ChangeFrom g book starts old call body told new
 
--- A desk of the book told this of itself: its store's number, its newest shown revision, and whether all that is posted is
--- shown. The session then knows all that the desk shows.
-pub record ToldByDesk {T : Type 0} (g : Ghosts T) (book : Book) (receipt : ReceiptFacts) (new : Known) : Type 0 where
-  pub desk : Posts T
-  pub kept : IsKept g book desk
-  pub tells : TellsShown receipt desk
-  pub known : Begins (shown_by desk) new
+-- The worker had the desk under the lock show what waited, and its session then knows all that is shown. No other deed is its
+-- own meanwhile.
+pub record Sought {T : Type 0} (g : Ghosts T) (book : Book) (starts : Posts T → Type 0) (old new : FrontState) : Type 0 where
+  pub before : Posts T
+  pub after : Posts T
+  pub kept : IsKept g book after
+  pub done : IsDoneTo g starts old.hand before Refreshed after new.hand
+  pub known : Begins (shown_by after) new.known
 
--- From what its session knows, the front may tell this to the call with this body, and then its session knows this. It tells
--- that a question is of the future only where the session then knows all that a desk of the book shows.
+-- so, and that desk told this of itself: its store's number, its newest shown revision, and whether all that is posted is shown
+pub record ToldByDesk {T : Type 0} (g : Ghosts T) (book : Book) (starts : Posts T → Type 0)
+    (receipt : ReceiptFacts) (old new : FrontState) : Type 0 where
+  pub sought : Sought g book starts old new
+  pub tells : TellsShown receipt sought.after
+
+-- The session was asked, and nothing was done under the lock; or what waits was sought once. That a question is of the future
+-- is told only where it was.
+pub record QuestionFrom {T : Type 0} (g : Ghosts T) (book : Book) (starts : Posts T → Type 0)
+    (old : FrontState) (call : Call) (body : List ℕ) (told : Option (ℕ × List ℕ)) (new : FrontState) : Type 0 where
+  pub asked : AskFrom (sought_by call (Sought g book starts old new)) old.known call body told new.known
+  pub deeds : (new.hand ≡ old.hand) ⊎ Sought g book starts old new
+
+-- from what it knows, the front may tell this to the call with this body, and then it knows this
 abbrev pub MayTell : {T : Type 0}
-    → Ghosts T → Book → Known → Call → List ℕ → Option (ℕ × List ℕ) → Known → Type 0
-MayTell {T} g book old call body told new =
+    → Ghosts T → Book → (Posts T → Type 0) → FrontState → Call → List ℕ → Option (ℕ × List ℕ) → FrontState → Type 0
+MayTell g book starts old call body told new =
     MatchBool (is_change call)
-    (ChangeFrom g book old call body told new)
-    (AskFrom (sought_by call (KnowsADesk g book new)) old call body told new)
+    (ChangeFrom g book starts old call body told new)
+    (QuestionFrom g book starts old call body told new)
 
--- It may tell so, and no later answer goes back on what its session knew.
-pub record FrontStep {T : Type 0} (g : Ghosts T) (book : Book)
-    (old : Known) (call : Call) (body : List ℕ) (told : Option (ℕ × List ℕ)) (new : Known) : Type 0 where
-  pub tells : MayTell g book old call body told new
-  pub never_back : NeverGoesBack old new
+-- it may tell so, and no later answer goes back on what its session knew
+pub record FrontStep {T : Type 0} (g : Ghosts T) (book : Book) (starts : Posts T → Type 0)
+    (old : FrontState) (call : Call) (body : List ℕ) (told : Option (ℕ × List ℕ)) (new : FrontState) : Type 0 where
+  pub tells : MayTell g book starts old call body told new
+  pub never_back : NeverGoesBack old.known new.known
+
+-- a front that was just made has done one thing, which was to ask the desk for its session, and that knows what is shown
+pub record IsSeated {T : Type 0} (g : Ghosts T) (book : Book) (starts : Posts T → Type 0) (new : FrontState) : Type 0 where
+  pub start : Hand Deed
+  pub fresh : start.mine ≡ []
+  pub before : Posts T
+  pub after : Posts T
+  pub kept : IsKept g book after
+  pub done : IsDoneTo g starts start before Seated after new.hand
+  pub known : Begins (shown_by after) new.known

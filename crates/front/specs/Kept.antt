@@ -11,6 +11,9 @@ use Rattle.published.specs.Known.{Known, Begins}
 use Rattle.published.specs.Judged.{AreJudged, WereJudged}
 use Rattle.published.specs.Rising.{Rises}
 use Rattle.desk.specs.Posts.{Posts, Agrees, IsSettled, shown_by}
+use Rattle.one_history.specs.declared.entry.Entry.{Entry}
+use Rattle.front.specs.declared.deeds.Deed.{Deed}
+use Rattle.front.specs.Deeds.{IsLeft}
 
 -- the steps begin with an opening
 pub record IsOpened (steps : List Step) : Type 0 where
@@ -47,13 +50,11 @@ pub record IsKept {T : Type 0} (g : Ghosts T) (book : Book) (desk : Posts T) : T
   pub agrees : Agrees g desk.failed desk.tables (standing desk.posted).kept
   pub settled : IsSettled g desk
 
--- a session that knows this knows all that a desk of the book shows; nobody who has not held the lock can name one
-abbrev pub KnowsADesk : {T : Type 0} → Ghosts T → Book → Known → Type 0
-KnowsADesk {T} g book known = (desk : Posts T) × IsKept g book desk × Begins (shown_by desk) known
-
--- tables that a desk of the book gave back: they agree with what it had posted, of which what it showed is a beginning
-pub record WereKept {T : Type 0} (g : Ghosts T) (book : Book) (tables : T) : Type 0 where
+-- Tables that a desk of the book gave back, which was what all these deeds had left of one that was opened so: they agree with
+-- what it had posted, of which what it showed is a beginning.
+pub record WereKept {T : Type 0} (g : Ghosts T) (book : Book) (starts : Posts T → Type 0) (deeds : List (Entry Deed)) (tables : T) : Type 0 where
   pub desk : Posts T
   pub kept : IsKept g book desk
+  pub left : IsLeft g starts deeds desk
   pub same : tables ≡ desk.tables
   pub agrees : Agrees g desk.failed tables (standing desk.posted).kept

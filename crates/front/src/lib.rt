@@ -3,6 +3,7 @@
 #![tactic(auto)]
 
 mod counted;
+mod deeds;
 mod front;
 mod gate;
 mod law;
@@ -12,10 +13,11 @@ mod questions;
 mod waking;
 
 pub use counted::Counted;
+pub use deeds::{Deed, KeeperName, Place};
 pub use front::Front;
 pub use gate::Gate;
 pub use law::{what_is_shown_is_stored, what_was_shown_is_not_of_the_future};
-pub use lock::{Keeper, KeptDesk};
+pub use lock::{ChangeAsked, Closed, Keeper, KeptDesk, Opening};
 pub use locked::Locked;
 pub use questions::{Asked, ask_again, ask_from};
 pub use waking::Waking;

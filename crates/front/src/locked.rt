@@ -1,33 +1,34 @@
 //! A front that answers calls, whatever brings them.
 ghost use Rattle.std.specs.Prelude.{◌≡◌};
 
+use crate::deeds::KeeperName;
 use crate::front::Front;
 use answers::Answers;
 use names::{Call, Reply};
-use published::Naming;
 use std::marker::Model;
 use std::sync::Wait;
 use tables::Tables;
 
-/// A front, with the handle that it waits by. Contracts see it as what its session knows.
+/// A front, with the handle that it waits by. Contracts see it as the front.
 #[derive(Drop)]
-pub struct Locked<'k, T: Tables + Drop, J: Naming, R: Wait + Drop, W: Wait> {
+pub struct Locked<'k, T: Tables + Drop, J: KeeperName<T>, R: Wait + Drop, W: Wait> {
     rt: &'k W,
     front: Front<'k, T, J, R>,
 }
 
-impl<'k, T: Tables + Drop, J: Naming, R: Wait + Drop, W: Wait> Model for Locked<'k, T, J, R, W> {
-    ghost use Rattle.published.specs.Known.{Known};
-    ghost use Rattle.published.specs.inside.Codes.{coded_known};
+impl<'k, T: Tables + Drop, J: KeeperName<T>, R: Wait + Drop, W: Wait> Model
+    for Locked<'k, T, J, R, W> {
+    ghost use Rattle.front.specs.Fronts.{FrontState};
+    ghost use Rattle.front.specs.Coded.{coded_front};
 
-    ghost Value = { Known };
+    ghost Value = { FrontState };
 
-    ghost coded = { coded_known };
+    ghost coded = { coded_front };
 
     ghost view = { λ l. l.front };
 }
 
-impl<'k, T: Tables + Drop, J: Naming, R: Wait + Drop, W: Wait> Locked<'k, T, J, R, W> {
+impl<'k, T: Tables + Drop, J: KeeperName<T>, R: Wait + Drop, W: Wait> Locked<'k, T, J, R, W> {
     /// A front that waits by this handle.
     pub fn new(rt: &'k W, front: Front<'k, T, J, R>) -> Locked<'k, T, J, R, W>
         ensures { result ≡ front.entry }
@@ -36,10 +37,11 @@ impl<'k, T: Tables + Drop, J: Naming, R: Wait + Drop, W: Wait> Locked<'k, T, J, 
     }
 }
 
-impl<'k, T: Tables + Drop, J: Naming, R: Wait + Drop, W: Wait> Answers for Locked<'k, T, J, R, W> {
+impl<'k, T: Tables + Drop, J: KeeperName<T>, R: Wait + Drop, W: Wait> Answers
+    for Locked<'k, T, J, R, W> {
     ghost use Rattle.front.specs.Fronts.{FrontStep};
 
-    ghost step = { λ s call body told t. FrontStep T.Tables J.book s call body told t };
+    ghost step = { λ s call body told t. FrontStep T.Tables J.book J.starts s call body told t };
 
     fn answer(&mut self, call: Call, body: &[u8]) -> Reply {
         self.front.answer(self.rt, call, body)

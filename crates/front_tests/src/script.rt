@@ -1,12 +1,12 @@
 //! The stored script of the program, and what else its lines can ask.
 ghost use Rattle.std.specs.Prelude.{◌≡◌};
+ghost use Rattle.desk.specs.Posts.{Posts};
 
 use crate::lent;
 use crate::workers::keeper_of;
 use answers::Answers;
-use front::{Front, Keeper, Locked};
+use front::{Front, Keeper, KeeperName, Locked, Opening};
 use names::{Call, Reply};
-use published::{Naming, Opened};
 use std::alloc::{AllocError, Global};
 use std::marker::Brand;
 use std::process::Abort;
@@ -158,7 +158,7 @@ fn by_lent<A: Abort, T: Tables + Drop, H: Wait + Drop>(
     replies_of(alloc, &mut machine).expect(rt, "replies")
 }
 
-fn by_front<J: Naming, H: Wait + Drop, W: Abort + Wait, T: Tables + Drop>(
+fn by_front<J: KeeperName<T>, H: Wait + Drop, W: Abort + Wait, T: Tables + Drop>(
     rt: &W,
     alloc: Global,
     keeper: &Keeper<T, J, H>,
@@ -168,16 +168,18 @@ fn by_front<J: Naming, H: Wait + Drop, W: Abort + Wait, T: Tables + Drop>(
     replies_of(alloc, &mut machine).expect(rt, "replies")
 }
 
-fn by_locked<J: Naming, H: Wait + Drop, W: Abort + Wait, T: Tables + Drop>(
+fn by_locked<J: KeeperName<T>, H: Wait + Drop, W: Abort + Wait, T: Tables + Drop>(
     rt: &W,
     handle: H,
     alloc: Global,
-    opened: Opened,
+    opening: Opening,
     tables: T,
 ) -> Vec<u8>
-    requires { opened.book ≡ J.book }
+    requires book { opening.opened.book ≡ J.book }
+    requires history { opening.history ≡ J.table }
+    requires starts { (desk : Posts T) → J.starts desk }
 {
-    let keeper = keeper_of::<J, H, W, T>(rt, handle, alloc, opened, tables);
+    let keeper = keeper_of::<J, H, W, T>(rt, handle, alloc, opening, tables);
     by_front(rt, alloc, &keeper)
 }
 
@@ -186,7 +188,13 @@ fn a_worker_is_answered_as_one_who_holds_the_desk(rt: HostRuntime) {
     let alloc = rt.alloc();
     let lent = by_lent(&rt, &rt, alloc, Listed::new(alloc, 1));
     let tables = Listed::new(alloc, 1);
-    let locked = by_locked::<Brand, _, _, _>(&rt, &rt, alloc, Opened::new(), tables);
+    let locked = by_locked::<Brand, _, _, _>(
+        &rt,
+        &rt,
+        alloc,
+        Opening::new(rt.alloc()).expect(&rt, "memory"),
+        tables,
+    );
     assert!(rt; locked.as_slice().starts_with(STORED.as_bytes()));
     assert!(rt; locked.as_slice().ends_with(MARKED.as_bytes()));
     assert!(rt; locked.as_slice() == lent.as_slice());

@@ -1,10 +1,11 @@
 //! Sessions in threads of their own, while a worker writes, and while the keeper is closed.
 ghost use Rattle.std.specs.Prelude.{◌≡◌};
+ghost use Rattle.desk.specs.Posts.{Posts};
 
 use crate::workers::{keeper_of, status_of};
-use front::{Front, Keeper};
+use front::{Front, Keeper, KeeperName, Opening, Place};
 use names::{Call, Node, Object};
-use published::{Naming, Opened, Receipt, Session};
+use published::{Naming, Receipt, Session};
 use std::alloc::{AllocError, Global};
 use std::marker::{Brand, PhantomData};
 use std::process::Abort;
@@ -62,8 +63,12 @@ impl<J: Naming> Reader<J> {
         &mut self,
         rt: &W,
         keeper: &Keeper<T, J, H>,
-    ) -> Handed<J> {
-        refreshed(rt, keeper, &mut self.session)
+        place: &mut Place<'_, J>,
+    ) -> Handed<J>
+    where
+        J: KeeperName<T>,
+    {
+        refreshed(rt, keeper, place, &mut self.session)
     }
 
     // How fresh an answer must be that reflects all that the receipt tells of.
@@ -112,11 +117,12 @@ fn all_read<J: Naming + Send + Sync, W: Threads + Wait + Sync>(
 }
 
 // Whether every write was answered with 200. The receipt of each is handed on.
-fn writes<J: Naming, H: Wait + Drop, W: Wait, T: Tables + Drop>(
+fn writes<J: KeeperName<T>, H: Wait + Drop, W: Wait, T: Tables + Drop>(
     rt: &W,
     front: &mut Front<'_, T, J, H>,
     keeper: &Keeper<T, J, H>,
     own: &mut Reader<J>,
+    place: &mut Place<'_, J>,
     desktop: &Desktop<J>,
 ) -> bool {
     for number in 0..WRITES {
@@ -124,21 +130,22 @@ fn writes<J: Naming, H: Wait + Drop, W: Wait, T: Tables + Drop>(
         if status_of(&front.answer_change(rt, Call::Write, body)) != 200 {
             return false;
         }
-        let handed = own.refresh(rt, keeper);
+        let handed = own.refresh(rt, keeper, place);
         *desktop.lock(rt) = Some(handed);
     }
     true
 }
 
-fn refreshed<J: Naming, H: Wait + Drop, W: Wait, T: Tables + Drop>(
+fn refreshed<J: KeeperName<T>, H: Wait + Drop, W: Wait, T: Tables + Drop>(
     rt: &W,
     keeper: &Keeper<T, J, H>,
+    place: &mut Place<'_, J>,
     session: &mut Session,
 ) -> Handed<J>
     requires { session.old.book ≡ J.book }
     ensures { session.new.book ≡ J.book }
 {
-    let receipt = keeper.hold(rt).refresh(session);
+    let receipt = keeper.hold(rt).refresh(rt, place, session);
     handed_of(receipt)
 }
 
@@ -151,14 +158,14 @@ fn handed_of<J: Naming>(receipt: Receipt) -> Handed<J>
     }
 }
 
-fn readers_of<J: Naming, H: Wait + Drop, W: Abort + Wait, T: Tables + Drop>(
+fn readers_of<J: KeeperName<T>, H: Wait + Drop, W: Abort + Wait, T: Tables + Drop>(
     rt: &W,
     alloc: Global,
     keeper: &Keeper<T, J, H>,
 ) -> Vec<Reader<J>> {
     let mut readers = Vec::new(alloc);
     for _ in 0..3 {
-        let session = keeper.hold(rt).session().expect(rt, "a session");
+        let (session, _) = keeper.session(rt).expect(rt, "a session");
         readers.push(reader_of(session)).expect(rt, "memory");
     }
     readers
@@ -174,7 +181,7 @@ fn reader_of<J: Naming>(session: Session) -> Reader<J>
 }
 
 fn read_beside<
-    J: Naming + Send + Sync,
+    J: KeeperName<T> + Send + Sync,
     H: Wait + Drop,
     W: Abort + Threads + Wait + Sync,
     T: Tables + Drop,
@@ -182,32 +189,41 @@ fn read_beside<
     let mut front = Front::new(alloc, rt, keeper).expect(rt, "a front");
     let taken = status_of(&front.answer_change(rt, Call::Config, GROUPS));
     let readers = readers_of(rt, alloc, keeper);
-    let mut own = reader_of(keeper.hold(rt).session().expect(rt, "a session"));
+    let (session, mut place) = keeper.session(rt).expect(rt, "a session");
+    let mut own = reader_of(session);
     let desktop = Mutex::new(None);
     let (right, written) = join(
         rt,
         || all_read(rt, readers, &desktop),
-        || writes(rt, &mut front, keeper, &mut own, &desktop),
+        || writes(rt, &mut front, keeper, &mut own, &mut place, &desktop),
     );
     assert!(rt; taken == 200 && right.expect(rt, "memory") && written);
 }
 
 fn beside<
-    J: Naming + Send + Sync,
+    J: KeeperName<T> + Send + Sync,
     H: Wait + Drop,
     W: Abort + Threads + Wait + Sync,
     T: Tables + Drop,
->(rt: &W, handle: H, alloc: Global, opened: Opened, tables: T)
-    requires { opened.book ≡ J.book }
+>(rt: &W, handle: H, alloc: Global, opening: Opening, tables: T)
+    requires book { opening.opened.book ≡ J.book }
+    requires history { opening.history ≡ J.table }
+    requires starts { (desk : Posts T) → J.starts desk }
 {
-    let keeper = keeper_of::<J, H, W, T>(rt, handle, alloc, opened, tables);
+    let keeper = keeper_of::<J, H, W, T>(rt, handle, alloc, opening, tables);
     read_beside(rt, alloc, &keeper);
 }
 
 #[test]
 fn sessions_beside_a_worker_that_writes(rt: HostRuntime) {
     let tables = Listed::new(rt.alloc(), 1);
-    beside::<Brand, _, _, _>(&rt, &rt, rt.alloc(), Opened::new(), tables);
+    beside::<Brand, _, _, _>(
+        &rt,
+        &rt,
+        rt.alloc(),
+        Opening::new(rt.alloc()).expect(&rt, "memory"),
+        tables,
+    );
 }
 
 // Whether a session that was refused once is refused ever after.
@@ -228,17 +244,19 @@ fn stays_shut(session: &mut Session) -> bool {
     true
 }
 
-fn closed<J: Naming, H: Wait + Drop, W: Abort + Threads + Wait, T: Tables + Drop>(
+fn closed<J: KeeperName<T>, H: Wait + Drop, W: Abort + Threads + Wait, T: Tables + Drop>(
     rt: &W,
     handle: H,
     alloc: Global,
-    opened: Opened,
+    opening: Opening,
     tables: T,
 )
-    requires { opened.book ≡ J.book }
+    requires book { opening.opened.book ≡ J.book }
+    requires history { opening.history ≡ J.table }
+    requires starts { (desk : Posts T) → J.starts desk }
 {
-    let keeper = keeper_of::<J, H, W, T>(rt, handle, alloc, opened, tables);
-    let mut session = keeper.hold(rt).session().expect(rt, "a session");
+    let keeper = keeper_of::<J, H, W, T>(rt, handle, alloc, opening, tables);
+    let (mut session, _) = keeper.session(rt).expect(rt, "a session");
     let (stays, tables) = join(rt, || stays_shut(&mut session), || keeper.close());
     drop(tables);
     assert!(rt; stays && session.state().is_err());
@@ -247,5 +265,11 @@ fn closed<J: Naming, H: Wait + Drop, W: Abort + Threads + Wait, T: Tables + Drop
 #[test]
 fn a_session_beside_a_keeper_that_is_closed(rt: HostRuntime) {
     let tables = Listed::new(rt.alloc(), 1);
-    closed::<Brand, _, _, _>(&rt, &rt, rt.alloc(), Opened::new(), tables);
+    closed::<Brand, _, _, _>(
+        &rt,
+        &rt,
+        rt.alloc(),
+        Opening::new(rt.alloc()).expect(&rt, "memory"),
+        tables,
+    );
 }

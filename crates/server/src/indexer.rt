@@ -7,22 +7,23 @@ ghost use Rattle.server.specs.Turns.{IsBehind};
 use crate::pool::Follows;
 use crate::turn::{Turn, take_turn};
 use crossbeam_channel::{Receiver, TryRecvError};
-use front::Keeper;
+use front::{Keeper, KeeperName, Place};
 use names::{Refusal, State};
-use published::{Naming, Session};
+use published::Session;
 use std::sync::Wait;
 use tables::Tables;
 
-/// A keeper, a session of its own, and what wakes it.
+/// A keeper, a session and a place of its own, and what wakes it.
 #[derive(Drop)]
-pub(crate) struct Indexer<'k, T: Tables + Drop, J: Naming, H: Wait + Drop> {
+pub(crate) struct Indexer<'k, T: Tables + Drop, J: KeeperName<T>, H: Wait + Drop> {
     keeper: &'k Keeper<T, J, H>,
     session: Session,
+    place: Place<'k, J>,
     woken: Receiver<()>,
     ghost of_book: { session.book ≡ J.book },
 }
 
-impl<'k, T: Tables + Drop, J: Naming, H: Wait + Drop> Indexer<'k, T, J, H> {
+impl<'k, T: Tables + Drop, J: KeeperName<T>, H: Wait + Drop> Indexer<'k, T, J, H> {
     /// One that looks after its keeper whenever it is woken. It is refused where all sessions have been given out.
     pub(crate) fn new<R: Wait>(
         rt: &R,
@@ -31,10 +32,11 @@ impl<'k, T: Tables + Drop, J: Naming, H: Wait + Drop> Indexer<'k, T, J, H> {
     ) -> Result<Indexer<'k, T, J, H>, Refusal>
         ensures { IfErr result (λ why. why ≡ NoSeat) }
     {
-        let session = keeper.hold(rt).session()?;
+        let (session, place) = keeper.session(rt)?;
         Ok(Indexer {
             keeper,
             session,
+            place,
             woken,
         })
     }
@@ -47,12 +49,17 @@ impl<'k, T: Tables + Drop, J: Naming, H: Wait + Drop> Indexer<'k, T, J, H> {
             Ok(state) if is_behind(&state) => {}
             _ => return false,
         }
-        let taken = take_turn(&mut self.keeper.hold(rt), &mut self.session);
+        let taken = take_turn(
+            rt,
+            &mut self.keeper.hold(rt),
+            &mut self.place,
+            &mut self.session,
+        );
         may_go_on(&taken)
     }
 }
 
-impl<'k, T: Tables + Drop, J: Naming, H: Wait + Drop> Follows for Indexer<'k, T, J, H> {
+impl<'k, T: Tables + Drop, J: KeeperName<T>, H: Wait + Drop> Follows for Indexer<'k, T, J, H> {
     ghost use Rattle.published.specs.Known.{Begins};
 
     // Its session knows all that it knew.

@@ -5,10 +5,9 @@ ghost use Rattle.names.specs.declared.refusal.Refusal.TheVariants.{Memory, NoSea
 use crate::indexer::Indexer;
 use crate::pool::serve_and_follow;
 use crate::worker::Worker;
-use front::{Counted, Front, Gate, Keeper, Locked, Waking};
+use front::{Counted, Front, Gate, Keeper, KeeperName, Locked, Waking};
 use http_api::routes;
 use names::Refusal;
-use published::Naming;
 use std::alloc::Global;
 use std::net::TcpListener;
 use std::sync::Wait;
@@ -27,7 +26,7 @@ use tables::Tables;
 pub fn run<
     R: Threads + Wait + Clock + Sync,
     T: Tables + Drop + Send,
-    J: Naming + Send,
+    J: KeeperName<T> + Send + Sync,
     H: Wait + Drop + Send,
     G: Gate + Sync,
 >(

@@ -7,9 +7,9 @@ ghost use Rattle.desk.specs.Posts.{shown_by};
 ghost use Rattle.front.specs.Kept.{KnowsMore};
 ghost use Rattle.server.specs.Turns.{TakesTurn, TurnRefused};
 
-use front::KeptDesk;
+use front::{KeeperName, KeptDesk, Place};
 use names::{Part, Refusal};
-use published::{Naming, Receipt, Session};
+use published::{Receipt, Session};
 use std::sync::Wait;
 use tables::Tables;
 
@@ -26,8 +26,10 @@ pub struct Turn {
 
 /// Has each part take 16 commits more, or as many as there are, the index first. The session then knows all that is shown,
 /// however the turn ends. The caller holds the desk, and holds it no longer than this.
-pub fn take_turn<T: Tables + Drop, J: Naming, R: Wait + Drop>(
+pub fn take_turn<T: Tables + Drop, J: KeeperName<T>, R: Wait + Drop, W: Wait>(
+    rt: &W,
     desk: &mut KeptDesk<T, J, R>,
+    place: &mut Place<'_, J>,
     session: &mut Session,
 ) -> Result<Turn, Refusal>
     requires { session.old.book ≡ J.book }
@@ -42,8 +44,8 @@ pub fn take_turn<T: Tables + Drop, J: Naming, R: Wait + Drop>(
     ensures kept { KnowsMore session.old session.new }
     ensures known { Begins (shown_by desk.new) session.new }
 {
-    let taken = take_both(desk);
-    let receipt = desk.refresh(session);
+    let taken = take_both(rt, desk, place);
+    let receipt = desk.refresh(rt, place, session);
     match taken {
         Ok((index, hot)) => Ok(Turn {
             index,
@@ -55,15 +57,17 @@ pub fn take_turn<T: Tables + Drop, J: Naming, R: Wait + Drop>(
 }
 
 // The same, but for the session. It answers where the cursors are.
-fn take_both<T: Tables + Drop, J: Naming, R: Wait + Drop>(
+fn take_both<T: Tables + Drop, J: KeeperName<T>, R: Wait + Drop, W: Wait>(
+    rt: &W,
     desk: &mut KeptDesk<T, J, R>,
+    place: &mut Place<'_, J>,
 ) -> Result<(u64, u64), Refusal>
     ensures ok { IfOk result (λ cursors.
         (receipt : ReceiptFacts) × TakesTurn desk.old cursors.0 cursors.1 receipt desk.new) }
     ensures err { IfErr result (λ why. TurnRefused T.Tables desk.old why desk.new) }
     ensures seats { desk.new.seats ≡ desk.old.seats }
 {
-    let index = desk.catch_up(Part::Index, TURN_COMMITS)?;
-    let hot = desk.catch_up(Part::Hot, TURN_COMMITS)?;
+    let index = desk.catch_up(rt, place, Part::Index, TURN_COMMITS)?;
+    let hot = desk.catch_up(rt, place, Part::Hot, TURN_COMMITS)?;
     Ok((index.value, hot.value))
 }

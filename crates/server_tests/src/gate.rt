@@ -1,8 +1,8 @@
 //! Two connections, of which the call of one waits in the gate for the call of the other.
 ghost use Rattle.std.specs.Prelude.{◌≡◌};
+ghost use Rattle.desk.specs.Posts.{Posts};
 
-use front::{Gate, Keeper};
-use published::{Naming, Opened};
+use front::{Gate, Keeper, KeeperName, Opening};
 use server::run;
 use std::alloc::Global;
 use std::io::{Read, Write};
@@ -95,7 +95,7 @@ pub(crate) fn listen<R: Net<Listener = TcpListener, Stream = TcpStream>>(
 // Whether both connections are answered, and call 1 had not given up when call 2 left.
 fn serve_in_turn<
     T: Tables + Drop + Send,
-    J: Naming + Send,
+    J: KeeperName<T> + Send + Sync,
     H: Wait + Drop + Send,
     W: Threads + Wait + Clock + Net<Listener = TcpListener, Stream = TcpStream> + Sync,
 >(
@@ -120,13 +120,15 @@ fn serve_in_turn<
 
 fn serve_both<
     T: Tables + Drop + Send,
-    J: Naming + Send,
+    J: KeeperName<T> + Send + Sync,
     H: Wait + Drop + Send,
     W: Threads + Wait + Clock + Net<Listener = TcpListener, Stream = TcpStream> + Sync,
->(rt: &W, handle: H, alloc: Global, opened: Opened, tables: T) -> bool
-    requires { opened.book ≡ J.book }
+>(rt: &W, handle: H, alloc: Global, opening: Opening, tables: T) -> bool
+    requires book { opening.opened.book ≡ J.book }
+    requires history { opening.history ≡ J.table }
+    requires starts { (desk : Posts T) → J.starts desk }
 {
-    let Ok(keeper) = Keeper::<T, J, H>::open(alloc, handle, opened, tables) else {
+    let Ok(keeper) = Keeper::<T, J, H>::open(alloc, handle, opening, tables) else {
         return false;
     };
     match listen(rt) {
@@ -138,6 +140,12 @@ fn serve_both<
 #[test]
 fn a_call_may_wait_for_one_of_another_worker(rt: HostRuntime) {
     let tables = Listed::new(rt.alloc(), 1);
-    let both = serve_both::<Listed, Brand, _, _>(&rt, &rt, rt.alloc(), Opened::new(), tables);
+    let both = serve_both::<Listed, Brand, _, _>(
+        &rt,
+        &rt,
+        rt.alloc(),
+        Opening::new(rt.alloc()).expect(&rt, "memory"),
+        tables,
+    );
     assert!(rt; both);
 }

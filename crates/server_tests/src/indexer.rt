@@ -1,9 +1,9 @@
 //! What is written over a connection is read by the index and the hot table, and nobody asks them to.
 ghost use Rattle.std.specs.Prelude.{◌≡◌};
+ghost use Rattle.desk.specs.Posts.{Posts};
 
 use crate::gate::listen;
-use front::{Gate, Keeper};
-use published::{Naming, Opened};
+use front::{Gate, Keeper, KeeperName, Opening};
 use server::run;
 use std::alloc::Global;
 use std::io::{Read, Write};
@@ -135,7 +135,7 @@ fn is_caught_up_in_the_end<R: Clock + Net<Stream = TcpStream>>(
 
 fn serve<
     T: Tables + Drop + Send,
-    J: Naming + Send,
+    J: KeeperName<T> + Send + Sync,
     H: Wait + Drop + Send,
     W: Threads + Wait + Clock + Net<Listener = TcpListener, Stream = TcpStream> + Sync,
 >(
@@ -158,13 +158,15 @@ fn serve<
 
 fn serve_and_write<
     T: Tables + Drop + Send,
-    J: Naming + Send,
+    J: KeeperName<T> + Send + Sync,
     H: Wait + Drop + Send,
     W: Threads + Wait + Clock + Net<Listener = TcpListener, Stream = TcpStream> + Sync,
->(rt: &W, handle: H, alloc: Global, opened: Opened, tables: T) -> bool
-    requires { opened.book ≡ J.book }
+>(rt: &W, handle: H, alloc: Global, opening: Opening, tables: T) -> bool
+    requires book { opening.opened.book ≡ J.book }
+    requires history { opening.history ≡ J.table }
+    requires starts { (desk : Posts T) → J.starts desk }
 {
-    let Ok(keeper) = Keeper::<T, J, H>::open(alloc, handle, opened, tables) else {
+    let Ok(keeper) = Keeper::<T, J, H>::open(alloc, handle, opening, tables) else {
         return false;
     };
     match listen(rt) {
@@ -180,7 +182,7 @@ fn the_parts_read_what_is_written(rt: HostRuntime) {
         &rt,
         &rt,
         rt.alloc(),
-        Opened::new(),
+        Opening::new(rt.alloc()).expect(&rt, "memory"),
         tables,
     );
     assert!(rt; caught_up);

@@ -1,17 +1,18 @@
 //! Sessions in threads, beside a writer.
 ghost use Rattle.std.specs.Prelude.{◌≡◌};
+ghost use Rattle.desk.specs.Posts.{Posts};
 
-use front::{Front, Keeper};
+use front::{Front, Keeper, KeeperName, Opening};
 use keeper::question_of;
 use names::{Call, Refusal, Reply};
-use published::{Naming, Opened, Session};
+use published::Session;
 use shown::{Question, Told as Answered};
 use std::alloc::{AllocError, Global};
 use std::sync::Wait;
 use std::sync::atomic::{AtomicBool, Ordering};
 use std::thread::{Threads, join, map_vec};
 use std::time::{Clock, CpuClock, Duration, Instant};
-use tables::Listed;
+use tables::Tables;
 
 /// The most writes beside the sessions.
 const WRITES: u32 = 1_000_000;
@@ -169,10 +170,10 @@ fn visit(alloc: Global, number: u32) -> Result<String, AllocError> {
 }
 
 // Writes one tuple a commit until the sessions are done.
-fn write_until<J: Naming, H: Wait + Drop, W: Wait + CpuClock>(
+fn write_until<T: Tables + Drop, J: KeeperName<T>, H: Wait + Drop, W: Wait + CpuClock>(
     rt: &W,
     alloc: Global,
-    front: &mut Front<'_, Listed, J, H>,
+    front: &mut Front<'_, T, J, H>,
     done: &AtomicBool,
 ) -> Result<Writes, AllocError> {
     let began = processor_of(rt);
@@ -196,9 +197,9 @@ fn write_until<J: Naming, H: Wait + Drop, W: Wait + CpuClock>(
 }
 
 // Has the changes among the lines made.
-fn take<J: Naming, H: Wait + Drop, W: Wait>(
+fn take<T: Tables + Drop, J: KeeperName<T>, H: Wait + Drop, W: Wait>(
     rt: &W,
-    front: &mut Front<'_, Listed, J, H>,
+    front: &mut Front<'_, T, J, H>,
     lines: &str,
 ) -> Result<(), Refusal> {
     for line in lines.lines() {
@@ -217,15 +218,15 @@ fn take<J: Naming, H: Wait + Drop, W: Wait>(
     Ok(())
 }
 
-fn askers_of<J: Naming, H: Wait + Drop, W: Wait>(
+fn askers_of<T: Tables + Drop, J: KeeperName<T>, H: Wait + Drop, W: Wait>(
     rt: &W,
     alloc: Global,
-    keeper: &Keeper<Listed, J, H>,
+    keeper: &Keeper<T, J, H>,
     sessions: u32,
 ) -> Result<Vec<Asker>, Refusal> {
     let mut askers = Vec::new(alloc);
     for number in 0..sessions {
-        let session = keeper.hold(rt).session()?;
+        let (session, _) = keeper.session(rt)?;
         let first = number as usize * 1_000;
         askers.push(Asker {
             alloc,
@@ -236,16 +237,22 @@ fn askers_of<J: Naming, H: Wait + Drop, W: Wait>(
     Ok(askers)
 }
 
-fn ask_beside<J: Naming, H: Wait + Drop, W: Threads + Wait + Clock + CpuClock + Sync>(
+fn ask_beside<
+    T: Tables + Drop,
+    J: KeeperName<T>,
+    H: Wait + Drop,
+    W: Threads + Wait + Clock + CpuClock + Sync,
+>(
     rt: &W,
     alloc: Global,
-    keeper: &Keeper<Listed, J, H>,
+    keeper: &Keeper<T, J, H>,
     lines: &str,
     asked: Asked,
 ) -> Result<Told, Refusal> {
     let mut front = Front::new(alloc, rt, keeper)?;
     take(rt, &mut front, lines)?;
-    let tuples = keeper.hold(rt).session()?.state()?.tuples;
+    let (mut session, _) = keeper.session(rt)?;
+    let tuples = session.state()?.tuples;
     let askers = askers_of(rt, alloc, keeper, asked.sessions)?;
     let questions = asked.questions;
     let done = AtomicBool::new(!asked.beside_a_writer);
@@ -263,18 +270,25 @@ fn ask_beside<J: Naming, H: Wait + Drop, W: Threads + Wait + Clock + CpuClock + 
 
 /// Fills a store by the lines that are changes, and asks it the others. It owns the lines, since a call that picks the name of a
 /// book is passed no `&str`.
-pub(crate) fn run<J: Naming, H: Wait + Drop, W: Threads + Wait + Clock + CpuClock + Sync>(
+pub(crate) fn run<
+    T: Tables + Drop,
+    J: KeeperName<T>,
+    H: Wait + Drop,
+    W: Threads + Wait + Clock + CpuClock + Sync,
+>(
     rt: &W,
     handle: H,
     alloc: Global,
-    opened: Opened,
+    opening: Opening,
+    tables: T,
     lines: String,
     asked: Asked,
 ) -> Result<Told, Refusal>
-    requires { opened.book ≡ J.book }
+    requires book { opening.opened.book ≡ J.book }
+    requires history { opening.history ≡ J.table }
+    requires starts { (desk : Posts T) → J.starts desk }
 {
-    let tables = Listed::new(alloc, 1);
-    let Ok(keeper) = Keeper::<Listed, J, H>::open(alloc, handle, opened, tables) else {
+    let Ok(keeper) = Keeper::<T, J, H>::open(alloc, handle, opening, tables) else {
         return Err(Refusal::Memory);
     };
     ask_beside(rt, alloc, &keeper, lines.as_str(), asked)

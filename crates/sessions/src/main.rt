@@ -7,14 +7,15 @@
 mod asking;
 
 use asking::{Asked, Count, Told, run};
+use front::Opening;
 use names::Refusal;
-use published::Opened;
 use std::io;
 use std::marker::Brand;
 use std::process::ExitCode;
 use std::sync::Wait;
 use std::thread::Threads;
 use std::time::{Clock, CpuClock};
+use tables::Listed;
 
 fn main(rt: HostRuntime) -> ExitCode {
     let status = match start(&rt, &rt, &rt) {
@@ -48,7 +49,15 @@ fn start<H: Wait + Drop, W: Threads + Wait + Clock + CpuClock + Sync>(
     let Ok(lines) = io::read_to_string(rt.alloc(), rt.reader()) else {
         return Err(Refusal::Memory);
     };
-    let told = run::<Brand, _, _>(threads, wait, rt.alloc(), Opened::new(), lines, asked)?;
+    let told = run::<_, Brand, _, _>(
+        threads,
+        wait,
+        rt.alloc(),
+        Opening::new(rt.alloc())?,
+        Listed::new(rt.alloc(), 1),
+        lines,
+        asked,
+    )?;
     let printed = tell(rt, asked, &told, time).is_ok();
     Ok(printed && told.count.refused == 0 && !told.count.went_back && !told.writes.refused)
 }

@@ -1,11 +1,12 @@
 //! Listening for connections, and serving them by many workers.
 ghost use Rattle.std.specs.Prelude.{◌≡◌, ◌≢◌, true, false, IfErr, OnOk};
+ghost use Rattle.desk.specs.Posts.{OpensWith, Posts};
 ghost use Rattle.zanz.specs.Listening.{Announced, StoppedServing};
 
 use crate::listening::listen;
 use command_line::Fault;
-use front::{Gate, Keeper};
-use published::{Naming, Opened};
+use front::{Gate, Keeper, KeeperName, Opening};
+use names::Refusal;
 use server::run;
 use sqlite::Alter;
 use std::alloc::Global;
@@ -38,20 +39,22 @@ impl Gate for AlwaysOpen {
 fn serve_by_many<
     N: Net<Listener = TcpListener, Stream = TcpStream> + Threads + Wait + Clock + Sync,
     T: Tables + Drop + Send,
-    J: Naming + Send,
+    J: KeeperName<T> + Send + Sync,
     H: Wait + Drop + Send,
     W: Write,
 >(
     alloc: Global,
     net: &N,
     wait: H,
-    opened: Opened,
+    opening: Opening,
     tables: T,
     port: u16,
     workers: usize,
     writer: &mut TrackedWriter<W>,
 ) -> Result<(), Fault>
-    requires book { opened.book ≡ J.book }
+    requires book { opening.opened.book ≡ J.book }
+    requires history { opening.history ≡ J.table }
+    requires starts { (desk : Posts T) → OpensWith T.Tables tables desk → J.starts desk }
     requires unbroken_writer { writer.old.failed ≡ false }
     ensures ok { OnOk result (Announced port writer.old writer.new) }
     ensures whole { OnOk result ((writer.new.failed ≡ false) × (writer.new.flushed ≡ true)) }
@@ -59,7 +62,7 @@ fn serve_by_many<
 
     ensures failed { IfErr result (λ fault. StoppedServing port fault writer.old writer.new) }
 {
-    let keeper = match Keeper::<T, J, H>::open(alloc, wait, opened, tables) {
+    let keeper = match Keeper::<T, J, H>::open(alloc, wait, opening, tables) {
         Ok(keeper) => keeper,
         Err((why, _)) => return Err(Fault::Refused(why)),
     };
@@ -92,9 +95,11 @@ pub fn share<
     ensures line { IfErr result (λ fault. fault ≢ Fault.CommandLine) }
     ensures failed { IfErr result (λ fault. StoppedServing port fault writer.old writer.new) }
 {
-    let opened = Opened::new();
+    let Ok(opening) = Opening::new(alloc) else {
+        return Err(Fault::Refused(Refusal::Memory));
+    };
     let workers = workers as usize;
-    serve_by_many::<N, T, Brand, H, W>(alloc, net, wait, opened, tables, port, workers, writer)
+    serve_by_many::<N, T, Brand, H, W>(alloc, net, wait, opening, tables, port, workers, writer)
 }
 
 /// The same from tables over a database connection.

@@ -1,4 +1,11 @@
+use Rattle.desk.specs.Posts.{OpensWith}
 use Rattle.zanz.proofs.sharing.share.Given as goal
 
-abbrev pub ghosts-serve_by_many : goal.ghosts-serve_by_many
-ghosts-serve_by_many g a = record { book = a.opened.book }
+abbrev pub ghosts-serve_by_many-J-Naming : goal.ghosts-serve_by_many-J-Naming
+ghosts-serve_by_many-J-Naming g a = record { book = a.opening.opened.book }
+
+abbrev pub ghosts-serve_by_many-J-HistoryName : goal.ghosts-serve_by_many-J-HistoryName
+ghosts-serve_by_many-J-HistoryName g a = record { table = a.opening.history }
+
+abbrev pub ghosts-serve_by_many-J-KeeperName : goal.ghosts-serve_by_many-J-KeeperName
+ghosts-serve_by_many-J-KeeperName g a = record { starts = OpensWith g.T.Tables a.tables }

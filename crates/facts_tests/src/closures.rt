@@ -1,0 +1,93 @@
+//! To which groups a group leads, before commits and after them, and from a new base on.
+
+use crate::groups::{add, are_nodes, events_of, fill};
+use delta::Layer;
+use names::{Event, Node, Refusal};
+use rows::Rows;
+use std::alloc::Global;
+use std::test::Fail;
+
+// A chain of three groups, with a user at its end.
+const CHAIN: &str =
+    "group:a#member@group:b#member group:b#member@group:c#member group:c#member@user:ann";
+
+const ALL: &str = "group:a#member group:b#member group:c#member";
+
+const FIRST_TWO: &str = "group:a#member group:b#member";
+
+// Whether the group leads to these, in any order.
+fn leads_to(
+    alloc: Global,
+    layer: &Layer,
+    group: &str,
+    rev: u64,
+    groups: &str,
+) -> Result<bool, Refusal> {
+    let group = Node::parse(group)?;
+    let found = layer.closure_at(alloc, &group, rev)?;
+    are_nodes(&found, groups)
+}
+
+fn takes(alloc: Global, rows: &Rows, layer: &mut Layer, events: &[Event]) -> Result<(), Refusal> {
+    if layer.cursor() < u64::MAX {
+        layer.take(alloc, events, &rows.at(rows.newest()))?;
+        return Ok(());
+    }
+    Err(Refusal::Malformed)
+}
+
+// The history and the layer take a commit of these words.
+fn take(alloc: Global, rows: &mut Rows, layer: &mut Layer, words: &str) -> Result<(), Refusal> {
+    add(alloc, rows, words)?;
+    let events = events_of(alloc, words)?;
+    takes(alloc, rows, layer, events.as_slice())
+}
+
+// The chain is cut in its middle, and then its end is put before its beginning.
+fn follow(alloc: Global, rows: &mut Rows, layer: &mut Layer) -> Result<(), Refusal> {
+    take(alloc, rows, layer, "-group:b#member@group:c#member")?;
+    take(alloc, rows, layer, "group:c#member@group:a#member")
+}
+
+fn tells_each_revision(alloc: Global, layer: &Layer) -> Result<bool, Refusal> {
+    for (group, rev, groups) in [
+        ("group:a#member", 2, ALL),
+        ("group:c#member", 2, "group:c#member"),
+        ("group:a#member", 3, FIRST_TWO),
+        ("group:c#member", 4, ALL),
+    ] {
+        if !leads_to(alloc, layer, group, rev, groups)? {
+            return Ok(false);
+        }
+    }
+    Ok(layer.base() == 2 && layer.cursor() == 4)
+}
+
+// What was noted later than a new base is kept.
+fn begins_later(alloc: Global, rows: &Rows, layer: &mut Layer) -> Result<bool, Refusal> {
+    layer.rebase(alloc, &rows.at(rows.newest()), 3)?;
+    let kept = leads_to(alloc, layer, "group:a#member", 3, FIRST_TWO)?;
+    Ok(kept && layer.base() == 3 && layer.cursor() == 4)
+}
+
+fn keeps_closures(alloc: Global, rows: &mut Rows, layer: &mut Layer) -> Result<bool, Refusal> {
+    follow(alloc, rows, layer)?;
+    Ok(tells_each_revision(alloc, layer)? && begins_later(alloc, rows, layer)?)
+}
+
+fn has_a_layer(alloc: Global, rows: &mut Rows) -> Result<bool, Refusal> {
+    fill(alloc, rows, CHAIN)?;
+    let mut layer = Layer::restart(alloc, &rows.at(rows.newest()), 2)?;
+    keeps_closures(alloc, rows, &mut layer)
+}
+
+fn closures_are_kept(alloc: Global) -> Result<bool, Refusal> {
+    let mut rows = Rows::empty(alloc);
+    has_a_layer(alloc, &mut rows)
+}
+
+#[test]
+fn closures_are_told_at_each_revision(rt: HostRuntime) -> Result<(), Fail> {
+    assert!(rt; closures_are_kept(rt.alloc())?);
+    Ok(())
+}

@@ -1,5 +1,0 @@
-use Rattle.std.proofs.Common.{length}
-use Rattle.region_tests.proofs.table.+told_of.Given as goal
-
-abbrev pub decreases-told_of : goal.decreases-told_of
-decreases-told_of l = length l.known.now
