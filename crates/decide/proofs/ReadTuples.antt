@@ -11,7 +11,10 @@ use Rattle.names.specs.declared.node.Node.{Node}
 use Rattle.names.specs.declared.subject.Subject.{Subject}
 use Rattle.names.specs.declared.tuple.Tuple.{Tuple}
 use Rattle.meaning.specs.Snap.{one}
-use Rattle.tuple_keys.specs.Named.{is_at, is_of, user_tuple}
+use Rattle.names.specs.Names.{is_name}
+use Rattle.names.specs.Spelling.{IsTuple, IsSubject, IsNameOrNone}
+use Rattle.tuple_keys.specs.Named.{is_at, is_of, user_tuple, object_in, node_in}
+use Rattle.tuple_keys.specs.Spelled.{tuple_of, IsSpelling}
 use Rattle.tuple_keys.proofs.Spellings.{same_object}
 use Rattle.rows.proofs.Naming.{contains_kept, of_node, is_of_itself}
 use Rattle.decide.proofs.Elements.{contains_at}
@@ -99,3 +102,25 @@ each_at o ts i t are lt is = are t (contains_at ts i t (lt, sym is))
 pub some_kept_at : (o : Object) (all : List Tuple) (few : Option (Vec Tuple Global)) → IfSome few (λ v. v.items ≡ filter (is_at o) all) → IfSome few (λ v. AreAt o v.items)
 some_kept_at o all (Some v) is = kept_at o all v.items is
 some_kept_at o all None is = tt
+
+-- whom a tuple's text names is spelled
+pub subject_is : (text : List ℕ) (t : Tuple) → IsSpelling text → tuple_of text ≡ t → IsSubject t.subject
+subject_is text t spelling read = (subst IsTuple read spelling.is).1
+
+pub name_there : (s : Subject) (r : List ℕ) → IsSubject s → Some r ≡ s.relation → IsTrue (is_name r)
+name_there s r is there = subst IsNameOrNone (sym there) is.1
+
+-- what a subject names, by its relation
+pub named_one : (s : Subject) (o : Object) → o ≡ s.object → None ≡ s.relation → Some o ≡ object_in s
+named_one s o same none = ap₂ (λ (x : Object) (r : Option (List ℕ)). object_in (record { object = x; relation = r })) same none
+
+pub named_none : (s : Subject) (r : List ℕ) → Some r ≡ s.relation → None ≡ object_in s
+named_none s r there = ap (λ (x : Option (List ℕ)). object_in (record { object = s.object; relation = x })) there
+
+pub named_set : (s : Subject) (m : Node) (r : List ℕ) → m.object ≡ s.object → m.relation ≡ r → Some r ≡ s.relation → Some m ≡ node_in s
+named_set s m r object relation there =
+    ap₂ (λ (x : Object) (y : List ℕ). Some (record { object = x; relation = y })) object relation
+    ∙ ap (λ (x : Option (List ℕ)). node_in (record { object = s.object; relation = x })) there
+
+pub named_no_set : (s : Subject) → None ≡ s.relation → None ≡ node_in s
+named_no_set s none = ap (λ (x : Option (List ℕ)). node_in (record { object = s.object; relation = x })) none

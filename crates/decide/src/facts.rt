@@ -1,7 +1,8 @@
 //! What a question reads of a view. The tuples of an object stand together, and most objects have few: they are found
 //! once, for all of the object's relations, and borrowed; so are the objects that those of a tupleset name.
-ghost use Rattle.std.specs.Prelude.{◌≡◌, ◌<◌, ◌^◌, ◌↔◌, ◌++◌, ◌∷◌, [], Contains, IfOk, IfNone, IfSome, IsTrue, OnOk, filter, length, map};
+ghost use Rattle.std.specs.Prelude.{◌≡◌, ◌<◌, ◌^◌, ◌↔◌, ◌++◌, ◌∷◌, [], Contains, IfOk, IfNone, IfSome, IsTrue, OnOk, filter, length, map, slice_index_or};
 ghost use Rattle.config.specs.Places.{StandsAt};
+ghost use Rattle.config_text.specs.declared.relation.Relation.{Relation};
 ghost use Rattle.meaning.specs.Config.{Has, IsAt, rel_of};
 ghost use Rattle.meaning.specs.Membership.{HasOne, HasSet};
 ghost use Rattle.meaning.specs.Snap.{Snap};
@@ -17,7 +18,7 @@ ghost use Rattle.decide.specs.inside.Reads.{AreNodesOf, node_with};
 use crate::numbers::{Numbers, key_of_object};
 use crate::read_tuple::{ReadTuple, read_tuples};
 use config::Config;
-use config_text::Rewrite;
+use config_text::{Relation, Rewrite};
 use names::{Name, Node, Object};
 use rows::View;
 use std::alloc::{AllocError, Global};
@@ -25,6 +26,9 @@ use std::marker::Model;
 
 /// So many tuples of an object are few.
 const FEW: usize = 8;
+
+/// So many relations are gone over, one after the other.
+const FIRST: usize = 16;
 
 /// What was read of an object: its tuples, where they are few, and the objects that those of a tupleset name.
 #[derive(Drop)]
@@ -162,7 +166,10 @@ impl<'a> Facts<'a> {
         ensures some { IfSome result (StandsAt self.now.config (rel_of node.now)) }
         ensures none { IfNone result (Has self.now.config (rel_of node.now) → ⊥) }
     {
-        self.config.place_of(node)
+        match first_place(self.config.relations(), node) {
+            Some(place) => Some(place),
+            None => self.config.place_of(node),
+        }
     }
 
     /// The level of the relation at a place.
@@ -238,6 +245,26 @@ impl<'a> Facts<'a> {
         let nodes = nodes_of(self.alloc, &objects, relation)?;
         Ok(nodes)
     }
+}
+
+/// Where the node's relation stands, if it is one of the first: most configurations have few others, and most names are
+/// told apart by their lengths.
+fn first_place(relations: &[Relation], node: &Node) -> Option<usize>
+    ensures { IfSome result (λ i. (i < length relations.now)
+        × ((r : Relation) → (slice_index_or relations.now i r).name ≡ rel_of node.now)) }
+{
+    for place in 0..relations.len().min(FIRST) {
+        if has_name_of(&relations[place], node) {
+            return Some(place);
+        }
+    }
+    None
+}
+
+fn has_name_of(relation: &Relation, node: &Node) -> bool
+    ensures { IsTrue result → relation.now.name ≡ rel_of node.now }
+{
+    relation.name.relation == node.relation && relation.name.namespace == node.object.namespace
 }
 
 /// The nodes of the relation of the objects.
@@ -398,7 +425,7 @@ fn push_node(nodes: &mut Vec<Node>, tuple: &ReadTuple<'_>, node: &Node) -> Resul
     ensures { OnOk result (nodes.new.items ≡ nodes.old.items ++ nodes_in (filter (is_of node.now) (tuple.now ∷ []))) }
 {
     if tuple.is_of(node) {
-        if let Some(named) = tuple.subject().node() {
+        if let Some(named) = tuple.named_node() {
             nodes.push(named)?;
         }
     }
@@ -431,9 +458,8 @@ fn push_object(
     ensures { OnOk result (objects.new.items ≡ objects.old.items ++ objects_in (filter (is_of node.now) (tuple.now ∷ []))) }
 {
     if tuple.is_of(node) {
-        let subject = tuple.subject();
-        if subject.relation().is_none() {
-            objects.push(subject.object())?;
+        if let Some(named) = tuple.named_object() {
+            objects.push(named)?;
         }
     }
     Ok(())

@@ -5,6 +5,7 @@
 #![tactic(auto)]
 
 mod asking;
+mod cuts;
 mod deciding;
 mod facts;
 mod law;
@@ -13,6 +14,7 @@ mod oracle;
 mod read_tuple;
 mod rewrites;
 mod search;
+mod waiting;
 
 pub use deciding::check_at;
 pub use law::there_is_one_answer;

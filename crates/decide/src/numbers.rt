@@ -1,13 +1,16 @@
 //! Numbers, found by a hash of texts.
-ghost use Rattle.std.specs.Prelude.{◌≡◌, ◌<◌, IfOk, OnOk, length};
+ghost use Rattle.std.specs.Prelude.{◌≡◌, ◌<◌, ◌≤◌, ◌+◌, IfOk, OnOk, length};
 
 use names::{Node, Object};
 use std::alloc::{AllocError, Global};
 
 /// So many slots a table has at first.
-const ROOM: usize = 32;
+const ROOM: usize = 64;
 
-/// A number under its key.
+/// The number of a slot that is free.
+const FREE: usize = usize::MAX;
+
+/// A number under its key, or a slot that is free.
 #[derive(Clone, Copy, Drop)]
 struct Entry {
     key: u64,
@@ -16,11 +19,11 @@ struct Entry {
 
 /// A number for each key. The key of a node, or of an object, is a hash of its texts or the next one that was
 /// free: who finds a number sees whose it is. An entry stands in the slot of its key, or in the next one that was
-/// free; at least half of the slots are.
+/// free; at least a quarter of the slots are.
 #[derive(Drop)]
 pub(crate) struct Numbers {
     alloc: Global,
-    slots: Vec<Option<Entry>>,
+    slots: Vec<Entry>,
     taken: usize,
 }
 
@@ -37,14 +40,15 @@ impl Numbers {
         if self.slots.is_empty() {
             return None;
         }
-        match self.slots[slot_of(&self.slots, key)] {
-            Some(entry) if entry.key == key => Some(entry.number),
-            _ => None,
+        let entry = self.slots[slot_of(&self.slots, key)];
+        if entry.number == FREE || entry.key != key {
+            return None;
         }
+        Some(entry.number)
     }
 
     pub(crate) fn insert(&mut self, key: u64, number: usize) -> Result<(), AllocError> {
-        if self.taken >= self.slots.len() / 2 {
+        if self.taken >= self.slots.len() / 4 * 3 {
             self.grow()?;
         }
         put(&mut self.slots, Entry { key, number });
@@ -59,8 +63,8 @@ impl Numbers {
     {
         let room = self.slots.len().saturating_mul(4).max(ROOM);
         let mut slots = free_slots(self.alloc, room)?;
-        for slot in &self.slots {
-            if let Some(entry) = slot {
+        for entry in &self.slots {
+            if entry.number != FREE {
                 put(&mut slots, *entry);
             }
         }
@@ -69,39 +73,41 @@ impl Numbers {
     }
 }
 
-fn free_slots(alloc: Global, room: usize) -> Result<Vec<Option<Entry>>, AllocError>
+fn free_slots(alloc: Global, room: usize) -> Result<Vec<Entry>, AllocError>
     ensures { IfOk result (λ v. length v.items ≡ room) }
 {
-    let mut slots = Vec::with_capacity(alloc, room)?;
-    for _ in 0..room {
-        slots.push(None)?;
-    }
+    let mut slots = Vec::new(alloc);
+    let free = Entry {
+        key: 0,
+        number: FREE,
+    };
+    slots.resize(room, free)?;
     Ok(slots)
 }
 
 /// The slot that has the key, or else one that is free for it, if there is one.
-fn slot_of(slots: &[Option<Entry>], key: u64) -> usize
+fn slot_of(slots: &[Entry], key: u64) -> usize
     requires { 0 < length slots.now }
     ensures { result < length slots.now }
 {
     let count = slots.len();
-    let mut at = key as usize % count;
+    let mut at = key as usize & (count - 1);
     for _ in 0..count {
-        match slots[at] {
-            Some(entry) if entry.key != key => {}
-            _ => return at,
+        let entry = &slots[at];
+        if entry.key == key || entry.number == FREE {
+            return at;
         }
         at = if at + 1 < count { at + 1 } else { 0 };
     }
     at
 }
 
-fn put(slots: &mut Vec<Option<Entry>>, entry: Entry)
+fn put(slots: &mut Vec<Entry>, entry: Entry)
     requires { 0 < length slots.old.items }
     ensures { length slots.new.items ≡ length slots.old.items }
 {
     let at = slot_of(slots, entry.key);
-    slots[at] = Some(entry);
+    slots[at] = entry;
 }
 
 /// The key of a node, unless another node has it.
@@ -115,14 +121,15 @@ pub(crate) fn key_of_object(object: &Object) -> u64 {
 }
 
 /// So many kinds of relations are told apart.
-pub(crate) const KINDS: usize = 16;
+pub(crate) const KINDS: usize = 64;
 
 /// A number for the node's relation, which a few others may have.
 pub(crate) fn kind_of(node: &Node) -> usize
-    ensures { result < 16 }
+    ensures { result < 64 }
 {
     let relation = node.relation.as_str();
-    (relation.len() ^ first_byte(relation) ^ first_byte(node.object.namespace.as_str())) % KINDS
+    let namespace = first_byte(node.object.namespace.as_str()).wrapping_mul(5);
+    (relation.len() ^ first_byte(relation) ^ namespace) % KINDS
 }
 
 fn first_byte(text: &str) -> usize {
@@ -132,10 +139,58 @@ fn first_byte(text: &str) -> usize {
     }
 }
 
-/// FNV-1a's step for each byte.
-fn mixed(mut hash: u64, text: &str) -> u64 {
-    for byte in text.as_bytes() {
-        hash = (hash ^ *byte as u64).wrapping_mul(0x0000_0100_0000_01b3);
+/// The hash with a text, eight bytes a step.
+fn mixed(hash: u64, text: &str) -> u64 {
+    let bytes = text.as_bytes();
+    let count = bytes.len();
+    let mut hash = hash ^ count as u64;
+    if count < 8 {
+        return stepped(hash, short(bytes));
     }
-    hash
+    for i in 0..count / 8 {
+        hash = stepped(hash, eight(bytes, 8 * i));
+    }
+    stepped(hash, eight(bytes, count - 8))
+}
+
+/// A product's upper half has all bits of the word.
+fn stepped(hash: u64, word: u64) -> u64 {
+    let product = (hash ^ word).wrapping_mul(0x9e37_79b9_7f4a_7c15);
+    product ^ (product >> 32)
+}
+
+/// The bytes of a text that has fewer than eight.
+fn short(bytes: &[u8]) -> u64
+    requires { length bytes.now < 8 }
+{
+    let count = bytes.len();
+    if count >= 4 {
+        return (four(bytes, 0) << 32) ^ four(bytes, count - 4);
+    }
+    let mut word = 0u64;
+    for byte in bytes {
+        word = word.rotate_left(8) ^ *byte as u64;
+    }
+    word
+}
+
+fn four(bytes: &[u8], i: usize) -> u64
+    requires { i + 4 ≤ length bytes.now }
+{
+    u32::from_le_bytes([bytes[i], bytes[i + 1], bytes[i + 2], bytes[i + 3]]) as u64
+}
+
+fn eight(bytes: &[u8], i: usize) -> u64
+    requires { i + 8 ≤ length bytes.now }
+{
+    u64::from_le_bytes([
+        bytes[i],
+        bytes[i + 1],
+        bytes[i + 2],
+        bytes[i + 3],
+        bytes[i + 4],
+        bytes[i + 5],
+        bytes[i + 6],
+        bytes[i + 7],
+    ])
 }

@@ -14,6 +14,7 @@ ghost use Rattle.decide.specs.inside.Reads.{AreOwn, AreParents};
 ghost use Rattle.decide.specs.inside.Running.{IsRunning};
 
 use crate::numbers::{KINDS, Numbers, key_of, kind_of};
+use crate::waiting::{Askers, Waiting};
 use names::{Name, Node};
 use std::alloc::{AllocError, Global};
 use std::mem::replace;
@@ -30,7 +31,7 @@ pub(crate) struct Opened {
     level: usize,
     place: usize,
     sure: bool,
-    waiting: Vec<usize>,
+    waiting: Waiting,
     own: Option<Vec<Node>>,
     parents: Option<Parents>,
 }
@@ -137,7 +138,9 @@ impl Search {
             level,
             place,
             sure: false,
-            waiting: Vec::new(self.alloc),
+            waiting: Waiting {
+                items: Askers::none(self.alloc),
+            },
             own: None,
             parents: None,
         })?;
@@ -239,10 +242,10 @@ impl Search {
         ensures running { OnOk result ((S : Snap) (u : Object) (but : Option ℕ) → asker < length self.old.opened.items
             → IsRunning S u self.old but → IsRunning S u self.new but) }
     {
-        if self.opened[number].waiting.contains(&asker) {
+        if self.opened[number].waiting.items.contains(asker) {
             return Ok(());
         }
-        self.opened[number].waiting.push(asker)?;
+        self.opened[number].waiting.items.add(asker)?;
         Ok(())
     }
 
@@ -278,13 +281,13 @@ impl Search {
         Ok(())
     }
 
-    fn wake_all(&mut self, waiting: &[usize]) -> Result<(), AllocError>
+    fn wake_all(&mut self, waiting: &Askers) -> Result<(), AllocError>
         requires { (w : ℕ) → Contains waiting.now w → (w < length self.old.opened.items) × IsThere self.old w }
         ensures opened { OnOk result (self.new.opened.items ≡ self.old.opened.items) }
         ensures wakes { OnOk result (Wakes self.old self.new waiting.now) }
     {
-        for asker in waiting {
-            self.wake(*asker)?;
+        for i in 0..waiting.len() {
+            self.wake(waiting.get(i))?;
         }
         Ok(())
     }
@@ -303,7 +306,10 @@ impl Search {
         ensures sures { OnOk result ((e : Opened) → Stands self.old number e → e.sure ≡ false
             → sures self.old < sures self.new) }
     {
-        let waiting = replace(&mut self.opened[number].waiting, Vec::new(self.alloc));
+        let waiting = replace(
+            &mut self.opened[number].waiting.items,
+            Askers::none(self.alloc),
+        );
         self.wake_all(&waiting)?;
         self.opened[number].sure = true;
         Ok(())

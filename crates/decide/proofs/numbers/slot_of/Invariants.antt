@@ -1,4 +1,4 @@
-use Rattle.std.proofs.Common.{◌<◌, length}
+use Rattle.std.proofs.Common.{◌<◌}
 use Rattle.decide.proofs.numbers.slot_of.Given as goal
 
 abbrev pub invariant-loop : goal.invariant-loop

@@ -1,4 +1,4 @@
-use Rattle.std.proofs.Common.{ap, sym, ◌∙◌}
+use Rattle.std.proofs.Common.{ap, ◌∙◌}
 use Rattle.names.specs.declared.tuple.Tuple.{Tuple}
 use Rattle.decide.proofs.ReadTuples.{of_relation}
 use Rattle.decide.proofs.read_tuple.ReadTuple.is_of.Goals as goal

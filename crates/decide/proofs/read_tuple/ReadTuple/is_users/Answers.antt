@@ -1,8 +1,4 @@
-use Rattle.std.proofs.Common.{ap, sym, subst, ◌≡◌, ◌∙◌}
-use Rattle.std.specs.Prelude.{◌↔◌, IsTrue}
-use Rattle.names.specs.declared.subject.Subject.{Subject}
-use Rattle.names.specs.declared.tuple.Tuple.{Tuple}
-use Rattle.meaning.specs.Snap.{one}
+use Rattle.std.proofs.Common.{sym, ◌∙◌}
 use Rattle.decide.proofs.ReadTuples.{of_user, of_another}
 use Rattle.decide.proofs.read_tuple.ReadTuple.is_users.Goals as goal
 
@@ -10,6 +6,4 @@ pub returns : goal.returns
 returns c = of_another c.args.node.now c.args.user.now c.args.self.now (sym c.is_of.ensures ∙ c.if-is_of.false)
 
 pub returns-then-is_of : goal.returns-then-is_of
-returns-then-is_of c =
-    of_user c.args.node.now c.args.user.now c.args.self.now c.is_one.result (sym c.is_of.ensures ∙ c.if-is_of.true)
-    (subst (λ (s : Subject). IsTrue c.is_one.result ↔ (s ≡ one c.args.user.now)) (c.self.invariant.1 ∙ ap (λ (t : Tuple). t.subject) c.self.view_is) c.is_one.ensures)
+returns-then-is_of c = of_user c.args.node.now c.args.user.now c.args.self.now c.is_one.result (sym c.is_of.ensures ∙ c.if-is_of.true) c.is_one.ensures

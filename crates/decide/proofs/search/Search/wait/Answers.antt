@@ -1,28 +1,27 @@
-use Rattle.std.proofs.Common.{rules, ◌≡◌, ◌++◌, ◌∷◌, [], true, ap, refl, sym, ◌∙◌, subst}
+use Rattle.std.proofs.Common.{◌≡◌, ◌++◌, ◌∷◌, [], ap, refl, sym, ◌∙◌, subst}
 use Rattle.std.proofs.lemmas.List.Elements.{Contains-append_left, Contains-push}
-use Rattle.std.specs.Prelude.{Contains, nat_eq}
+use Rattle.std.specs.Prelude.{Contains}
 use Rattle.decide.specs.declared.search.Opened.{Opened}
 use Rattle.decide.specs.inside.Searches.{IsMore}
-use Rattle.std.specs.List.{list_any}
-use Rattle.decide.proofs.Elements.{Holds, holds_same, holds_stored, contains_any}
+use Rattle.decide.proofs.Elements.{Holds, holds_same, holds_stored}
 use Rattle.decide.proofs.SearchLemmas.{grew_refl}
 use Rattle.decide.proofs.Replacing.{replaced_grew, waiting_running}
 use Rattle.decide.proofs.search.Search.wait.Goals as goal
-use Rattle.decide.proofs.search.Search.wait.Goals.{In_ok-push}
+use Rattle.decide.proofs.search.Search.wait.Goals.{In_ok-add}
 
-abbrev before : In_ok-push → Opened
+abbrev before : In_ok-add → Opened
 before c = c.index_mut.result.now
 
-abbrev after : In_ok-push → Opened
-after c = record { node = (before c).node; level = (before c).level; place = (before c).place; sure = (before c).sure; waiting = c.push.new.self; own = (before c).own; parents = (before c).parents }
+abbrev after : In_ok-add → Opened
+after c = record { node = (before c).node; level = (before c).level; place = (before c).place; sure = (before c).sure; waiting = record { items = c.add.new.self }; own = (before c).own; parents = (before c).parents }
 
-stood : (c : In_ok-push) → Holds c.args.self.now.opened.items c.args.number (before c)
+stood : (c : In_ok-add) → Holds c.args.self.now.opened.items c.args.number (before c)
 stood c = (c.requires, sym c.index_mut.ensures.value)
 
-pushed : (c : In_ok-push) → (after c).waiting.items ≡ (before c).waiting.items ++ c.args.asker ∷ []
-pushed c = c.in_ok-push.ensures.items
+pushed : (c : In_ok-add) → (after c).waiting.items ≡ (before c).waiting.items ++ c.args.asker ∷ []
+pushed c = c.in_ok-add.ensures
 
-more : (c : In_ok-push) → IsMore (before c) (after c)
+more : (c : In_ok-add) → IsMore (before c) (after c)
 more c = record {
   node = refl;
   level = refl;
@@ -57,5 +56,4 @@ returns-then-contains-clause-grew c = grew_refl c.args.self.now
 pub returns-then-contains-clause-waits : goal.returns-then-contains-clause-waits
 returns-then-contains-clause-waits c e at unsure =
     let same : c.index.result.now ≡ e = holds_same c.args.self.now.opened.items c.args.number c.index.result.now e (c.requires, sym c.index.ensures) at in
-    let all : list_any (λ y. nat_eq y c.args.asker) c.index.result.now.waiting.items ≡ true = search rules in
-    (c.args.number, e, at, refl, unsure, subst (λ (x : Opened). Contains x.waiting.items c.args.asker) same (contains_any c.index.result.now.waiting.items c.args.asker all))
+    (c.args.number, e, at, refl, unsure, subst (λ (x : Opened). Contains x.waiting.items c.args.asker) same (c.contains.ensures c.if-contains.true))
