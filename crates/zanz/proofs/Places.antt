@@ -1,5 +1,5 @@
 -- What ended, or was refused, at a place.
-use Rattle.std.proofs.Common.{◌≡◌, ℕ, List, Global, String, refl, sym, subst, inl, inr, arith}
+use Rattle.std.proofs.Common.{◌≡◌, ℕ, List, Global, String, refl, subst, inl, inr, arith}
 use Rattle.std.specs.Prelude.{Option, Some, None, Result, Ok, Err, IfOk, IsOkAnd}
 use Rattle.sqlite_disk.specs.declared.Disk as disk
 use Rattle.sqlite_wal.specs.Recovery.{Image}
@@ -19,6 +19,7 @@ use Rattle.runs.specs.Files.{Remains, IsFoundIn}
 use Rattle.runs.specs.Runs.{Ended}
 use Rattle.runs.specs.Over.{over, listed, BeginsIn, EndedOver, CannotBeginIn, LeavesRefusedIn, IsDeservedIn}
 use Rattle.zanz.specs.Ran.{Extent, ReadBy, AnsweredBy, RanAt, RefusedAt}
+use Rattle.zanz.specs.Worked.{place_in}
 
 -- what a run over files says of another thing that they hold
 abbrev pub Takes : {D : Type 0} {g : disk.Ghosts D} → Image → Option ℕ → Result (Unit {0}) Fault → Remains g → Type 0
@@ -60,54 +61,40 @@ module _ {R W D : Type 0} {g : disk.Ghosts D} (image : Image) (remaining : R →
   abbrev Ran : Extent → Remains g → Place → Type 0
   Ran extent left place = RanAt image extent place remaining (reader, writer) (reader_after, writer_after) left
 
-  pub ran_in_memory : (extent : Extent) (place : Place) (number : ℕ) (tables back : Retained) → place ≡ Memory number → tables ≡ empty_store number
-      → (input : List ℕ) × ReadBy extent remaining reader reader_after input × Ended listed tables input (AnsweredBy extent listed (reader, writer) input (reader_after, writer_after)) back → Ran extent (Err None) place
-  ran_in_memory extent place number tables back is empty h = subst (Ran extent (Err None)) (sym is) (record {
+  pub ran_in_memory : (extent : Extent) (number : ℕ) (tables back : Retained) → tables ≡ empty_store number
+      → (input : List ℕ) × ReadBy extent remaining reader reader_after input × Ended listed tables input (AnsweredBy extent listed (reader, writer) input (reader_after, writer_after)) back → Ran extent (Err None) (Memory number)
+  ran_in_memory extent number tables back empty h = record {
     input = h.0;
     read = h.1;
     ended = (refl, back, subst (λ (t : Retained). Ended listed t h.0 (AnsweredBy extent listed (reader, writer) h.0 (reader_after, writer_after)) back) empty h.2);
     began = tt;
     lasts = tt;
-  })
+  }
 
-  pub ran_in_new : (extent : Extent) (place : Place) (file : String Global) (number : ℕ) (told : Result (Unit {0}) Fault) (left : Remains g) → place ≡ New file number
-      → Takes image (Some number) told left → ¬ (told ≡ Err (Refused StoreFault)) → IfOk left (λ conn. Lasts sound_device (device_below over_files conn))
+  pub ran_in_file : (extent : Extent) (path : String Global) (store : Option ℕ) (told : Result (Unit {0}) Fault) (left : Remains g)
+      → Takes image store told left → ¬ (told ≡ Err (Refused StoreFault)) → IfOk left (λ conn. Lasts sound_device (device_below over_files conn))
       → (input : List ℕ) × ReadBy extent remaining reader reader_after input
-      × IsOkAnd left (EndedOver over_files (BeginsIn image (Some number)) input (AnsweredBy extent (over over_files) (reader, writer) input (reader_after, writer_after)))
-      → Ran extent left place
-  ran_in_new extent place file number told left is takes other lasts h =
-      subst (Ran extent left) (sym is) (record { input = h.0; read = h.1; ended = h.2; began = began image (Some number) told left takes other; lasts = lasts })
+      × IsOkAnd left (EndedOver over_files (BeginsIn image store) input (AnsweredBy extent (over over_files) (reader, writer) input (reader_after, writer_after)))
+      → Ran extent left (place_in path store)
+  ran_in_file extent path (Some number) told left takes other lasts h = record { input = h.0; read = h.1; ended = h.2; began = began image (Some number) told left takes other; lasts = lasts }
+  ran_in_file extent path None told left takes other lasts h = record { input = h.0; read = h.1; ended = h.2; began = began image None told left takes other; lasts = lasts }
 
-  pub ran_in_there : (extent : Extent) (place : Place) (file : String Global) (told : Result (Unit {0}) Fault) (left : Remains g) → place ≡ There file
-      → Takes image None told left → ¬ (told ≡ Err (Refused StoreFault)) → IfOk left (λ conn. Lasts sound_device (device_below over_files conn))
-      → (input : List ℕ) × ReadBy extent remaining reader reader_after input
-      × IsOkAnd left (EndedOver over_files (BeginsIn image None) input (AnsweredBy extent (over over_files) (reader, writer) input (reader_after, writer_after)))
-      → Ran extent left place
-  ran_in_there extent place file told left is takes other lasts h =
-      subst (Ran extent left) (sym is) (record { input = h.0; read = h.1; ended = h.2; began = began image None told left takes other; lasts = lasts })
-
-module _ {D : Type 0} {g : disk.Ghosts D} (image : Image) (place : Place) (fault : Fault) where
+module _ {D : Type 0} {g : disk.Ghosts D} (image : Image) (fault : Fault) where
   abbrev Refuses : Remains g → Place → Type 0
   Refuses left at = RefusedAt image at fault left
 
   -- tables in memory are at fault for nothing
-  pub refused_in_memory : (number : ℕ) (tables back : Retained) → place ≡ Memory number → (fault ≡ Refused StoreFault → FailsToLoad listed tables back) → Refuses (Err None) place
-  refused_in_memory number tables back is caused =
-      subst (Refuses (Err None)) (sym is) (record { leaves = refl; deserved = λ fault_is. never_fails tables back (caused fault_is); taken = λ cannot. absurd cannot; lasts = tt })
+  pub refused_in_memory : (number : ℕ) (tables back : Retained) → (fault ≡ Refused StoreFault → FailsToLoad listed tables back) → Refuses (Err None) (Memory number)
+  refused_in_memory number tables back caused = record { leaves = refl; deserved = λ fault_is. never_fails tables back (caused fault_is); taken = λ cannot. absurd cannot; lasts = tt }
 
-  pub refused_in_new : (file : String Global) (number : ℕ) (told : Result (Unit {0}) Fault) (left : Remains g) → place ≡ New file number → told ≡ Err fault → LeavesRefusedIn image (Some number) left
-      → (fault ≡ Refused StoreFault → IsDeservedIn image (Some number) left) → Takes image (Some number) told left → IfOk left (λ conn. Lasts sound_device (device_below over_files conn)) → Refuses left place
-  refused_in_new file number told left is told_is leaves deserved takes lasts =
-      subst (Refuses left) (sym is) (record { leaves = leaves; deserved = deserved; taken = taken image (Some number) told left takes fault told_is; lasts = lasts })
-
-  pub refused_in_there : (file : String Global) (told : Result (Unit {0}) Fault) (left : Remains g) → place ≡ There file → told ≡ Err fault → LeavesRefusedIn image None left
-      → (fault ≡ Refused StoreFault → IsDeservedIn image None left) → Takes image None told left → IfOk left (λ conn. Lasts sound_device (device_below over_files conn)) → Refuses left place
-  refused_in_there file told left is told_is leaves deserved takes lasts =
-      subst (Refuses left) (sym is) (record { leaves = leaves; deserved = deserved; taken = taken image None told left takes fault told_is; lasts = lasts })
+  pub refused_in_file : (path : String Global) (store : Option ℕ) (told : Result (Unit {0}) Fault) (left : Remains g) → told ≡ Err fault → LeavesRefusedIn image store left
+      → (fault ≡ Refused StoreFault → IsDeservedIn image store left) → Takes image store told left → IfOk left (λ conn. Lasts sound_device (device_below over_files conn)) → Refuses left (place_in path store)
+  refused_in_file path (Some number) told left told_is leaves deserved takes lasts =
+      record { leaves = leaves; deserved = deserved; taken = taken image (Some number) told left takes fault told_is; lasts = lasts }
+  refused_in_file path None told left told_is leaves deserved takes lasts =
+      record { leaves = leaves; deserved = deserved; taken = taken image None told left takes fault told_is; lasts = lasts }
 
   -- no file was opened
-  pub refused_for_new : (file : String Global) (number : ℕ) → place ≡ New file number → Refuses (Err None) place
-  refused_for_new file number is = subst (Refuses (Err None)) (sym is) (record { leaves = tt; deserved = λ _. tt; taken = λ _. tt; lasts = tt })
-
-  pub refused_for_there : (file : String Global) → place ≡ There file → Refuses (Err None) place
-  refused_for_there file is = subst (Refuses (Err None)) (sym is) (record { leaves = tt; deserved = λ _. tt; taken = λ _. tt; lasts = tt })
+  pub refused_for : (path : String Global) (store : Option ℕ) → Refuses (Err None) (place_in path store)
+  refused_for path (Some number) = record { leaves = tt; deserved = λ _. tt; taken = λ _. tt; lasts = tt }
+  refused_for path None = record { leaves = tt; deserved = λ _. tt; taken = λ _. tt; lasts = tt }

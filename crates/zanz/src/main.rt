@@ -3,13 +3,18 @@
 //! until it is stopped; `zanz config FILE` prints the level of each relation of a configuration, or why it is refused.
 #![tactic(auto)]
 
+mod answering;
 mod command;
+mod host;
 mod listening;
 mod place;
 mod program;
+mod serving;
 mod sharing;
 mod telling;
+mod work;
 
+use host::Host;
 use program::program;
 use sqlite::Unknown;
 use std::io::BufWriter;
@@ -18,10 +23,13 @@ use std::{env, io};
 use tracked_io::{TrackedReader, TrackedWriter};
 
 fn main(rt: HostRuntime) -> ExitCode {
+    let host = Host {
+        rt: &rt,
+        wait: &rt,
+        net: &rt,
+    };
     let ended = program(
-        &rt,
-        &rt,
-        &rt,
+        host,
         env::args(&rt),
         Unknown,
         &mut TrackedReader::new(rt.reader()),

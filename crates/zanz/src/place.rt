@@ -1,4 +1,4 @@
-//! What is asked of a place before its file is opened.
+//! A store's file, and what is asked of a place before one is opened.
 ghost use Rattle.std.specs.Prelude.{◌≡◌, ◌≢◌, ◌≤◌, ◌<◌, ◌^◌, ◌↔◌, IsTrue, IsOk, IfOk, IfErr, Err};
 ghost use Rattle.std.specs.IoError.{error_kind};
 ghost use Rattle.names.specs.declared.refusal.Refusal.{Refusal};
@@ -10,6 +10,14 @@ use command_line::Fault;
 use names::Refusal;
 use std::io;
 use std::io::ErrorKind;
+
+/// A file of a store.
+#[derive(Drop)]
+pub struct StoreFile {
+    pub path: String,
+    /// The number of the store that is made in it; none where it has one.
+    pub number: Option<u64>,
+}
 
 /// Whether a store can have this number. The command line gives no other.
 pub fn is_number(store: u64) -> bool

@@ -3,13 +3,13 @@ ghost use Rattle.std.specs.Prelude.{◌≡◌, ◌≢◌, true, false, IfErr, On
 ghost use Rattle.desk.specs.Posts.{OpensWith, Posts};
 ghost use Rattle.zanz.specs.Listening.{Announced, StoppedServing};
 
+use crate::host::Host;
 use crate::listening::listen;
 use command_line::Fault;
 use front::{Gate, Keeper, KeeperName, Opening};
 use names::Refusal;
 use server::run;
 use sqlite::Alter;
-use std::alloc::Global;
 use std::io::Write;
 use std::marker::Brand;
 use std::net::{Net, TcpListener, TcpStream};
@@ -19,6 +19,14 @@ use std::time::Clock;
 use store::Store;
 use tables::Tables;
 use tracked_io::TrackedWriter;
+
+/// Where connections are served, and by how many workers.
+#[derive(Clone, Copy)]
+pub struct Service {
+    /// The port, 0 for one that is free.
+    pub port: u16,
+    pub workers: u64,
+}
 
 // A gate that takes each connection, until the process is stopped.
 struct AlwaysOpen;
@@ -43,63 +51,57 @@ fn serve_by_many<
     H: Wait + Drop + Send,
     W: Write,
 >(
-    alloc: Global,
-    net: &N,
-    wait: H,
+    host: Host<'_, H, N>,
     opening: Opening,
     tables: T,
-    port: u16,
-    workers: usize,
+    service: Service,
     writer: &mut TrackedWriter<W>,
 ) -> Result<(), Fault>
     requires book { opening.opened.book ≡ J.book }
     requires history { opening.history ≡ J.table }
     requires starts { (desk : Posts T) → OpensWith T.Tables tables desk → J.starts desk }
     requires unbroken_writer { writer.old.failed ≡ false }
-    ensures ok { OnOk result (Announced port writer.old writer.new) }
+    ensures ok { OnOk result (Announced service.port writer.old writer.new) }
     ensures whole { OnOk result ((writer.new.failed ≡ false) × (writer.new.flushed ≡ true)) }
     ensures line { IfErr result (λ fault. fault ≢ Fault.CommandLine) }
-
-    ensures failed { IfErr result (λ fault. StoppedServing port fault writer.old writer.new) }
+    ensures failed { IfErr result (λ fault. StoppedServing service.port fault writer.old writer.new) }
 {
+    let Host { rt, wait, net } = host;
+    let alloc = rt.alloc();
     let keeper = match Keeper::<T, J, H>::open(alloc, wait, opening, tables) {
         Ok(keeper) => keeper,
         Err((why, _)) => return Err(Fault::Refused(why)),
     };
-    let listener = listen(alloc, net, port, writer)?;
+    let listener = listen(alloc, net, service.port, writer)?;
+    let workers = service.workers as usize;
     match run(net, alloc, &listener, &keeper, workers, &AlwaysOpen) {
         Ok(()) => Ok(()),
         Err(why) => Err(Fault::Refused(why)),
     }
 }
 
-/// Listens on a port, 0 for one that is free, says so, and serves connections by so many workers, from tables that they
-/// share.
+/// Listens, says so, and serves connections by many workers, from tables that they share.
 pub fn share<
     N: Net<Listener = TcpListener, Stream = TcpStream> + Threads + Wait + Clock + Sync,
     T: Tables + Drop + Send,
     H: Wait + Drop + Send,
     W: Write,
 >(
-    alloc: Global,
-    net: &N,
-    wait: H,
+    host: Host<'_, H, N>,
     tables: T,
-    port: u16,
-    workers: u64,
+    service: Service,
     writer: &mut TrackedWriter<W>,
 ) -> Result<(), Fault>
     requires unbroken_writer { writer.old.failed ≡ false }
-    ensures ok { OnOk result (Announced port writer.old writer.new) }
+    ensures ok { OnOk result (Announced service.port writer.old writer.new) }
     ensures whole { OnOk result ((writer.new.failed ≡ false) × (writer.new.flushed ≡ true)) }
     ensures line { IfErr result (λ fault. fault ≢ Fault.CommandLine) }
-    ensures failed { IfErr result (λ fault. StoppedServing port fault writer.old writer.new) }
+    ensures failed { IfErr result (λ fault. StoppedServing service.port fault writer.old writer.new) }
 {
-    let Ok(opening) = Opening::new(alloc) else {
+    let Ok(opening) = Opening::new(host.rt.alloc()) else {
         return Err(Fault::Refused(Refusal::Memory));
     };
-    let workers = workers as usize;
-    serve_by_many::<N, T, Brand, H, W>(alloc, net, wait, opening, tables, port, workers, writer)
+    serve_by_many::<N, T, Brand, H, W>(host, opening, tables, service, writer)
 }
 
 /// The same from tables over a database connection.
@@ -109,19 +111,16 @@ pub fn share_over<
     H: Wait + Drop + Send,
     W: Write,
 >(
-    alloc: Global,
-    net: &N,
-    wait: H,
+    host: Host<'_, H, N>,
     tables: Store<S>,
-    port: u16,
-    workers: u64,
+    service: Service,
     writer: &mut TrackedWriter<W>,
 ) -> Result<(), Fault>
     requires unbroken_writer { writer.old.failed ≡ false }
-    ensures ok { OnOk result (Announced port writer.old writer.new) }
+    ensures ok { OnOk result (Announced service.port writer.old writer.new) }
     ensures whole { OnOk result ((writer.new.failed ≡ false) × (writer.new.flushed ≡ true)) }
     ensures line { IfErr result (λ fault. fault ≢ Fault.CommandLine) }
-    ensures failed { IfErr result (λ fault. StoppedServing port fault writer.old writer.new) }
+    ensures failed { IfErr result (λ fault. StoppedServing service.port fault writer.old writer.new) }
 {
-    share(alloc, net, wait, tables, port, workers, writer)
+    share(host, tables, service, writer)
 }
