@@ -5,16 +5,13 @@ use Rattle.zanz.proofs.listening.talk_over.Goals as goal
 
 pub returns-in-Some-clause-talked : goal.returns-in-Some-clause-talked
 returns-in-Some-clause-talked g c =
-    let said = c.talk-end.ensures in
-    let begun = c.in-Some.ensures in
     said_over g.T.Tables g.R.Read.remaining c.args.reader (nothing_taken (g.W.Write.contents c.args.writer)) c.in-Some.read c.talk-end.new.reader c.in-Some.written c.talk-end.new.writer c.args.answering.now c.talk-end.new.answering
-    begun.read_from begun.unread begun.unwritten c.talk-end.result said.closed said.broken said.asked said.memory said.read_fault said.write_fault
+    c.in-Some.ensures.read_from c.in-Some.ensures.unread c.in-Some.ensures.unwritten c.talk-end.result c.talk-end.ensures.closed c.talk-end.ensures.broken c.talk-end.ensures.asked c.talk-end.ensures.memory c.talk-end.ensures.read_fault c.talk-end.ensures.write_fault
 
 pub returns-in-Some-clause-each_read : goal.returns-in-Some-clause-each_read
 returns-in-Some-clause-each_read g c =
-    let begun = c.in-Some.ensures in
     said_at_each_read g.T.Tables g.R.Read.remaining c.args.reader (nothing_taken (g.W.Write.contents c.args.writer)) c.in-Some.read c.talk-end.new.reader c.in-Some.written c.talk-end.new.writer c.args.answering.now c.talk-end.new.answering
-    begun.read_from begun.unread begun.unwritten c.talk-end.ensures.each_read
+    c.in-Some.ensures.read_from c.in-Some.ensures.unread c.in-Some.ensures.unwritten c.talk-end.ensures.each_read
 
 pub returns-in-Some-clause-read_failed : goal.returns-in-Some-clause-read_failed
 returns-in-Some-clause-read_failed g c = c.talk-end.ensures.read_failed

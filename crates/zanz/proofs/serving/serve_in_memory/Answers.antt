@@ -1,9 +1,11 @@
+use Rattle.std.proofs.Common.{inr}
 use denote.Exit.{no}
 use denote.Param.Send.{IsSend, arg_send, param_send, sendable}
 use Rattle.std.proofs.Crossing.{crosses}
 use Rattle.front.proofs.Crossing.{Config-send, KeptCommit-send}
 use Rattle.versions.proofs.version_map.VersionMap.TheSendSync as VersionMap
 use Rattle.tables.specs.contracts.listed.Listed as Listed
+use Rattle.zanz.proofs.Results.{err_of}
 use Rattle.zanz.proofs.serving.serve_in_memory.Goals as goal
 
 -- Tables in memory reach a rewrite, so Rattle does not find this by itself.
@@ -12,3 +14,6 @@ Listed-send = search (Config-send, KeptCommit-send, VersionMap.the_send, crosses
 
 pub share-requires-send-T : goal.share-requires-send-T
 share-requires-send-T g c κs within = param_send 1 _ (arg_send _ no _ Listed-send)
+
+pub returns-in-Ok-clause-failed : goal.returns-in-Ok-clause-failed
+returns-in-Ok-clause-failed g c = err_of c.serve.result (λ fault is h. inr h) c.serve.ensures.failed
