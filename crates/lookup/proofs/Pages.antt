@@ -199,12 +199,19 @@ starts S asked found tupleset whole none last is =
 
 -- ---- page after page
 
+pub asks_first : (namespace : List ℕ) (after : Option Tuple) (tupleset : Tupleset) → tupleset ≡ tuples_in namespace after → tupleset ≡ tuples_in namespace tupleset.after
+asks_first namespace after tupleset is = is ∙ ap (λ (q : Tupleset). tuples_in namespace q.after) (sym is)
+
 abbrev pub with_after : Tupleset → Option Tuple → Tupleset
 with_after tupleset after = record tupleset { after = after }
 
+-- the tuples after a page
+abbrev pub rest_of : Tupleset → Tuples → List Tuple
+rest_of tupleset tuples = drop tupleset.limit (unread tupleset tuples)
+
 module _ (tuples : Tuples) (namespace : List ℕ) (tupleset : Tupleset) (asks : tupleset ≡ tuples_in namespace tupleset.after) (got : List Tuple) (gives : got ≡ page tupleset tuples) where
-  abbrev pub rest : List Tuple
-  rest = drop tupleset.limit (unread tupleset tuples)
+  abbrev rest : List Tuple
+  rest = rest_of tupleset tuples
 
   all_of : got ++ rest ≡ unread tupleset tuples
   all_of = ap (λ (ts : List Tuple). ts ++ rest) gives ∙ take-append-drop tupleset.limit (unread tupleset tuples)
@@ -249,3 +256,12 @@ module _ (tuples : Tuples) (namespace : List ℕ) (tupleset : Tupleset) (asks : 
 
   pub asks_on : (last : Option Tuple) → with_after tupleset last ≡ tuples_in namespace last
   asks_on last = ap (λ (q : Tupleset). with_after q last) asks
+
+-- after a page what is left are the tuples after it
+pub page_done : (S : Snap) (asked : Lookup) (old now : Found) (tupleset : Tupleset) → tupleset ≡ tuples_in asked.relation.namespace tupleset.after → (got looked : List Tuple) → got ≡ page tupleset S.tuples → looked ≡ got
+    → IsUnderway S asked old (ids_of (unread tupleset S.tuples)) → ((left : List (List ℕ)) → IsUnderway S asked old (ids_of looked ++ left) → IsUnderway S asked now left) → IsUnderway S asked now (ids_of (rest_of tupleset S.tuples))
+page_done S asked old now tupleset asks got looked gives same is goes =
+    goes (ids_of (rest_of tupleset S.tuples))
+    (subst (λ (ids : List (List ℕ)). IsUnderway S asked old ids)
+    (splits S.tuples asked.relation.namespace tupleset asks got gives ∙ ap (λ (ts : List Tuple). ids_of ts ++ ids_of (rest_of tupleset S.tuples)) (sym same))
+    is)

@@ -54,11 +54,7 @@ pub fn lookup_at<O: Oracle>(
     // No configuration has an empty intersection, as this call says.
     config.relations();
     let source = Source { alloc, view, asked };
-    let last = asked.after.clone()?;
-    let mut found = Found {
-        ids: Vec::new(alloc),
-        last,
-    };
+    let mut found = begin(alloc, asked)?;
     let mut tupleset = first_page(asked)?;
     'pages: loop {
         let mut page = view.read(alloc, &tupleset)?;
@@ -68,6 +64,19 @@ pub fn lookup_at<O: Oracle>(
         }
         tupleset.after = page.pop();
     }
+}
+
+/// Nothing was found yet, and all up to the object that the others come after was asked for.
+fn begin(alloc: Global, asked: &Lookup) -> Result<Found, AllocError>
+    ensures ids { IfOk result (λ f. f.ids.items ≡ []) }
+    ensures last { IfOk result (λ f. f.last ≡ asked.now.after) }
+{
+    let ids = Vec::new(alloc);
+    let Some(id) = &asked.after else {
+        return Ok(Found { ids, last: None });
+    };
+    let last = Some(id.clone()?);
+    Ok(Found { ids, last })
 }
 
 /// Asks for each object of the tuples, as long as fewer are found than are asked for.
