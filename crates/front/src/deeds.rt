@@ -55,11 +55,6 @@ impl<'k, J: HistoryName> Model for Place<'k, J> {
 }
 
 impl<'k, J: HistoryName> Place<'k, J> {
-    /// The history in which its deeds stand.
-    pub fn history(&self) -> &'k History<Deed, J> {
-        self.history
-    }
-
     // A new place, of one that has seen all deeds so far and done none.
     pub(crate) fn new(history: &'k History<Deed, J>, log: &mut Log<Deed, J>) -> Place<'k, J>
         ensures same { log.new ≡ log.old }

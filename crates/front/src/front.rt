@@ -5,7 +5,7 @@ ghost use Rattle.names.specs.declared.refusal.Refusal.TheVariants.{NoSeat};
 ghost use Rattle.published.specs.Known.{Begins};
 ghost use Rattle.front.specs.Kept.{IsKnownIn, KnowsMore};
 ghost use Rattle.front.specs.Questions.{IsAsked};
-ghost use Rattle.front.specs.Fronts.{ChangeFrom, FrontStep, IsSeated, MayTell, QuestionFrom, ToldByDesk};
+ghost use Rattle.front.specs.Fronts.{ChangeFrom, FrontStep, IsSeated, QuestionFrom, ToldByDesk};
 
 use crate::deeds::{KeeperName, Place};
 use crate::lock::{ChangeAsked, Keeper};
@@ -117,20 +117,8 @@ impl<'k, T: Tables + Drop, J: KeeperName<T>, R: Wait + Drop> Front<'k, T, J, R> 
     pub fn answer<W: Wait>(&mut self, rt: &W, call: Call, body: &[u8]) -> Reply
         ensures { FrontStep T.Tables J.book J.starts self.old call body.now (told result) self.new }
     {
-        self.see();
-        self.tell(rt, call, body)
-    }
-
-    // What is true of every front: a function knows it where it looks at a field.
-    fn see(&self)
-        ensures { IsKnownIn J.book self.now.known }
-    {
+        // What is true of every front is known where a field is looked at.
         let _ = &self.session;
-    }
-
-    fn tell<W: Wait>(&mut self, rt: &W, call: Call, body: &[u8]) -> Reply
-        ensures { MayTell T.Tables J.book J.starts self.old call body.now (told result) self.new }
-    {
         if is_change(call) {
             self.answer_change(rt, call, body)
         } else {

@@ -1,5 +1,4 @@
 //! A front that answers calls, whatever brings them.
-ghost use Rattle.std.specs.Prelude.{◌≡◌};
 
 use crate::deeds::KeeperName;
 use crate::front::Front;
@@ -12,8 +11,8 @@ use tables::Tables;
 /// A front, with the handle that it waits by. Contracts see it as the front.
 #[derive(Drop)]
 pub struct Locked<'k, T: Tables + Drop, J: KeeperName<T>, R: Wait + Drop, W: Wait> {
-    rt: &'k W,
-    front: Front<'k, T, J, R>,
+    pub rt: &'k W,
+    pub front: Front<'k, T, J, R>,
 }
 
 impl<'k, T: Tables + Drop, J: KeeperName<T>, R: Wait + Drop, W: Wait> Model
@@ -26,15 +25,6 @@ impl<'k, T: Tables + Drop, J: KeeperName<T>, R: Wait + Drop, W: Wait> Model
     ghost coded = { coded_front };
 
     ghost view = { λ l. l.front };
-}
-
-impl<'k, T: Tables + Drop, J: KeeperName<T>, R: Wait + Drop, W: Wait> Locked<'k, T, J, R, W> {
-    /// A front that waits by this handle.
-    pub fn new(rt: &'k W, front: Front<'k, T, J, R>) -> Locked<'k, T, J, R, W>
-        ensures { result ≡ front.entry }
-    {
-        Locked { rt, front }
-    }
 }
 
 impl<'k, T: Tables + Drop, J: KeeperName<T>, R: Wait + Drop, W: Wait> Answers

@@ -1,5 +1,4 @@
 //! Answers that wake whoever follows what they change.
-ghost use Rattle.std.specs.Prelude.{◌≡◌};
 ghost use Rattle.names.specs.Calls.{told};
 
 use answers::Answers;
@@ -12,18 +11,9 @@ use std::sync::Wait;
 /// nobody is there any more to take it, it is dropped.
 #[derive(Drop)]
 pub struct Waking<'a, A, R> {
-    answers: A,
-    rt: &'a R,
-    wakes: Sender<()>,
-}
-
-impl<'a, A, R> Waking<'a, A, R> {
-    /// Answers that wake through this channel.
-    pub fn new(answers: A, rt: &'a R, wakes: Sender<()>) -> Waking<'a, A, R>
-        ensures { result.answers ≡ answers }
-    {
-        Waking { answers, rt, wakes }
-    }
+    pub answers: A,
+    pub rt: &'a R,
+    pub wakes: Sender<()>,
 }
 
 impl<'a, A: Answers, R: Wait> Answers for Waking<'a, A, R> {

@@ -49,11 +49,14 @@ pub fn run<
     let mut machines = Vec::with_capacity(alloc, workers)?;
     for _ in 0..workers {
         let answers = Counted {
-            answers: Waking::new(
-                Locked::new(rt, Front::new(alloc, rt, keeper)?),
+            answers: Waking {
+                answers: Locked {
+                    rt,
+                    front: Front::new(alloc, rt, keeper)?,
+                },
                 rt,
-                wakes.clone()?,
-            ),
+                wakes: wakes.clone()?,
+            },
             calls: &calls,
             gate,
         };
