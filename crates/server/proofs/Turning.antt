@@ -1,5 +1,7 @@
 -- What a turn does to a desk, also where more is shown after it.
-use Rattle.std.proofs.Common.{◌≡◌, ℕ, List, ap, sym, ◌∙◌}
+use Rattle.std.proofs.Common.{◌≡◌, ℕ, suc, List, ap, sym, ◌∙◌, subst, inl, inr}
+use Rattle.std.specs.Prelude.{◌⊎◌}
+use Rattle.logbook.specs.Pages.{Book}
 use Rattle.names.specs.declared.part.Part.{Part}
 use Rattle.names.specs.declared.part.Part.TheVariants.{Index, Hot}
 use Rattle.names.specs.declared.refusal.Refusal.{Refusal}
@@ -14,6 +16,9 @@ use Rattle.desk.specs.Changes.{CatchUpAccepted, TellsShown, CatchUpJudged, IsNoC
 use Rattle.desk.proofs.Standings.{standing_next}
 use Rattle.keeper.proofs.Refreshing.{still_refused}
 use Rattle.server.specs.declared.turn.TheConstants.{TURN_COMMITS}
+use Rattle.one_history.specs.History.{Hand}
+use Rattle.front.specs.declared.deeds.Deed.{Deed}
+use Rattle.server.specs.Turning.{TakesOneTurn, TurnByTurn}
 use Rattle.server.specs.Turns.{TakesTurn, TurnRefused, index_refused, hot_refused}
 
 -- ---- more is shown, and a new receipt tells of it
@@ -69,3 +74,11 @@ module _ {T : Type 0} (old : Posts T) (index hot : ℕ) (receipt : ReceiptFacts)
   hot_at =
       turn.hot_takes.moved
       ∙ (ap (cursor_of Hot) (taken_stands turn.between new Hot TURN_COMMITS turn.hot_takes.posts) ∙ ap (λ (s : Standing). cursor_after s.kept s.hot TURN_COMMITS) between_stands)
+
+-- ---- turns, one after another
+
+-- one more, or none
+pub turns_on : {T : Type 0} (g : Ghosts T) (book : Book) (starts : Posts T → Type 0) (old mid new : Hand Deed)
+    → (turns : ℕ) × TurnByTurn g book starts old turns mid → (new ≡ mid) ⊎ TakesOneTurn g book starts mid new → (turns : ℕ) × TurnByTurn g book starts old turns new
+turns_on g book starts old mid new so (inl same) = (so.0, subst (λ (h : Hand Deed). TurnByTurn g book starts old so.0 h) (sym same) so.1)
+turns_on g book starts old mid new so (inr turn) = (suc so.0, (mid, so.1, turn))

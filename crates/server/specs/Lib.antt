@@ -1,4 +1,5 @@
 pub mod Attending
 pub mod Patience
 pub mod Sides
+pub mod Turning
 pub mod Turns

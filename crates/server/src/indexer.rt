@@ -1,7 +1,8 @@
 //! The indexer: it follows the changes of a keeper with the parts that read them.
-ghost use Rattle.std.specs.Prelude.{◌≡◌, ◌↔◌, IsTrue, IfOk, IfErr, false};
+ghost use Rattle.std.specs.Prelude.{◌≡◌, ◌⊎◌, ◌↔◌, IsTrue, IfOk, IfErr, false};
 ghost use Rattle.names.specs.declared.refusal.Refusal.TheVariants.{NoSeat};
 ghost use Rattle.published.specs.Known.{Begins};
+ghost use Rattle.server.specs.Turning.{TakesOneTurn};
 ghost use Rattle.server.specs.Turns.{IsBehind};
 
 use crate::pool::Follows;
@@ -43,7 +44,8 @@ impl<'k, T: Tables + Drop, J: KeeperName<T>, H: Wait + Drop> Indexer<'k, T, J, H
 
     // Takes a turn if a part is behind what is shown. Whether more may be left to take.
     fn takes_turn<R: Wait>(&mut self, rt: &R) -> bool
-        ensures { Begins self.old.session self.new.session }
+        ensures known { Begins self.old.session self.new.session }
+        ensures turn { (self.new.place ≡ self.old.place) ⊎ TakesOneTurn T.Tables J.book J.starts self.old.place self.new.place }
     {
         match self.session.state() {
             Ok(state) if is_behind(&state) => {}
@@ -60,10 +62,13 @@ impl<'k, T: Tables + Drop, J: KeeperName<T>, H: Wait + Drop> Indexer<'k, T, J, H
 }
 
 impl<'k, T: Tables + Drop, J: KeeperName<T>, H: Wait + Drop> Follows for Indexer<'k, T, J, H> {
+    ghost use Rattle.std.specs.Prelude.{ℕ};
     ghost use Rattle.published.specs.Known.{Begins};
+    ghost use Rattle.server.specs.Turning.{TurnByTurn};
 
-    // Its session knows all that it knew.
-    ghost followed = { λ s t. Begins s.session t.session };
+    // Its session knows all that it knew, and its place took turns, one after another.
+    ghost followed = { λ s t. Begins s.session t.session
+        × ((turns : ℕ) × TurnByTurn T.Tables J.book J.starts s.place turns t.place) };
 
     fn follow<R: Wait>(&mut self, rt: &R) {
         for _ in rt.forever() {

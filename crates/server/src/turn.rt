@@ -5,6 +5,7 @@ ghost use Rattle.published.specs.Known.{Begins};
 ghost use Rattle.published.specs.Receipts.{ReceiptFacts};
 ghost use Rattle.desk.specs.Posts.{shown_by};
 ghost use Rattle.front.specs.Kept.{KnowsMore};
+ghost use Rattle.server.specs.Turning.{PartsDone, TurnDone};
 ghost use Rattle.server.specs.Turns.{TakesTurn, TurnRefused};
 
 use front::{KeeperName, KeptDesk, Place};
@@ -43,6 +44,7 @@ pub fn take_turn<T: Tables + Drop, J: KeeperName<T>, R: Wait + Drop, W: Wait>(
     ensures seats { desk.new.seats ≡ desk.old.seats }
     ensures kept { KnowsMore session.old session.new }
     ensures known { Begins (shown_by desk.new) session.new }
+    ensures done { TurnDone T.Tables J.starts place.old desk.old desk.new place.new }
 {
     let taken = take_both(rt, desk, place);
     let receipt = desk.refresh(rt, place, session);
@@ -66,6 +68,7 @@ fn take_both<T: Tables + Drop, J: KeeperName<T>, R: Wait + Drop, W: Wait>(
         (receipt : ReceiptFacts) × TakesTurn desk.old cursors.0 cursors.1 receipt desk.new) }
     ensures err { IfErr result (λ why. TurnRefused T.Tables desk.old why desk.new) }
     ensures seats { desk.new.seats ≡ desk.old.seats }
+    ensures done { PartsDone T.Tables J.starts place.old desk.old desk.new place.new }
 {
     let index = desk.catch_up(rt, place, Part::Index, TURN_COMMITS)?;
     let hot = desk.catch_up(rt, place, Part::Hot, TURN_COMMITS)?;

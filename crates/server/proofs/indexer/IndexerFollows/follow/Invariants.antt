@@ -1,6 +1,9 @@
+use Rattle.std.specs.Prelude.{ℕ}
 use Rattle.published.specs.Known.{Begins}
+use Rattle.server.specs.Turning.{TurnByTurn}
 use Rattle.server.proofs.indexer.IndexerFollows.follow.Given as goal
 
 abbrev pub invariant-loop : goal.invariant-loop
 invariant-loop g l =
     (goal.iterator-loop g).can_next l.iterator' × (goal.iterator-loop g).is_finite l.iterator' × Begins l.initial.self.session l.self.session
+    × ((turns : ℕ) × TurnByTurn g.T.Tables g.J.Naming.book g.J.KeeperName.starts l.initial.self.place turns l.self.place)
