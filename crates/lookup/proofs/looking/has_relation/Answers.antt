@@ -1,6 +1,5 @@
-use Rattle.std.proofs.Common.{◌≡◌, ap, sym, subst, ◌∙◌}
+use Rattle.std.proofs.Common.{sym, subst}
 use Rattle.names.specs.declared.node.Node.{Node}
-use Rattle.meaning.specs.Admits.{has_relation}
 use Rattle.meaning.specs.Config.{Has, rel_of}
 use Rattle.meaning.proofs.KnownRelations.{has_known, not_known}
 use Rattle.lookup.proofs.looking.has_relation.Goals as goal

@@ -1,4 +1,4 @@
-use Rattle.std.proofs.Common.{◌≡◌, ◌<◌, List, sym, subst, inl, inr, arith, length}
+use Rattle.std.proofs.Common.{◌<◌, List, sym, subst, inl, inr, arith, length}
 use Rattle.std.specs.Prelude.{All, IsSome}
 use Rattle.std.proofs.lemmas.List.Elements.{All-contains}
 use Rattle.names.specs.declared.tuple.Tuple.{Tuple}
