@@ -260,6 +260,13 @@ class Snapshot:
         if not self.config.has(*parts_of(node)[::2]):
             raise Refused(UNKNOWN)
 
+    def lookup(self, namespace, relation, user, after=None, limit=1000):
+        """The first ids of the namespace's objects of whose relation the user is a member."""
+        if not self.config.has(namespace, relation):
+            raise Refused(UNKNOWN)
+        found = sorted(parts_of(node)[1] for it, node in self.members() if it == user and parts_of(node)[::2] == (namespace, relation))
+        return [it for it in found if after is None or after < it][:limit]
+
     def tree(self, node, depth):
         self.needs(node)
         count = [0]

@@ -30,6 +30,7 @@ ANN = "group:a#member@user:ann"
 EXPIRED = {
     "check": {"at": {"exactly": FIRST}, "node": "group:a#member", "user": "user:ann"},
     "expand": {"at": {"exactly": FIRST}, "depth": 1, "node": "group:a#member"},
+    "lookup": {"at": {"exactly": FIRST}, "namespace": "group", "relation": "member", "user": "user:ann"},
     "leopard": {"at": {"exactly": FIRST}, "expr": {"m2g": "user:ann"}, "limit": 10},
     "read": {"at": {"exactly": FIRST}, "namespace": "group"},
     "watch": {"commits": 1, "cursor": FIRST},
