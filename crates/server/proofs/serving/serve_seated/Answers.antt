@@ -1,13 +1,9 @@
 use Rattle.std.proofs.Common.{◌≡◌, refl, inr, subst, sym, ◌∙◌}
-use Rattle.std.specs.Prelude.{◌⊎◌}
 use denote.Exit.{no}
-use denote.Param.Send.{arg_send, param_send, sendable}
+use denote.Param.Send.{arg_send, param_send}
 use denote.Param.{param}
-use Rattle.std.proofs.Crossing.{crosses}
-use Rattle.names.specs.declared.refusal.Refusal.{Refusal}
-use Rattle.names.specs.declared.refusal.Refusal.TheVariants.{Memory, NoSeat}
+use mir.Syntax.{named}
 use Rattle.desk.specs.Posts.{Posts}
-use Rattle.desk.proofs.Accepting.{refused_exit}
 use Rattle.one_history.specs.History.{Hand}
 use Rattle.front.specs.declared.deeds.Deed.{Deed}
 use Rattle.front.specs.Deeds.{AllStandIn}
@@ -33,16 +29,10 @@ serve_and_follow-requires-send-F g c κs within =
 
 pub serve_and_follow-requires-send-L : goal.serve_and_follow-requires-send-L
 serve_and_follow-requires-send-L g c κs within =
-    let b = c.type_bounds in
-    param_send 3 _ (arg_send _ no _ (search (Place.the_send, b.send-J, b.sync-J, crosses, sendable) depth 40))
+    param_send 3 _ (arg_send _ no _ (Place.the_send (record { mir = named 4; lft = κs.1.1.1.1.0 }) (param 2 g.row.J) _))
 
-pub returns-in_err-push-clause-err : goal.returns-in_err-push-clause-err
-returns-in_err-push-clause-err g c =
-    let told = c.from_residual in
-    refused_exit (λ (why : Refusal). (why ≡ NoSeat) ⊎ (why ≡ Memory)) told.result Memory told.ensures.1 (inr refl)
-
-pub returns-in-Some-clause-served : goal.returns-in-Some-clause-served
-returns-in-Some-clause-served g c =
+pub returns-in_ok-push-in-Some-clause-served : goal.returns-in_ok-push-in-Some-clause-served
+returns-in_ok-push-in-Some-clause-served g c =
     let book = g.J.Naming.book in
     let starts = g.J.KeeperName.starts in
     let told = c.look.ensures.told in
@@ -51,7 +41,7 @@ returns-in-Some-clause-served g c =
     let step = FrontStep g.T.Tables book starts in
     let all = all_served g.T.Tables book starts (λ w. w.answers.answers.answers) _ _
     (λ s end t took. attended_along (λ m. m.answers.answers) _ step (λ x call body says y may. may) s.answers end t.answers took) (λ t place is. is)
-    told.0 c.args.machines.items c.in-Some.places.items c.leave.result c.requires.machines ended.served (subst (AllStandIn told.0) c.in_ok-push.ensures.items told.2) in
+    told.0 c.args.machines.items c.in-Some.places.items c.leave.result c.requires.machines ended.served (subst (AllStandIn told.0) c.in_ok-push-in-Some.ensures.items told.2) in
     record {
       desk = c.look.new.self;
       deeds = told.0;

@@ -1,6 +1,3 @@
-use Rattle.std.proofs.Common.{subst}
-use Rattle.desk.specs.Posts.{Posts}
-use Rattle.front.specs.Deeds.{IsLeft}
 use Rattle.front.proofs.Doing.{kept_by}
 use Rattle.front.proofs.lock.KeptDesk.look.Goals as goal
 
