@@ -5,8 +5,8 @@ use names::{Node, Object};
 
 /// The answers that are kept of one revision, for a check at it.
 ///
-/// A check says nothing of its oracle after it. So the cache is lent to be read alone, and is afterwards what
-/// it was; what a check finds there on its way does not become what was used last.
+/// A check says of its oracle after it only that it tells of the view still. So the cache is lent to be read
+/// alone, and is afterwards what it was; what a check finds there on its way does not become what was used last.
 #[derive(Drop)]
 pub struct At<'a> {
     pub kept: &'a CachedAnswers,

@@ -24,7 +24,7 @@ use rows::View;
 use std::alloc::{AllocError, Global};
 
 /// Whether the user is a member of the node. It is refused where the relation is not there, and where there
-/// is no memory.
+/// is no memory. After an answer the oracle tells of the view still.
 pub fn check_at<O: Oracle>(
     alloc: Global,
     view: &View,
@@ -36,6 +36,7 @@ pub fn check_at<O: Oracle>(
     ensures ok { IfOk result (IsAnswer view.now user.now node.now) }
     ensures known { OnOk result (has_relation view.now.config (rel_of node.now) ≡ true) }
     ensures err { IfErr result (CheckCause view.now node.now) }
+    ensures tells { OnOk result (O.tells oracle.new view.now) }
 {
     let mut facts = Facts::of(alloc, view);
     let Some(place) = facts.place_of(node) else {
@@ -59,8 +60,9 @@ fn is_member<O: Oracle>(
     requires tells { O.tells oracle.old facts.old }
     requires root { root < length search.old.opened.items }
     requires running { IsRunning facts.old user.now search.old None }
-    ensures { IfOk result (λ b. (n : NodeValue) (k : ℕ) → IsNumberOf search.old root n k
+    ensures answer { IfOk result (λ b. (n : NodeValue) (k : ℕ) → IsNumberOf search.old root n k
         → IsAnswer facts.old user.now n b) }
+    ensures tells { OnOk result (O.tells oracle.new facts.old) }
 {
     'rounds: loop {
         match round(facts, oracle, search, user, root)? {

@@ -1,4 +1,4 @@
-//! Tests of a history, `rows`, and of what is read off its revisions (`watch`, `expand`, and of groups `leopard`), of the policies (`config`,
+//! Tests of a history, `rows`, and of what is read off its revisions (`watch`, `expand`, `lookup`, and of groups `leopard`), of the policies (`config`,
 //! `snapshots` and `plain`), and of a session's answers, `answer_cache`, by their public calls: what no run of the program shows.
 #![tactic(auto)]
 
@@ -10,6 +10,8 @@ mod histories;
 mod history;
 #[cfg(test)]
 mod kept;
+#[cfg(test)]
+mod lookups;
 #[cfg(test)]
 mod memberships;
 #[cfg(test)]

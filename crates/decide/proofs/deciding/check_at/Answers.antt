@@ -29,10 +29,13 @@ returns-clause-ok g c =
     let n = c.args.node.now in
     let level = c.level_at-level.result in
     subst (λ (S : Snap). IsAnswer S c.args.user.now n c.in_ok-answer.answer) c.of-facts.ensures
-    (c.in_ok-answer.ensures n level (opens_number c.in_ok-search.search c.open.new.self n level c.in-Some.place c.in_ok-root.root c.in_ok-root.ensures))
+    (c.in_ok-answer.ensures.answer n level (opens_number c.in_ok-search.search c.open.new.self n level c.in-Some.place c.in_ok-root.root c.in_ok-root.ensures))
 
 pub returns-clause-known : goal.returns-clause-known
 returns-clause-known g c =
     let rel = rel_of c.args.node.now in
     has_known c.args.view.now.config rel
     (subst (λ (S : Snap). Has S.config rel) c.of-facts.ensures (has_there c.of-facts.result.config rel c.in-Some.place c.in-Some.ensures.some))
+
+pub returns-clause-tells : goal.returns-clause-tells
+returns-clause-tells g c = subst (g.O.Oracle.tells c.is_member.new.oracle) c.of-facts.ensures c.in_ok-answer.ensures.tells

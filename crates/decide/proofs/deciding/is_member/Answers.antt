@@ -8,14 +8,17 @@ use Rattle.decide.specs.inside.Running.{IsRunning}
 use Rattle.decide.proofs.Turns.{still_there}
 use Rattle.decide.proofs.deciding.is_member.Goals as goal
 
-pub returns-in-Some : goal.returns-in-Some
-returns-in-Some g c n k number =
+pub returns-in-Some-clause-answer : goal.returns-in-Some-clause-answer
+returns-in-Some-clause-answer g c n k number =
     let u = c.args.user.now in
     let t = c.rounds.search in
     let same = c.in_ok-answer.ensures.facts ∙ c.rounds.invariant.4 in
     subst (λ (S : Snap). IsAnswer S u n c.in-Some.answer) same
     ((subst (λ o. IfSome o (λ b. (n : Node) (k : ℕ) → IsNumberOf t c.args.root n k → IsAnswer c.round.new.facts u n b)) c.in-Some.is c.in_ok-answer.ensures.answer)
     n k (c.rounds.invariant.2 k n number))
+
+pub returns-in-Some-clause-tells : goal.returns-in-Some-clause-tells
+returns-in-Some-clause-tells g c = subst (g.O.Oracle.tells c.round.new.oracle) (c.in_ok-answer.ensures.facts ∙ c.rounds.invariant.4) c.in_ok-answer.ensures.tells
 
 pub rounds-preserved : goal.rounds-preserved
 rounds-preserved g c = (

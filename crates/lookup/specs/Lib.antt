@@ -1,0 +1,4 @@
+pub mod Found
+pub mod Causes
+pub mod Law
+pub mod inside

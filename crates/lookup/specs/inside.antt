@@ -1,0 +1,3 @@
+-- What no promise rests on, which a reader of the promises can pass over.
+pub mod Pages
+pub mod Underway

@@ -1,0 +1,207 @@
+//! The lookup.
+ghost use Rattle.std.specs.Prelude.{◌≡◌, ◌+◌, ◌++◌, ◌≤◌, ◌∷◌, [], ℕ, List, IfOk, IfErr, OnOk, Some, true, false, length, if◌then◌else◌};
+ghost use Rattle.meaning.specs.Admits.{has_relation};
+ghost use Rattle.lookup.specs.Found.{node_of, is_later, IsLookup};
+ghost use Rattle.lookup.specs.Causes.{LookupCause};
+ghost use Rattle.lookup.specs.inside.Pages.{tuples_in, start_of, ids_of};
+ghost use Rattle.lookup.specs.inside.Underway.{IsUnderway};
+
+use crate::asked::Lookup;
+use config::Config;
+use decide::{Oracle, check_at};
+use names::{Node, Object, ObjectId, Refusal, Subject, Tuple};
+use rows::{MAX_PAGE, Tupleset, View};
+use std::alloc::{AllocError, Global};
+
+/// What is asked for, and of which view.
+#[derive(Clone, Copy)]
+struct Source<'a> {
+    alloc: Global,
+    view: &'a View<'a>,
+    asked: &'a Lookup,
+}
+
+/// What was found up to the last object that was asked for.
+#[derive(Drop)]
+struct Found {
+    ids: Vec<ObjectId>,
+    last: Option<ObjectId>,
+}
+
+/// The objects that are asked for, in the order of their ids. It is refused where the namespace lacks the
+/// relation, and where there is no memory. After an answer the oracle tells of the view still.
+///
+/// The tuples of the namespace's objects are gone over from the object on that the others come after, a page at
+/// a time, and a check is asked of each object once, until as many are found as are asked for. So it costs what
+/// the namespace holds there, and not what the user can see: it is slow on a large store. It takes memory for
+/// a page of tuples, for a check and for the ids.
+pub fn lookup_at<O: Oracle>(
+    alloc: Global,
+    view: &View,
+    oracle: &mut O,
+    asked: &Lookup,
+) -> Result<Vec<ObjectId>, Refusal>
+    requires { O.tells oracle.old view.now }
+    ensures ok { IfOk result (λ ids. IsLookup view.now asked.now ids.items) }
+    ensures known { OnOk result (has_relation view.now.config asked.now.relation ≡ true) }
+    ensures err { IfErr result (LookupCause view.now asked.now) }
+    ensures tells { OnOk result (O.tells oracle.new view.now) }
+{
+    let config = view.config();
+    if !has_relation(config, asked)? {
+        return Err(Refusal::UnknownRelation);
+    }
+    // No configuration has an empty intersection, as this call says.
+    config.relations();
+    let source = Source { alloc, view, asked };
+    let mut found = begin(alloc, asked)?;
+    let mut tupleset = first_page(asked)?;
+    'pages: loop {
+        let mut page = view.read(alloc, &tupleset)?;
+        look_through(&source, oracle, &page, &mut found)?;
+        if is_full(asked, &found) || page.len() < MAX_PAGE as usize {
+            return Ok(found.ids);
+        }
+        tupleset.after = page.pop();
+    }
+}
+
+/// Nothing was found yet, and all up to the object that the others come after was asked for.
+fn begin(alloc: Global, asked: &Lookup) -> Result<Found, AllocError>
+    ensures ids { IfOk result (λ f. f.ids.items ≡ []) }
+    ensures last { IfOk result (λ f. f.last ≡ asked.now.after) }
+{
+    let ids = Vec::new(alloc);
+    let Some(id) = &asked.after else {
+        return Ok(Found { ids, last: None });
+    };
+    let last = Some(id.clone()?);
+    Ok(Found { ids, last })
+}
+
+/// Asks for each object of the tuples, as long as fewer are found than are asked for.
+fn look_through<O: Oracle>(
+    source: &Source,
+    oracle: &mut O,
+    tuples: &[Tuple],
+    found: &mut Found,
+) -> Result<(), Refusal>
+    requires { O.tells oracle.old source.now.view.now }
+    ensures underway { OnOk result ((left : List (List ℕ))
+        → IsUnderway source.now.view.now source.now.asked.now found.old (ids_of tuples.now ++ left)
+        → IsUnderway source.now.view.now source.now.asked.now found.new left) }
+    ensures tells { OnOk result (O.tells oracle.new source.now.view.now) }
+    ensures err { IfErr result (LookupCause source.now.view.now source.now.asked.now) }
+{
+    for tuple in tuples {
+        look_at(source, oracle, &tuple.node.object.id, found)?;
+    }
+    Ok(())
+}
+
+/// Asks for the object with the id, unless that was done, or as many are found as are asked for.
+fn look_at<O: Oracle>(
+    source: &Source,
+    oracle: &mut O,
+    id: &ObjectId,
+    found: &mut Found,
+) -> Result<(), Refusal>
+    requires { O.tells oracle.old source.now.view.now }
+    ensures underway { OnOk result ((left : List (List ℕ))
+        → IsUnderway source.now.view.now source.now.asked.now found.old (id.now ∷ left)
+        → IsUnderway source.now.view.now source.now.asked.now found.new left) }
+    ensures tells { OnOk result (O.tells oracle.new source.now.view.now) }
+    ensures err { IfErr result (LookupCause source.now.view.now source.now.asked.now) }
+{
+    let asked = source.asked;
+    if is_full(asked, found) || !is_later(&found.last, id) {
+        return Ok(());
+    }
+    let node = node_of(asked, id)?;
+    let has = check_at(source.alloc, source.view, oracle, &node, &asked.user)?;
+    note(found, id, has)?;
+    Ok(())
+}
+
+/// Notes whether the user has the relation to the object with the id.
+fn note(found: &mut Found, id: &ObjectId, has: bool) -> Result<(), AllocError>
+    ensures ids { OnOk result
+        (found.new.ids.items ≡ (if has then found.old.ids.items ++ id.now ∷ [] else found.old.ids.items)) }
+    ensures last { OnOk result (found.new.last ≡ Some id.now) }
+{
+    if has {
+        found.ids.push(id.clone()?)?;
+    }
+    found.last = Some(id.clone()?);
+    Ok(())
+}
+
+/// Whether as many are found as are asked for.
+fn is_full(asked: &Lookup, found: &Found) -> bool
+    ensures full { result ≡ true → asked.now.limit ≤ length found.now.ids.items }
+    ensures room { result ≡ false → length found.now.ids.items + 1 ≤ asked.now.limit }
+{
+    found.ids.len() >= asked.limit as usize
+}
+
+/// Whether the id comes later than this, if one is given.
+fn is_later(after: &Option<ObjectId>, id: &ObjectId) -> bool
+    ensures { result ≡ is_later after.now id.now }
+{
+    match after {
+        Some(after) => after.cmp(id).is_lt(),
+        None => true,
+    }
+}
+
+/// Whether the namespace has the relation.
+fn has_relation(config: &Config, asked: &Lookup) -> Result<bool, AllocError>
+    ensures { IfOk result (λ has. has ≡ has_relation config.now asked.now.relation) }
+{
+    // It is all one of which object.
+    let node = node_of(asked, &asked.user.id)?;
+    match config.place_of(&node) {
+        Some(_place) => Ok(true),
+        None => Ok(false),
+    }
+}
+
+/// The relation of the namespace's object with the id.
+fn node_of(asked: &Lookup, id: &ObjectId) -> Result<Node, AllocError>
+    ensures { IfOk result (λ n. n ≡ node_of asked.now.relation id.now) }
+{
+    let object = Object {
+        namespace: asked.relation.namespace.clone()?,
+        id: id.clone()?,
+    };
+    let relation = asked.relation.relation.clone()?;
+    Ok(Node { object, relation })
+}
+
+/// The first page of tuples. It may begin with some of the object that the others come after.
+fn first_page(asked: &Lookup) -> Result<Tupleset, AllocError>
+    ensures { IfOk result (λ t. t ≡ tuples_in asked.now.relation.namespace (start_of asked.now)) }
+{
+    let namespace = asked.relation.namespace.clone()?;
+    let after = start_of(asked)?;
+    Ok(Tupleset {
+        namespace,
+        object: None,
+        relation: None,
+        subject: None,
+        after,
+        limit: MAX_PAGE,
+    })
+}
+
+/// A tuple of the object that the others come after, if one is given: it need not be there.
+fn start_of(asked: &Lookup) -> Result<Option<Tuple>, AllocError>
+    ensures { IfOk result (λ t. t ≡ start_of asked.now) }
+{
+    let Some(id) = &asked.after else {
+        return Ok(None);
+    };
+    let node = node_of(asked, id)?;
+    let subject = Subject::one(asked.user.clone()?);
+    Ok(Some(Tuple { node, subject }))
+}
