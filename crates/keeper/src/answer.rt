@@ -8,9 +8,11 @@ ghost use Rattle.published.specs.Rising.{Rises};
 ghost use Rattle.desk.specs.Posts.{shown_by};
 ghost use Rattle.keeper.specs.Rules.{DeskStep};
 
-use crate::calls::asking::answer_question;
-use crate::calls::changing::answer_change;
-use crate::changes::is_change;
+use crate::calls::asking::question_on;
+use crate::calls::changing::change_on;
+use crate::changes::{change_of, is_change};
+use crate::questions::question_of;
+use bodies::refusals::refusal;
 use desk::Desk;
 use names::{Call, Reply};
 use published::Session;
@@ -37,29 +39,18 @@ pub fn answer_on<T: Tables + Drop, R: Wait + Drop>(
     ensures rises { Rises (standing desk.old.shown).kept (standing desk.new.shown).kept }
 {
     desk.see();
-    let reply = answer_call(alloc, desk, session, call, body);
+    let reply = if is_change(call) {
+        match change_of(alloc, call, body) {
+            Ok(change) => change_on(alloc, desk, session, change),
+            Err(why) => refusal(alloc, &why),
+        }
+    } else {
+        match question_of(alloc, call, body) {
+            Ok(question) => question_on(alloc, desk, session, &question),
+            Err(why) => refusal(alloc, &why),
+        }
+    };
     desk.see();
     session.knows_judged_steps();
     reply
-}
-
-// Answers a change or a question.
-fn answer_call<T: Tables + Drop, R: Wait + Drop>(
-    alloc: Global,
-    desk: &mut Desk<T, R>,
-    session: &mut Session,
-    call: Call,
-    body: &[u8],
-) -> Reply
-    requires { Begins (shown_by desk.old) session.old }
-    ensures step { DeskStep T.Tables desk.old call body.now (told result) desk.new }
-    ensures later { IsPrefix desk.old.shown desk.new.shown }
-    ensures kept { Begins session.old session.new }
-    ensures known { Begins (shown_by desk.new) session.new }
-{
-    if is_change(call) {
-        answer_change(alloc, desk, session, call, body)
-    } else {
-        answer_question(alloc, desk, session, call, body)
-    }
 }

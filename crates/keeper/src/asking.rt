@@ -1,9 +1,18 @@
 //! When a question is asked once more.
 ghost use Rattle.std.specs.Prelude.{◌≡◌, ◌↔◌, true, false, IfOk, IfErr};
 ghost use Rattle.names.specs.declared.refusal.Refusal.TheVariants.{Future};
+ghost use Rattle.shown.specs.Standing.{standing};
+ghost use Rattle.shown.specs.Asked.{IsTold, RefusesQuestion};
+ghost use Rattle.published.specs.Known.{Begins};
+ghost use Rattle.desk.specs.Posts.{shown_by};
+ghost use Rattle.keeper.specs.Showing.{ShowsFor};
 
+use desk::Desk;
 use names::Refusal;
-use shown::{Refused, Told};
+use published::Session;
+use shown::{Question, Refused, Told};
+use std::sync::Wait;
+use tables::Tables;
 
 /// Whether the question is of a revision that is not shown yet.
 pub fn is_of_the_future(asked: &Result<Told, Refused>) -> bool
@@ -14,4 +23,26 @@ pub fn is_of_the_future(asked: &Result<Told, Refused>) -> bool
         Err(refused) => matches!(refused.why, Refusal::Future),
         Ok(_) => false,
     }
+}
+
+/// What the question is told. Where it is of a revision that is not shown yet, what waits is shown first, and the session then
+/// knows it.
+pub(crate) fn ask<T: Tables + Drop, R: Wait + Drop>(
+    desk: &mut Desk<T, R>,
+    session: &mut Session,
+    question: &Question,
+) -> Result<Told, Refused>
+    requires { Begins (shown_by desk.old) session.old }
+    ensures ok { IfOk result (IsTold (standing desk.new.shown) question.now) }
+    ensures err { IfErr result (RefusesQuestion (standing desk.new.shown) question.now) }
+    ensures shows { ShowsFor question.now desk.old desk.new }
+    ensures kept { Begins session.old session.new }
+    ensures known { Begins (shown_by desk.new) session.new }
+{
+    let asked = desk.ask(question);
+    if is_of_the_future(&asked) {
+        desk.refresh(session);
+        return desk.ask(question);
+    }
+    asked
 }

@@ -10,10 +10,9 @@ ghost use Rattle.keeper.specs.Changes.{AsksChange};
 ghost use Rattle.keeper.specs.calls.Change.{ChangeStep};
 
 use crate::calls::refusing::refuse;
-use crate::changes::{change_of, made_reply};
-use bodies::refusals::refusal;
+use crate::changes::made_reply;
 use desk::{Change, Desk};
-use names::{Call, Reply};
+use names::Reply;
 use published::Session;
 use std::alloc::Global;
 use std::sync::Wait;
@@ -42,25 +41,5 @@ pub fn change_on<T: Tables + Drop, R: Wait + Drop>(
             made_reply(alloc, &done)
         }
         Err(why) => refuse(alloc, desk, session, &why),
-    }
-}
-
-/// Makes the change that the body of a call asks for.
-pub(crate) fn answer_change<T: Tables + Drop, R: Wait + Drop>(
-    alloc: Global,
-    desk: &mut Desk<T, R>,
-    session: &mut Session,
-    call: Call,
-    body: &[u8],
-) -> Reply
-    requires { Begins (shown_by desk.old) session.old }
-    ensures step { ChangeStep T.Tables desk.old call body.now (told result) desk.new }
-    ensures later { IsPrefix desk.old.shown desk.new.shown }
-    ensures kept { Begins session.old session.new }
-    ensures known { Begins (shown_by desk.new) session.new }
-{
-    match change_of(alloc, call, body) {
-        Ok(change) => change_on(alloc, desk, session, change),
-        Err(why) => refusal(alloc, &why),
     }
 }

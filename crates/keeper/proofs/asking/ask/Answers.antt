@@ -1,6 +1,6 @@
 use Rattle.std.proofs.Common.{sym}
 use Rattle.published.proofs.Rules.{begins_self}
-use Rattle.keeper.proofs.calls.asking.ask.Goals as goal
+use Rattle.keeper.proofs.asking.ask.Goals as goal
 
 pub refresh-requires : goal.refresh-requires
 refresh-requires g c = sym c.requires.0
