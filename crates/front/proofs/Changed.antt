@@ -1,5 +1,5 @@
 -- What each call does to what a front knows.
-use Rattle.std.proofs.Common.{◌≡◌, ℕ, Bool, true, false, List, ap, sym, ◌∙◌, subst, inl, inr}
+use Rattle.std.proofs.Common.{◌≡◌, ℕ, Bool, true, false, List, ap, sym, subst, inl, inr}
 use Rattle.std.specs.Prelude.{Option, [], Result, Ok, Err, IfOk}
 use Rattle.std.specs.Bool.{MatchBool}
 use Rattle.logbook.specs.Pages.{Book}

@@ -19,7 +19,6 @@ use Rattle.names.proofs.tuple.Tuple.TheSendSync as Tuple
 use Rattle.config.specs.contracts.config.Config as Config
 use Rattle.idsets.proofs.ids.Ids.TheSendSync as Ids
 use Rattle.idsets.proofs.set.IdSet.TheSendSync as IdSet
-use Rattle.names.proofs.object.Object.TheSendSync as Object
 use Rattle.hot.specs.contracts.hot.Hot as Hot
 use Rattle.region.proofs.rule.Rule.TheLaws.TheKnot.{crosses as rules_cross}
 use Rattle.region.specs.contracts.rule.Rule as Rule

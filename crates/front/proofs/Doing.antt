@@ -1,6 +1,6 @@
 -- What a deed leaves of a desk.
-use Rattle.std.proofs.Common.{◌≡◌, ◌+◌, ℕ, List, [], ◌∷◌, ◌++◌, refl, sym, ap, ◌∙◌, subst, inl, inr}
-use Rattle.std.specs.Prelude.{◌⊎◌, Option, Result, Ok, Err, IfOk, IfErr}
+use Rattle.std.proofs.Common.{◌≡◌, ◌+◌, ℕ, List, [], ◌∷◌, ◌++◌, length, refl, sym, ap, ◌∙◌, subst, inl, inr, arith}
+use Rattle.std.specs.Prelude.{Option, Result, Ok, Err, IfOk, IfErr}
 use mathlib.Core.List.{IsPrefix}
 use Rattle.logbook.specs.Pages.{Book}
 use Rattle.names.specs.declared.call.Call.{Call}
@@ -25,7 +25,7 @@ use Rattle.one_history.specs.declared.entry.Entry.{Entry}
 use Rattle.one_history.proofs.Runs.{ran_from_next, done_by}
 use Rattle.front.specs.declared.deeds.Deed.{Deed}
 use Rattle.front.specs.declared.deeds.Deed.TheVariants.{Answered, CaughtUp, Changed, Refreshed, Seated}
-use Rattle.front.specs.Deeds.{IsNoted, CatchesUp, takes, takes_none, Changes, makes, makes_none, Does, IsLeft, IsDoneTo}
+use Rattle.front.specs.Deeds.{IsNoted, CatchesUp, takes, takes_none, Changes, makes, makes_none, Does, IsLeft, IsDoneTo, AllStandIn}
 use Rattle.front.specs.Kept.{IsOpened, IsOfBook}
 
 -- a note of this one deed
@@ -136,3 +136,8 @@ kept_by g book starts desk log now same kept = (kept.0, subst (λ (es : List (En
 -- nothing was done yet
 pub left_first : {T : Type 0} (g : Ghosts T) (starts : Posts T → Type 0) (desk : Posts T) (log : List (Entry Deed)) → log ≡ [] → starts desk → IsLeft g starts log desk
 left_first g starts desk log none begun = subst (λ (es : List (Entry Deed)). IsLeft g starts es desk) (sym none) (desk, begun, refl)
+
+-- no place is left
+pub none_stand : (deeds : List (Entry Deed)) (places : List (Hand Deed)) → length places ≡ 0 → AllStandIn deeds places
+none_stand deeds [] none = tt
+none_stand deeds (place ∷ places) none = absurd (omega (arith, none))

@@ -1,5 +1,5 @@
 -- What is done to a desk under a keeper's lock, and what a desk is by all that was done to it.
-use Rattle.std.specs.Prelude.{ℕ, ◌≡◌, ◌⊎◌, ◌+◌, List, [], ◌∷◌, ◌++◌}
+use Rattle.std.specs.Prelude.{ℕ, ◌≡◌, ◌⊎◌, ◌+◌, List, [], ◌∷◌, ◌++◌, ⊤}
 use mathlib.Core.List.{IsPrefix}
 use Rattle.names.specs.declared.part.Part.{Part}
 use Rattle.names.specs.declared.refusal.Refusal.{Refusal}
@@ -58,3 +58,13 @@ IsLeft g starts deeds desk = RanFrom (Does g) starts deeds desk
 -- a worker did this to the desk that was there, behind all that was done before
 abbrev pub IsDoneTo : {T : Type 0} → Ghosts T → (Posts T → Type 0) → Hand Deed → Posts T → Deed → Posts T → Hand Deed → Type 0
 IsDoneTo g starts old before deed after new = IsDone (Does g) starts old before deed after new
+
+-- a place had seen a beginning of these deeds, and its own among them are just those that it did
+pub record StandsIn (deeds : List (Entry Deed)) (place : Hand Deed) : Type 0 where
+  pub begins : IsPrefix place.seen deeds
+  pub own : entries_by place.by deeds ≡ place.mine
+
+-- so does each of these places
+abbrev pub AllStandIn : List (Entry Deed) → List (Hand Deed) → Type 0
+AllStandIn deeds [] = ⊤
+AllStandIn deeds (place ∷ places) = StandsIn deeds place × AllStandIn deeds places

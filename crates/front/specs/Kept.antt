@@ -10,7 +10,7 @@ use Rattle.shown.specs.Standing.{standing}
 use Rattle.published.specs.Known.{Known, Begins}
 use Rattle.published.specs.Judged.{AreJudged, WereJudged}
 use Rattle.published.specs.Rising.{Rises}
-use Rattle.desk.specs.Posts.{Posts, Agrees, IsSettled, shown_by}
+use Rattle.desk.specs.Posts.{Posts, Agrees, IsSettled}
 use Rattle.one_history.specs.declared.entry.Entry.{Entry}
 use Rattle.front.specs.declared.deeds.Deed.{Deed}
 use Rattle.front.specs.Deeds.{IsLeft}

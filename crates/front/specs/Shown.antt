@@ -1,6 +1,5 @@
 -- Which revisions a question is of, and what is known of one that was shown.
 use Rattle.std.specs.Prelude.{ℕ, ◌≤◌, false, ◌≡◌, ⊤}
-use Rattle.logbook.specs.Pages.{Book}
 use Rattle.zookie.specs.declared.consistency.Consistency.{Consistency}
 use Rattle.zookie.specs.declared.consistency.Consistency.TheVariants.{Latest, AtLeast, Exactly}
 use Rattle.tables.specs.declared.tables.Tables.{Ghosts}

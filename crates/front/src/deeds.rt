@@ -3,7 +3,7 @@ ghost use Rattle.std.specs.Prelude.{◌≡◌, [], ◌∷◌};
 ghost use Rattle.names.specs.Calls.{told};
 ghost use Rattle.front.specs.declared.deeds.Deed.{Deed};
 ghost use Rattle.front.specs.declared.deeds.Deed.TheVariants.{Answered, CaughtUp};
-ghost use Rattle.front.specs.Deeds.{IsNoted};
+ghost use Rattle.front.specs.Deeds.{AllStandIn, IsNoted, StandsIn};
 
 use names::{Call, Part, Reply};
 use one_history::{History, HistoryName, Log, Noted, Worker};
@@ -107,5 +107,28 @@ impl<'k, J: HistoryName> Place<'k, J> {
         ensures { IsNoted self.old log.old (CaughtUp part commits) self.new log.new }
     {
         self.note::<N, W>(rt, log);
+    }
+
+    // Sees all deeds so far, and does none.
+    fn look<W: Wait>(&mut self, rt: &W, log: &mut Log<Deed, J>)
+        ensures same { log.new ≡ log.old }
+        ensures stands { StandsIn log.old self.old }
+    {
+        log.look(rt, self.history, &mut self.worker);
+    }
+}
+
+// Each place sees all deeds so far, and is let go.
+pub(crate) fn look_last<J: HistoryName, W: Wait>(
+    rt: &W,
+    log: &mut Log<Deed, J>,
+    places: Vec<Place<'_, J>>,
+)
+    ensures same { log.new ≡ log.old }
+    ensures stand { AllStandIn log.old places.entry.items }
+{
+    for place in places {
+        let mut place = place;
+        place.look(rt, log);
     }
 }

@@ -121,6 +121,14 @@ impl<'k, T: Tables + Drop, J: KeeperName<T>, R: Wait + Drop> Front<'k, T, J, R> 
         self.tell(rt, call, body)
     }
 
+    /// Gives its place back, of which it does nothing more.
+    pub fn leave(self) -> Place<'k, J>
+        ensures { result ≡ self.entry.hand }
+    {
+        let Front { place, .. } = self;
+        place
+    }
+
     // What is true of every front: a function knows it where it looks at a field.
     fn see(&self)
         ensures { IsKnownIn J.book self.now.known }

@@ -16,11 +16,11 @@ ghost use Rattle.one_history.specs.declared.entry.Entry.{Entry};
 ghost use Rattle.one_history.specs.History.{Hand};
 ghost use Rattle.front.specs.declared.deeds.Deed.{Deed};
 ghost use Rattle.front.specs.declared.deeds.Deed.TheVariants.{Answered, CaughtUp, Changed as ChangedDeed, Refreshed, Seated};
-ghost use Rattle.front.specs.Deeds.{IsDoneTo, IsLeft};
+ghost use Rattle.front.specs.Deeds.{AllStandIn, IsDoneTo, IsLeft};
 ghost use Rattle.front.specs.Kept.{IsKept, IsKnownIn, IsOfBook, KnowsMore, WereKept};
 ghost use Rattle.front.specs.Fronts.{IsSeated};
 
-use crate::deeds::{Deed, KeeperName, Place};
+use crate::deeds::{Deed, KeeperName, Place, look_last};
 use desk::{Change, Changed, Desk, Posted};
 use keeper::change_on;
 use names::{Call, Part, Refusal, Reply};
@@ -233,6 +233,15 @@ impl<T: Tables + Drop, J: KeeperName<T>, R: Wait + Drop> KeptDesk<T, J, R> {
         place.note_answered::<Brand, W>(rt, &mut self.log, call, body, &reply);
         self.desk.see();
         reply
+    }
+
+    /// Has each of these places see all that was done, which has left the desk so, and lets them go. One list of deeds is told of
+    /// all: each place's own stand in it, and under its number no others.
+    pub fn look<W: Wait>(&mut self, rt: &W, places: Vec<Place<'_, J>>)
+        ensures same { self.new ≡ self.old }
+        ensures told { (deeds : List (Entry Deed)) × IsLeft T.Tables J.starts deeds self.new × AllStandIn deeds places.entry.items }
+    {
+        look_last(rt, &mut self.log, places);
     }
 }
 

@@ -1,7 +1,7 @@
 //! A front that answers calls, whatever brings them.
 ghost use Rattle.std.specs.Prelude.{◌≡◌};
 
-use crate::deeds::KeeperName;
+use crate::deeds::{KeeperName, Place};
 use crate::front::Front;
 use answers::Answers;
 use names::{Call, Reply};
@@ -34,6 +34,14 @@ impl<'k, T: Tables + Drop, J: KeeperName<T>, R: Wait + Drop, W: Wait> Locked<'k,
         ensures { result ≡ front.entry }
     {
         Locked { rt, front }
+    }
+
+    /// Gives the front's place back.
+    pub fn leave(self) -> Place<'k, J>
+        ensures { result ≡ self.entry.hand }
+    {
+        let Locked { front, .. } = self;
+        front.leave()
     }
 }
 

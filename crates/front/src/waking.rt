@@ -24,6 +24,14 @@ impl<'a, A, R> Waking<'a, A, R> {
     {
         Waking { answers, rt, wakes }
     }
+
+    /// Gives back what answers, and wakes nobody more.
+    pub fn into_inner(self) -> A
+        ensures { result ≡ self.entry.answers }
+    {
+        let Waking { answers, .. } = self;
+        answers
+    }
 }
 
 impl<'a, A: Answers, R: Wait> Answers for Waking<'a, A, R> {

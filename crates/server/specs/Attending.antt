@@ -1,5 +1,5 @@
 -- What connections do to the machine that answers their calls.
-use Rattle.std.specs.Prelude.{ℕ, ◌≡◌, ◌⊎◌, List, [], ◌∷◌, length, Option}
+use Rattle.std.specs.Prelude.{ℕ, ◌≡◌, ◌⊎◌, List, [], ◌∷◌, length, Option, ⊤}
 use Rattle.std.specs.Iterator.{Drains}
 use Rattle.answers.specs.declared.end.End.{End}
 use Rattle.answers.specs.declared.end.End.TheVariants.{Closed, Broken, ReadFault, WriteFault, Memory}
@@ -29,3 +29,13 @@ OneByOne {S} took s (end ∷ ends) t = (mid : S) × OneByOne took s ends mid × 
 abbrev pub ServesEach : {Q X S : Type 0} → (Q → Option X → Q → Type 0) → (S → End → S → Type 0) → Q → S → S → Type 0
 ServesEach {Q} {X} gives took queue s t =
     (streams : List X) × (ends : List End) × Drains gives queue streams × (length ends ≡ length streams) × OneByOne took s ends t
+
+-- connections took it from s on, one after another, and then it left this
+abbrev pub ServedUntil : {S L : Type 0} → (S → End → S → Type 0) → (S → L → Type 0) → S → L → Type 0
+ServedUntil {S} took left s l = (ends : List End) × (t : S) × OneByOne took s ends t × left t l
+
+-- so it is of each pair, in order, and there are as many of both
+abbrev pub Pairs : {A B : Type 0} → (A → B → Type 0) → List A → List B → Type 0
+Pairs is [] [] = ⊤
+Pairs is (a ∷ more) (b ∷ others) = is a b × Pairs is more others
+Pairs is _ _ = ⊥

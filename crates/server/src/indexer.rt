@@ -2,6 +2,7 @@
 ghost use Rattle.std.specs.Prelude.{◌≡◌, ◌⊎◌, ◌↔◌, IsTrue, IfOk, IfErr, false};
 ghost use Rattle.names.specs.declared.refusal.Refusal.TheVariants.{NoSeat};
 ghost use Rattle.published.specs.Known.{Begins};
+ghost use Rattle.front.specs.Fronts.{IsSeated};
 ghost use Rattle.server.specs.Turning.{TakesOneTurn};
 ghost use Rattle.server.specs.Turns.{IsBehind};
 
@@ -31,7 +32,8 @@ impl<'k, T: Tables + Drop, J: KeeperName<T>, H: Wait + Drop> Indexer<'k, T, J, H
         keeper: &'k Keeper<T, J, H>,
         woken: Receiver<()>,
     ) -> Result<Indexer<'k, T, J, H>, Refusal>
-        ensures { IfErr result (λ why. why ≡ NoSeat) }
+        ensures seated { IfOk result (λ it. IsSeated T.Tables J.book J.starts (record { known = it.session; hand = it.place })) }
+        ensures err { IfErr result (λ why. why ≡ NoSeat) }
     {
         let (session, place) = keeper.session(rt)?;
         Ok(Indexer {
@@ -40,6 +42,14 @@ impl<'k, T: Tables + Drop, J: KeeperName<T>, H: Wait + Drop> Indexer<'k, T, J, H
             place,
             woken,
         })
+    }
+
+    /// Gives its place back.
+    pub(crate) fn leave(self) -> Place<'k, J>
+        ensures { result ≡ self.entry.place }
+    {
+        let Indexer { place, .. } = self;
+        place
     }
 
     // Takes a turn if a part is behind what is shown. Whether more may be left to take.

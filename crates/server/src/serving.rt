@@ -1,15 +1,18 @@
 //! A server over a keeper.
-ghost use Rattle.std.specs.Prelude.{◌≡◌, ◌⊎◌, IfErr};
+ghost use Rattle.std.specs.Prelude.{◌≡◌, ◌⊎◌, IfOk, IfErr, vec_len};
 ghost use Rattle.names.specs.declared.refusal.Refusal.TheVariants.{Memory, NoSeat};
+ghost use Rattle.front.specs.Fronts.{IsSeated};
+ghost use Rattle.server.specs.Served.{AllSeated, AllServed};
 
 use crate::indexer::Indexer;
-use crate::pool::serve_and_follow;
-use crate::worker::Worker;
+use crate::pool::{Entrance, serve_and_follow};
+use crate::worker::{Machine, Worker};
+use crossbeam_channel::{Receiver, Sender};
 use front::{Counted, Front, Gate, Keeper, KeeperName, Locked, Waking};
 use http_api::routes;
 use names::Refusal;
 use std::alloc::Global;
-use std::net::TcpListener;
+use std::net::{TcpListener, TcpStream};
 use std::sync::Wait;
 use std::sync::atomic::AtomicU64;
 use std::thread::Threads;
@@ -24,20 +27,22 @@ use tables::Tables;
 /// worker and one for the indexer, and memory. Where no thread can be made for the indexer, or for no worker, it accepts
 /// nothing, and is refused as for want of memory.
 pub fn run<
+    'k,
     R: Threads + Wait + Clock + Sync,
     T: Tables + Drop + Send,
     J: KeeperName<T> + Send + Sync,
     H: Wait + Drop + Send,
     G: Gate + Sync,
 >(
-    rt: &R,
+    rt: &'k R,
     alloc: Global,
-    listener: &TcpListener,
-    keeper: &Keeper<T, J, H>,
+    listener: &'k TcpListener,
+    keeper: &'k Keeper<T, J, H>,
     workers: usize,
-    gate: &G,
+    gate: &'k G,
 ) -> Result<(), Refusal>
-    ensures { IfErr result (λ why. (why ≡ NoSeat) ⊎ (why ≡ Memory)) }
+    ensures served { IfOk result (λ _. AllServed T.Tables J.book J.starts workers) }
+    ensures err { IfErr result (λ why. (why ≡ NoSeat) ⊎ (why ≡ Memory)) }
 {
     let Ok(routes) = routes(alloc) else {
         return Err(Refusal::Memory);
@@ -61,9 +66,41 @@ pub fn run<
     }
     // The indexer ends once no worker is left.
     drop(wakes);
-    if serve_and_follow(rt, alloc, listener, queue, indexer, machines, gate) {
-        Ok(())
-    } else {
-        Err(Refusal::Memory)
+    let entrance = Entrance {
+        rt,
+        alloc,
+        listener,
+        gate,
+    };
+    serve_seated(&entrance, keeper, queue, indexer, machines)
+}
+
+// Serves by these workers, beside the indexer, and then lets all see what was done under the lock.
+fn serve_seated<
+    'k,
+    R: Threads + Wait + Clock + Sync,
+    T: Tables + Drop + Send,
+    J: KeeperName<T> + Send + Sync,
+    H: Wait + Drop + Send,
+    G: Gate + Sync,
+>(
+    entrance: &Entrance<'k, R, G>,
+    keeper: &'k Keeper<T, J, H>,
+    queue: (Sender<TcpStream>, Receiver<TcpStream>),
+    indexer: Indexer<'k, T, J, H>,
+    machines: Vec<Worker<'k, Machine<'k, T, J, H, R, G>>>,
+) -> Result<(), Refusal>
+    requires indexer { IsSeated T.Tables J.book J.starts (record { known = indexer.session; hand = indexer.place }) }
+    requires machines { AllSeated T.Tables J.book J.starts (λ w. w.answers.answers.answers) machines.items }
+    ensures served { IfOk result (λ _. AllServed T.Tables J.book J.starts (vec_len machines.entry)) }
+    ensures err { IfErr result (λ why. (why ≡ NoSeat) ⊎ (why ≡ Memory)) }
+{
+    match serve_and_follow(entrance, queue, indexer, machines) {
+        Some((indexer, mut places)) => {
+            places.push(indexer.leave())?;
+            keeper.hold(entrance.rt).look(entrance.rt, places);
+            Ok(())
+        }
+        None => Err(Refusal::Memory),
     }
 }

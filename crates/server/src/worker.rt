@@ -2,14 +2,17 @@
 ghost use Rattle.std.specs.Prelude.{◌≡◌};
 ghost use Rattle.http_api.specs.Routes.{table};
 
-use crate::pool::Serves;
+use crate::pool::{Leaves, Serves};
 use crate::stream::serve_stream;
 use crate::waiting::Patience;
 use answers::{Answers, End};
+use front::{Counted, KeeperName, Locked, Place, Waking};
 use matchit::Router;
 use names::Call;
 use std::alloc::Global;
 use std::net::TcpStream;
+use std::sync::Wait;
+use tables::Tables;
 
 /// A machine that answers calls, with the routes.
 #[derive(Drop)]
@@ -35,5 +38,21 @@ impl<'a, A: Answers> Serves for Worker<'a, A> {
 
     fn serve<P: Patience>(&mut self, alloc: Global, stream: &TcpStream, patience: &P) -> End {
         serve_stream(alloc, self.routes, stream, patience, &mut self.answers)
+    }
+}
+
+/// A worker's machine: its front, which is counted, and wakes the indexer.
+pub(crate) type Machine<'a, T, J, H, R, G> = Counted<'a, Waking<'a, Locked<'a, T, J, H, R>, R>, G>;
+
+impl<'a, T: Tables + Drop, J: KeeperName<T>, H: Wait + Drop, R: Wait, G> Leaves<Place<'a, J>>
+    for Worker<'a, Machine<'a, T, J, H, R, G>> {
+    ghost use Rattle.std.specs.Prelude.{◌≡◌};
+
+    ghost left = { λ w place. place ≡ w.answers.answers.answers.hand };
+
+    fn leave(self) -> Place<'a, J> {
+        let Worker { answers, .. } = self;
+        let Counted { answers, .. } = answers;
+        answers.into_inner().leave()
     }
 }
