@@ -5,3 +5,4 @@ pub mod Places
 pub mod Searching
 pub mod StepLemmas
 pub mod Tested
+pub mod Typing

@@ -79,7 +79,7 @@ fn have_types(namespaces: &[Name], relations: &[Relation], types: &[SubjectType]
     true
 }
 
-fn stands_in(declared: &SubjectType, types: &[SubjectType]) -> bool
+pub(crate) fn stands_in(declared: &SubjectType, types: &[SubjectType]) -> bool
     ensures { result ≡ list_any (is_type declared.now) types.now }
 {
     for other in types {

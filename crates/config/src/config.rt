@@ -1,18 +1,19 @@
 //! Configurations.
-ghost use Rattle.std.specs.Prelude.{◌≡◌, ◌&&◌, ◌<◌, ◌^◌, All, map, IfOk, IfErr, OnOk, IsTrue, IfSome, IfNone, true, string_bytes};
-ghost use Rattle.std.specs.List.{list_any};
-ghost use Rattle.meaning.specs.Admits.{is_relation, declares};
+ghost use Rattle.std.specs.Prelude.{◌≡◌, ◌&&◌, ◌<◌, ◌^◌, All, map, IfOk, IfErr, OnOk, IsTrue, IfSome, IfNone, true, false, string_bytes};
+ghost use Rattle.std.specs.List.{list_any, list_all};
+ghost use Rattle.names.specs.declared.tuple.Tuple.{Tuple};
+ghost use Rattle.meaning.specs.Admits.{is_relation, is_type, declares};
 ghost use Rattle.meaning.specs.Config.{rel_of};
 ghost use Rattle.config_text.specs.Canonical.{config_text};
 ghost use Rattle.config_text.specs.Forms.{defined_of};
 ghost use Rattle.config_text.specs.Parts.{configured};
 ghost use Rattle.config.specs.Invariant.{IsShort};
 
-use crate::causes::first_cause;
+use crate::causes::{first_cause, stands_in};
 use crate::levels::levels_of;
 use config_text::{Parts, Relation, read_configuration, text_of};
 use names::limits::MAX_CONFIG_LEN;
-use names::{Name, Node, Refusal, Tuple};
+use names::{Name, Node, Refusal, RelationName, SubjectType, Tuple};
 use std::alloc::{AllocError, Global};
 use std::marker::Model;
 
@@ -139,6 +140,41 @@ impl Config {
         match self.place_of(&tuple.node) {
             None => false,
             Some(place) => self.relations[place].declares(&tuple.subject),
+        }
+    }
+
+    /// Whether each tuple that an earlier configuration admits is admitted: each type that a relation of it declares, the
+    /// same relation declares here. It goes over the declared types, and over no tuple.
+    pub fn admits_all_of(&self, earlier: &Config) -> bool
+        ensures yes { IsTrue result → (t : Tuple) → admits earlier.now t ≡ true → admits self.now t ≡ true }
+        ensures no { result ≡ false → (t : Tuple) × (admits earlier.now t ≡ true) × (admits self.now t ≡ false) }
+    {
+        for relation in &earlier.relations {
+            if !self.declares_all(&relation.name, &relation.types) {
+                return false;
+            }
+        }
+        true
+    }
+
+    fn declares_all(&self, name: &RelationName, types: &[SubjectType]) -> bool
+        ensures { result ≡ list_all (λ type. list_any (λ d. is_relation name.now d && list_any (is_type type) d.types) self.now.relations) types.now }
+    {
+        for declared in types {
+            if !self.declares(name, declared) {
+                return false;
+            }
+        }
+        true
+    }
+
+    fn declares(&self, name: &RelationName, declared: &SubjectType) -> bool
+        ensures { result ≡ list_any (λ d. is_relation name.now d && list_any (is_type declared.now) d.types) self.now.relations }
+    {
+        let relations = self.relations.as_slice();
+        match relations.binary_search_by(|relation| relation.name.cmp(name)) {
+            Ok(place) => stands_in(declared, &relations[place].types),
+            Err(_) => false,
         }
     }
 

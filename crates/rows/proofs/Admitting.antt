@@ -5,6 +5,7 @@ use Rattle.std.specs.List.{list_any, find}
 use Rattle.std.specs.Ordering.{eq_by_cmp}
 use Rattle.std.proofs.lemmas.Bool.{true≢false, or_cases, or_parts, and_parts}
 use Rattle.std.proofs.lemmas.Map.Views.{tells_apart}
+use Rattle.std.proofs.Math.Seq.{take-length}
 use Rattle.names.specs.Order.{tuple_cmp}
 use Rattle.names.specs.declared.tuple.Tuple.{Tuple}
 use Rattle.names.specs.declared.commit.Event.{Event}
@@ -18,9 +19,9 @@ use Rattle.meaning.specs.TupleSet.{Tuples}
 use Rattle.meaning.specs.Admits.{admits}
 use Rattle.meaning.specs.History.{History, after_kind, after_event, replay, after_commit, after_commits}
 use Rattle.meaning.specs.Verdict.{is_untyped}
-use Rattle.meaning.proofs.Lists.{contains_cases, contains_none}
+use Rattle.meaning.proofs.Lists.{contains_cases, contains_none, contains_here, contains_there}
 use Rattle.meaning.proofs.TupleSets.{exact_tuples, contains_empty, contains_iff, contains_insert, contains_remove}
-use Rattle.rows.specs.Retained.{Retained, newest_of, AreAdmitted, IsAdmitted, with_commit, after_trim}
+use Rattle.rows.specs.Retained.{Retained, newest, newest_of, snap_at, AreAdmitted, IsAdmitted, with_commit, after_trim}
 use Rattle.rows.specs.Follows.{touch_of}
 use Rattle.versions.proofs.VersionRuns.{take_none}
 use Rattle.versions.proofs.Settling.{drop_none}
@@ -135,3 +136,20 @@ none_of {A = A} p (y ∷ ys) h x c = by_test (p y) refl h (contains_cases y x ys
 -- a configuration admits the tuples where none is found that it does not admit
 pub within_config : (config : Configured) (tuples : Tuples) → find (λ t. not (admits config t)) (set.items tuples) ≡ None → Within config tuples
 within_config config tuples none t there = admitted (admits config t) (none_of (λ u. not (admits config u)) (set.items tuples) none t ((contains_iff tuples t).0 there))
+
+-- where each element fails a test, none is found
+none_found : {A : Type 0} (p : A → Bool) (xs : List A) → ((x : A) → Contains xs x → p x ≡ false) → find p xs ≡ None
+none_found p [] fail = refl
+none_found p (x ∷ xs) fail =
+    ap (λ b. cond b (Some x) (find p xs)) (fail x (contains_here x xs)) ∙ none_found p xs (λ y has. fail y (contains_there x y xs has))
+
+-- no tuple is in the way of a configuration that admits what the one before does
+pub none_in_the_way : (s : Snap) (config : Configured) → AreAdmitted s → ((t : Tuple) → admits s.config t ≡ true → admits config t ≡ true) → find (λ t. not (admits config t)) (set.items s.tuples) ≡ None
+none_in_the_way s config within more =
+    none_found (λ t. not (admits config t)) (set.items s.tuples) (λ t has. ap not (more t (within t ((contains_iff s.tuples t).1 has))))
+
+-- the newest revision holds what all commits give
+pub newest_snap : (r : Retained) → snap_at r (newest r) ≡ (newest_of r).held
+newest_snap r =
+    let all : newest r - r.floor ≡ length r.commits = omega arith in
+    ap (λ (n : ℕ). after_commits r.base (take n r.commits)) all ∙ ap (after_commits r.base) (take-length r.commits)

@@ -270,10 +270,14 @@ impl Rows {
         self.tuples.usersets_in(alloc, rev, node, namespace, nodes)
     }
 
-    /// The first current tuple that the configuration does not admit.
+    /// The first current tuple that the configuration does not admit. Where it admits all that the newest one does, no
+    /// tuple is gone over.
     pub(crate) fn tuple_in_the_way(&self, config: &Config) -> Option<Tuple>
         ensures { result ≡ find (refuses config.now) (set.items (newest_of self.now).held.tuples) }
     {
+        if config.admits_all_of(self.config_at(self.newest())) {
+            return None;
+        }
         self.tuples.first_refused(config)
     }
 

@@ -36,3 +36,4 @@ pub mod RowSteps
 pub mod Slots
 pub mod Ordered
 pub mod Sound
+pub mod Alike

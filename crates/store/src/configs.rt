@@ -1,14 +1,16 @@
 //! The configurations, read.
-ghost use Rattle.std.specs.Prelude.{◌≡◌, ◌≤◌, ◌⊎◌, true, false, map, IsTrue, IfOk, IfErr, All};
+ghost use Rattle.std.specs.Prelude.{◌≡◌, ◌≤◌, ◌⊎◌, true, false, map, length, drop, IsTrue, IfOk, IfErr, All};
 ghost use Rattle.std.specs.Option.{option_copied};
 ghost use Rattle.meaning.specs.Admits.{admits};
 ghost use Rattle.meaning.specs.Config.{empty_config};
 ghost use Rattle.sqlite_tables.specs.Stored.{config_row_in};
+ghost use Rattle.store.specs.declared.parts.ReadConfig.{ReadConfig};
 ghost use Rattle.store.specs.Written.{IsConfigAt, config_row_of, config_at, config_up_to};
 ghost use Rattle.store.specs.inside.Following.{IsAdmitted, is_between};
 ghost use Rattle.store.specs.inside.Reading.{as_span, as_config, AreAscending, AreAdmitted, AreLater, ArePartedAt, Rise};
 ghost use Rattle.store.specs.Refused.{DeservedBy, IsOfConfig, ConfigsListed, AreDistinct, IsNotAdmitted, AreNotAdmitted};
 
+use crate::kinds::since_in;
 use crate::parts::{Head, ReadConfig, ReadSpan};
 use crate::unread::Unread;
 use config::Config;
@@ -133,16 +135,20 @@ fn later(a: u64, b: u64) -> u64
     if a < b { b } else { a }
 }
 
-/// Whether each configuration admits the span's tuple that is in force while it is there, from the floor on.
-pub(crate) fn is_admitted(
+/// Whether each configuration admits the span's tuple that is in force while it is there, from the floor on. Those from
+/// `since` on admit it.
+fn is_admitted(
     empty: &Config,
     configs: &[ReadConfig],
+    since: usize,
     floor: u64,
     span: &ReadSpan,
 ) -> bool
     requires empty { empty.now ≡ empty_config }
     requires rise { Rise configs.now }
     requires later { AreLater configs.now }
+    requires within { since ≤ length configs.now }
+    requires since { All (λ (revised : ReadConfig). admits revised.config span.now.tuple ≡ true) (drop since configs.now) }
     ensures passes { IsTrue result → IsAdmitted floor (map as_config configs.now) (as_span span.now) }
     ensures refuses { result ≡ false → IsNotAdmitted floor configs.now span.now }
 {
@@ -151,16 +157,17 @@ pub(crate) fn is_admitted(
     if !config_up_to(empty, configs, from).allows(&tuple) {
         return false;
     }
-    for revised in configs {
-        if !is_borne(revised, span, from, &tuple) {
+    for place in 0..since {
+        if !is_borne(&configs[place], span, from, &tuple) {
             return false;
         }
     }
     true
 }
 
-/// Whether that holds of each span.
+/// Whether that holds of each span. For each kind of tuple the configurations are asked once.
 pub(crate) fn are_admitted(
+    alloc: Global,
     empty: &Config,
     configs: &[ReadConfig],
     floor: u64,
@@ -172,8 +179,11 @@ pub(crate) fn are_admitted(
     ensures passes { IsTrue result → AreAdmitted floor configs.now spans.now }
     ensures refuses { result ≡ false → AreNotAdmitted floor configs.now spans.now }
 {
+    let mut kinds = Vec::new(alloc);
     for span in spans {
-        if !is_admitted(empty, configs, floor, span) {
+        let tuple = span.tuple.tuple();
+        let since = since_in(configs, &mut kinds, tuple);
+        if !is_admitted(empty, configs, since, floor, span) {
             return false;
         }
     }

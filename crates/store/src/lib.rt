@@ -8,6 +8,7 @@ mod committing;
 mod configs;
 mod head;
 mod history;
+mod kinds;
 mod parts;
 mod placed_event;
 mod placing;

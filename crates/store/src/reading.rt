@@ -39,7 +39,7 @@ fn are_placed(alloc: Global, head: Head, configs: &[ReadConfig], spans: &[ReadSp
     if !are_apart(spans) || !are_ascending(head.floor, configs) {
         return false;
     }
-    are_admitted(&Config::empty(alloc), configs, head.floor, spans)
+    are_admitted(alloc, &Config::empty(alloc), configs, head.floor, spans)
 }
 
 fn build(
