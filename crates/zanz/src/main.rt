@@ -3,13 +3,6 @@
 //! until it is stopped; `zanz config FILE` prints the level of each relation of a configuration, or why it is refused.
 #![tactic(auto)]
 
-mod command;
-mod listening;
-mod place;
-mod program;
-mod sharing;
-mod telling;
-
 use program::program;
 use sqlite::Unknown;
 use std::io::BufWriter;

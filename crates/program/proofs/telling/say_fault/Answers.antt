@@ -1,0 +1,5 @@
+use Rattle.program.proofs.Told.{handed_on}
+use Rattle.program.proofs.telling.say_fault.Goals as goal
+
+pub returns-clause-wrote : goal.returns-clause-wrote
+returns-clause-wrote g c = handed_on c.flush.result _ _ _ _ c.in_ok-put_fault.ensures.wrote c.flush.ensures.taken

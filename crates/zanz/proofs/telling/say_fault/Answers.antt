@@ -1,5 +1,0 @@
-use Rattle.zanz.proofs.Told.{handed_on}
-use Rattle.zanz.proofs.telling.say_fault.Goals as goal
-
-pub returns-clause-wrote : goal.returns-clause-wrote
-returns-clause-wrote g c = handed_on c.flush.result _ _ _ _ c.in_ok-put_fault.ensures.wrote c.flush.ensures.taken
