@@ -1,5 +1,5 @@
 #!/usr/bin/env python3
-"""Times stores in memory and in a file, beside sqlite3 on the same rows.
+"""Times stores in memory and in a file, beside sqlite3 on the same rows: those of the tuples, and the one of the newest revision.
 
 usage: tables.py PROGRAM [TUPLES ..]      writes of 1, 16 and 256 operations; then opening, memory and size with that
                                           many tuples (10000 100000 1000000 where none are given)
@@ -19,6 +19,11 @@ SCHEMA = (
     "CREATE TABLE row (namespace TEXT NOT NULL, object TEXT NOT NULL, relation TEXT NOT NULL, subject TEXT NOT NULL, "
     "added INTEGER NOT NULL CHECK (added > 0), removed INTEGER NOT NULL, CHECK (removed = 0 OR removed > added), "
     "PRIMARY KEY (namespace, object, relation, subject, added)) STRICT"
+)
+STATE = "CREATE TABLE state (key TEXT NOT NULL PRIMARY KEY, value INTEGER NOT NULL) STRICT"
+INSERT = (
+    "INSERT INTO row (rowid, namespace, object, relation, subject, added, removed) "
+    "VALUES (?, 'group', ?, 'member', ?, ?, 0)"
 )
 
 
@@ -65,11 +70,15 @@ def time_sqlite(path, operations, count):
     base.execute("PRAGMA journal_mode = WAL")
     base.execute("PRAGMA synchronous = FULL")
     base.execute(SCHEMA)
+    base.execute(STATE)
+    base.execute("INSERT INTO state VALUES ('newest', 0)")
     begun = time.monotonic()
     for i in range(count):
         base.execute("BEGIN")
-        for j in range(i * operations, (i + 1) * operations):
-            base.execute("INSERT INTO row VALUES ('group', ?, 'member', ?, ?, 0)", (f"g{j}", f"user:u{j}", i + 1))
+        for place in range(operations):
+            at = i * operations + place
+            base.execute(INSERT, (256 * i + place, f"g{at}", f"user:u{at}", i + 1))
+        base.execute("UPDATE state SET value = ? WHERE key = 'newest'", (i + 1,))
         base.execute("COMMIT")
     seconds = time.monotonic() - begun
     base.close()
