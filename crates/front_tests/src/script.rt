@@ -5,7 +5,7 @@ ghost use Rattle.desk.specs.Posts.{Posts};
 use crate::lent;
 use crate::workers::keeper_of;
 use answers::Answers;
-use front::{Front, Keeper, KeeperName, Locked, Opening};
+use front::{Front, Keeper, KeeperName, Opening};
 use names::{Call, Reply};
 use std::alloc::{AllocError, Global};
 use std::marker::Brand;
@@ -158,13 +158,30 @@ fn by_lent<A: Abort, T: Tables + Drop, H: Wait + Drop>(
     replies_of(alloc, &mut machine).expect(rt, "replies")
 }
 
+// A front with what it waits by, as a machine that answers.
+#[derive(Drop)]
+struct ByFront<'k, T: Tables + Drop, J: KeeperName<T>, H: Wait + Drop, W: Wait> {
+    rt: &'k W,
+    front: Front<'k, T, J, H>,
+}
+
+impl<'k, T: Tables + Drop, J: KeeperName<T>, H: Wait + Drop, W: Wait> Answers
+    for ByFront<'k, T, J, H, W> {
+    // What a front may answer is in its own contract.
+    ghost step = { λ _ _ _ _ _. Unit {0} };
+
+    fn answer(&mut self, call: Call, body: &[u8]) -> Reply {
+        self.front.answer(self.rt, call, body)
+    }
+}
+
 fn by_front<J: KeeperName<T>, H: Wait + Drop, W: Abort + Wait, T: Tables + Drop>(
     rt: &W,
     alloc: Global,
     keeper: &Keeper<T, J, H>,
 ) -> Vec<u8> {
     let front = Front::new(alloc, rt, keeper).expect(rt, "a front");
-    let mut machine = Locked::new(rt, front);
+    let mut machine = ByFront { rt, front };
     replies_of(alloc, &mut machine).expect(rt, "replies")
 }
 

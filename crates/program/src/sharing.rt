@@ -5,9 +5,9 @@ ghost use Rattle.program.specs.Listening.{Announced, StoppedServing};
 
 use crate::listening::listen;
 use command_line::Fault;
-use front::{Gate, Keeper, KeeperName, Opening};
+use front::{Keeper, KeeperName, Opening};
 use names::Refusal;
-use server::run;
+use server::{Gate, run};
 use sqlite::Alter;
 use std::alloc::Global;
 use std::io::Write;

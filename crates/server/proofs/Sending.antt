@@ -14,9 +14,9 @@ use Rattle.desk.specs.contracts.desk.Desk as Desk
 use Rattle.front.specs.contracts.lock.KeptDesk as KeptDesk
 use Rattle.front.specs.contracts.lock.Keeper as Keeper
 use Rattle.front.specs.contracts.front.Front as Front
-use Rattle.front.specs.contracts.locked.Locked as Locked
-use Rattle.front.specs.contracts.counted.Counted as Counted
-use Rattle.front.specs.contracts.waking.Waking as Waking
+use Rattle.server.specs.contracts.locked.Locked as Locked
+use Rattle.server.specs.contracts.counted.Counted as Counted
+use Rattle.server.specs.contracts.waking.Waking as Waking
 use Rattle.server.specs.contracts.indexer.Indexer as Indexer
 
 Desk-inside-send : (T H : RattleType) (g : _) → IsSend T → IsSend H → IsSend (Desk.TheInside.the_row T H g)

@@ -4,8 +4,11 @@
 //! What a connection says is `http_api`'s, what a call is answered is `front`'s. No proof says of threads that they get on.
 #![tactic(auto)]
 
+mod counted;
+mod gate;
 mod indexer;
 mod law;
+mod locked;
 mod peer;
 mod pool;
 mod serving;
@@ -13,8 +16,10 @@ mod stream;
 mod turn;
 mod waited;
 mod waiting;
+mod waking;
 mod worker;
 
+pub use gate::Gate;
 pub use law::connections_never_go_back;
 pub use peer::Peer;
 pub use serving::run;

@@ -4,11 +4,11 @@ ghost use Rattle.std.specs.Iterator.{IsFinite};
 ghost use Rattle.answers.specs.declared.end.End.{End};
 ghost use Rattle.server.specs.Attending.{Pairs, ServedUntil, ServesEach};
 
+use crate::gate::Gate;
 use crate::stream::take_leave;
 use crate::waiting::{Patience, Queued};
 use answers::End;
 use crossbeam_channel::{Receiver, Sender};
-use front::Gate;
 use std::alloc::Global;
 use std::net::{TcpListener, TcpStream};
 use std::snapshot::Snapshot;

@@ -4,11 +4,15 @@ ghost use Rattle.names.specs.declared.refusal.Refusal.TheVariants.{Memory, NoSea
 ghost use Rattle.front.specs.Fronts.{IsSeated};
 ghost use Rattle.server.specs.Served.{AllSeated, AllServed};
 
+use crate::counted::Counted;
+use crate::gate::Gate;
 use crate::indexer::Indexer;
+use crate::locked::Locked;
 use crate::pool::{Entrance, serve_and_follow};
+use crate::waking::Waking;
 use crate::worker::{Machine, Worker};
 use crossbeam_channel::{Receiver, Sender};
-use front::{Counted, Front, Gate, Keeper, KeeperName, Locked, Waking};
+use front::{Front, Keeper, KeeperName};
 use http_api::routes;
 use names::Refusal;
 use std::alloc::Global;

@@ -2,11 +2,14 @@
 ghost use Rattle.std.specs.Prelude.{◌≡◌};
 ghost use Rattle.http_api.specs.Routes.{table};
 
+use crate::counted::Counted;
+use crate::locked::Locked;
 use crate::pool::{Leaves, Serves};
 use crate::stream::serve_stream;
 use crate::waiting::Patience;
+use crate::waking::Waking;
 use answers::{Answers, End};
-use front::{Counted, KeeperName, Locked, Place, Waking};
+use front::{KeeperName, Place};
 use matchit::Router;
 use names::Call;
 use std::alloc::Global;

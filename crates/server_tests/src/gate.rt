@@ -2,8 +2,8 @@
 ghost use Rattle.std.specs.Prelude.{◌≡◌};
 ghost use Rattle.desk.specs.Posts.{Posts};
 
-use front::{Gate, Keeper, KeeperName, Opening};
-use server::run;
+use front::{Keeper, KeeperName, Opening};
+use server::{Gate, run};
 use std::alloc::Global;
 use std::io::{Read, Write};
 use std::marker::Brand;

@@ -1,9 +1,8 @@
 //! A front that answers calls, whatever brings them.
 ghost use Rattle.std.specs.Prelude.{◌≡◌};
 
-use crate::deeds::{KeeperName, Place};
-use crate::front::Front;
 use answers::Answers;
+use front::{Front, KeeperName, Place};
 use names::{Call, Reply};
 use std::marker::Model;
 use std::sync::Wait;
