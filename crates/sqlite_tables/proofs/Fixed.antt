@@ -11,6 +11,7 @@ pub mod Configuring
 pub mod Closing
 pub mod Deleting
 pub mod Beginning
+pub mod Together
 pub mod Queries
 pub mod Creation
 pub mod FirstValues

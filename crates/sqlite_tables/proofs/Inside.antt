@@ -1,5 +1,5 @@
 -- A statement inside a transaction, from what it does to the contents.
-use Rattle.std.proofs.Common.{◌≡◌, ◌⊎◌, inl, inr, ℕ, None, List, [], Ok, Err, Result, OnOk, IsTrue, Bool, true, false, refl, sym, subst, ◌∙◌, arith}
+use Rattle.std.proofs.Common.{◌≡◌, ◌⊎◌, ◌≤◌, ◌+◌, inl, inr, ℕ, None, List, [], length, Ok, Err, Result, OnOk, IsTrue, Bool, true, false, refl, sym, subst, ◌∙◌, arith}
 use Rattle.std.specs.Borrow.{MutBor}
 use Rattle.sqlite.specs.Order.{Row}
 use Rattle.sqlite.specs.declared.error.Error.{Error}
@@ -12,7 +12,8 @@ use Rattle.sqlite.specs.Store.{Ghosts}
 use Rattle.sqlite.specs.Tree.{Trees}
 use Rattle.sqlite.specs.Effect.{Database, IsDatabase}
 use Rattle.sqlite.specs.Held.{Held, state}
-use Rattle.sqlite.proofs.Callers.{runs_as}
+use Rattle.sqlite.specs.Listing.{understood}
+use Rattle.sqlite.proofs.Callers.{runs_as, statement_of}
 use Rattle.sqlite.proofs.StateLemmas.{survives_then}
 use Rattle.sqlite_tables.specs.Format.{schema}
 use Rattle.sqlite_tables.specs.Tables.{Span, ConfigRow, Contents, Holds}
@@ -20,12 +21,16 @@ use Rattle.sqlite.specs.State.{Writes}
 use Rattle.sqlite_tables.specs.Format.{no_schema, one_schema, two_schema, row_text, config_text, state_text}
 use Rattle.sqlite_tables.proofs.CreateLemmas.{makes_row, makes_config, makes_state, init_params, inits}
 use Rattle.sqlite_tables.specs.Steps.{Alters, IsQuiet, Turns, with_span, with_closed, with_config, with_entry, without_past, without_below, HasNone, HasRow, HasConfig, HasTables, HasNew}
+use Rattle.sqlite_tables.specs.declared.stored.StoredEvent.{StoredEvent}
+use Rattle.sqlite_tables.specs.Caused.{spans_of}
+use Rattle.sqlite_tables.specs.inside.Together.{all_values, with_spans}
 use Rattle.sqlite_tables.proofs.Close.{close_params, closes}
 use Rattle.sqlite_tables.proofs.Set.{set_params, sets}
 use Rattle.sqlite_tables.proofs.InsertConfig.{config_params, inserts_config}
 use Rattle.sqlite_tables.proofs.Dropping.{past_params, drops_spans, drops_configs}
 use Rattle.sqlite_tables.proofs.Texts.{config_insert_text, config_terms, config_insert_is, config_insert_plain, drop_text, drop_query, drop_is, drop_plain, drop_configs_text, drop_configs_query, drop_configs_is, drop_configs_plain, make_row_is, make_row_plain, make_config_is, make_config_plain, make_state_is, make_state_plain, init_text, init_terms, init_is, init_plain, alone, close_text, close_query, close_is, close_plain, set_text, set_query, set_is, set_plain, insert_text, insert_terms, insert_is, insert_plain}
 use Rattle.sqlite_tables.proofs.Insert.{insert_params, open_span, inserts}
+use Rattle.sqlite_tables.proofs.Together.{AddsRows, inserts_all, row_terms}
 
 -- ---- one statement
 
@@ -111,6 +116,14 @@ module _ (old new : State) (count : ℕ) where
       let wrote = λ (h : Contents) (holds : Holds old.now h). runs_as insert_text (insert_params id s) old new schema holds.schema_is (Insert 0 (Values insert_terms 7)) insert_is insert_plain count ran in
       let does = λ (h : Contents) (holds : Holds old.now h). inserts old new id s count h holds (wrote h holds) in
       record { holds = λ h holds. (does h holds).0; numbered = λ h holds. (does h holds).1; sound = λ h holds _. (wrote h holds).sound }
+
+  pub insert_all_does : (rev first : ℕ) (events : List StoredEvent) (text : List ℕ) → AddsRows (length events) text → (last : ℕ) → first + length events ≤ last + 1 → Executes text (all_values rev first events) old new (Ok count)
+      → Alters (with_spans (spans_of rev events)) last old.now new.now
+  insert_all_does rev first events text adds last up ran =
+      let params = all_values rev first events in
+      let wrote = λ (h : Contents) (holds : Holds old.now h). runs_as text params old new schema holds.schema_is (Insert 0 (Values (row_terms 1 (length events)) 7)) adds.is adds.plain count ran in
+      let does = λ (h : Contents) (holds : Holds old.now h). inserts_all old new rev first events (statement_of text (understood schema text)) count h holds (wrote h holds) in
+      record { holds = λ h holds. (does h holds).0; numbered = λ h holds n low. (does h holds).1 n (omega (arith, up, low)); sound = λ h holds _. (wrote h holds).sound }
 
   pub close_does : (s : Span) (rev : ℕ) → Executes close_text (close_params s rev) old new (Ok count) → Alters (with_closed s rev) 0 old.now new.now
   close_does s rev ran =

@@ -6,6 +6,7 @@ pub mod Update
 pub mod Cells
 pub mod Numbering
 pub mod Insert
+pub mod Together
 pub mod InsertConfig
 pub mod Scan
 pub mod Close

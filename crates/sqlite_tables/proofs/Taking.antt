@@ -1,10 +1,10 @@
 -- The events of a commit can be taken one after the other.
-use Rattle.std.proofs.Common.{◌≡◌, ◌≤◌, ◌<◌, ◌+◌, ◌-◌, ◌*◌, ◌^◌, ℕ, zero, suc, Bool, true, false, ◌&&◌, if◌then◌else◌, ◌==◌, List, [], ◌∷◌, take, length, slice_index_or, sym, ap, ◌∙◌, IsTrue, true≢false, arith, inl, inr}
-use Rattle.std.specs.List.{IsDistinct}
+use Rattle.std.proofs.Common.{◌≡◌, ◌≤◌, ◌<◌, ◌+◌, ◌-◌, ◌*◌, ◌^◌, ℕ, zero, suc, Bool, true, false, ◌&&◌, if◌then◌else◌, ◌==◌, List, [], ◌∷◌, take, drop, length, slice_index_or, refl, sym, ap, subst, ◌∙◌, IsTrue, true≢false, arith, inl, inr}
+use Rattle.std.specs.List.{AllByRecursion, IsDistinct}
 use Rattle.std.proofs.lemmas.Map.Keys.{IsDistinct-head, IsDistinct-tail}
 use Rattle.sqlite_rules.specs.Lists.{Has}
 use Rattle.sqlite_rules.proofs.ListLemmas.{all_has}
-use Rattle.sqlite_trees.proofs.ListLemmas.{all_weaker, all-map}
+use Rattle.sqlite_trees.proofs.ListLemmas.{all_of, all_both, all_weaker, all-map}
 use Rattle.sqlite_tables.specs.declared.stored.StoredEvent.{StoredEvent}
 use Rattle.sqlite_tables.specs.declared.stored.SpanChange.{SpanChange}
 use Rattle.sqlite_tables.specs.declared.stored.SpanChange.TheVariants.{Begins, BeginsAnew, Ends}
@@ -16,6 +16,8 @@ use Rattle.sqlite_tables.specs.Caused.{CanAdd, CanApply, CanBegin, CanClose, Can
 use Rattle.sqlite_tables.specs.Numbered.{span_rowid}
 use Rattle.sqlite_tables.specs.Steps.{Alters, with_closed, with_span, after_change, after_event, after_events}
 use Rattle.sqlite_tables.specs.Caused.{spans_of}
+use Rattle.sqlite_tables.specs.inside.Together.{AllBegin, CanBeginAll, with_spans}
+use Rattle.sqlite_tables.proofs.Lists.{part, all_part, all_take, distinct_part, map_part}
 use Rattle.sqlite_tables.proofs.Numbering.{numbered_more}
 
 closed_began : (s t : Span) (rev : ℕ) (x : Span) → (IsTrue (same_tuple x s) → x.added < rev) → IsTrue (same_tuple (after_close t rev x) s) → (after_close t rev x).added < rev
@@ -44,16 +46,16 @@ has_place rev [] at e d within is = absurd (omega (arith, within))
 has_place rev (y ∷ more) zero e d within is = inl (ap (λ (z : StoredEvent). span_between z.tuple rev 0) is)
 has_place rev (y ∷ more) (suc at) e d within is = inr (has_place rev more at e d (omega (arith, within)) is)
 
-began_events : (rev : ℕ) (events : List StoredEvent) (at : ℕ) (e d : StoredEvent) (h : Contents) → at < length events → e ≡ slice_index_or events at d → IsDistinct same_tuple (spans_of rev events)
-    → BeganBefore (span_between e.tuple rev 0) rev h → BeganBefore (span_between e.tuple rev 0) rev (after_events rev (take at events) h)
-began_events rev [] at e d h within is apart was = absurd (omega (arith, within))
-began_events rev (x ∷ events) zero e d h within is apart was = was
-began_events rev (x ∷ events) (suc at) e d h within is apart was =
-    let s = span_between e.tuple rev 0 in
-    let t = span_between x.tuple rev 0 in
-    let there : Has (spans_of rev events) s = has_place rev events at e d (omega (arith, within)) is in
-    let other : same_tuple t s ≡ false = all_has (λ y. same_tuple t y ≡ false) (spans_of rev events) s (IsDistinct-head same_tuple t (spans_of rev events) apart) there in
-    began_events rev events at e d (after_event rev x h) (omega (arith, within)) is (IsDistinct-tail same_tuple t (spans_of rev events) apart) (began_changed x.change s t rev h other was)
+-- what is done to others begins no span of those that come later
+began_after : (rev at : ℕ) (events : List StoredEvent) (h : Contents) → IsDistinct same_tuple (spans_of rev events) → AllByRecursion (λ s. BeganBefore s rev h) (spans_of rev events)
+    → AllByRecursion (λ s. BeganBefore s rev (after_events rev (take at events) h)) (drop at (spans_of rev events))
+began_after rev zero events h apart was = was
+began_after rev (suc at) [] h apart was = tt
+began_after rev (suc at) (e ∷ events) h apart was =
+    let t = span_between e.tuple rev 0 in
+    let others = IsDistinct-head same_tuple t (spans_of rev events) apart in
+    began_after rev at events (after_event rev e h) (IsDistinct-tail same_tuple t (spans_of rev events) apart)
+    (all_both (λ s. same_tuple t s ≡ false) (λ s. BeganBefore s rev h) (λ s. BeganBefore s rev (after_event rev e h)) (λ s other before. began_changed e.change s t rev h other before) (spans_of rev events) others was.1)
 
 -- below the revision each span began before it
 pub began_before : (s : Span) (rev : ℕ) (h : Contents) → 0 < rev → IsUpTo (rev - 1) h → BeganBefore s rev h
@@ -87,24 +89,51 @@ module _ (event : StoredEvent) (rev at : ℕ) (positive : 0 < rev) (small : rev 
     short = can.short;
   }
 
--- what the event at this place needs, after those before it
-pub can_apply : (events : List StoredEvent) (rev at : ℕ) (event d : StoredEvent) (db next : Database) → 0 < rev → at < length events → event ≡ slice_index_or events at d → CanTake events rev db
-    → Alters (after_events rev (take at events)) (256 * (rev - 1) + at) db next → CanApply event rev at next
-can_apply events rev at event d db next positive within is can made =
+-- what the events from a place on need, after those before them
+pub can_begin_all : (events : List StoredEvent) (rev at count : ℕ) (db next : Database) → 0 < rev → CanTake events rev db → Alters (after_events rev (take at events)) (256 * (rev - 1) + at) db next
+    → CanBeginAll (spans_of rev (part at count events)) rev (span_rowid rev at) next
+can_begin_all events rev at count db next positive can made =
     let h = can.before.contents in
     let holds = can.before.holds in
     let last = 256 * (rev - 1) + at in
-    let s = span_between event.tuple rev 0 in
+    let spans = spans_of rev events in
+    let after = after_events rev (take at events) h in
+    let same : part at count spans ≡ spans_of rev (part at count events) = sym (map_part (λ e. span_between e.tuple rev 0) at count events) in
+    let began : AllByRecursion (λ s. BeganBefore s rev h) spans = all_of (λ s. BeganBefore s rev h) (λ s. began_before s rev h positive can.before.up_to) spans in
     record {
-      contents = after_events rev (take at events) h;
+      contents = after;
+      top = last;
+      above = omega arith;
       store = record {
         sound = made.sound h holds can.before.sound;
         holds = made.holds h holds;
         numbered = made.numbered h holds last (omega arith) (numbered_more (256 * (rev - 1)) last db.trees (omega arith) can.before.numbered);
       };
-      before = began_events rev events at event d h within is can.distinct (began_before s rev h positive can.before.up_to);
-      short = all_has IsShort (spans_of rev events) s can.short (has_place rev events at event d within is);
+      positive = positive;
+      before = subst (AllByRecursion (λ s. BeganBefore s rev after)) same (all_take (λ s. BeganBefore s rev after) count (drop at spans) (began_after rev at events h can.distinct began));
+      distinct = subst (IsDistinct same_tuple) same (distinct_part same_tuple at count spans can.distinct);
+      short = subst (AllByRecursion IsShort) same (all_part IsShort at count spans can.short);
     }
+
+-- and one alone
+pub can_apply : (events : List StoredEvent) (rev at : ℕ) (event : StoredEvent) (db : Database) → length events ≡ 1 → event ≡ slice_index_or events 0 event → CanBeginAll (spans_of rev events) rev (span_rowid rev at) db
+    → CanApply event rev at db
+can_apply events rev at event db one is can =
+    let s = span_between event.tuple rev 0 in
+    let there : Has (spans_of rev events) s = has_place rev events 0 event event (omega (arith, one)) is in
+    record {
+      contents = can.contents;
+      store = record { sound = can.store.sound; holds = can.store.holds; numbered = numbered_more can.top (256 * (rev - 1) + at) db.trees (omega (arith, can.above)) can.store.numbered };
+      before = all_has (λ t. BeganBefore t rev can.contents) (spans_of rev events) s can.before there;
+      short = all_has IsShort (spans_of rev events) s can.short there;
+    }
+
+-- events that begin spans do nothing else
+pub begin_all : (rev : ℕ) (events : List StoredEvent) (h : Contents) → AllBegin events → with_spans (spans_of rev events) h ≡ after_events rev events h
+begin_all rev [] h all = refl
+begin_all rev (e ∷ events) h all =
+    let s = span_between e.tuple rev 0 in
+    begin_all rev events (with_span s h) all.1 ∙ ap (after_events rev events) (ap (λ (change : SpanChange). after_change change s rev h) (sym all.0))
 
 -- ---- what the statements of a transaction need
 

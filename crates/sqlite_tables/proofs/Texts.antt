@@ -54,6 +54,9 @@ pub insert_plain : IsPlain (understood schema insert_text)
 unfolding understood everything
 insert_plain = (refl, refl)
 
+abbrev pub eight_text : List ℕ
+eight_text = codes "INSERT INTO row (rowid, namespace, object, relation, subject, added, removed) VALUES (?2, ?3, ?4, ?5, ?6, ?1, 0), (?7, ?8, ?9, ?10, ?11, ?1, 0), (?12, ?13, ?14, ?15, ?16, ?1, 0), (?17, ?18, ?19, ?20, ?21, ?1, 0), (?22, ?23, ?24, ?25, ?26, ?1, 0), (?27, ?28, ?29, ?30, ?31, ?1, 0), (?32, ?33, ?34, ?35, ?36, ?1, 0), (?37, ?38, ?39, ?40, ?41, ?1, 0)"
+
 abbrev pub close_text : List ℕ
 close_text = codes "UPDATE row SET removed = ?5 WHERE namespace = ?1 AND object = ?2 AND relation = ?3 AND subject = ?4 AND removed = 0"
 

@@ -6,3 +6,4 @@ pub mod Steps
 pub mod Leaves
 pub mod Caused
 pub mod Reading
+pub mod inside

@@ -1,16 +1,18 @@
 //! The transactions: a store is created, written, configured or trimmed whole or not at all.
-ghost use Rattle.std.specs.Prelude.{◌≡◌, ◌^◌, ◌<◌, ◌≤◌, ◌*◌, length, false, IsTrue, OnOk, OnErr, Err};
+ghost use Rattle.std.specs.Prelude.{◌≡◌, ◌^◌, ◌<◌, ◌≤◌, ◌+◌, ◌-◌, ◌*◌, length, take, false, IsTrue, OnOk, OnErr, Err};
 ghost use Rattle.sqlite.specs.declared.error.Error.TheVariants.{SqliteFailure};
 ghost use Rattle.sqlite.specs.declared.error.ErrorCode.TheVariants.{NameTaken};
 ghost use Rattle.sqlite_tables.specs.Numbered.{span_rowid};
 ghost use Rattle.sqlite_tables.specs.Steps.{Changes, Makes, RunsOpen, IsQuiet, Stores, Undoes, LeavesAtMost, HasNone, HasNew, after_event, after_events, after_write, after_configure, after_drop, after_trim};
 ghost use Rattle.sqlite_tables.specs.Leaves.{HoldsNew, IsBlank, MayLeaveNew, LeavesAtMostNew};
-ghost use Rattle.sqlite_tables.specs.Caused.{IsCaused, IsCausedInside, CanApply, CanTake, CanConfigure, CanDrop};
+ghost use Rattle.sqlite_tables.specs.Caused.{IsCaused, IsCausedInside, CanApply, CanTake, CanConfigure, CanDrop, spans_of};
+ghost use Rattle.sqlite_tables.specs.declared.stored.SpanChange.TheVariants.{Begins};
+ghost use Rattle.sqlite_tables.specs.inside.Together.{AllBegin, AreTogether, CanBeginAll};
 
 use crate::format::is_blank;
 use crate::statement::{
-    close_span, delete_configs, delete_spans, init_state, insert_config, insert_span, make_config,
-    make_row, make_state, set_value,
+    close_span, delete_configs, delete_spans, init_state, insert_config, insert_span, insert_spans,
+    make_config, make_row, make_state, set_value,
 };
 use crate::stored::{SpanChange, StoredEvent};
 use sqlite::{Alter, Connection, Error, ErrorCode, Transaction};
@@ -46,6 +48,64 @@ fn apply_event<S: Alter>(
     Ok(())
 }
 
+fn begins(event: &StoredEvent) -> bool
+    ensures { IsTrue result → event.now.change ≡ Begins }
+{
+    match event.change {
+        SpanChange::Begins => true,
+        _ => false,
+    }
+}
+
+fn all_begin(events: &[StoredEvent]) -> bool
+    ensures { IsTrue result → AllBegin events.now }
+{
+    for event in events {
+        if !begins(event) {
+            return false;
+        }
+    }
+    true
+}
+
+// How many of the events go into one statement: the first eight if they only begin spans, or else the first.
+fn together(events: &[StoredEvent]) -> usize
+    requires { 0 < length events.now }
+    ensures some { 0 < result }
+    ensures within { result ≤ length events.now }
+    ensures together { AreTogether (take result events.now) }
+{
+    if events.len() < 8 {
+        return 1;
+    }
+    if all_begin(&events[..8]) { 8 } else { 1 }
+}
+
+// Does the events, which stand in their commit from this place on.
+fn apply_some<S: Alter>(
+    tx: &mut Transaction<'_, S>,
+    events: &[StoredEvent],
+    rev: u64,
+    at: usize,
+) -> Result<(), Error>
+    requires small { rev ≤ 2 ^ 40 }
+    requires positive { 0 < rev }
+    requires few { at + length events.now ≤ 256 }
+    requires together { AreTogether events.now }
+    ensures same_reference { tx.new.conn.ghost_name ≡ tx.old.conn.ghost_name }
+    ensures done { Changes S.Store tx.old.conn tx.new.conn result (after_events rev events.now) (256 * (rev - 1) + at + length events.now) }
+    ensures quiet { IsQuiet S.Store tx.old.conn tx.new.conn }
+    ensures caused { IsCausedInside S.Store tx.old.conn tx.new.conn result (CanBeginAll (spans_of rev events.now) rev (span_rowid rev at)) }
+{
+    if events.len() == 1 {
+        apply_event(tx, &events[0], rev, at)?;
+    } else {
+        let first = 256 * (rev - 1) + at as u64 + 1;
+        insert_spans(tx, events, rev, first)?;
+    }
+    Ok(())
+}
+
 // Does the events in turn.
 fn apply_all<S: Alter>(
     tx: &mut Transaction<'_, S>,
@@ -60,8 +120,11 @@ fn apply_all<S: Alter>(
     ensures quiet { IsQuiet S.Store tx.old.conn tx.new.conn }
     ensures caused { IsCausedInside S.Store tx.old.conn tx.new.conn result (CanTake events.now rev) }
 {
-    for at in 0..events.len() {
-        apply_event(tx, &events[at], rev, at)?;
+    let mut at = 0;
+    while at < events.len() {
+        let count = together(&events[at..]);
+        apply_some(tx, &events[at..at + count], rev, at)?;
+        at += count;
     }
     Ok(())
 }

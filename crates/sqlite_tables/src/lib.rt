@@ -8,6 +8,7 @@
 mod commit;
 mod format;
 mod loading;
+mod parameters;
 mod probe;
 mod statement;
 mod stored;

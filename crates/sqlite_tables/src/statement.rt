@@ -1,12 +1,15 @@
 //! The fixed statements, each inside a transaction: what it makes of the contents, that it commits nothing and
 //! that a crash leaves nothing of it.
-ghost use Rattle.std.specs.Prelude.{◌≡◌, ◌^◌, ◌<◌};
+ghost use Rattle.std.specs.Prelude.{◌≡◌, ◌^◌, ◌+◌, ◌<◌, ◌≤◌, length};
 ghost use Rattle.sqlite_tables.specs.Tables.{config_at};
 ghost use Rattle.sqlite_tables.specs.Stored.{span_between};
 ghost use Rattle.sqlite_tables.specs.Steps.{Changes, Makes, RunsOpen, IsQuiet, with_span, with_closed, with_config, with_entry, without_past, without_below, HasNone, HasRow, HasConfig, HasTables, HasNew};
-ghost use Rattle.sqlite_tables.specs.Caused.{IsCausedInside, CanBegin, CanClose, CanAdd, CanSet, CanDrop};
+ghost use Rattle.sqlite_tables.specs.Caused.{IsCausedInside, CanBegin, CanClose, CanAdd, CanSet, CanDrop, spans_of};
+ghost use Rattle.sqlite_tables.specs.inside.Together.{CanBeginAll, with_spans};
 
-use crate::stored::TupleText;
+use crate::parameters::fill;
+use crate::stored::{StoredEvent, TupleText};
+use sqlite::types::ValueRef;
 use sqlite::{Alter, Error, Transaction, params};
 
 // Adds an open span of the tuple, under the rowid.
@@ -32,6 +35,29 @@ pub(crate) fn insert_span<S: Alter>(
     tx.execute(
         "INSERT INTO row (rowid, namespace, object, relation, subject, added, removed) VALUES (?1, ?2, ?3, ?4, ?5, ?6, 0)",
         params![id, namespace, object, relation, subject, added],
+    )
+}
+
+// Adds open spans of the tuples of eight events, under the rowids from this one on.
+pub(crate) fn insert_spans<S: Alter>(
+    tx: &mut Transaction<'_, S>,
+    events: &[StoredEvent],
+    rev: u64,
+    first: u64,
+) -> Result<usize, Error>
+    requires small { rev < 2 ^ 63 }
+    requires fits { first + 8 ≤ 2 ^ 63 }
+    requires eight { length events.now ≡ 8 }
+    ensures same_reference { tx.new.conn.ghost_name ≡ tx.old.conn.ghost_name }
+    ensures done { Changes S.Store tx.old.conn tx.new.conn result (with_spans (spans_of rev events.now)) (first + 7) }
+    ensures quiet { IsQuiet S.Store tx.old.conn tx.new.conn }
+    ensures caused { IsCausedInside S.Store tx.old.conn tx.new.conn result (CanBeginAll (spans_of rev events.now) rev first) }
+{
+    let mut values = [ValueRef::Null; 41];
+    fill(&mut values, events, rev, first);
+    tx.execute(
+        "INSERT INTO row (rowid, namespace, object, relation, subject, added, removed) VALUES (?2, ?3, ?4, ?5, ?6, ?1, 0), (?7, ?8, ?9, ?10, ?11, ?1, 0), (?12, ?13, ?14, ?15, ?16, ?1, 0), (?17, ?18, ?19, ?20, ?21, ?1, 0), (?22, ?23, ?24, ?25, ?26, ?1, 0), (?27, ?28, ?29, ?30, ?31, ?1, 0), (?32, ?33, ?34, ?35, ?36, ?1, 0), (?37, ?38, ?39, ?40, ?41, ?1, 0)",
+        &values,
     )
 }
 
