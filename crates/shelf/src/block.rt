@@ -99,8 +99,53 @@ impl<V> Block<V> {
         ensures ok { IfOk result (λ i. IsAt key.now i self.now) }
         ensures err { IfErr result (λ i. IsBetween key.now i self.now) }
     {
-        let mut low = 0;
-        let mut high = self.len();
+        self.search_between(0, self.len(), key)
+    }
+
+    /// The same. It costs little where that is at a place, or just after it.
+    pub(crate) fn search_near(&self, near: usize, key: &str) -> Result<usize, usize>
+        requires { AreSorted self.now }
+        ensures ok { IfOk result (λ i. IsAt key.now i self.now) }
+        ensures err { IfErr result (λ i. IsBetween key.now i self.now) }
+    {
+        if self.len() <= near {
+            return self.search(key);
+        }
+        match self.text(near).cmp(key) {
+            Ordering::Less => self.search_after(near, key),
+            Ordering::Equal => Ok(near),
+            Ordering::Greater => self.search_between(0, near, key),
+        }
+    }
+
+    /// The same of a text that is above the one at a place.
+    fn search_after(&self, i: usize, key: &str) -> Result<usize, usize>
+        requires within { i < length self.now }
+        requires below { AreBelow key.now (take (i + 1) self.now) }
+        requires sorted { AreSorted self.now }
+        ensures ok { IfOk result (λ i. IsAt key.now i self.now) }
+        ensures err { IfErr result (λ i. IsBetween key.now i self.now) }
+    {
+        let count = self.len();
+        let next = i + 1;
+        if next < count {
+            if let Ordering::Greater = self.text(next).cmp(key) {
+                return Err(next);
+            }
+        }
+        self.search_between(next, count, key)
+    }
+
+    /// The same of the places from one up to another.
+    fn search_between(&self, mut low: usize, mut high: usize, key: &str) -> Result<usize, usize>
+        requires up { low ≤ high }
+        requires within { high ≤ length self.now }
+        requires below { AreBelow key.now (take low self.now) }
+        requires above { AreAbove key.now (drop high self.now) }
+        requires sorted { AreSorted self.now }
+        ensures ok { IfOk result (λ i. IsAt key.now i self.now) }
+        ensures err { IfErr result (λ i. IsBetween key.now i self.now) }
+    {
         'halves: while low < high {
             let mid = low + (high - low) / 2;
             match self.text(mid).cmp(key) {

@@ -18,11 +18,14 @@ use std::alloc::{AllocError, Global};
 use std::marker::Model;
 
 /// Texts in order, each with a value. They stand in blocks, one text after another, so that none has memory
-/// of its own. A look-up is by halves among blocks and within one; a text put in moves those of its block.
+/// of its own. A look-up is by halves among blocks and within one; a text put in moves those of its block. It is
+/// first looked for where the last one was put, so those that come in order take a few comparisons each.
 #[derive(Drop)]
 pub struct Shelf<V> {
     alloc: Global,
     blocks: Vec<Block<V>>,
+    // The block and the place in it where a text was put in or written last.
+    last: (usize, usize),
 }
 
 impl<V> Model for Shelf<V> {
@@ -46,6 +49,7 @@ impl<V> Shelf<V> {
         Shelf {
             alloc,
             blocks: Vec::new(alloc),
+            last: (0, 0),
         }
     }
 
@@ -97,7 +101,8 @@ impl<V> Shelf<V> {
         ensures* writes_back { sem 𝓛 (LendsSoOk (the_row V.row) V.row self.entry result (λ n w. n ≡ insert_entry text_cmp self.entry.now key.now w) (λ n. n ≡ self.entry.now)) }
         ensures value { IfOk result (λ lent. lent.now ≡ unwrap_or (lookup (is_text key.now) self.old) value) }
     {
-        let (at, i) = enter(self.alloc, &mut self.blocks, key, value)?;
+        let (at, i) = enter(self.alloc, &mut self.blocks, self.last, key, value)?;
+        self.last = (at, i);
         let block = &mut self.blocks[at];
         Ok(block.item_mut(i))
     }
@@ -117,13 +122,14 @@ impl<V> Shelf<V> {
             self.blocks.push(block)?;
             return Ok(None);
         }
-        match find(&self.blocks, key) {
+        match find(&self.blocks, self.last, key) {
             Ok((at, i)) => {
+                self.last = (at, i);
                 let block = &mut self.blocks[at];
                 Ok(Some(block.replace(i, value)))
             }
             Err((at, i)) => {
-                put(self.alloc, &mut self.blocks, at, i, key, value)?;
+                self.last = put(self.alloc, &mut self.blocks, at, i, key, value)?;
                 Ok(None)
             }
         }

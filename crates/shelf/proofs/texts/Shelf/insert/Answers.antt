@@ -32,15 +32,15 @@ returns-in-Ok-clause-old g c =
 pub invariant_of-self-in-Err : goal.invariant_of-self-in-Err
 invariant_of-self-in-Err g c =
     let is = subst (IsMissing c.args.key.now c.in-Err.at c.in-Err.i) c.deref.ensures.value c.in-Err.ensures.err in
-    entered_there c.args.key.now c.in-Err.at c.in-Err.i c.self.inside.blocks.items is c.args.value c.self.invariant.sorted _ c.in_ok-put-in-Err.ensures.filled c.in_ok-put-in-Err.ensures.ok
+    entered_there c.args.key.now c.in-Err.at c.in-Err.i c.self.inside.blocks.items is c.args.value c.self.invariant.sorted _ c.in_ok-self-inside-in-Err.ensures.filled c.in_ok-self-inside-in-Err.ensures.ok
 
-pub returns-in_ok-put-in-Err-clause-entries : goal.returns-in_ok-put-in-Err-clause-entries
-returns-in_ok-put-in-Err-clause-entries g c =
+pub returns-in_ok-self-inside-in-Err-clause-entries : goal.returns-in_ok-self-inside-in-Err-clause-entries
+returns-in_ok-self-inside-in-Err-clause-entries g c =
     let is = subst (IsMissing c.args.key.now c.in-Err.at c.in-Err.i) c.deref.ensures.value c.in-Err.ensures.err in
-    c.in_ok-put-in-Err.ensures.ok ∙ put_there c.args.key.now c.in-Err.at c.in-Err.i c.self.inside.blocks.items is c.args.value
+    c.in_ok-self-inside-in-Err.ensures.ok ∙ put_there c.args.key.now c.in-Err.at c.in-Err.i c.self.inside.blocks.items is c.args.value
     ∙ ap (λ es. insert_entry text_cmp es c.args.key.now c.args.value) c.self.view_is
 
-pub returns-in_ok-put-in-Err-clause-old : goal.returns-in_ok-put-in-Err-clause-old
-returns-in_ok-put-in-Err-clause-old g c =
+pub returns-in_ok-self-inside-in-Err-clause-old : goal.returns-in_ok-self-inside-in-Err-clause-old
+returns-in_ok-self-inside-in-Err-clause-old g c =
     let is = subst (IsMissing c.args.key.now c.in-Err.at c.in-Err.i) c.deref.ensures.value c.in-Err.ensures.err in
     none_there c.args.key.now c.in-Err.at c.in-Err.i c.self.inside.blocks.items is ∙ ap (lookup (is_text c.args.key.now)) c.self.view_is

@@ -1,6 +1,6 @@
 use Rattle.std.proofs.Common.{◌≤◌, ◌-◌, length, take, drop}
 use Rattle.shelf.specs.inside.Places.{AreBelow, AreAbove}
-use Rattle.shelf.proofs.block.Block.search.Given as goal
+use Rattle.shelf.proofs.block.Block.search_between.Given as goal
 
 abbrev pub invariant-halves : goal.invariant-halves
 invariant-halves g l = record {

@@ -1,7 +1,7 @@
 use Rattle.std.proofs.Common.{◌+◌, ◌-◌, ◌/◌, arith, ap, sym, ◌∙◌, add-one}
 use Rattle.shelf.specs.Texts.{text_cmp}
 use Rattle.shelf.proofs.Order.{below_to, above_from, turned, same_text}
-use Rattle.shelf.proofs.block.Block.search.Goals as goal
+use Rattle.shelf.proofs.block.Block.search_between.Goals as goal
 
 pub halves-preserved-in-Less : goal.halves-preserved-in-Less
 halves-preserved-in-Less g c =
@@ -9,7 +9,7 @@ halves-preserved-in-Less g c =
     record {
       up = omega arith;
       within = c.halves.invariant.within;
-      below = rw (add-one mid) (below_to c.args.key.now c.args.self.now mid c.requires (omega (arith, c.halves.invariant.within)) (ap (λ k. text_cmp k c.args.key.now) (sym c.text.ensures) ∙ sym c.in-Less.ensures));
+      below = rw (add-one mid) (below_to c.args.key.now c.args.self.now mid c.requires.sorted (omega (arith, c.halves.invariant.within)) (ap (λ k. text_cmp k c.args.key.now) (sym c.text.ensures) ∙ sym c.in-Less.ensures));
       above = c.halves.invariant.above;
     }
 
@@ -26,5 +26,5 @@ halves-preserved g c =
       up = omega arith;
       within = omega (arith, c.halves.invariant.within);
       below = c.halves.invariant.below;
-      above = above_from c.args.key.now c.args.self.now mid c.requires (omega (arith, c.halves.invariant.within)) (ap (λ k. text_cmp c.args.key.now k) (sym c.text.ensures) ∙ turned c.text.result.now c.args.key.now (sym c.in-Greater.ensures));
+      above = above_from c.args.key.now c.args.self.now mid c.requires.sorted (omega (arith, c.halves.invariant.within)) (ap (λ k. text_cmp c.args.key.now k) (sym c.text.ensures) ∙ turned c.text.result.now c.args.key.now (sym c.in-Greater.ensures));
     }
