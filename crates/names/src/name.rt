@@ -42,9 +42,24 @@ impl Name {
         if !is_spelled(text.as_bytes()) {
             return Err(Refusal::Malformed);
         }
+        Ok(Name::spelled(text))
+    }
+
+    /// The name that a text is known to spell: it is not tested again.
+    pub fn spelled(text: &str) -> Name
+        requires { IsTrue (is_name text.now) }
+        ensures { result ≡ text.now }
+    {
         let mut own = ArrayString::new();
         own.push_str(text);
-        Ok(Name { text: own })
+        Name { text: own }
+    }
+
+    /// The same name. A copy takes no memory, so nothing refuses it.
+    pub fn again(&self) -> Name
+        ensures { result ≡ self.now }
+    {
+        Name { text: self.text }
     }
 
     pub fn as_str(&self) -> &str

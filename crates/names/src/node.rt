@@ -29,6 +29,16 @@ impl Node {
         let relation = Name::parse(relation)?;
         Ok(Node { object, relation })
     }
+
+    /// The same node. A copy takes no memory, so nothing refuses it.
+    pub fn again(&self) -> Node
+        ensures { result ≡ self.now }
+    {
+        Node {
+            object: self.object.again(),
+            relation: self.relation.again(),
+        }
+    }
 }
 
 impl fmt::Display for Node {

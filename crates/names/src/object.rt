@@ -2,6 +2,7 @@
 ghost use Rattle.std.specs.Prelude.{◌≡◌, Some, IsTrue, IfOk, IfErr, false};
 ghost use Rattle.names.specs.Refusals.{IsMalformed};
 
+use crate::object_id::is_spelled;
 use crate::{Name, ObjectId, Refusal};
 use std::fmt;
 
@@ -34,8 +35,21 @@ impl Object {
         ensures ok { IfOk result (λ o. (o.namespace ≡ namespace) × (o.id ≡ id.now) × IsTrue (is_id id.now)) }
         ensures err { IfErr result (λ e. IsMalformed (is_id id.now ≡ false) e) }
     {
-        let id = ObjectId::parse(id)?;
+        if !is_spelled(id.as_bytes()) {
+            return Err(Refusal::Malformed);
+        }
+        let id = ObjectId::spelled(id);
         Ok(Object { namespace, id })
+    }
+
+    /// The same object. A copy takes no memory, so nothing refuses it.
+    pub fn again(&self) -> Object
+        ensures { result ≡ self.now }
+    {
+        Object {
+            namespace: self.namespace.again(),
+            id: self.id.again(),
+        }
     }
 }
 

@@ -43,9 +43,24 @@ impl ObjectId {
         if !is_spelled(text.as_bytes()) {
             return Err(Refusal::Malformed);
         }
+        Ok(ObjectId::spelled(text))
+    }
+
+    /// The id that a text is known to spell: it is not tested again.
+    pub fn spelled(text: &str) -> ObjectId
+        requires { IsTrue (is_id text.now) }
+        ensures { result ≡ text.now }
+    {
         let mut own = ArrayString::new();
         own.push_str(text);
-        Ok(ObjectId { text: own })
+        ObjectId { text: own }
+    }
+
+    /// The same id. A copy takes no memory, so nothing refuses it.
+    pub fn again(&self) -> ObjectId
+        ensures { result ≡ self.now }
+    {
+        ObjectId { text: self.text }
     }
 
     pub fn as_str(&self) -> &str
@@ -110,7 +125,7 @@ impl fmt::Display for ObjectId {
     }
 }
 
-fn is_spelled(text: &[u8]) -> bool
+pub(crate) fn is_spelled(text: &[u8]) -> bool
     ensures { result ≡ is_id text.now }
 {
     if text.is_empty() || text.len() > MAX_ID_LEN {

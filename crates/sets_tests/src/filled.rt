@@ -155,3 +155,25 @@ fn a_text_that_is_not_there_is_put_in(rt: HostRuntime) -> Result<(), Fail> {
     assert!(rt; entered && is_full(rt.alloc(), &shelf)?);
     Ok(())
 }
+
+/// The texts of the numbers below a thousand, each put in by steps of so many and then written.
+fn entered(alloc: Global, step: u64) -> Result<Shelf<u64>, AllocError> {
+    let mut shelf = Shelf::new(alloc);
+    for i in 0..COUNT {
+        let number = i.wrapping_mul(step) % COUNT;
+        let text = text_of(alloc, number)?;
+        if text.as_str().len() <= 511 {
+            *shelf.get_or_insert(text.as_str(), 7)? = number;
+        }
+    }
+    Ok(shelf)
+}
+
+#[test]
+fn texts_are_put_in_near_the_last_and_far_from_it(rt: HostRuntime) -> Result<(), Fail> {
+    let alloc = rt.alloc();
+    let near = is_full(alloc, &entered(alloc, 1)?)? && is_full(alloc, &entered(alloc, 999)?)?;
+    let far = is_full(alloc, &entered(alloc, 617)?)? && is_full(alloc, &entered(alloc, 333)?)?;
+    assert!(rt; near && far);
+    Ok(())
+}
