@@ -10,6 +10,7 @@ ghost use Rattle.config_text.specs.Parts.{configured};
 ghost use Rattle.config.specs.Invariant.{IsShort};
 
 use crate::causes::{first_cause, stands_in};
+use crate::finding::first_place;
 use crate::levels::levels_of;
 use config_text::{Parts, Relation, read_configuration, text_of};
 use names::limits::MAX_CONFIG_LEN;
@@ -109,6 +110,18 @@ impl Config {
 
     /// Where the node's relation stands among the relations, if it is there.
     pub fn place_of(&self, node: &Node) -> Option<usize>
+        ensures found { IfSome result (StandsAt self.now (rel_of node.now)) }
+        ensures none { IfNone result (Has self.now (rel_of node.now) → ⊥) }
+    {
+        let relations = self.relations.as_slice();
+        match first_place(relations, node) {
+            Some(place) => Some(place),
+            None => self.sought_place(node),
+        }
+    }
+
+    /// The same, by halves.
+    fn sought_place(&self, node: &Node) -> Option<usize>
         ensures found { IfSome result (StandsAt self.now (rel_of node.now)) }
         ensures none { IfNone result (Has self.now (rel_of node.now) → ⊥) }
     {

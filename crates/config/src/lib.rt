@@ -4,6 +4,7 @@
 
 mod causes;
 mod config;
+mod finding;
 mod graph;
 mod levels;
 mod rewrites;

@@ -8,7 +8,7 @@ ghost use Rattle.names.specs.Order.{subject_cmp};
 ghost use Rattle.tuple_keys.specs.Named.{node_in};
 ghost use Rattle.tuple_keys.specs.Spelled.{spelled_subject, subject_in, IsSubjectSpelling};
 
-use crate::cuts::{cut, cut_last, name_of, object_of};
+use crate::cuts::{cut, cut_last, object_of};
 use names::{Name, Node, Object, Subject};
 use std::marker::Model;
 
@@ -98,7 +98,7 @@ impl<'a> SubjectRef<'a> {
     pub fn node(&self) -> Option<Node>
         ensures { result ≡ node_in self.now }
     {
-        let relation = name_of(self.relation()?);
+        let relation = Name::spelled(self.relation()?);
         let object = self.object();
         Some(Node { object, relation })
     }
@@ -113,7 +113,7 @@ impl<'a> SubjectRef<'a> {
         };
         Subject {
             object,
-            relation: Some(name_of(relation)),
+            relation: Some(Name::spelled(relation)),
         }
     }
 }

@@ -5,9 +5,9 @@ ghost use Rattle.names.specs.Names.{is_name};
 ghost use Rattle.names.specs.Order.{tuple_cmp};
 ghost use Rattle.tuple_keys.specs.Spelled.{spelled, tuple_of, IsSpelling};
 
-use crate::cuts::{cut, name_of, object_of};
+use crate::cuts::{cut, object_of};
 use crate::subject_ref::SubjectRef;
-use names::{Node, Tuple};
+use names::{Name, Node, Tuple};
 use std::marker::Model;
 
 /// A tuple, as its text.
@@ -55,7 +55,7 @@ impl<'a> TupleRef<'a> {
         let (id, from_relation) = cut(from_id);
         let (relation, _) = cut(from_relation);
         let object = object_of(namespace, id);
-        let relation = name_of(relation);
+        let relation = Name::spelled(relation);
         let node = Node { object, relation };
         let subject = self.subject().subject();
         Tuple { node, subject }
