@@ -1,7 +1,7 @@
 -- The tuples of an object of which few were read.
 use Rattle.std.proofs.Common.{◌≡◌, ℕ, suc, ◌<◌, ◌+◌, List, [], ◌∷◌, ◌++◌, length, get_or, take, ap, ◌∙◌, sym, subst, arith, ⊎_elim, Bool, true, refl}
 use Rattle.std.specs.Global.{Global}
-use Rattle.std.specs.Prelude.{◌↔◌, Vec, Result, Ok, Err, IfOk, Contains, Option, Some, None, IfSome, filter}
+use Rattle.std.specs.Prelude.{◌↔◌, Vec, Result, Ok, Err, IfOk, Contains, Option, Some, None, IfSome, IfNone, filter}
 use Rattle.std.specs.List.{filter_map}
 use Rattle.std.specs.Cmp.{eq_by_cmp_equiv}
 use Rattle.std.proofs.Math.Seq.{take-suc}
@@ -20,6 +20,7 @@ use Rattle.decide.specs.declared.facts.Named.{Named}
 use Rattle.decide.specs.declared.facts.Read.{Read}
 use Rattle.decide.specs.declared.facts.Reads.{Reads}
 use Rattle.decide.specs.inside.Reading.{AreNamed, IsRead, AreRead, IsReadAt}
+use Rattle.decide.specs.inside.Reads.{AreOwn}
 
 pub object_parts : (o p : Object) → o.namespace ≡ p.namespace → o.id ≡ p.id → o ≡ p
 object_parts o p namespace id = ap (λ x. record { namespace = x; id = o.id }) namespace ∙ ap (λ x. record { namespace = p.namespace; id = x }) id
@@ -77,6 +78,14 @@ module _ (S : Snap) (n : Node) (ts : List Tuple) (is : ts ≡ filter (is_at n.ob
         λ c. subst (λ xs. Contains xs m) (sym e) (node_named n (is_of n) ts m (is_of_itself n (set_of m)) (both.1 c)),
       )
 
+  -- of tuples of which none is the user's, the nodes are the node's own
+  pub few_own : (u : Object) (found : List Node) → (Contains ts (user_tuple n u) → ⊥) × (found ≡ nodes_in (filter (is_of n) ts)) → AreOwn S u n found
+  few_own u found (none, e) = record {
+    direct = λ has. none ((held S n.object ts is (user_tuple n u) refl).1 has);
+    only = λ m at. (few_nodes found e m).0 at;
+    all = λ m has there. (few_nodes found e m).1 has;
+  }
+
 -- what is picked of the first elements and of one more
 pub picked_more : {A B : Type 0} (h : A → Option B) (test : A → Bool) (xs : List A) (i : ℕ) (x : A) → i < length xs → x ≡ get_or xs i x
     → filter_map h (filter test (take (i + 1) xs)) ≡ filter_map h (filter test (take i xs)) ++ filter_map h (filter test (x ∷ []))
@@ -97,3 +106,7 @@ some_mapped None P Q f h = tt
 pub ok_mapped : {A E : Type 0} (r : Result A E) (P Q : A → Type 0) → ((a : A) → P a → Q a) → IfOk r P → IfOk r Q
 ok_mapped (Ok a) P Q f h = f a h
 ok_mapped (Err e) P Q f h = tt
+
+pub none_mapped : {A : Type 0} (r : Option A) (P Q : Type 0) → (P → Q) → IfNone r P → IfNone r Q
+none_mapped (Some a) P Q f h = tt
+none_mapped None P Q f h = f h

@@ -13,7 +13,6 @@ pub mod Settling
 pub mod Parts
 pub mod Found
 pub mod Relations
-pub mod Placing
 pub mod Named
 pub mod Turns
 pub mod Turning

@@ -4,7 +4,7 @@ ghost use Rattle.std.specs.Option.{option_map};
 ghost use Rattle.names.specs.Names.{is_name, is_id};
 ghost use Rattle.tuple_keys.specs.Spelled.{before_space, after_space, last_part};
 
-use names::{Name, Object};
+use names::{Name, Object, ObjectId};
 
 /// What is before the first space, and what is after it.
 pub(crate) fn cut(text: &str) -> (&str, &str)
@@ -28,23 +28,13 @@ pub(crate) fn cut_last(text: &str) -> (&str, Option<&str>)
     }
 }
 
-pub(crate) fn name_of(text: &str) -> Name
-    requires { IsTrue (is_name text.now) }
-    ensures { result ≡ text.now }
-{
-    match Name::parse(text) {
-        Ok(name) => name,
-        Err(_) => unreachable!(),
-    }
-}
-
 pub(crate) fn object_of(namespace: &str, id: &str) -> Object
     requires namespace { IsTrue (is_name namespace.now) }
     requires id { IsTrue (is_id id.now) }
     ensures { (result.namespace ≡ namespace.now) × (result.id ≡ id.now) }
 {
-    match Object::of(name_of(namespace), id) {
-        Ok(object) => object,
-        Err(_) => unreachable!(),
+    Object {
+        namespace: Name::spelled(namespace),
+        id: ObjectId::spelled(id),
     }
 }

@@ -13,9 +13,9 @@ ghost use Rattle.decide.specs.declared.search.Opened.{Opened};
 ghost use Rattle.decide.specs.inside.Running.{IsRunning};
 ghost use Rattle.decide.specs.inside.Asked.{IsAsking};
 
+use crate::asker::Asker;
 use crate::asking::{Asking, Found};
 use crate::facts::Facts;
-use crate::numbers::key_of;
 use crate::oracle::Oracle;
 use crate::rewrites::relation_gives;
 use crate::search::Search;
@@ -38,19 +38,12 @@ pub fn check_at<O: Oracle>(
     ensures err { IfErr result (CheckCause view.now node.now) }
     ensures tells { OnOk result (O.tells oracle.new view.now) }
 {
-    let mut facts = Facts::of(alloc, view);
-    let Some(place) = facts.place_of(node) else {
-        return Err(Refusal::UnknownRelation);
-    };
-    let level = facts.level_at(place);
-    let mut search = Search::new(alloc, level)?;
-    let root = search.open(node, level, place, key_of(node))?;
-    let answer = is_member(&mut facts, oracle, &mut search, user, root)?;
-    Ok(answer)
+    let mut asker = Asker::of(alloc, view);
+    asker.ask(oracle, node, user)
 }
 
 /// Whether the user is a member of the root.
-fn is_member<O: Oracle>(
+pub(crate) fn is_member<O: Oracle>(
     facts: &mut Facts,
     oracle: &mut O,
     search: &mut Search,
@@ -62,6 +55,8 @@ fn is_member<O: Oracle>(
     requires running { IsRunning facts.old user.now search.old None }
     ensures answer { IfOk result (λ b. (n : NodeValue) (k : ℕ) → IsNumberOf search.old root n k
         → IsAnswer facts.old user.now n b) }
+    ensures facts { facts.new ≡ facts.old }
+    ensures running { OnOk result (IsRunning facts.old user.now search.new None) }
     ensures tells { OnOk result (O.tells oracle.new facts.old) }
 {
     'rounds: loop {
@@ -88,7 +83,7 @@ fn round<O: Oracle>(
         → IsAnswer facts.new user.now n b)) }
     ensures more { IfOk result (λ o. IfNone o (progress search.old < progress search.new)) }
     ensures facts { facts.new ≡ facts.old }
-    ensures running { IfOk result (λ o. IfNone o (IsRunning facts.new user.now search.new None)) }
+    ensures running { OnOk result (IsRunning facts.new user.now search.new None) }
     ensures numbers { OnOk result
         ((i k : ℕ) (n : NodeValue) → IsNumberOf search.old i n k → IsNumberOf search.new i n k) }
     ensures tells { OnOk result (O.tells oracle.new facts.new) }
@@ -133,7 +128,7 @@ fn look<O: Oracle>(
     if search.is_sure(number) {
         return Ok(false);
     }
-    let node = search.node_of(number)?;
+    let node = search.node_of(number);
     let level = search.level_of(number);
     match oracle.knows(&node, user) {
         Some(true) => {

@@ -13,7 +13,7 @@ ghost use Rattle.names.specs.declared.tuple.Tuple.{Tuple};
 ghost use Rattle.versions.specs.Named.{objects_in, nodes_in};
 ghost use Rattle.tuple_keys.specs.Named.{user_tuple, is_at, is_of};
 ghost use Rattle.decide.specs.inside.Reading.{AreNamed, AreRead, IsReadAt};
-ghost use Rattle.decide.specs.inside.Reads.{AreNodesOf, node_with};
+ghost use Rattle.decide.specs.inside.Reads.{AreNodesOf, AreOwn, node_with};
 
 use crate::numbers::{Numbers, key_of_object};
 use crate::read_tuple::{ReadTuple, read_tuples};
@@ -26,9 +26,6 @@ use std::marker::Model;
 
 /// So many tuples of an object are few.
 const FEW: usize = 8;
-
-/// So many relations are gone over, one after the other.
-const FIRST: usize = 16;
 
 /// What was read of an object: its tuples, where they are few, and the objects that those of a tupleset name.
 #[derive(Drop)]
@@ -166,10 +163,7 @@ impl<'a> Facts<'a> {
         ensures some { IfSome result (StandsAt self.now.config (rel_of node.now)) }
         ensures none { IfNone result (Has self.now.config (rel_of node.now) → ⊥) }
     {
-        match first_place(self.config.relations(), node) {
-            Some(place) => Some(place),
-            None => self.config.place_of(node),
-        }
+        self.config.place_of(node)
     }
 
     /// The level of the relation at a place.
@@ -192,26 +186,28 @@ impl<'a> Facts<'a> {
         }
     }
 
-    /// Whether the user has the node by a tuple of its own.
-    pub(crate) fn has(&self, node: &Node, user: &Object) -> bool
-        ensures { IsTrue result ↔ HasOne self.now node.now user.now }
+    /// The nodes whose members the node's tuples name, as far as the configuration has their relations, unless one of the
+    /// tuples names the user.
+    pub(crate) fn own_of(&self, node: &Node, user: &Object) -> Result<Option<Vec<Node>>, AllocError>
+        ensures some { IfOk result (λ o. IfSome o (λ v. AreOwn self.now user.now node.now v.items)) }
+        ensures none { IfOk result (λ o. IfNone o (HasOne self.now node.now user.now)) }
     {
         match self.reads.few_of(&node.object) {
-            Some(few) => names_user(few, node, user),
-            None => self.view.has(node, user),
+            Some(few) => own_among(self.alloc, few, node, user),
+            None => self.own_among_many(node, user),
         }
     }
 
-    /// The nodes whose members the node's tuples name, as far as the configuration has their relations.
-    pub(crate) fn usersets_of(&self, node: &Node) -> Result<Vec<Node>, AllocError>
-        ensures only { IfOk result (λ v. (m : Node) → Contains v.items m → HasSet self.now node.now m) }
-        ensures all { IfOk result
-            (λ v. (m : Node) → HasSet self.now node.now m → Has self.now.config (rel_of m) → Contains v.items m) }
+    /// The same, of an object that has many tuples.
+    fn own_among_many(&self, node: &Node, user: &Object) -> Result<Option<Vec<Node>>, AllocError>
+        ensures some { IfOk result (λ o. IfSome o (λ v. AreOwn self.now user.now node.now v.items)) }
+        ensures none { IfOk result (λ o. IfNone o (HasOne self.now node.now user.now)) }
     {
-        match self.reads.few_of(&node.object) {
-            Some(few) => named_nodes(self.alloc, few, node),
-            None => self.view.usersets_of(self.alloc, node),
+        if self.view.has(node, user) {
+            return Ok(None);
         }
+        let sets = self.view.usersets_of(self.alloc, node)?;
+        Ok(Some(sets))
     }
 
     /// The objects that the node's tuples name.
@@ -240,31 +236,11 @@ impl<'a> Facts<'a> {
     ) -> Result<Vec<Node>, AllocError>
         ensures { IfOk result (λ v. AreNodesOf self.now node.now tupleset.now relation.now v.items) }
     {
-        let from = node_of(&node.object, tupleset)?;
+        let from = node_of(&node.object, tupleset);
         let objects = self.objects_of(&from)?;
         let nodes = nodes_of(self.alloc, &objects, relation)?;
         Ok(nodes)
     }
-}
-
-/// Where the node's relation stands, if it is one of the first: most configurations have few others, and most names are
-/// told apart by their lengths.
-fn first_place(relations: &[Relation], node: &Node) -> Option<usize>
-    ensures { IfSome result (λ i. (i < length relations.now)
-        × ((r : Relation) → (slice_index_or relations.now i r).name ≡ rel_of node.now)) }
-{
-    for place in 0..relations.len().min(FIRST) {
-        if has_name_of(&relations[place], node) {
-            return Some(place);
-        }
-    }
-    None
-}
-
-fn has_name_of(relation: &Relation, node: &Node) -> bool
-    ensures { IsTrue result → relation.now.name ≡ rel_of node.now }
-{
-    relation.name.relation == node.relation && relation.name.namespace == node.object.namespace
 }
 
 /// The nodes of the relation of the objects.
@@ -273,18 +249,18 @@ fn nodes_of(alloc: Global, objects: &[Object], relation: &Name) -> Result<Vec<No
 {
     let mut nodes = Vec::new(alloc);
     for object in objects {
-        nodes.push(node_of(object, relation)?)?;
+        nodes.push(node_of(object, relation))?;
     }
     Ok(nodes)
 }
 
-pub(crate) fn node_of(object: &Object, relation: &Name) -> Result<Node, AllocError>
-    ensures { IfOk result (λ n. n ≡ node_with relation.now object.now) }
+pub(crate) fn node_of(object: &Object, relation: &Name) -> Node
+    ensures { result ≡ node_with relation.now object.now }
 {
-    Ok(Node {
-        object: object.clone()?,
-        relation: relation.clone()?,
-    })
+    Node {
+        object: object.again(),
+        relation: relation.again(),
+    }
 }
 
 fn read_object<'a>(
@@ -307,7 +283,7 @@ fn read_object<'a>(
     let few = few_of(alloc, view, object)?;
     let named = named_by(alloc, &few, rewrite, object)?;
     let read = Read {
-        object: object.clone()?,
+        object: object.again(),
         few,
         named,
     };
@@ -353,10 +329,10 @@ fn named_by(
     let Some(tupleset) = tupleset_of(rewrite) else {
         return Ok(None);
     };
-    let from = node_of(object, tupleset)?;
+    let from = node_of(object, tupleset);
     let objects = named_objects(alloc, tuples.as_slice(), &from)?;
     Ok(Some(Named {
-        tupleset: tupleset.clone()?,
+        tupleset: tupleset.again(),
         objects,
     }))
 }
@@ -390,33 +366,26 @@ fn own_tupleset(rewrite: &Rewrite) -> Option<&Name> {
     }
 }
 
-/// Whether one of the tuples is the node's of the user.
-fn names_user(tuples: &[ReadTuple<'_>], node: &Node, user: &Object) -> bool
-    requires { (t : Tuple) → Contains tuples.now t → t.node.object ≡ node.now.object }
-    ensures { IsTrue result ↔ Contains tuples.now (user_tuple node.now user.now) }
-{
-    for tuple in tuples {
-        if tuple.is_users(node, user) {
-            return true;
-        }
-    }
-    false
-}
-
-/// The nodes whose members those of the tuples name that are the node's.
-fn named_nodes(
+/// The nodes whose members those of the tuples name that are the node's, unless one of these names the user.
+fn own_among(
     alloc: Global,
     tuples: &[ReadTuple<'_>],
     node: &Node,
-) -> Result<Vec<Node>, AllocError>
+    user: &Object,
+) -> Result<Option<Vec<Node>>, AllocError>
     requires { (t : Tuple) → Contains tuples.now t → t.node.object ≡ node.now.object }
-    ensures { IfOk result (λ v. v.items ≡ nodes_in (filter (is_of node.now) tuples.now)) }
+    ensures some { IfOk result (λ o. IfSome o (λ v. (Contains tuples.now (user_tuple node.now user.now) → ⊥)
+        × (v.items ≡ nodes_in (filter (is_of node.now) tuples.now)))) }
+    ensures none { IfOk result (λ o. IfNone o (Contains tuples.now (user_tuple node.now user.now))) }
 {
     let mut nodes = Vec::new(alloc);
     for tuple in tuples {
+        if tuple.is_users(node, user) {
+            return Ok(None);
+        }
         push_node(&mut nodes, tuple, node)?;
     }
-    Ok(nodes)
+    Ok(Some(nodes))
 }
 
 /// Adds the node whose members the tuple names, where it is the node's and names those of one.

@@ -4,6 +4,7 @@
 //! the user.
 #![tactic(auto)]
 
+mod asker;
 mod asking;
 mod cuts;
 mod deciding;
@@ -16,6 +17,7 @@ mod rewrites;
 mod search;
 mod waiting;
 
+pub use asker::Asker;
 pub use deciding::check_at;
 pub use law::there_is_one_answer;
 pub use oracle::{Nothing, Oracle};

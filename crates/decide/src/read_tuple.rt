@@ -3,8 +3,8 @@ ghost use Rattle.std.specs.Prelude.{◌≡◌, ◌↔◌, IfOk, IsTrue};
 ghost use Rattle.meaning.specs.Snap.{one};
 ghost use Rattle.tuple_keys.specs.Named.{user_tuple, is_of, node_in, object_in};
 
-use crate::cuts::{cut, cut_last, name_of, object_of};
-use names::{Node, Object};
+use crate::cuts::{cut, cut_last, object_of};
+use names::{Name, Node, Object};
 use std::alloc::{AllocError, Global};
 use std::marker::Model;
 use tuple_keys::TupleRef;
@@ -106,7 +106,7 @@ impl<'a> ReadTuple<'a> {
         match self.members_of {
             Some(relation) => Some(Node {
                 object: self.object(),
-                relation: name_of(relation),
+                relation: Name::spelled(relation),
             }),
             None => None,
         }

@@ -136,11 +136,8 @@ fn own_of(
     if let Some(sets) = search.take_own(asking.number) {
         return Ok(Some(sets));
     }
-    if facts.has(asking.node, asking.user) {
-        return Ok(None);
-    }
-    let sets = facts.usersets_of(asking.node)?;
-    Ok(Some(sets))
+    let sets = facts.own_of(asking.node, asking.user)?;
+    Ok(sets)
 }
 
 /// The node's own tuples.
@@ -169,7 +166,7 @@ fn computed(
     ensures found { IfOk result
         (Gave facts.now search.new asking.now (Computed relation.now)) }
 {
-    let other = node_of(&asking.node.object, relation)?;
+    let other = node_of(&asking.node.object, relation);
     let found = asked(facts, search, asking, &other)?;
     Ok(found)
 }
@@ -212,7 +209,7 @@ fn some_of(
 {
     let mut later = false;
     for object in objects {
-        let node = node_of(object, relation)?;
+        let node = node_of(object, relation);
         match asked(facts, search, asking, &node)? {
             Found::Yes => return Ok(Found::Yes),
             Found::No => {}
@@ -258,8 +255,8 @@ fn through_list(
     let nodes = parents_of(facts, search, asking, tupleset, relation)?;
     let found = some_asked(facts, search, asking, &nodes)?;
     let parents = Parents {
-        tupleset: tupleset.clone()?,
-        relation: relation.clone()?,
+        tupleset: tupleset.again(),
+        relation: relation.again(),
         nodes,
     };
     search.keep_parents(asking.number, parents);

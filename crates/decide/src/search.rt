@@ -1,7 +1,7 @@
 //! The nodes that a question has reached.
 ghost use Rattle.std.specs.Prelude.{◌≡◌, ◌≤◌, ◌<◌, ◌+◌, ◌^◌, ◌⊎◌, [], ◌∷◌, ◌++◌, ℕ, true, false, Contains, Option, Some, None, IfOk, IfSome, IfNone, IsTrue, OnOk, length, slice_index_or};
 ghost use Rattle.std.proofs.Common.{suc};
-ghost use Rattle.meaning.specs.Config.{rel_of};
+ghost use Rattle.meaning.specs.Config.{IsAt, rel_of};
 ghost use Rattle.meaning.specs.Snap.{Snap};
 ghost use Rattle.config.specs.Places.{StandsAt};
 ghost use Rattle.names.specs.declared.object.Object.{Object};
@@ -21,6 +21,9 @@ use std::mem::replace;
 
 /// So many nodes are opened before the list of them grows.
 const ROOM: usize = 16;
+
+/// A search that has opened so many is large.
+const MOST: usize = 1 << 16;
 
 /// A node that was opened: its relation's level and place, whether it is known to have the user, the numbers
 /// of the nodes that wait for it, and what was read of it: the usersets of its own tuples, where none names
@@ -134,7 +137,7 @@ impl Search {
     {
         let number = self.opened.len();
         self.opened.push(Opened {
-            node: node.clone()?,
+            node: node.again(),
             level,
             place,
             sure: false,
@@ -148,6 +151,32 @@ impl Search {
         self.stacks[level].push(number)?;
         self.likely[kind_of(node)] = number;
         Ok(number)
+    }
+
+    /// The number of the node, which is opened where it was not.
+    pub(crate) fn reach(
+        &mut self,
+        node: &Node,
+        level: usize,
+        place: usize,
+    ) -> Result<usize, AllocError>
+        requires { level < length self.old.stacks.items }
+        ensures there { IfOk result (λ i. i < length self.new.opened.items) }
+        ensures number { IfOk result (λ i. (k : ℕ) × IsNumberOf self.new i node.now k) }
+        ensures running { OnOk result ((S : Snap) (u : Object) → IsAt S.config node.now level
+            → StandsAt S.config (rel_of node.now) place → IsRunning S u self.old None → IsRunning S u self.new None) }
+    {
+        match self.seen(node) {
+            Ok(number) => Ok(number),
+            Err(key) => self.open(node, level, place, key),
+        }
+    }
+
+    /// Whether it has a stack for the level, and few nodes were opened.
+    pub(crate) fn has_room_for(&self, level: usize) -> bool
+        ensures { IsTrue result → level < length self.now.stacks.items }
+    {
+        level < self.stacks.len() && self.opened.len() < MOST
     }
 
     /// How many nodes were opened.
@@ -165,11 +194,11 @@ impl Search {
         self.opened[number].sure
     }
 
-    pub(crate) fn node_of(&self, number: usize) -> Result<Node, AllocError>
+    pub(crate) fn node_of(&self, number: usize) -> Node
         requires { number < length self.now.opened.items }
-        ensures { IfOk result (λ n. (e : Opened) → Stands self.now number e → e.node ≡ n) }
+        ensures { (e : Opened) → Stands self.now number e → e.node ≡ result }
     {
-        self.opened[number].node.clone()
+        self.opened[number].node.again()
     }
 
     pub(crate) fn level_of(&self, number: usize) -> usize

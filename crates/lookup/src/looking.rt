@@ -8,18 +8,10 @@ ghost use Rattle.lookup.specs.inside.Underway.{IsUnderway};
 
 use crate::asked::Lookup;
 use config::Config;
-use decide::{Oracle, check_at};
+use decide::{Asker, Oracle};
 use names::{Node, Object, ObjectId, Refusal, Subject, Tuple};
 use rows::{MAX_PAGE, Tupleset, View};
 use std::alloc::{AllocError, Global};
-
-/// What is asked for, and of which view.
-#[derive(Clone, Copy)]
-struct Source<'a> {
-    alloc: Global,
-    view: &'a View<'a>,
-    asked: &'a Lookup,
-}
 
 /// What was found up to the last object that was asked for.
 #[derive(Drop)]
@@ -32,9 +24,9 @@ struct Found {
 /// relation, and where there is no memory. After an answer the oracle tells of the view still.
 ///
 /// The tuples of the namespace's objects are gone over from the object on that the others come after, a page at
-/// a time, and a check is asked of each object once, until as many are found as are asked for. So it costs what
+/// a time, and one asker is asked of each object once, until as many are found as are asked for. So it costs what
 /// the namespace holds there, and not what the user can see: it is slow on a large store. It takes memory for
-/// a page of tuples, for a check and for the ids.
+/// a page of tuples, for what the asker keeps and for the ids.
 pub fn lookup_at<O: Oracle>(
     alloc: Global,
     view: &View,
@@ -53,12 +45,12 @@ pub fn lookup_at<O: Oracle>(
     }
     // No configuration has an empty intersection, as this call says.
     config.relations();
-    let source = Source { alloc, view, asked };
+    let mut asker = Asker::of(alloc, view);
     let mut found = begin(alloc, asked)?;
     let mut tupleset = first_page(asked)?;
     'pages: loop {
         let mut page = view.read(alloc, &tupleset)?;
-        look_through(&source, oracle, &page, &mut found)?;
+        look_through(&mut asker, oracle, asked, &page, &mut found)?;
         if is_full(asked, &found) || page.len() < MAX_PAGE as usize {
             return Ok(found.ids);
         }
@@ -81,44 +73,47 @@ fn begin(alloc: Global, asked: &Lookup) -> Result<Found, AllocError>
 
 /// Asks for each object of the tuples, as long as fewer are found than are asked for.
 fn look_through<O: Oracle>(
-    source: &Source,
+    asker: &mut Asker,
     oracle: &mut O,
+    asked: &Lookup,
     tuples: &[Tuple],
     found: &mut Found,
 ) -> Result<(), Refusal>
-    requires { O.tells oracle.old source.now.view.now }
+    requires { O.tells oracle.old asker.old }
     ensures underway { OnOk result ((left : List (List ℕ))
-        → IsUnderway source.now.view.now source.now.asked.now found.old (ids_of tuples.now ++ left)
-        → IsUnderway source.now.view.now source.now.asked.now found.new left) }
-    ensures tells { OnOk result (O.tells oracle.new source.now.view.now) }
-    ensures err { IfErr result (LookupCause source.now.view.now source.now.asked.now) }
+        → IsUnderway asker.old asked.now found.old (ids_of tuples.now ++ left)
+        → IsUnderway asker.old asked.now found.new left) }
+    ensures tells { OnOk result (O.tells oracle.new asker.old) }
+    ensures err { IfErr result (LookupCause asker.old asked.now) }
+    ensures same { asker.new ≡ asker.old }
 {
     for tuple in tuples {
-        look_at(source, oracle, &tuple.node.object.id, found)?;
+        look_at(asker, oracle, asked, &tuple.node.object.id, found)?;
     }
     Ok(())
 }
 
 /// Asks for the object with the id, unless that was done, or as many are found as are asked for.
 fn look_at<O: Oracle>(
-    source: &Source,
+    asker: &mut Asker,
     oracle: &mut O,
+    asked: &Lookup,
     id: &ObjectId,
     found: &mut Found,
 ) -> Result<(), Refusal>
-    requires { O.tells oracle.old source.now.view.now }
+    requires { O.tells oracle.old asker.old }
     ensures underway { OnOk result ((left : List (List ℕ))
-        → IsUnderway source.now.view.now source.now.asked.now found.old (id.now ∷ left)
-        → IsUnderway source.now.view.now source.now.asked.now found.new left) }
-    ensures tells { OnOk result (O.tells oracle.new source.now.view.now) }
-    ensures err { IfErr result (LookupCause source.now.view.now source.now.asked.now) }
+        → IsUnderway asker.old asked.now found.old (id.now ∷ left)
+        → IsUnderway asker.old asked.now found.new left) }
+    ensures tells { OnOk result (O.tells oracle.new asker.old) }
+    ensures err { IfErr result (LookupCause asker.old asked.now) }
+    ensures same { asker.new ≡ asker.old }
 {
-    let asked = source.asked;
     if is_full(asked, found) || !is_later(&found.last, id) {
         return Ok(());
     }
     let node = node_of(asked, id)?;
-    let has = check_at(source.alloc, source.view, oracle, &node, &asked.user)?;
+    let has = asker.ask(oracle, &node, &asked.user)?;
     note(found, id, has)?;
     Ok(())
 }

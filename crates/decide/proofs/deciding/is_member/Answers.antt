@@ -1,5 +1,5 @@
 use Rattle.std.proofs.Common.{ℕ, None, subst, ◌∙◌}
-use Rattle.std.specs.Prelude.{IfSome, IfNone}
+use Rattle.std.specs.Prelude.{IfSome}
 use Rattle.names.specs.declared.node.Node.{Node}
 use Rattle.meaning.specs.Snap.{Snap}
 use Rattle.decide.specs.Answers.{IsAnswer}
@@ -22,9 +22,13 @@ returns-in-Some-clause-tells g c = subst (g.O.Oracle.tells c.round.new.oracle) (
 
 pub rounds-preserved : goal.rounds-preserved
 rounds-preserved g c = (
-  subst (λ o. IfNone o (IsRunning c.round.new.facts c.args.user.now c.round.new.search None)) c.in-None.is c.in_ok-answer.ensures.running,
+  c.in_ok-answer.ensures.running,
   still_there c.rounds.search c.round.new.search c.args.root (c.in_ok-answer.ensures.numbers c.args.root) c.rounds.invariant.1,
   λ k n number. c.in_ok-answer.ensures.numbers c.args.root k n (c.rounds.invariant.2 k n number),
   c.in_ok-answer.ensures.tells,
   c.in_ok-answer.ensures.facts ∙ c.rounds.invariant.4,
 )
+
+pub returns-in-Some-clause-running : goal.returns-in-Some-clause-running
+returns-in-Some-clause-running g c =
+    subst (λ (S : Snap). IsRunning S c.args.user.now c.round.new.search None) (c.in_ok-answer.ensures.facts ∙ c.rounds.invariant.4) c.in_ok-answer.ensures.running

@@ -12,19 +12,19 @@ give-requires-clause-there g c = waiting_all_there c.args.facts.now c.args.user.
 pub returns-in_ok-give-in-Some-true-clause-running : goal.returns-in_ok-give-in-Some-true-clause-running
 returns-in_ok-give-in-Some-true-clause-running g c =
     c.in_ok-give-in-Some-true.ensures.running c.args.facts.now c.args.user.now
-    (member_given c.args.facts.now c.args.user.now c.args.search.now c.args.number c.in_ok-node.node c.requires.running c.in_ok-node.ensures
+    (member_given c.args.facts.now c.args.user.now c.args.search.now c.args.number c.node_of-node.result c.requires.running c.node_of-node.ensures
     ((c.in-Some-true.ensures.right c.args.facts.now c.requires.tells).0 c.in-Some-true.field-0-test))
     c.requires.running
 
 pub returns-in-Some-false-clause-running : goal.returns-in-Some-false-clause-running
 returns-in-Some-false-clause-running g c =
-    no_member_stuck c.args.facts.now c.args.user.now c.args.search.now c.args.number c.in_ok-node.node c.requires.running c.in_ok-node.ensures
+    no_member_stuck c.args.facts.now c.args.user.now c.args.search.now c.args.number c.node_of-node.result c.requires.running c.node_of-node.ensures
     (λ m. false≢true (sym c.in-Some-false.field-0-test ∙ (c.in-Some-false.ensures.right c.args.facts.now c.requires.tells).1 m))
 
 pub step-requires-clause-asking : goal.step-requires-clause-asking
 step-requires-clause-asking g c = record {
   running = c.requires.running;
-  number = number_here c.args.facts.now c.args.user.now c.args.search.now c.args.number c.level_of-level.result c.in_ok-node.node c.requires.number c.in_ok-node.ensures c.level_of-level.ensures;
+  number = number_here c.args.facts.now c.args.user.now c.args.search.now c.args.number c.level_of-level.result c.node_of-node.result c.requires.number c.node_of-node.ensures c.level_of-level.ensures;
 }
 
 pub step-requires-clause-unsure : goal.step-requires-clause-unsure

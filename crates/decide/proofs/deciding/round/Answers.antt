@@ -61,3 +61,6 @@ turns-preserved g c =
       long = on.long ∙ same ∙ long;
       known = on.known ∙ known_of c.turns.search s c.in-Some.ensures.opened ∙ c.turns.invariant.known;
     }
+
+pub returns-in-None-clause-running : goal.returns-in-None-clause-running
+returns-in-None-clause-running g c = c.in-None.ensures.same c.turns.facts c.args.user.now c.turns.invariant.running

@@ -10,13 +10,13 @@ pub returns-clause-goes_on : goal.returns-clause-goes_on
 returns-clause-goes_on c =
     let before : GoesOn c.args.facts.now c.args.search.now c.some_asked.new.search c.args.asking.now =
     goes_trans c.args.facts.now c.args.asking.now c.args.search.now c.parents_of.new.search c.some_asked.new.search c.in_ok-nodes.ensures.goes_on c.in_ok-found.ensures.goes_on in
-    let are : AreNodesOf c.args.facts.now c.args.asking.now.node.now c.in_ok-clone.field-0 c.in_ok-clone-2.field-0 c.in_ok-nodes.nodes.items =
-    subst (λ t. AreNodesOf c.args.facts.now c.args.asking.now.node.now t c.in_ok-clone-2.field-0 c.in_ok-nodes.nodes.items) (sym c.in_ok-clone.ensures.cases)
-    (subst (λ r. AreNodesOf c.args.facts.now c.args.asking.now.node.now c.args.tupleset.now r c.in_ok-nodes.nodes.items) (sym c.in_ok-clone-2.ensures.cases) c.in_ok-nodes.ensures.are) in
+    let are : AreNodesOf c.args.facts.now c.args.asking.now.node.now c.again.result c.again-2.result c.in_ok-nodes.nodes.items =
+    subst (λ t. AreNodesOf c.args.facts.now c.args.asking.now.node.now t c.again-2.result c.in_ok-nodes.nodes.items) (sym c.again.ensures)
+    (subst (λ r. AreNodesOf c.args.facts.now c.args.asking.now.node.now c.args.tupleset.now r c.in_ok-nodes.nodes.items) (sym c.again-2.ensures) c.in_ok-nodes.ensures.are) in
     goes_trans c.args.facts.now c.args.asking.now c.args.search.now c.some_asked.new.search c.keep_parents.new.self before
     (goes_read c.args.facts.now c.args.asking.now c.some_asked.new.search c.keep_parents.new.self before.asking c.keep_parents.ensures.grew
     (c.keep_parents.ensures.running c.args.facts.now c.args.asking.now.user.now (Some c.args.asking.now.number)
-    (asker_is c.args.facts.now c.args.asking.now c.some_asked.new.search before.asking (λ n. AreNodesOf c.args.facts.now n c.in_ok-clone.field-0 c.in_ok-clone-2.field-0 c.in_ok-nodes.nodes.items) are)))
+    (asker_is c.args.facts.now c.args.asking.now c.some_asked.new.search before.asking (λ n. AreNodesOf c.args.facts.now n c.again.result c.again-2.result c.in_ok-nodes.nodes.items) are)))
 
 pub returns-clause-found : goal.returns-clause-found
 returns-clause-found c =

@@ -8,6 +8,7 @@ invariant-pages g l = record {
   asks : l.tupleset ≡ tuples_in l.asked.relation.namespace l.tupleset.after;
   underway : IsUnderway l.view l.asked l.found (ids_of (unread l.tupleset l.view.tuples));
   tells : g.O.Oracle.tells l.oracle l.view;
+  same : l.asker ≡ l.view;
 }
 
 abbrev pub decreases-pages : goal.decreases-pages
