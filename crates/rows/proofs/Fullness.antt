@@ -161,6 +161,12 @@ lt_true m n h = grind (arith, nat_tests)
 lt_false : (m n : ℕ) → n ≤ m → nat_lt m n ≡ false
 lt_false m n h = grind (arith, nat_tests)
 
+pub less : (m n : ℕ) → nat_lt m n ≡ true → m < n
+less m n h = grind (arith, nat_tests)
+
+pub not_less : (m n : ℕ) → nat_lt m n ≡ false → n ≤ m
+not_less m n h = grind (arith, nat_tests)
+
 first_full : (a b c : Bool) → a ≡ true → true ≡ (a || b || c)
 first_full true b c h = refl
 first_full false b c h = absurd (true≢false (sym h))

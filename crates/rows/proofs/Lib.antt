@@ -2,6 +2,7 @@ pub mod ConfigsAt
 pub mod Retaining
 pub mod Touching
 pub mod Committing
+pub mod Known
 pub mod Loading
 pub mod Admitted
 pub mod Admitting

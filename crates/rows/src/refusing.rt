@@ -66,7 +66,7 @@ fn is_below(event: &Event, others: &[Event]) -> bool
 fn touches_of(alloc: Global, events: &[Event]) -> Result<Vec<Op>, AllocError>
     ensures { IfOk result (λ ops. ops.items ≡ map touch_of events.now) }
 {
-    let mut ops = Vec::new(alloc);
+    let mut ops = Vec::with_capacity(alloc, events.len())?;
     for event in events {
         ops.push(touch_of(event)?)?;
     }

@@ -1,5 +1,5 @@
 //! Why a write is refused.
-ghost use Rattle.std.specs.Prelude.{◌≡◌, ◌≤◌, count_by, length, map, None, false, IfErr, OnOk};
+ghost use Rattle.std.specs.Prelude.{◌≡◌, ◌≤◌, count_by, length, map, nat_lt, None, false, IfErr, OnOk};
 ghost use Rattle.std.specs.List.{list_any};
 ghost use Rattle.meaning.specs.History.{puts_in};
 ghost use Rattle.meaning.specs.Verdict.{is_unknown, is_untyped, is_twice, inserts_again, deletes_nothing, first_from, event_of, write_cause, config_cause, is_full};
@@ -52,10 +52,10 @@ impl Rows {
         if ops.is_empty() || ops.len() > MAX_OPS {
             return Some(Refusal::Malformed);
         }
-        if some_unknown(config, ops) {
-            return Some(Refusal::UnknownRelation);
-        }
-        if some_untyped(config, ops) {
+        if some_refused(config, ops) {
+            if some_unknown(config, ops) {
+                return Some(Refusal::UnknownRelation);
+            }
             return Some(Refusal::TypeRefused);
         }
         if is_twice(ops) {
@@ -83,13 +83,20 @@ impl Rows {
         ensures { result ≡ is_full (newest_of self.now) (map event_of ops.now) }
     {
         let counts = self.counts();
-        let added = count_new(view, ops) as u64;
         let room = MAX_TUPLES + count_deletes(ops) as u64;
-        if counts.tuples > room || added > room - counts.tuples {
+        if counts.tuples > room || are_more(view, ops, room - counts.tuples) {
             return true;
         }
         counts.rows + count_puts(ops) as u64 > MAX_ROWS || self.newest() + 1 > MAX_REV
     }
+}
+
+/// Whether the configuration does not admit some operation's tuple. Where it admits all, all relations are there.
+fn some_refused(config: &Config, ops: &[Op]) -> bool
+    ensures is { result ≡ list_any (is_untyped config.now) ops.now }
+    ensures known { result ≡ false → list_any (is_unknown config.now) ops.now ≡ false }
+{
+    some_untyped(config, ops)
 }
 
 /// Whether the relation of some operation's tuple is not there.
@@ -128,6 +135,14 @@ fn first_absent(view: &View<'_>, ops: &[Op]) -> Option<u64>
         }
     }
     None
+}
+
+/// Whether more operations than there is room for put a tuple that is not there. None is looked up where all would fit.
+fn are_more(view: &View<'_>, ops: &[Op], room: u64) -> bool
+    ensures { result ≡ nat_lt room (count_by (is_new view.now.tuples) ops.now) }
+{
+    let most = ops.len() as u64;
+    most > room && count_new(view, ops) as u64 > room
 }
 
 /// How many operations put a tuple that is not there, where no insert is of one that is: no insert is looked up again.
