@@ -2,6 +2,7 @@ mod Lists
 mod Closures
 mod After
 mod Bare
+mod Recalled
 mod Rows
 mod Replayed
 mod Told

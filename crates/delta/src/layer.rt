@@ -88,7 +88,8 @@ impl Layer {
     }
 
     /// Takes the next commit, one of events, of which the view has the snapshot after it, and gives the numbers of the
-    /// groups that the view was asked for, in order. For want of memory what is told is what it was.
+    /// groups that were asked for, in order; of a kept one on which there is no event what is kept is told, and not read.
+    /// For want of memory what is told is what it was.
     pub fn take(
         &mut self,
         alloc: Global,
@@ -111,6 +112,7 @@ impl Layer {
         let changed = changed_by(alloc, &self.nodes, events)?;
         let turned = IdSet::of(turned);
         let turned = turned.as_slice();
+        let changed = IdSet::of(changed);
         let added = put_each(alloc, &mut self.roots, turned)?;
         let rev = self.cursor + 1;
         let (nodes, sets, roots) = (&mut self.nodes, &mut self.sets, &self.roots);

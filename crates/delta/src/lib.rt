@@ -9,6 +9,7 @@ mod computed;
 mod earlier;
 mod layer;
 mod leading;
+mod recalling;
 mod renewing;
 mod roots;
 mod telling;

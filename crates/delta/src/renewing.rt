@@ -1,24 +1,24 @@
-//! Asking a view for what a change touches.
-ghost use Rattle.std.specs.Prelude.{◌≡◌, ◌||◌, ℕ, [], IfOk, OnOk, OnErr};
+//! What is kept is refreshed, and what it was is noted.
+ghost use Rattle.std.specs.Prelude.{◌≡◌, ◌||◌, ◌⊎◌, ℕ, [], true, false, IfOk, OnOk, OnErr};
 ghost use Rattle.least_sets.specs.World.{has};
-ghost use Rattle.region.specs.Tables.{row_of};
+ghost use Rattle.least_sets.specs.Groups.{groups};
+ghost use Rattle.region.specs.Tables.{arcs_or_none, kept, row_of};
 ghost use Rattle.region.specs.Sets.{IsWhole};
 ghost use Rattle.region.specs.Refreshed.{IsRefreshed};
 ghost use Rattle.delta.specs.Noted.{IsNoted};
 ghost use Rattle.delta.specs.Telling.{IsMore, MayTell};
 
 use crate::earlier::{Earlier, noted};
-use crate::telling::GroupFacts;
+use crate::recalling::{Gathering, gathered};
 use idsets::{IdSet, Ids};
 use names::Node;
-use region::{Sets, fill, gather};
+use region::{Sets, fill};
 use rows::View;
 use std::alloc::{AllocError, Global};
-use std::mem::swap;
 
-/// Refreshes what is kept by what the view tells, notes with a revision what was kept before of what was touched, and
-/// says who was asked, in order. For want of memory what is kept and noted is what it was, and more nodes may have
-/// numbers.
+/// Refreshes what is kept by what the view tells of the changed groups and of new ones, notes with a revision what was kept
+/// before of what was touched, and says who was asked, in order. For want of memory what is kept and noted is what it was,
+/// and more nodes may have numbers. What takes memory comes before what is kept changes.
 pub(crate) fn renew(
     alloc: Global,
     view: &View,
@@ -28,54 +28,19 @@ pub(crate) fn renew(
     earlier: &mut Vec<Earlier>,
     roots: &IdSet,
     turned: &[u64],
-    changed: &[u64],
+    changed: &IdSet,
 ) -> Result<Vec<u64>, AllocError>
     requires { IsWhole sets.old }
     ensures whole { IsWhole sets.new }
     ensures more { IsMore nodes.old nodes.new }
     ensures err { OnErr result ((n : ℕ) → row_of sets.new.rows n ≡ row_of sets.old.rows n) }
     ensures err_noted { OnErr result (earlier.new.items ≡ earlier.old.items) }
-    ensures refreshed { IfOk result (λ asked. IsRefreshed (MayTell view.now nodes.new)
+    ensures refreshed { IfOk result (λ asked. IsRefreshed (λ n fact. MayTell view.now nodes.new n fact
+        ⊎ ((kept sets.old.rows n ≡ true) × (has changed.now n ≡ false) × (fact ≡ groups (λ _. arcs_or_none (row_of sets.old.rows n)) n)))
         sets.old.rows sets.new.rows roots.now turned.now changed.now [] asked.items) }
     ensures noted { OnOk result (IsNoted rev sets.old.rows sets.new.rows earlier.old.items earlier.new.items) }
 {
-    let mut facts = GroupFacts {
-        arcs: view,
-        nodes: Ids::new(alloc),
-        asked: Vec::new(alloc),
-    };
-    swap(&mut facts.nodes, nodes);
-    let done = renew_by(
-        alloc, &mut facts, rev, sets, earlier, roots, turned, changed,
-    );
-    swap(&mut facts.nodes, nodes);
-    done
-}
-
-// What takes memory comes before what is kept changes.
-fn renew_by<'a>(
-    alloc: Global,
-    facts: &mut GroupFacts<'a, View<'a>>,
-    rev: u64,
-    sets: &mut Sets,
-    earlier: &mut Vec<Earlier>,
-    roots: &IdSet,
-    turned: &[u64],
-    changed: &[u64],
-) -> Result<Vec<u64>, AllocError>
-    requires whole { IsWhole sets.old }
-    requires none { facts.old.asked.items ≡ [] }
-    ensures whole { IsWhole sets.new }
-    ensures view { facts.new.arcs.now ≡ facts.old.arcs.now }
-    ensures more { IsMore facts.old.nodes facts.new.nodes }
-    ensures err { OnErr result ((n : ℕ) → row_of sets.new.rows n ≡ row_of sets.old.rows n) }
-    ensures err_noted { OnErr result (earlier.new.items ≡ earlier.old.items) }
-    ensures refreshed { IfOk result (λ asked. IsRefreshed (MayTell facts.new.arcs.now facts.new.nodes)
-        sets.old.rows sets.new.rows roots.now turned.now changed.now [] asked.items) }
-    ensures noted { OnOk result (IsNoted rev sets.old.rows sets.new.rows earlier.old.items earlier.new.items) }
-{
-    let region = gather(alloc, sets, roots, turned, changed, facts)?;
-    let asked = facts.asked.clone()?;
+    let Gathering { region, asked } = gathered(alloc, view, nodes, sets, roots, turned, changed)?;
     let touched = touched_in(&asked, &region.dropped)?;
     let mut before = noted(alloc, rev, sets, touched.as_slice())?;
     let count = earlier.len();

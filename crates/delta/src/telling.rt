@@ -2,6 +2,7 @@
 ghost use Rattle.std.specs.Prelude.{◌≡◌, ℕ, ◌++◌, ◌∷◌, [], Contains, Some, IfOk, OnOk};
 ghost use Rattle.std.specs.List.{slice_get};
 ghost use Rattle.least_sets.specs.World.{Either, Own, AnyOf};
+ghost use Rattle.least_sets.specs.Groups.{groups};
 ghost use Rattle.region.specs.Rules.{fact_of, shape_of};
 ghost use Rattle.facts.specs.Numbers.{AreNumbersOf};
 ghost use Rattle.delta.specs.Telling.{IsMore, MayTell};
@@ -73,6 +74,22 @@ fn tell<A: Arcs>(
         level: 0,
         rule,
         own,
+    })
+}
+
+/// The same of a group of which the arcs are known.
+pub(crate) fn told_again(alloc: Global, id: u64, arcs: &IdSet) -> Result<Told, AllocError>
+    ensures node { IfOk result (λ told. told.node ≡ id) }
+    ensures fact { IfOk result (λ told. fact_of told ≡ groups (λ _. arcs.now) id) }
+{
+    let numbers = arcs.as_slice().to_vec(alloc)?;
+    let itself = only(alloc, id)?;
+    let rule = own_or(alloc, numbers)?;
+    Ok(Told {
+        node: id,
+        level: 0,
+        rule,
+        own: itself,
     })
 }
 

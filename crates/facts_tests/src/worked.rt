@@ -59,13 +59,13 @@ fn know_a_folder(alloc: Global, kept: &mut Kept) -> Result<(), AllocError> {
 fn asks_all_without_a_folder(alloc: Global, kept: &mut Kept) -> Result<bool, AllocError> {
     kept.learn(viewers(alloc, &[OWNER])?)?;
     kept.refresh(alloc, &[VIEWER], &[])?;
-    Ok(kept.has_asked(&[VIEWER, BANNED, OWNER, PARENT]))
+    Ok(kept.has_asked(&[VIEWER, OWNER, PARENT, BANNED]))
 }
 
 fn has_the_folders_viewers(alloc: Global, kept: &mut Kept) -> Result<bool, AllocError> {
     know_a_folder(alloc, kept)?;
     kept.refresh(alloc, &[], &[PARENT, FOLDER, V, A, B, C])?;
-    let asked = kept.has_asked(&[VIEWER, PARENT, FOLDER, V]);
+    let asked = kept.has_asked(&[VIEWER, FOLDER, PARENT, V]);
     Ok(asked && kept.has(VIEWER, ANN) && !kept.is_kept(C))
 }
 

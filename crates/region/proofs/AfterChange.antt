@@ -304,14 +304,20 @@ module _ (world : ℕ → Fact) (roots turned changed : List ℕ) (old new : Row
       stay_member : (user n : ℕ) → stays old touched n ≡ true → holds new user n ≡ holds old user n
       stay_member user n h = ap (λ (o : Option Row). has (members_or_none o) user) (stay_row old new ready told touched filled n h (got.apart n h))
 
-pub filled : (old taken dropped put new : Rows) (ready : BTreeMap ℕ Row) (told : List Told) (touched : List ℕ)
+-- a row that is ready takes the place of another, whether that one was dropped before or not
+row_or_dropped : (r o : Option Row) (t : Bool) → row_or r (cond (t && not (is_some r)) None o) ≡ row_or r (cond t None o)
+row_or_dropped None o true = refl
+row_or_dropped None o false = refl
+row_or_dropped (Some row) o t = refl
+
+pub filled : (old taken dropped new : Rows) (ready : BTreeMap ℕ Row) (told : List Told) (touched : List ℕ)
     → ((n : ℕ) → is_some (get nat_cmp ready n) ≡ is_told told n)
     → ((n : ℕ) → row_of taken n ≡ row_of old n)
-    → ((n : ℕ) → row_of dropped n ≡ cond (has touched n) None (row_of taken n))
-    → ((n : ℕ) → row_of put n ≡ row_or (get nat_cmp ready n) (row_of dropped n))
-    → ((n : ℕ) → row_of new n ≡ row_of put n)
+    → ((n : ℕ) → row_of dropped n ≡ cond (has touched n && not (is_some (get nat_cmp ready n))) None (row_of taken n))
+    → ((n : ℕ) → row_of new n ≡ row_or (get nat_cmp ready n) (row_of dropped n))
     → IsFilled old new ready told touched
-filled old taken dropped put new ready told touched nodes a b p t = record {
+filled old taken dropped new ready told touched nodes a b p = record {
   nodes = nodes;
-  rows = λ n. t n ∙ p n ∙ ap (λ o. row_or (get nat_cmp ready n) o) (b n ∙ ap (λ o. cond (has touched n) None o) (a n));
+  rows = λ n. p n ∙ ap (λ o. row_or (get nat_cmp ready n) o) (b n ∙ ap (λ o. cond (has touched n && not (is_some (get nat_cmp ready n))) None o) (a n))
+      ∙ row_or_dropped (get nat_cmp ready n) (row_of old n) (has touched n);
 }

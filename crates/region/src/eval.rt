@@ -70,6 +70,11 @@ fn members_of_any<'a>(
     if nodes.len() == 1 {
         return Ok(members_of(alloc, fresh, kept, nodes[0]));
     }
+    if nodes.len() == 2 {
+        let first = members_of(alloc, fresh, kept, nodes[0]);
+        let second = members_of(alloc, fresh, kept, nodes[1]);
+        return either(alloc, first, second);
+    }
     let mut ids = Vec::new(alloc);
     for node in nodes {
         push_members(&mut ids, fresh, kept, *node)?;
@@ -159,6 +164,9 @@ pub(crate) fn missing(ids: &IdSet, others: &IdSet) -> Option<u64>
     ensures found { IfSome result (λ u. (u < 2 ^ 64) × (has ids.now u ≡ true) × (has others.now u ≡ false)) }
     ensures none { IfNone result ((u : ℕ) → has ids.now u ≡ true → has others.now u ≡ true) }
 {
+    if ids.as_slice() == others.as_slice() {
+        return None;
+    }
     let mut others = Galloping::new(others);
     first_missing(ids, &mut others)
 }

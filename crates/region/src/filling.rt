@@ -1,5 +1,5 @@
 //! Putting what was told of in the place of what was kept. Room is taken before anything changes.
-ghost use Rattle.std.specs.Prelude.{◌≡◌, ℕ, true, false, ◌||◌, nat_eq, None, Some, is_some, cond, IfOk, OnOk};
+ghost use Rattle.std.specs.Prelude.{◌≡◌, ℕ, true, false, not, ◌||◌, ◌&&◌, nat_eq, None, Some, is_some, cond, IfOk, OnOk};
 ghost use Rattle.std.specs.Ordering.{nat_cmp};
 ghost use Rattle.std.specs.BTreeMap.{get};
 ghost use Rattle.least_sets.specs.World.{Fact, has, arcs_of};
@@ -178,23 +178,27 @@ fn put_row(rows: &mut BTreeMap<u64, Option<Row>>, node: u64, row: Option<Row>)
     }
 }
 
-// Drops what is kept of a node.
-fn drop_row(rows: &mut BTreeMap<u64, Option<Row>>, node: u64)
-    ensures row { (n : ℕ) → row_of rows.new n ≡ cond (nat_eq n node) None (row_of rows.old n) }
-    ensures keys { (n : ℕ) → is_some (get nat_cmp rows.new n) ≡ is_some (get nat_cmp rows.old n) }
+// Drops what is kept of a node, unless a row is ready for it: that one takes its place.
+fn drop_row(rows: &mut BTreeMap<u64, Option<Row>>, node: u64, ready: &BTreeMap<u64, Row>)
+    ensures row { (n : ℕ) → row_of rows.new n ≡ cond (nat_eq n node && not (is_some (get nat_cmp ready.now n))) None (row_of rows.old n) }
+    ensures keys { (n : ℕ) → is_some (get nat_cmp ready.now n) ≡ true → is_some (get nat_cmp rows.new n) ≡ is_some (get nat_cmp rows.old n) }
 {
-    if rows.contains_key(&node) {
-        put_row(rows, node, None);
+    if !ready.contains_key(&node) {
+        rows.remove(&node);
     }
 }
 
-/// Drops what is kept of some nodes.
-pub(crate) fn drop_rows(rows: &mut BTreeMap<u64, Option<Row>>, nodes: &[u64])
-    ensures row { (n : ℕ) → row_of rows.new n ≡ cond (has nodes.now n) None (row_of rows.old n) }
-    ensures keys { (n : ℕ) → is_some (get nat_cmp rows.new n) ≡ is_some (get nat_cmp rows.old n) }
+/// Drops what is kept of those of some nodes for which no row is ready.
+pub(crate) fn drop_rows(
+    rows: &mut BTreeMap<u64, Option<Row>>,
+    nodes: &[u64],
+    ready: &BTreeMap<u64, Row>,
+)
+    ensures row { (n : ℕ) → row_of rows.new n ≡ cond (has nodes.now n && not (is_some (get nat_cmp ready.now n))) None (row_of rows.old n) }
+    ensures keys { (n : ℕ) → is_some (get nat_cmp ready.now n) ≡ true → is_some (get nat_cmp rows.new n) ≡ is_some (get nat_cmp rows.old n) }
 {
     for node in nodes {
-        drop_row(rows, *node);
+        drop_row(rows, *node, ready);
     }
 }
 
@@ -206,23 +210,5 @@ pub(crate) fn put_rows(rows: &mut BTreeMap<u64, Option<Row>>, mut ready: BTreeMa
 {
     while let Some((node, row)) = ready.pop_first() {
         put_row(rows, node, Some(row));
-    }
-}
-
-// Gives back a place without a row.
-fn tidy_at(rows: &mut BTreeMap<u64, Option<Row>>, node: u64)
-    ensures { (n : ℕ) → row_of rows.new n ≡ row_of rows.old n }
-{
-    if let Some(None) = rows.get(&node) {
-        rows.remove(&node);
-    }
-}
-
-/// Gives back the places without a row.
-pub(crate) fn tidy(rows: &mut BTreeMap<u64, Option<Row>>, nodes: &[u64])
-    ensures { (n : ℕ) → row_of rows.new n ≡ row_of rows.old n }
-{
-    for node in nodes {
-        tidy_at(rows, *node);
     }
 }

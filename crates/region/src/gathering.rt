@@ -9,7 +9,7 @@ ghost use Rattle.region.specs.Gathered.{stays, IsGathered, IsAskedOnce, IsAskedS
 ghost use Rattle.region.specs.Walking.{IsVisit, IsWalkedTold, IsAskedSomeOf};
 ghost use Rattle.region.specs.Sweeping.{names_told};
 
-use crate::eval::{named, push_named};
+use crate::eval::push_named;
 use crate::found::Found;
 use crate::rule::Told;
 use crate::sets::Sets;
@@ -57,7 +57,7 @@ pub trait Facts {
 pub(crate) fn does_stay(old: &Sets, touched: &Found, node: u64) -> bool
     ensures { result ≡ stays old.now.rows touched.now node }
 {
-    old.is_kept(node) && !touched.contains(node)
+    !touched.contains(node) && old.is_kept(node)
 }
 
 // Adds what does not stay as it was.
@@ -86,8 +86,9 @@ fn add_named(
 ) -> Result<(), AllocError>
     ensures { OnOk result (Adds found.old found.new (λ u. has (arcs_of (shape_of told.now.rule)) u && not (stays old.now.rows touched.now u))) }
 {
-    let names = named(alloc, &told.rule)?;
-    add_needed(found, old, touched, names.as_slice())
+    let mut names = Vec::new(alloc);
+    push_named(&mut names, &told.rule)?;
+    add_needed(found, old, touched, &names)
 }
 
 // Asks for a node, and adds what it names.

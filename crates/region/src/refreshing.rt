@@ -9,7 +9,7 @@ ghost use Rattle.region.specs.Steps.{is_told, InEachTold};
 ghost use Rattle.region.specs.Gathered.{IsGathered, WasGathered, IsTurned, IsSameElsewhere, IsAskedFew, IsAskedSome, in_region, stays};
 ghost use Rattle.region.specs.Refreshed.{IsRefreshed};
 
-use crate::filling::{add_back_all, drop_rows, put_rows, ready_for, take_places, tidy};
+use crate::filling::{add_back_all, drop_rows, put_rows, ready_for, take_places};
 use crate::found::Found;
 use crate::gathering::{Facts, Region, gather};
 use crate::sets::Sets;
@@ -39,9 +39,8 @@ pub fn fill(alloc: Global, sets: &mut Sets, region: &Region) -> Result<(), Alloc
     let ready = ready_for(alloc, &region.told, fresh, sets)?;
     add_back_all(alloc, &mut sets.back, &ready, &region.told)?;
     take_places(&mut sets.rows, &region.told)?;
-    drop_rows(&mut sets.rows, &region.dropped);
+    drop_rows(&mut sets.rows, &region.dropped, &ready);
     put_rows(&mut sets.rows, ready);
-    tidy(&mut sets.rows, &region.dropped);
     Ok(())
 }
 

@@ -11,7 +11,7 @@ ghost use Rattle.region.specs.Tables.{holds, over, listed, list_at, ids_or_none}
 ghost use Rattle.std.specs.Option.{option_map};
 ghost use Rattle.region.specs.Steps.{is_told, Tells, IsSettledAt, IsSettled, Gains, IsWaiting, AreNamed, AreGrouped, IsLook, is_to_come, rooms};
 
-use crate::eval::{members_at, missing, named, value};
+use crate::eval::{members_at, missing, push_named, value};
 use crate::rule::Told;
 use crate::sets::Sets;
 use idsets::{IdSet, union};
@@ -119,9 +119,11 @@ fn named_from(alloc: Global, told: &[Told]) -> Result<BTreeMap<u64, IdSet>, Allo
     ensures { IfOk result (λ back. AreNamed (length told.now) told.now (listed back)) }
 {
     let mut back = BTreeMap::new(alloc);
+    let mut names = Vec::new(alloc);
     for i in 0..told.len() {
-        let names = named(alloc, &told[i].rule)?;
-        push_at_each(alloc, &mut back, names.as_slice(), i as u64)?;
+        names.clear();
+        push_named(&mut names, &told[i].rule)?;
+        push_at_each(alloc, &mut back, &names, i as u64)?;
     }
     Ok(back)
 }

@@ -6,9 +6,9 @@ pub returns-clause-nodes : goal.returns-clause-nodes
 returns-clause-nodes c =
     let nodes = rw c.deref-2.ensures.value at c.in_ok-ready.ensures.nodes in
     let dropped = rw c.deref-5.ensures.value at c.drop_rows.ensures.row in
-    kept_is c.args.sets.now.rows c.tidy.new.rows c.in_ok-ready.ready c.args.region.now.told.items c.args.region.now.dropped.items
-    (filled c.args.sets.now.rows c.take_places.new.rows c.drop_rows.new.rows c.put_rows.new.rows c.tidy.new.rows c.in_ok-ready.ready c.args.region.now.told.items c.args.region.now.dropped.items
-    nodes c.take_places.ensures.same dropped c.put_rows.ensures c.tidy.ensures)
+    kept_is c.args.sets.now.rows c.put_rows.new.rows c.in_ok-ready.ready c.args.region.now.told.items c.args.region.now.dropped.items
+    (filled c.args.sets.now.rows c.take_places.new.rows c.drop_rows.new.rows c.put_rows.new.rows c.in_ok-ready.ready c.args.region.now.told.items c.args.region.now.dropped.items
+    nodes c.take_places.ensures.same dropped c.put_rows.ensures)
 
 pub returns-clause-whole : goal.returns-clause-whole
 returns-clause-whole c =
@@ -16,14 +16,14 @@ returns-clause-whole c =
     let rows = rw c.deref-2.ensures.value at c.in_ok-ready.ensures.rows in
     let there = rw c.deref-3.ensures.value at c.in_ok-add_back_all.ensures.there in
     let dropped = rw c.deref-5.ensures.value at c.drop_rows.ensures.row in
-    let full = filled c.args.sets.now.rows c.take_places.new.rows c.drop_rows.new.rows c.put_rows.new.rows c.tidy.new.rows c.in_ok-ready.ready c.args.region.now.told.items c.args.region.now.dropped.items
-    nodes c.take_places.ensures.same dropped c.put_rows.ensures c.tidy.ensures in
+    let full = filled c.args.sets.now.rows c.take_places.new.rows c.drop_rows.new.rows c.put_rows.new.rows c.in_ok-ready.ready c.args.region.now.told.items c.args.region.now.dropped.items
+    nodes c.take_places.ensures.same dropped c.put_rows.ensures in
     let world = c.requires.gathered.0 in
     let got = c.requires.gathered.4 in
     record {
-      closed = closed_after world c.requires.gathered.1 c.requires.gathered.2 c.requires.gathered.3 c.args.sets.now.rows c.tidy.new.rows c.in_ok-ready.ready c.args.region.now.told.items c.args.region.now.dropped.items
+      closed = closed_after world c.requires.gathered.1 c.requires.gathered.2 c.requires.gathered.3 c.args.sets.now.rows c.put_rows.new.rows c.in_ok-ready.ready c.args.region.now.told.items c.args.region.now.dropped.items
           (over c.in_ok-fresh.fresh c.args.sets.now.rows) got full (rows world got.tells);
-      backed = backed_after world c.requires.gathered.1 c.requires.gathered.2 c.requires.gathered.3 c.args.sets.now.rows c.tidy.new.rows c.in_ok-ready.ready c.args.region.now.told.items c.args.region.now.dropped.items
+      backed = backed_after world c.requires.gathered.1 c.requires.gathered.2 c.requires.gathered.3 c.args.sets.now.rows c.put_rows.new.rows c.in_ok-ready.ready c.args.region.now.told.items c.args.region.now.dropped.items
           (over c.in_ok-fresh.fresh c.args.sets.now.rows) got full (rows world got.tells)
           c.args.sets.now.back c.add_back_all.new.back c.requires.whole.backed c.add_back_all.ensures.grows there;
     }
@@ -35,9 +35,9 @@ returns-clause-held c = λ before world first roots turned changed levels was tu
     let nodes = rw c.deref-2.ensures.value at c.in_ok-ready.ensures.nodes in
     let rows = rw c.deref-2.ensures.value at c.in_ok-ready.ensures.rows in
     let dropped = rw c.deref-5.ensures.value at c.drop_rows.ensures.row in
-    let full = filled c.args.sets.now.rows c.take_places.new.rows c.drop_rows.new.rows c.put_rows.new.rows c.tidy.new.rows c.in_ok-ready.ready c.args.region.now.told.items c.args.region.now.dropped.items
-    nodes c.take_places.ensures.same dropped c.put_rows.ensures c.tidy.ensures in
-    held_after world roots turned changed c.args.sets.now.rows c.tidy.new.rows c.in_ok-ready.ready c.args.region.now.told.items c.args.region.now.dropped.items
+    let full = filled c.args.sets.now.rows c.take_places.new.rows c.drop_rows.new.rows c.put_rows.new.rows c.in_ok-ready.ready c.args.region.now.told.items c.args.region.now.dropped.items
+    nodes c.take_places.ensures.same dropped c.put_rows.ensures in
+    held_after world roots turned changed c.args.sets.now.rows c.put_rows.new.rows c.in_ok-ready.ready c.args.region.now.told.items c.args.region.now.dropped.items
     (over c.in_ok-fresh.fresh c.args.sets.now.rows) got full (rows world got.tells) before first was turns same
     (λ user. least world levels got.tells user) (λ user n off. others world levels got.tells user n off)
 
@@ -45,6 +45,6 @@ pub returns-clause-others : goal.returns-clause-others
 returns-clause-others c =
     let nodes = rw c.deref-2.ensures.value at c.in_ok-ready.ensures.nodes in
     let dropped = rw c.deref-5.ensures.value at c.drop_rows.ensures.row in
-    stay_row c.args.sets.now.rows c.tidy.new.rows c.in_ok-ready.ready c.args.region.now.told.items c.args.region.now.dropped.items
-    (filled c.args.sets.now.rows c.take_places.new.rows c.drop_rows.new.rows c.put_rows.new.rows c.tidy.new.rows c.in_ok-ready.ready c.args.region.now.told.items c.args.region.now.dropped.items
-    nodes c.take_places.ensures.same dropped c.put_rows.ensures c.tidy.ensures)
+    stay_row c.args.sets.now.rows c.put_rows.new.rows c.in_ok-ready.ready c.args.region.now.told.items c.args.region.now.dropped.items
+    (filled c.args.sets.now.rows c.take_places.new.rows c.drop_rows.new.rows c.put_rows.new.rows c.in_ok-ready.ready c.args.region.now.told.items c.args.region.now.dropped.items
+    nodes c.take_places.ensures.same dropped c.put_rows.ensures)

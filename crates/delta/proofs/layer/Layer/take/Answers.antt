@@ -5,10 +5,11 @@ use Rattle.region.proofs.Listing.{on_err_all}
 use Rattle.region.specs.Refreshed.{IsRefreshed}
 use Rattle.delta.specs.Layers.{IsAbove}
 use Rattle.delta.specs.Telling.{MayTell}
-use Rattle.delta.specs.inside.Changing.{AreOfEvents}
 use Rattle.delta.specs.inside.Growing.{more_both}
 use Rattle.delta.specs.inside.Putting.{IsWithout}
+use Rattle.delta.proofs.After.{kept_same}
 use Rattle.delta.proofs.Numbered.{numbers_set}
+use Rattle.delta.proofs.Recalled.{MayRecall, recalled, refreshed_by, events_set}
 use Rattle.delta.proofs.Rows.{up_to_more}
 use Rattle.delta.proofs.Taken.{kept_layer, tuples_of}
 use Rattle.delta.proofs.Taking.{took, asked_for}
@@ -40,10 +41,14 @@ returns-in-Ok-clause-layer c = λ snaps is next.
     let layer = c.args.self.now in
     let done = c.in-Ok.ensures in
     let above = numbers_set c.above_events.new.nodes c.in_ok-turned.turned.items c.of-turned.result (IsAbove layer.config (Contains (tuples_of c.args.events.now))) c.of-turned.ensures.members c.in_ok-turned.ensures.numbers in
-    let are = subst (λ (xs : List ℕ). AreOfEvents c.above_events.new.nodes c.args.events.now xs) (sym c.deref.ensures.value) c.in_ok-changed.ensures in
+    let are = events_set c.above_events.new.nodes c.args.events.now c.in_ok-changed.changed.items c.of-changed.result c.of-changed.ensures.members c.in_ok-changed.ensures in
     let all = subst (λ (ts : List ℕ). (i : ℕ) → has c.put_each.new.ids i ≡ (has layer.roots i || has ts i)) c.as_slice-turned.ensures.ids c.in_ok-added.ensures.all in
-    let r = subst (λ (ts : List ℕ). IsRefreshed (MayTell c.args.view.now c.renew-done.new.nodes) layer.sets.rows c.renew-done.new.sets.rows c.put_each.new.ids ts c.deref.result.now [] c.in-Ok.asked.items) c.as_slice-turned.ensures.ids done.refreshed in
-    took layer _ snaps c.args.events.now c.args.view.now c.above_events.new.nodes c.of-turned.result c.deref.result.now c.in-Ok.asked.items
+    let r = subst (λ (ts : List ℕ). IsRefreshed (MayTell c.args.view.now c.renew-done.new.nodes) layer.sets.rows c.renew-done.new.sets.rows c.put_each.new.ids ts c.of-changed.result [] c.in-Ok.asked.items) c.as_slice-turned.ensures.ids
+    (refreshed_by (MayRecall layer.sets.rows c.of-changed.result c.args.view.now c.renew-done.new.nodes) (MayTell c.args.view.now c.renew-done.new.nodes) layer.sets.rows c.renew-done.new.sets.rows c.put_each.new.ids c.as_slice-turned.result.now c.of-changed.result [] c.in-Ok.asked.items
+    (recalled (snaps layer.cursor) c.args.view.now c.args.events.now next.after c.above_events.new.nodes c.renew-done.new.nodes layer.roots c.of-changed.result layer.sets.rows done.more are
+    (kept_same (snaps layer.cursor) layer.nodes c.above_events.new.nodes layer.roots layer.sets.rows layer.sets.rows c.in_ok-turned.ensures.more (λ n. refl) is.kept))
+    done.refreshed) in
+    took layer _ snaps c.args.events.now c.args.view.now c.above_events.new.nodes c.of-turned.result c.of-changed.result c.in-Ok.asked.items
     c.in_ok-turned.ensures.more done.more above are all r is next c.groups_are_walks.ensures refl refl refl done.noted
 
 pub returns-in-Ok-clause-asked : goal.returns-in-Ok-clause-asked
@@ -51,10 +56,14 @@ returns-in-Ok-clause-asked c = λ snaps is next.
     let layer = c.args.self.now in
     let done = c.in-Ok.ensures in
     let above = numbers_set c.above_events.new.nodes c.in_ok-turned.turned.items c.of-turned.result (IsAbove layer.config (Contains (tuples_of c.args.events.now))) c.of-turned.ensures.members c.in_ok-turned.ensures.numbers in
-    let are = subst (λ (xs : List ℕ). AreOfEvents c.above_events.new.nodes c.args.events.now xs) (sym c.deref.ensures.value) c.in_ok-changed.ensures in
+    let are = events_set c.above_events.new.nodes c.args.events.now c.in_ok-changed.changed.items c.of-changed.result c.of-changed.ensures.members c.in_ok-changed.ensures in
     let all = subst (λ (ts : List ℕ). (i : ℕ) → has c.put_each.new.ids i ≡ (has layer.roots i || has ts i)) c.as_slice-turned.ensures.ids c.in_ok-added.ensures.all in
-    let r = subst (λ (ts : List ℕ). IsRefreshed (MayTell c.args.view.now c.renew-done.new.nodes) layer.sets.rows c.renew-done.new.sets.rows c.put_each.new.ids ts c.deref.result.now [] c.in-Ok.asked.items) c.as_slice-turned.ensures.ids done.refreshed in
-    asked_for layer _ snaps c.args.events.now c.args.view.now c.above_events.new.nodes c.of-turned.result c.deref.result.now c.in-Ok.asked.items
+    let r = subst (λ (ts : List ℕ). IsRefreshed (MayTell c.args.view.now c.renew-done.new.nodes) layer.sets.rows c.renew-done.new.sets.rows c.put_each.new.ids ts c.of-changed.result [] c.in-Ok.asked.items) c.as_slice-turned.ensures.ids
+    (refreshed_by (MayRecall layer.sets.rows c.of-changed.result c.args.view.now c.renew-done.new.nodes) (MayTell c.args.view.now c.renew-done.new.nodes) layer.sets.rows c.renew-done.new.sets.rows c.put_each.new.ids c.as_slice-turned.result.now c.of-changed.result [] c.in-Ok.asked.items
+    (recalled (snaps layer.cursor) c.args.view.now c.args.events.now next.after c.above_events.new.nodes c.renew-done.new.nodes layer.roots c.of-changed.result layer.sets.rows done.more are
+    (kept_same (snaps layer.cursor) layer.nodes c.above_events.new.nodes layer.roots layer.sets.rows layer.sets.rows c.in_ok-turned.ensures.more (λ n. refl) is.kept))
+    done.refreshed) in
+    asked_for layer _ snaps c.args.events.now c.args.view.now c.above_events.new.nodes c.of-turned.result c.of-changed.result c.in-Ok.asked.items
     c.in_ok-turned.ensures.more done.more above are all r is next
 
 -- what was put in is taken out again
@@ -62,5 +71,5 @@ pub returns-clause-err : goal.returns-clause-err
 returns-clause-err c = λ snaps is.
     let layer = c.args.self.now in
     let e = c.in-Err.ensures in
-    let roots = c.take_each.ensures layer.roots c.put_each.ensures.ascending (subst (λ (xs : List ℕ). IsWithout layer.roots c.put_each.new.ids xs) (sym c.deref-in-Err.ensures.value) c.in_ok-added.ensures.added) in
+    let roots = c.take_each.ensures layer.roots c.put_each.ensures.ascending (subst (λ (xs : List ℕ). IsWithout layer.roots c.put_each.new.ids xs) (sym c.deref.ensures.value) c.in_ok-added.ensures.added) in
     kept_layer layer _ snaps is refl refl refl (more_both layer.nodes c.above_events.new.nodes c.renew-done.new.nodes c.in_ok-turned.ensures.more e.more) roots e.err e.err_noted
