@@ -1,6 +1,6 @@
 -- Tuples of one kind are admitted alike.
 use Rattle.std.proofs.Common.{◌≡◌, ℕ, ◌+◌, ◌-◌, ◌<◌, ◌≤◌, ◌⊎◌, inl, inr, List, [], ◌∷◌, ◌++◌, length, drop, get_or, refl, ap, sym, subst, ◌∙◌, arith}
-use Rattle.std.specs.Prelude.{◌&&◌, Bool, true, Option, Some, None, nat_eq, All, Contains}
+use Rattle.std.specs.Prelude.{◌&&◌, Bool, true, Option, Some, None, nat_eq, map, All, Contains}
 use Rattle.std.specs.List.{list_any}
 use Rattle.std.specs.Option.{option_eq}
 use Rattle.std.specs.Cmp.Lexicographic.{pointwise, same_text}
@@ -14,6 +14,9 @@ use Rattle.meaning.specs.Config.{Configured, rel_of}
 use Rattle.meaning.specs.Admits.{admits, is_relation, is_type, type_of}
 use Rattle.store.specs.declared.kinds.Kind.{Kind}
 use Rattle.store.specs.declared.parts.ReadConfig.{ReadConfig}
+use Rattle.store.specs.Written.{ConfigAt, config_up_to}
+use Rattle.store.specs.inside.Reading.{as_config, Rise, AreLater, ArePartedAt}
+use Rattle.store.proofs.Halving.{rises, last_is}
 
 same_option : (a b : Option (List ℕ)) → option_eq (pointwise nat_eq) a b ≡ true → a ≡ b
 same_option None None e = refl
@@ -75,6 +78,17 @@ pub since_alike : (configs : List ReadConfig) (kinds : List Kind) (kind : Kind) 
 since_alike configs kinds kind t since are has same relation type =
     let of_kind = All-contains (λ (k : Kind). IsSince configs k.tuple k.since) kinds kind are has in
     subst (IsSince configs t) same (of_kind.0, All-weaker (Allows kind.tuple) (Allows t) (λ c e. sym (admitted_alike c.config kind.tuple t relation type) ∙ e) (drop kind.since configs) of_kind.1)
+
+-- so does the one in force at a revision, where it is one of those
+pub since_in_force : (rev at since : ℕ) (configs : List ReadConfig) (t : Tuple) → Rise configs → AreLater configs → ArePartedAt rev configs at → since < at → All (Allows t) (drop since configs)
+    → admits (config_up_to rev (map as_config configs)) t ≡ true
+since_in_force rev at since [] t rise later parted less all = let within = parted.within in absurd (omega (arith, less, within))
+since_in_force rev at since (x ∷ xs) t rise later parted less all =
+    let configs = x ∷ xs in
+    let upto = parted.within in
+    let within : at - 1 < length configs = omega (arith, less, upto) in
+    let last = last_is rev configs (at - 1) x (rises configs rise) within (later (at - 1) x within) (parted.before (at - 1) x (omega (arith, less))) (λ k d above below. parted.after k d (omega (arith, above)) below) in
+    ap (λ (c : ConfigAt). admits c.config t) last ∙ since_at configs t since all (at - 1) x (omega (arith, less)) within
 
 -- no configuration is from the end on
 pub since_end : (configs : List ReadConfig) (t : Tuple) → IsSince configs t (length configs)

@@ -12,9 +12,9 @@ ghost use Rattle.store.specs.Refused.{DeservedBy, IsOfConfig, ConfigsListed, Are
 
 use crate::kinds::since_in;
 use crate::parts::{Head, ReadConfig, ReadSpan};
+use crate::tuple_key::TupleKey;
 use crate::unread::Unread;
 use config::Config;
-use names::Tuple;
 use sqlite_tables::StoredConfig;
 use std::alloc::Global;
 
@@ -120,12 +120,12 @@ fn is_between(span: &ReadSpan, from: u64, rev: u64) -> bool
     from < rev && (span.removed == 0 || rev < span.removed)
 }
 
-// Whether the configuration admits the tuple, or does not come while the span is there.
-fn is_borne(revised: &ReadConfig, span: &ReadSpan, from: u64, tuple: &Tuple) -> bool
-    ensures passes { IsTrue result → is_between from span.now.removed revised.now.rev ≡ true → admits revised.now.config tuple.now ≡ true }
-    ensures refuses { result ≡ false → (is_between from span.now.removed revised.now.rev ≡ true) × (admits revised.now.config tuple.now ≡ false) }
+// Whether the configuration admits the span's tuple, or does not come while it is there.
+fn is_borne(revised: &ReadConfig, span: &ReadSpan, from: u64) -> bool
+    ensures passes { IsTrue result → is_between from span.now.removed revised.now.rev ≡ true → admits revised.now.config span.now.tuple ≡ true }
+    ensures refuses { result ≡ false → (is_between from span.now.removed revised.now.rev ≡ true) × (admits revised.now.config span.now.tuple ≡ false) }
 {
-    !is_between(span, from, revised.rev) || revised.config.allows(tuple)
+    !is_between(span, from, revised.rev) || revised.config.allows(&span.tuple.tuple())
 }
 
 fn later(a: u64, b: u64) -> u64
@@ -133,6 +133,26 @@ fn later(a: u64, b: u64) -> u64
     ensures most { (a ≤ result) × (b ≤ result) }
 {
     if a < b { b } else { a }
+}
+
+// Whether the configuration in force at a revision admits the tuple. Those from `since` on do, and are not asked.
+fn is_allowed(
+    empty: &Config,
+    configs: &[ReadConfig],
+    since: usize,
+    rev: u64,
+    tuple: &TupleKey,
+) -> bool
+    requires empty { empty.now ≡ empty_config }
+    requires rise { Rise configs.now }
+    requires later { AreLater configs.now }
+    requires since { All (λ (revised : ReadConfig). admits revised.config tuple.now ≡ true) (drop since configs.now) }
+    ensures { result ≡ admits (config_up_to rev (map as_config configs.now)) tuple.now }
+{
+    if since < first_after(configs, rev) {
+        return true;
+    }
+    config_up_to(empty, configs, rev).allows(&tuple.tuple())
 }
 
 /// Whether each configuration admits the span's tuple that is in force while it is there, from the floor on. Those from
@@ -153,12 +173,11 @@ fn is_admitted(
     ensures refuses { result ≡ false → IsNotAdmitted floor configs.now span.now }
 {
     let from = later(floor, span.added);
-    let tuple = span.tuple.tuple();
-    if !config_up_to(empty, configs, from).allows(&tuple) {
+    if !is_allowed(empty, configs, since, from, &span.tuple) {
         return false;
     }
     for place in 0..since {
-        if !is_borne(&configs[place], span, from, &tuple) {
+        if !is_borne(&configs[place], span, from) {
             return false;
         }
     }
@@ -181,8 +200,7 @@ pub(crate) fn are_admitted(
 {
     let mut kinds = Vec::new(alloc);
     for span in spans {
-        let tuple = span.tuple.tuple();
-        let since = since_in(configs, &mut kinds, tuple);
+        let since = since_in(configs, &mut kinds, &span.tuple);
         if !is_admitted(empty, configs, since, floor, span) {
             return false;
         }

@@ -4,12 +4,13 @@ ghost use Rattle.std.specs.Ordering.{eq_by_cmp};
 ghost use Rattle.std.specs.Cmp.{eq_by_cmp_equiv, partial_equiv_from_equiv, partial_order_from_total};
 ghost use Rattle.names.specs.Order.{tuple_cmp};
 ghost use Rattle.meaning.proofs.TupleSets.{tuples_total};
+ghost use Rattle.tuple_keys.specs.Spelled.{before_space, after_space};
 
 use names::Tuple;
 use std::alloc::{AllocError, Global};
 use std::cmp::Ordering;
 use std::marker::Model;
-use tuple_keys::{Scratch, TupleRef, texts_are_ordered_as_tuples};
+use tuple_keys::{Scratch, SubjectRef, TupleRef, texts_are_ordered_as_tuples};
 
 /// A tuple, as its text. Keys are ordered as the tuples are.
 #[derive(Debug, Drop)]
@@ -46,6 +47,29 @@ impl TupleKey {
         ensures { result ≡ self.now }
     {
         TupleRef::of(self.text.as_str()).tuple()
+    }
+
+    /// The namespace of its object, its relation and its subject, lent from the text.
+    pub(crate) fn parts(&self) -> (&str, &str, SubjectRef<'_>)
+        ensures namespace { result.0.now ≡ self.now.node.object.namespace }
+        ensures relation { result.1.now ≡ self.now.node.relation }
+        ensures subject { result.2 ≡ self.now.subject }
+    {
+        let (namespace, from_id) = cut(self.text.as_str());
+        let (_, from_relation) = cut(from_id);
+        let (relation, subject) = cut(from_relation);
+        (namespace, relation, SubjectRef::of(subject))
+    }
+}
+
+// What is before the first space, and what is after it.
+fn cut(text: &str) -> (&str, &str)
+    ensures before { result.0.now ≡ before_space text.now }
+    ensures after { result.1.now ≡ after_space text.now }
+{
+    match text.split_once(' ') {
+        Some((before, after)) => (before, after),
+        None => (text, ""),
     }
 }
 

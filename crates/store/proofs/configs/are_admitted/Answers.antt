@@ -1,14 +1,9 @@
-use Rattle.std.proofs.Common.{drop, map, refl, subst}
-use Rattle.std.specs.Prelude.{All}
+use Rattle.std.proofs.Common.{map, refl}
 use Rattle.store.specs.Written.{IsSpan}
 use Rattle.store.specs.inside.Reading.{as_span, as_config}
 use Rattle.store.specs.Refused.{IsAdmittedTo}
-use Rattle.store.proofs.Alike.{Allows}
 use Rattle.store.proofs.Deserving.{one_of}
 use Rattle.store.proofs.configs.are_admitted.Goals as goal
-
-pub is_admitted-requires-clause-since : goal.is_admitted-requires-clause-since
-is_admitted-requires-clause-since c = subst (λ t. All (Allows t) (drop c.since_in-since.result c.args.configs.now)) c.tuple-tuple.ensures c.since_in-since.ensures.admitted
 
 pub returns-then-not-is_admitted-clause-refuses : goal.returns-then-not-is_admitted-clause-refuses
 returns-then-not-is_admitted-clause-refuses c = λ _ newest good spans admitted.

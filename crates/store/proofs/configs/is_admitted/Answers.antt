@@ -1,8 +1,7 @@
-use Rattle.std.proofs.Common.{◌≡◌, true, get_or, map, true≢false, refl, ap, sym, ◌∙◌, ⊎_elim, arith}
+use Rattle.std.proofs.Common.{◌≡◌, true, map, true≢false, refl, sym, ◌∙◌, ⊎_elim, arith}
 use Rattle.std.proofs.lemmas.Bool.{cases_lt}
 use Rattle.std.proofs.lemmas.List.Elements.{All-map}
 use Rattle.meaning.specs.Admits.{admits}
-use Rattle.meaning.specs.Config.{Configured}
 use Rattle.store.specs.Written.{ConfigAt}
 use Rattle.store.specs.inside.Following.{is_between}
 use Rattle.store.specs.inside.Reading.{as_span, as_config}
@@ -16,7 +15,7 @@ use Rattle.store.proofs.configs.is_admitted.Goals as goal
 
 pub loop-place-preserved : goal.loop-place-preserved
 loop-place-preserved c =
-    let P : ReadConfig → Type 0 = λ r. is_between c.later-from.result c.args.span.now.removed r.rev ≡ true → admits r.config c.tuple-tuple.result ≡ true in
+    let P : ReadConfig → Type 0 = λ r. is_between c.later-from.result c.args.span.now.removed r.rev ≡ true → admits r.config c.args.span.now.tuple ≡ true in
     let within = c.requires.within in
     each_more P c.args.configs.now c.loop-place.place c.index-configs-place.result (omega (arith, c.loop-place-test.true, within)) c.index-configs-place.is c.loop-place.invariant (c.if-not-is_borne.ensures.passes refl)
 
@@ -26,18 +25,18 @@ returns-clause-passes c = λ _.
     let l = as_span c.args.span.now in
     let P : ConfigAt → Type 0 = λ r. is_between from l.removed r.rev ≡ true → admits r.config l.tuple ≡ true in
     admitted c.args.floor from _ l c.later-from.ensures.either
-    (sym (ap (λ (g : Configured). admits g l.tuple) c.config_up_to.ensures) ∙ ap (admits c.config_up_to.result.now) (sym c.tuple-tuple.ensures) ∙ sym (c.if-not-allows.ensures))
+    (sym c.if-not-is_allowed.ensures)
     (All-map P as_config c.args.configs.now (λ k d lt is. ⊎_elim
-    (λ before. ap (admits (get_or c.args.configs.now k d).config) (sym c.tuple-tuple.ensures) ∙ c.loop-place.invariant k d (omega (arith, before, c.loop-place-test.false)) is)
+    (λ before. c.loop-place.invariant k d (omega (arith, before, c.loop-place-test.false)) is)
     (λ on. since_at c.args.configs.now c.args.span.now.tuple c.args.since c.requires.since k d on lt)
     (cases_lt k c.args.since)))
 
-pub returns-then-not-allows-clause-refuses : goal.returns-then-not-allows-clause-refuses
-returns-then-not-allows-clause-refuses c = λ _ newest good span admitted.
+pub returns-then-not-is_allowed-clause-refuses : goal.returns-then-not-is_allowed-clause-refuses
+returns-then-not-is_allowed-clause-refuses c = λ _ newest good span admitted.
     let l = as_span c.args.span.now in
     true≢false (
     sym (first_admitted c.args.floor newest c.later-from.result (map as_config c.args.configs.now) l good.order c.later-from.ensures.either c.later-from.ensures.most.0 c.later-from.ensures.most.1 span admitted)
-    ∙ ap (λ (g : Configured). admits g l.tuple) (sym c.config_up_to.ensures) ∙ ap (admits c.config_up_to.result.now) (sym c.tuple-tuple.ensures) ∙ sym c.if-not-allows.ensures)
+    ∙ sym c.if-not-is_allowed.ensures)
 
 pub returns-then-not-is_borne-clause-refuses : goal.returns-then-not-is_borne-clause-refuses
 returns-then-not-is_borne-clause-refuses c = λ _ newest good span admitted.
@@ -45,4 +44,4 @@ returns-then-not-is_borne-clause-refuses c = λ _ newest good span admitted.
     true≢false (
     sym (later_admitted c.args.floor newest c.later-from.result (map as_config c.args.configs.now) (as_span c.args.span.now) (as_config c.index-configs-place.result) good c.later-from.ensures.most.0 c.later-from.ensures.most.1
     (in_at as_config c.args.configs.now c.loop-place.place c.index-configs-place.result (let within = c.requires.within in omega (arith, c.loop-place-test.true, within)) c.index-configs-place.is) refused.0 admitted)
-    ∙ ap (admits c.index-configs-place.result.config) (sym c.tuple-tuple.ensures) ∙ refused.1)
+    ∙ refused.1)
