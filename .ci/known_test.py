@@ -117,8 +117,10 @@ class Keys(unittest.TestCase):
         self.assertEqual(self.changed("crates/low/specs/inside.antt", "pub mod Found", "pub mod Found\nfound = 1"), [MUST] * 3)
 
     def test_what_names_a_definition(self):
-        for path in ("Nowhere.{it}", "{Lost}", "contracts.one.{it}"):
+        for path in ("Nowhere.{it}", "{Lost}", "contracts.lost.Lost.{it}", "declared.lost.{Lost}"):
             self.assertEqual(self.changed_beside("crates/high/specs/Lib.antt", "two :", f"use Rattle.low.specs.{path}\ntwo :"), [MUST] * 3)
+        for path in ("contracts.one.{it}", "contracts.found.Found.{it}"):
+            self.assertEqual(self.changed_beside("crates/high/specs/Lib.antt", "two :", f"use Rattle.low.specs.{path}\ntwo :"), [DUE] * 3)
         self.assertEqual(self.changed_beside("crates/high/specs/Lib.antt", "two :", "use Rattle.low as low\ntwo :"), [MUST] * 3)
         self.assertEqual(self.changed_beside("crates/high/specs/Lib.antt", "two :", "use Rattle.{low}\ntwo :"), [MUST] * 3)
         self.assertEqual(self.changed_beside("crates/high/proofs/two/Answers.antt", "= 2", "= Rattle.low.specs.Lost.lost"), [MUST] * 3)
@@ -128,6 +130,15 @@ class Keys(unittest.TestCase):
         self.assertEqual(self.changed_beside("crates/high/proofs/Lemmas.antt", "-- a", "-- Rattle has a"), [DUE] * 3)
         self.assertEqual(self.changed_beside("crates/low/src/lib.rt", "\n    1\n", "\n    Lost::one()\n"), [DUE] * 3)
         self.assertEqual(self.changed_beside("crates/high/wrong/one_more.edit", "+ 2", "+ Lost::two()"), [MUST, DUE, DUE])
+
+    def test_what_another_crate_cannot_name_is_not_reached_by_its_word(self):
+        named = {**FILES, "crates/high/src/lib.rt": FILES["crates/high/src/lib.rt"].replace("\n    3", "\n    Lost::three()")}
+        for shown, wanted in [("pub struct Lost", MUST), ("struct Lost", DUE), ("pub(crate) struct Lost", DUE), ("use place::Place as Lost;\npub struct Alone", DUE)]:
+            files = {**named, "crates/low/src/lost.rt": FILES["crates/low/src/lost.rt"].replace("pub struct Lost", shown)}
+            self.known = Known()
+            for label, key in keys(files).items():
+                self.known.note(label, key)
+            self.assertEqual(self.changed("crates/low/specs/Lost.antt", "= 1", "= 2", files), [wanted] * 3)
 
     def test_under_another_kit(self):
         self.assertEqual(self.standings(keys(FILES, "kit-1 logic a")), [HELD] * 3)

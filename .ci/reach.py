@@ -9,6 +9,9 @@ from sources import source_of
 PATH = re.compile(r"\bRattle\b(?:\.(\w+))?((?:\.\w+)*)")
 # What declares a type, or brings it under another name, in the words of src/.
 DECLARES = re.compile(r"\b(?:struct|enum|union|trait|type|as) ([A-Z]\w*)")
+# The same of what crates above may name, and what gives it another name there.
+SHOWS = re.compile(r"\bpub (?:unsafe )?(?:struct|enum|union|trait|type) ([A-Z]\w*)")
+RENAMES = re.compile(r"\bpub use [^;]*")
 
 
 def lines_of(text):
@@ -31,11 +34,14 @@ class Files:
 
     def __init__(self, texts):
         self.texts = texts
-        # the files that declare each type
-        self.types = {}
+        # the files that declare each type, and those that declare one for the crates above
+        self.types, self.shown = {}, {}
         for path, text in texts.items():
-            for name in DECLARES.findall(" ".join(words_of(path, text))) if path.endswith(".rt") else []:
+            words = " ".join(words_of(path, text)) if path.endswith(".rt") else ""
+            for name in DECLARES.findall(words):
                 self.types.setdefault(name, set()).add(path)
+            for name in [*SHOWS.findall(words), *re.findall(r"\bas ([A-Z]\w*)", " ".join(RENAMES.findall(words)))]:
+                self.shown.setdefault(name, set()).add(path)
 
     def at(self, path):
         """Returns the files that a path below the crate's name may stand for."""
@@ -43,12 +49,15 @@ class Files:
         if top == "proofs":
             # (a lemma counts as contracts do)
             return []
-        if [top, *parts[:1]] == ["specs", "declared"]:
+        if top == "specs" and parts[:1] in (["declared"], ["contracts"]):
             # what is made of the items of src/
             top, parts = "src", parts[1:]
         above = ["/".join([top, *parts[: at + 1]]) for at in range(len(parts))]
         ends, inside = {f"{it}{end}" for it in above for end in (".antt", ".rt", "/mod.rt")}, "/".join([top, *parts, ""])
         found = [it for it in self.texts if it in ends or it.startswith(inside)]
+        if top == "src" and len(parts) == 1:
+            # (an item of the crate's root, where it is in no module of that name)
+            found = found or [it for it in self.texts if it in ("src/lib.rt", "src/main.rt")]
         return found or [it for it in self.texts if not it.startswith("proofs/")]
 
 
@@ -72,7 +81,7 @@ class Reach:
             its = [crates[name]] if name in crates else [] if name else crates.values()
             found.update((it.name, file) for it in its for file in self.of(it).at(path))
         for it in crates.values() if words else []:
-            types = self.of(it).types
+            types = self.of(it).types if it is crate else self.of(it).shown
             found.update((it.name, file) for word in types.keys() & words for file in types[word])
         return found
 

@@ -6,10 +6,11 @@ usage: docs/statement.py [--calls CALL,..] [--inside | --table] [CRATE::FUNCTION
 
 It reads the contract of each function that is named, the definitions of specs/ that its clauses cite, and those that these
 cite in turn, and prints them by file: lowest crate first. With --calls it reads them as whoever makes these calls alone, of
-any tables: a definition that goes by cases over calls, or over what comes of them, has those of other calls left out, and what
-tables hold and how they fail is the last chapter. --chapters prints how large each chapter is: four calls, all the others, and
-the tables. --inside prints the files of specs/ of which no definition is reached from the contract of any public function: what
-a reader of the promises can pass over. --table prints a table of the files, in the order in which to read them, with the lines of each.
+any tables: a definition that goes by cases over calls, or over what comes of them, has those of other calls left out, with the
+refusals that they alone give, and what tables hold and how they fail is the last chapter. --chapters prints how large each chapter
+is: four calls, all the others, and the tables. --inside prints the files of specs/ of which no definition is reached from the
+contract of any public function: what a reader of the promises can pass over. --table prints a table of the files, in the order in
+which to read them, with the lines of each.
 Comments, blank lines and imports are not counted. It reads files and changes nothing.
 """
 import re
@@ -21,17 +22,18 @@ WORD = re.compile(r"[^\s(){},;.:]+(?:\.[^\s(){},;.:]+)*")
 HEAD = re.compile(r"^( *)((?:(?:pub|abbrev|unfoldable|opaque|private) )*)(record |data )?([^\s:(){}]+)(?= |$)")
 SKIP = ("use ", "--", "unfolding ", "open ", "infix", "where", "mutual", "abbrev mutual", "module ")
 
-# what stands for each call in definitions by cases: as a call, as a question or a change, as what that is told, and as a step
+# what stands for each call in definitions by cases: as a call, as a question or a change, as what that is told, as a step, as a change of tables,
+# and as a refusal that it alone gives
 CASES = {
     "check": ["Call.Check", "Question.Check", "Told.Checked"],
     "read": ["Call.Read", "Question.Read", "Told.Found"],
-    "expand": ["Call.Expand", "Question.Expand", "Told.Expanded"],
-    "leopard": ["Call.Leopard", "Question.Groups", "Told.Grouped"],
+    "expand": ["Call.Expand", "Question.Expand", "Told.Expanded", "Refusal.TooLarge"],
+    "leopard": ["Call.Leopard", "Question.Groups", "Told.Grouped", "Refusal.NotIndexed"],
     "watch": ["Call.Watch", "Question.Watch", "Told.Watched"],
     "state": ["Call.State", "Question.State", "Told.Numbers"],
     "write": ["Call.Write", "Change.Write", "Made.Commit", "Step.Commit"],
     "config": ["Call.Config", "Change.Config", "Made.Commit", "Step.Commit"],
-    "trim": ["Call.Trim", "Change.Trim", "Made.Floor", "Step.Trim"],
+    "trim": ["Call.Trim", "Change.Trim", "Made.Floor", "Step.Trim", "TableChange.Raises", "Refusal.InUse"],
     "catchup": ["Call.CatchUp", "Change.CatchUp", "Made.Cursor", "Step.Take"],
     "hot": ["Call.Hot", "Change.Mark", "Made.Marked", "Step.Marking"],
     "rebuild": ["Call.Rebuild", "Change.Rebuild", "Made.Base", "Step.Rebase"],
@@ -82,16 +84,25 @@ class File:
     def is_record(self, name):
         return bool(re.match(r" *(?:pub )?(record|data) ", self.definitions[name][0])) if self.definitions[name] else False
 
-    def leave_out(self, cases):
-        """Leaves out the clauses of definitions, with the lines that go on with them, that are for one of these cases."""
-        of_case = {word for word, (path, old) in self.imports.items() if ".".join([*path.split(".")[-2:-1], old]) in cases}
+    def words_of(self, cases, files):
+        """Returns the words that stand for these cases here: its own constructors, those that it imports, and those of what it opens."""
+        own = {word for name in self.definitions for word in constructors(self, name) if f"{name}.{word}" in cases}
+        imported = {word for word, (path, old) in self.imports.items() if not cases.isdisjoint(types_of(files, path, old))}
+        opened = [(alias, path.split(".")[-2]) for alias, path in self.opened.items()]
+        return own, own | imported | {f"{alias}.{case.partition('.')[2]}" for alias, of in opened for case in cases if case.startswith(f"{of}.")}
+
+    def leave_out(self, own, of_case):
+        """Leaves out clauses for one of these cases, with the lines that go on with them, branches of an `if` that give one, and constructors."""
         for name, lines in self.definitions.items():
             kept, depth, leaves = [], 0, False
             for line in lines:
                 indent = len(line) - len(line.lstrip())
+                if re.fullmatch(r" +if .* then .* else \(", line):
+                    kept += [line] if of_case.isdisjoint(re.findall(r"[^\s(){},;:=]+", line)) else []
+                    continue
                 if not leaves or indent <= depth:
-                    words = re.findall(r"[^\s(){},;.:]+", line.partition("=")[0])
-                    depth, leaves = indent, words[:1] == [name] and not of_case.isdisjoint(words)
+                    words = re.findall(r"[^\s(){},;:]+", line.partition("=")[0])
+                    depth, leaves = indent, words[:1] == [name] and not of_case.isdisjoint(words) or not own.isdisjoint(words[:1])
                 kept += [] if leaves else [line]
             self.definitions[name] = kept
 
@@ -109,6 +120,12 @@ def in_order(folder):
     named = re.findall(r"(?m)^pub mod (\w+)", (folder / "Lib.antt").read_text())
     found = [it for it in sorted(folder.rglob("*.antt")) if it.name != "Lib.antt"]
     return sorted(found, key=lambda it: named.index(it.stem) if it.stem in named else len(named))
+
+
+def types_of(files, path, word):
+    """Returns a constructor that is imported by a path, with its type: one of a module of specs/, or the last but one of what is told of src/."""
+    of_data = [name for name in files[path].definitions if word in constructors(files[path], name)] if path in files else path.split(".")[-2:-1]
+    return {f"{name}.{word}" for name in of_data}
 
 
 def constructors(file, name):
@@ -234,8 +251,9 @@ def read_all():
 def as_of(calls):
     """Returns the files as whoever makes these calls alone reads them."""
     files, chosen = read_all(), {case for it in calls for case in CASES[it]}
-    for file in files.values():
-        file.leave_out({case for cases in CASES.values() for case in cases} - chosen)
+    others = {case for cases in CASES.values() for case in cases} - chosen
+    for file, words in [(file, file.words_of(others, files)) for file in files.values()]:
+        file.leave_out(*words)
     return files
 
 
