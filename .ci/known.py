@@ -15,14 +15,13 @@ from sources import read, rt, rtlib, source_of, text_of
 
 HERE = os.path.dirname(os.path.realpath(__file__))
 HEAD = """\
-# Written by .ci/wrong_bodies.py: each wrong body that was seen refused, with a checksum of the logic, its crate and the
-# definitions that it reaches, one of all below and of how it was judged, the kit, and how many gates there had been then.
+# Written by .ci/wrong_bodies.py: each wrong body that was seen refused, with a checksum of the logic, the functions that it
+# changes and what these reach, one of all else in its crate and below and of how it was judged, the kit, and how many gates
+# there had been then.
 # Lines of comment stay as they are.
 """
 # The files of proofs/ that belong to one function. The others may be cited by any other, and by the crates above.
 OF_A_FUNCTION = re.compile(r"proofs/.+/(Answers|Invariants|Proof)\.antt")
-# Lines of specs/ that say which modules there are, and not what they mean.
-MODULES = re.compile(r"(?m)^(pub )?mod \w+$\n?")
 # A landing tries one of so many parts of all wrong bodies, whatever their standing.
 PARTS = 8
 # Of the wrong bodies of one function a landing draws so many, since only one stands in a check.
@@ -44,9 +43,9 @@ def sum_of(what):
 class Key(typing.NamedTuple):
     """All that the verdict on a wrong body rests on."""
 
-    # a checksum of the logic, the edit, its crate but for the bodies and proofs of other functions, and the definitions that it reaches
+    # a checksum of the logic, the edit, the functions that it changes with their proofs, and what these reach: of its crate, and of definitions below it
     must: str
-    # one of all that the proofs of its crate may read of the crates below, and of how it is judged
+    # one of all else that the proofs of its crate may read there and in the crates below, and of how it is judged
     rest: str
     # the kit's name
     kit: str
@@ -81,22 +80,18 @@ class Parts:
         # (each with the file that it is in)
         self.functions = {it: of for of in sources for it in of.functions}
         self.proofs = {path: sum_of_text(path, text) for path, text in texts.items() if OF_A_FUNCTION.fullmatch(path)}
-        seen = [[path, sum_of_text(path, text)] for path, text in texts.items() if path not in self.proofs]
         self.files = Files(texts)
-        self.definitions = [it for it in seen if it[0].startswith("specs/")]
-        self.modules = {path: sum_of_text(path, MODULES.sub("", text)) for path, text in texts.items() if path.startswith("specs/")}
-        # (the crates that it stands on, its contracts and its lemmas)
-        self.rest = [crate.said, [it for it in seen if not it[0].startswith("specs/")]]
+        # the crates that it stands on, its definitions, its contracts and its lemmas
+        self.rest = [crate.said, [[path, sum_of_text(path, text)] for path, text in texts.items() if path not in self.proofs]]
 
     def proof_of(self, changed):
-        """Returns the bodies of these functions, and of those that share a proof with one, and their own files of proofs/."""
+        """Returns these functions and those that share a proof with one, each with the words of its body, and their own files of proofs/."""
         cycles = {it.cycle for it in changed if it.cycle}
-        mine = [(it, of) for it, of in self.functions.items() if it in changed or it.cycle in cycles]
+        mine = [(it, of.words(it)) for it, of in self.functions.items() if it in changed or it.cycle in cycles]
         names = {it.name for it, _ in mine}
         # (a folder's name may be that of several functions: the proofs of all of them count)
         is_mine = lambda folders: names & {*folders} or cycles and any(it.startswith("+") for it in folders)
-        bodies = [[it.path, it.name, it.owner, it.cycle, of.words(it)] for it, of in mine]
-        return bodies, [it for it in self.proofs.items() if is_mine(it[0].split("/"))]
+        return mine, [it for it in self.proofs.items() if is_mine(it[0].split("/"))]
 
 
 class Basis:
@@ -108,7 +103,7 @@ class Basis:
         named = re.fullmatch(r"(\S+) logic (\S+)", identity)
         self.kit, self.logic = (named[1], named[2]) if named else (sum_of(identity), identity)
         self.judges = [text_of(f"{HERE}/{it}.py") for it in ("sources", "trials")]
-        self.parts, self.reach = {}, Reach(lambda it: self.of(it).files)
+        self.parts, self.texts, self.reach = {}, {}, Reach(lambda it: self.of(it).files)
 
     def of(self, crate):
         if crate.name not in self.parts:
@@ -119,15 +114,25 @@ class Basis:
         """Returns the key of an edit of the crate's that has been read."""
         own, below = self.of(crate), sorted(crate.below(), key=lambda it: it.name)
         is_of_bodies = edit.bodies and not edit.is_wider and edit.bodies.keys() <= own.functions.keys()
-        if not is_of_bodies or "cfg" in edit.text:
-            # (one that speaks of cfg might have the tests compiled)
-            mine = [[os.path.relpath(it, crate.folder), text_of(it)] for it in rtlib.files_of(crate.folder)]
+        if is_of_bodies and "cfg" not in edit.text:
+            bodies, proofs = own.proof_of(edit.bodies)
+            mine = [[[it.path, it.name, it.owner, it.cycle, words] for it, words in bodies], proofs]
+            reached = self.reach.reached(crate, bodies, [path for path, _ in proofs], edit.text)
         else:
-            mine = [own.definitions, own.rest, *own.proof_of(edit.bodies)]
-        reached = self.reach.reached(crate, edit.text)
-        definitions = [[it.name, *module] for it in below for module in self.of(it).modules.items() if (it.name, module[0]) in reached]
-        code = [[it.name, self.of(it).rest, self.of(it).definitions] for it in below]
-        return Key(sum_of([self.logic, crate.name, crate.said, edit.label, edit.text, mine, definitions]), sum_of([self.judges, code]), self.kit)
+            # (one that speaks of cfg might have the tests compiled)
+            mine = [crate.said, [[os.path.relpath(it, crate.folder), text_of(it)] for it in rtlib.files_of(crate.folder)]]
+            reached = self.reach.reached_by_all(crate, [(it, of.words(it)) for it, of in own.functions.items()], edit.text)
+        crates = {it.name: it for it in [crate, *below]}
+        # (of the code below it only what is defined there)
+        parts = [[name, it.path, self.text(crates[name], it)] for name, it in reached if name == crate.name or it.path.startswith("specs/")]
+        code = [[it.name, self.of(it).rest] for it in [crate, *below]]
+        return Key(sum_of([self.logic, crate.name, edit.label, edit.text, mine, sorted(parts)]), sum_of([self.judges, code]), self.kit)
+
+    def text(self, crate, item):
+        """Returns a checksum of an item's text."""
+        if (crate.name, item) not in self.texts:
+            self.texts[crate.name, item] = sum_of(self.of(crate).files.text(item))
+        return self.texts[crate.name, item]
 
 
 # -- what was seen refused

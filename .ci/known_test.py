@@ -19,32 +19,41 @@ KIT = "kit-1 logic a"
 FILES = {
     "crates.txt": "low:\nhigh: low\n",
     "crates/low/src/lib.rt": "// low\npub const MOST: u8 = 3;\npub fn one() -> u8\nensures it { result == 1 }\n{\n    1\n}\n",
-    "crates/low/src/kept.rt": "ghost use Rattle.low.specs.Kept.{kept};\npub struct Kept {\n    pub at: Place,\n}\n",
-    "crates/low/src/place.rt": "ghost use Rattle.low.specs.Place.{place};\npub struct Place {\n    pub at: u8,\n}\n",
-    "crates/low/src/found.rt": "ghost use Rattle.low.specs.inside.Found.{found};\npub struct Found {\n    pub at: u8,\n}\n",
-    "crates/low/src/lost.rt": "ghost use Rattle.low.specs.Lost.{lost};\npub struct Lost {\n    pub at: u8,\n}\n",
-    "crates/low/specs/Lib.antt": "pub mod Word\npub mod Deep\npub mod Kept\npub mod Place\npub mod Proved\npub mod Lost\npub mod inside\n",
-    "crates/low/specs/Word.antt": "-- a word\nuse Rattle.low.specs.Deep.{deep}\nword : ℕ\nword = 1\n",
+    "crates/low/src/kept.rt": "ghost use Rattle.low.specs.Kept.{kept};\npub struct Kept {\n    pub at: Place,\n}\nimpl Model for Kept {\n    ghost Value = { kept };\n}\n",
+    "crates/low/src/place.rt": "ghost use Rattle.low.specs.Place.{place};\npub struct Place {\n    pub at: u8,\n}\nimpl Model for Place {\n    ghost Value = { place };\n}\n",
+    "crates/low/src/found.rt": "ghost use Rattle.low.specs.inside.Found.{found};\npub struct Found {\n    pub at: u8,\n}\nimpl Model for Found {\n    ghost Value = { found };\n}\n",
+    "crates/low/src/lost.rt": "ghost use Rattle.low.specs.Lost.{lost};\npub struct Lost {\n    pub at: u8,\n}\nimpl Model for Lost {\n    ghost Value = { lost };\n}\n",
+    "crates/low/src/turn.rt": "ghost use Rattle.low.specs.Turned.{turned};\npub struct Turn {\n    pub at: u8,\n}\nimpl Turn {\n"
+    "    pub fn turn(&self) -> u8\n    ensures it { result == turned }\n    {\n        1\n    }\n}\n",
+    "crates/low/specs/Lib.antt": "pub mod Word\npub mod Deep\npub mod Kept\npub mod Place\npub mod Proved\npub mod Lost\npub mod Turned\npub mod inside\n",
+    "crates/low/specs/Word.antt": "-- a word\nuse Rattle.low.specs.Deep.{deep}\nuse Rattle.low.specs.Lost.{lost}\nword : ℕ\nword = deep\nother : ℕ\nother = lost\n",
     "crates/low/specs/Deep.antt": "deep : ℕ\ndeep = 1\n",
     "crates/low/specs/Kept.antt": "kept : ℕ\nkept = 1\n",
     "crates/low/specs/Place.antt": "place : ℕ\nplace = 1\n",
     "crates/low/specs/Proved.antt": "proved : ℕ\nproved = 1\n",
     "crates/low/specs/Lost.antt": "lost : ℕ\nlost = 1\n",
+    "crates/low/specs/Turned.antt": "turned : ℕ\nturned = 1\n",
     "crates/low/specs/inside.antt": "pub mod Found\n",
     "crates/low/specs/inside/Found.antt": "found : ℕ\nfound = 1\n",
     "crates/low/proofs/Lemmas.antt": "lemma : ℕ\nlemma = 1\n",
     "crates/low/proofs/one/Answers.antt": "answer = 1\n",
-    "crates/high/src/lib.rt": "ghost use Rattle.low.specs.Word.{word};\nuse low::Kept;\npub const LAST: u8 = 9;\npub fn two() -> u8 {\n    // as it is\n    one() + 1\n}\npub fn three() -> u8 {\n    3\n}\n"
+    "crates/high/src/lib.rt": "ghost use Rattle.low.specs.Word.{word, other};\nghost use Rattle.high.specs.Two.{two, second};\nuse low::Kept;\n"
+    "pub fn two(kept: Kept) -> u8\nensures it { result == word + two }\n{\n    // as it is\n    one() + 1\n}\npub fn three() -> u8 {\n    3\n}\n"
     "#[cycle(turns)]\nfn there() -> u8 {\n    back() + 5\n}\n#[cycle(turns)]\nfn back() -> u8 {\n    there() + 6\n}\n",
-    "crates/high/specs/Lib.antt": "use Rattle.low.specs.declared.found.Found.{Found}\ntwo : ℕ\ntwo = 2\n",
+    "crates/high/src/last.rt": "pub const LAST: u8 = 9;\n",
+    "crates/high/specs/Lib.antt": "pub mod Two\n",
+    "crates/high/specs/Two.antt": "use Rattle.low.specs.declared.found.Found.{Found}\ntwo : ℕ\ntwo = Found\nsecond : ℕ\nsecond = 4\n",
     "crates/high/proofs/Lemmas.antt": "-- a lemma\nlemma : ℕ\nlemma = 2\n",
-    "crates/high/proofs/two/Answers.antt": "answer = 2\n",
-    "crates/high/proofs/three/Answers.antt": "use Rattle.low.specs.Proved.{proved}\nanswer = 3\n",
+    "crates/high/proofs/Others.antt": "another : ℕ\nanother = 2\n",
+    "crates/high/proofs/two/Answers.antt": "use Rattle.low.specs.Proved.{proved}\nuse Rattle.high.proofs.Lemmas.{lemma}\nanswer = 2\n",
+    "crates/high/proofs/three/Answers.antt": "answer = 3\n",
     "crates/high/proofs/+turns/Answers.antt": "answer = 4\n",
     "crates/high/wrong/one_more.edit": "file: src/lib.rt\nold: one() + 1\nnew: one() + 2\n",
     "crates/high/wrong/turned.edit": "file: src/lib.rt\nold: back() + 5\nnew: back() + 6\n",
-    "crates/high/wrong/another_last.edit": "file: src/lib.rt\nold: LAST: u8 = 9\nnew: LAST: u8 = 8\n",
+    "crates/high/wrong/another_last.edit": "file: src/last.rt\nold: LAST: u8 = 9\nnew: LAST: u8 = 8\n",
 }
+# the standings of the three edits where something is reached by the first and by the third, which reaches all
+SOME = [MUST, DUE, MUST]
 BODY, CYCLE, CONSTANT = "high/one_more", "high/turned", "high/another_last"
 
 
@@ -74,14 +83,14 @@ class Keys(unittest.TestCase):
         self.assertEqual(files[path].count(old), 1)
         return self.standings(keys({**files, path: files[path].replace(old, new)}))
 
-    def changed_beside(self, path, old, new):
-        """The standings of the three after a change of a definition, where another file has this text."""
+    def changed_in(self, path, old, new, what="crates/low/specs/Lost.antt", before="= 1", after="= 2"):
+        """The standings of the three after a change of a definition, or of what is named, where another file has this text."""
         files = {**FILES, path: FILES[path].replace(old, new)}
         self.assertNotEqual(files, FILES)
         self.known = Known()
         for label, key in keys(files).items():
             self.known.note(label, key)
-        return self.changed("crates/low/specs/Lost.antt", "= 1", "= 2", files)
+        return self.changed(what, before, after, files)
 
     def test_in_the_crate(self):
         code = "crates/high/src/lib.rt"
@@ -89,15 +98,34 @@ class Keys(unittest.TestCase):
         self.assertEqual(self.changed(code, "// as it is", "// as it was"), [HELD, HELD, MUST])
         self.assertEqual(self.changed(code, "    // as", "    let a = 0;\n    // as"), [MUST, HELD, MUST])
         self.assertEqual(self.changed(code, "there() + 6", "there() + 7"), [HELD, MUST, MUST])
-        self.assertEqual(self.changed(code, "three()", "three(a: u8)"), [MUST, MUST, MUST])
-        self.assertEqual(self.changed("crates/high/specs/Lib.antt", "= 2", "= 3"), [MUST, MUST, MUST])
-        self.assertEqual(self.changed("crates/high/proofs/Lemmas.antt", "= 2", "= 3"), [MUST, MUST, MUST])
+        self.assertEqual(self.changed(code, "word + two", "two"), SOME)
+        self.assertEqual(self.changed("crates/high/specs/Two.antt", "two = Found", "two = 3"), SOME)
+        self.assertEqual(self.changed("crates/high/proofs/Lemmas.antt", "= 2", "= 3"), SOME)
         self.assertEqual(self.changed("crates/high/proofs/Lemmas.antt", "-- a", "-- another"), [HELD, HELD, MUST])
         self.assertEqual(self.changed("crates/high/proofs/three/Answers.antt", "3", "4"), [HELD, HELD, MUST])
         self.assertEqual(self.changed("crates/high/proofs/two/Answers.antt", "2", "4"), [MUST, HELD, MUST])
         self.assertEqual(self.changed("crates/high/proofs/+turns/Answers.antt", "4", "5"), [HELD, MUST, MUST])
         self.assertEqual(self.changed("crates/high/wrong/one_more.edit", "+ 2", "+ 3"), [MUST, HELD, HELD])
-        self.assertEqual(self.changed("crates.txt", "high: low", "high: low base64"), [MUST, MUST, MUST])
+
+    def test_in_the_crate_what_is_not_reached_is_due(self):
+        due = [DUE, DUE, MUST]
+        self.assertEqual(self.changed("crates/high/src/lib.rt", "three()", "three(a: u8)"), due)
+        self.assertEqual(self.changed("crates/high/src/last.rt", "pub const", "pub const MORE: u8 = 1;\npub const"), due)
+        self.assertEqual(self.changed("crates/high/specs/Two.antt", "second = 4", "second = 3"), due)
+        self.assertEqual(self.changed("crates/high/specs/Lib.antt", "pub mod Two", "pub mod Two\npub mod Three"), due)
+        self.assertEqual(self.changed("crates/high/proofs/Others.antt", "= 2", "= 3"), due)
+        self.assertEqual(self.changed("crates.txt", "high: low", "high: low base64"), due)
+
+    def test_what_a_body_names_in_the_crate(self):
+        code, last, three = "crates/high/src/lib.rt", "crates/high/src/last.rt", ("crates/high/src/lib.rt", "three() -> u8", "three(a: u8) -> u8")
+        more = (last, "pub const", "pub const MORE: u8 = 1;\npub const")
+        self.assertEqual(self.changed_in(code, "// as it is\n", "three();\n", *three), SOME)
+        self.assertEqual(self.changed_in(code, "// as it is\n", "LAST;\n", *more), SOME)
+        self.assertEqual(self.changed_in(code, "kept: Kept", "kept: [Kept; LAST]", *more), SOME)
+        self.assertEqual(self.changed_in("crates/high/wrong/one_more.edit", "new: one()", "new: three()", *three), SOME)
+        self.assertEqual(self.changed_in(code, "back() + 5", "three() + back() + 5", *three), [DUE, MUST, MUST])
+        self.assertEqual(self.changed_in(code, "there() + 6", "three() + there() + 6", *three), [DUE, MUST, MUST])
+        self.assertEqual(self.changed_in(code, "\n    3", "\n    LAST", *more), [DUE, DUE, MUST])
 
     def test_below_it(self):
         self.assertEqual(self.changed("crates/low/src/lib.rt", "result == 1", "result == 2"), [DUE] * 3)
@@ -108,37 +136,67 @@ class Keys(unittest.TestCase):
         self.assertEqual(self.changed("crates/low/proofs/one/Answers.antt", "1", "2"), [HELD] * 3)
 
     def test_definitions_below_it(self):
-        reached = ["Word", "Deep", "Kept", "Place", "Proved", "inside/Found"]
-        self.assertEqual([self.changed(f"crates/low/specs/{it}.antt", "= 1", "= 2") for it in reached], [[MUST] * 3] * len(reached))
+        reached = ["Deep", "Kept", "Place", "Proved", "inside/Found"]
+        self.assertEqual([self.changed(f"crates/low/specs/{it}.antt", "= 1", "= 2") for it in reached], [SOME] * len(reached))
+        self.assertEqual(self.changed("crates/low/specs/Word.antt", "word = deep", "word = 2"), SOME)
+        self.assertEqual(self.changed("crates/low/specs/Word.antt", "word = deep", "word = lost"), SOME)
+        self.assertEqual(self.changed("crates/low/specs/Word.antt", "other = lost", "other = 2"), [DUE] * 3)
         self.assertEqual(self.changed("crates/low/specs/Lost.antt", "= 1", "= 2"), [DUE] * 3)
         self.assertEqual(self.changed("crates/low/specs/Word.antt", "-- a", "-- one"), [HELD] * 3)
-        self.assertEqual(self.changed("crates/low/specs/Word.antt", "low.specs.Deep", "low.specs.Lost"), [MUST] * 3)
         self.assertEqual(self.changed("crates/low/specs/Lib.antt", "pub mod Lost", "pub mod Lost\npub mod New"), [DUE] * 3)
-        self.assertEqual(self.changed("crates/low/specs/inside.antt", "pub mod Found", "pub mod Found\nfound = 1"), [MUST] * 3)
+        self.assertEqual(self.changed("crates/low/specs/inside.antt", "pub mod Found", "pub mod Found\nfound = 1"), SOME)
+
+    def test_what_has_a_name_in_another_module_too(self):
+        for line, wanted in [("pub use Rattle.low.specs.Lost.{lost}", SOME), ("pub use Rattle.low.specs.Lost.{other}", [DUE] * 3), ("pub use Rattle.low.specs.Lost as it", SOME)]:
+            self.assertEqual(self.changed_in("crates/low/specs/Deep.antt", "deep = 1", f"deep = lost\n{line}"), wanted)
+
+    def test_definitions_that_cannot_be_told_apart_are_one(self):
+        word, other = "crates/low/specs/Word.antt", ("crates/low/specs/Word.antt", "other = lost", "other = 2")
+        for old, new in [("-- a word", "{- a word -}"), ("word :", "mutual\nword :"), ("other : ℕ\nother =", "◌other◌ : ℕ\na ◌other◌ b ="), ("other : ℕ\nother =", "  other =")]:
+            changed = (word, "= lost", "= 2")
+            self.assertEqual(self.changed_in(word, old, new, *changed), SOME)
+        self.assertEqual(self.changed_in("crates/high/src/lib.rt", "word + two", "word + two + other", *other), SOME)
 
     def test_what_names_a_definition(self):
-        for path in ("Nowhere.{it}", "{Lost}", "contracts.lost.Lost.{it}", "declared.lost.{Lost}"):
-            self.assertEqual(self.changed_beside("crates/high/specs/Lib.antt", "two :", f"use Rattle.low.specs.{path}\ntwo :"), [MUST] * 3)
+        two, code = "crates/high/specs/Two.antt", "crates/high/src/lib.rt"
+        for path in ("Nowhere.{it}", "{Lost}", "contracts.lost.Lost.{it}", "declared.lost.{Lost}", "Lost.{lost as it}"):
+            self.assertEqual(self.changed_in(two, "two : ℕ\ntwo = Found", f"use Rattle.low.specs.{path}\ntwo : ℕ\ntwo = it Lost.lost"), SOME)
         for path in ("contracts.one.{it}", "contracts.found.Found.{it}"):
-            self.assertEqual(self.changed_beside("crates/high/specs/Lib.antt", "two :", f"use Rattle.low.specs.{path}\ntwo :"), [DUE] * 3)
-        self.assertEqual(self.changed_beside("crates/high/specs/Lib.antt", "two :", "use Rattle.low as low\ntwo :"), [MUST] * 3)
-        self.assertEqual(self.changed_beside("crates/high/specs/Lib.antt", "two :", "use Rattle.{low}\ntwo :"), [MUST] * 3)
-        self.assertEqual(self.changed_beside("crates/high/proofs/two/Answers.antt", "= 2", "= Rattle.low.specs.Lost.lost"), [MUST] * 3)
-        self.assertEqual(self.changed_beside("crates/low/src/lib.rt", "// low", "pub use lost::Lost as Kept;"), [MUST] * 3)
-        self.assertEqual(self.changed_beside("crates/high/src/lib.rt", "\n    3", "\n    Lost::three()"), [MUST] * 3)
-        self.assertEqual(self.changed_beside("crates/high/src/lib.rt", "// as it is", "// as Lost is"), [DUE] * 3)
-        self.assertEqual(self.changed_beside("crates/high/proofs/Lemmas.antt", "-- a", "-- Rattle has a"), [DUE] * 3)
-        self.assertEqual(self.changed_beside("crates/low/src/lib.rt", "\n    1\n", "\n    Lost::one()\n"), [DUE] * 3)
-        self.assertEqual(self.changed_beside("crates/high/wrong/one_more.edit", "+ 2", "+ Lost::two()"), [MUST, DUE, DUE])
+            self.assertEqual(self.changed_in(two, "two : ℕ\ntwo = Found", f"use Rattle.low.specs.{path}\ntwo : ℕ\ntwo = it"), [DUE] * 3)
+        for path in ("low as low", "{low}"):
+            self.assertEqual(self.changed_in(two, "two : ℕ\ntwo = Found", f"use Rattle.{path}\ntwo : ℕ\ntwo = low.specs.Lost.lost"), SOME)
+        self.assertEqual(self.changed_in("crates/high/proofs/two/Answers.antt", "= 2", "= Rattle.low.specs.Lost.lost"), SOME)
+        self.assertEqual(self.changed_in("crates/high/proofs/Lemmas.antt", "= 2", "= Rattle.low.specs.Lost.lost"), SOME)
+        self.assertEqual(self.changed_in("crates/low/src/lib.rt", "// low", "pub use lost::Lost as Kept;"), SOME)
+        self.assertEqual(self.changed_in(code, "// as it is\n", "Lost::three();\n"), SOME)
+        self.assertEqual(self.changed_in(code, "use low::Kept", "use low::Lost as Kept"), SOME)
+        self.assertEqual(self.changed_in(code, "\n    3", "\n    Lost::three()"), [DUE, DUE, MUST])
+        self.assertEqual(self.changed_in(code, "// as it is", "// as Lost is"), [DUE] * 3)
+        self.assertEqual(self.changed_in("crates/high/proofs/Lemmas.antt", "-- a", "-- Rattle has a"), [DUE] * 3)
+        self.assertEqual(self.changed_in("crates/low/src/lib.rt", "\n    1\n", "\n    Lost::one()\n"), [DUE] * 3)
+        self.assertEqual(self.changed_in("crates/high/wrong/one_more.edit", "+ 2", "+ Lost::two()"), [MUST, DUE, DUE])
 
-    def test_what_another_crate_cannot_name_is_not_reached_by_its_word(self):
-        named = {**FILES, "crates/high/src/lib.rt": FILES["crates/high/src/lib.rt"].replace("\n    3", "\n    Lost::three()")}
-        for shown, wanted in [("pub struct Lost", MUST), ("struct Lost", DUE), ("pub(crate) struct Lost", DUE), ("use place::Place as Lost;\npub struct Alone", DUE)]:
-            files = {**named, "crates/low/src/lost.rt": FILES["crates/low/src/lost.rt"].replace("pub struct Lost", shown)}
+    def test_a_method_counts_once_its_type_does(self):
+        code, turned = "crates/high/src/lib.rt", ("crates/low/specs/Turned.antt", "= 1", "= 2")
+        self.assertEqual(self.changed_in(code, "// as it is\n", "it.turn();\n", *turned), [DUE] * 3)
+        self.assertEqual(self.changed_in(code, "// as it is\n", "let it: Turn = it.turn();\n", *turned), SOME)
+        files = {**FILES, "crates/low/src/kept.rt": FILES["crates/low/src/kept.rt"].replace("at: Place", "at: Turn")}
+        for body, wanted in [("// as it is\n", [DUE] * 3), ("kept.at.turn();\n", SOME)]:
+            files[code] = FILES[code].replace("// as it is\n", body)
             self.known = Known()
             for label, key in keys(files).items():
                 self.known.note(label, key)
-            self.assertEqual(self.changed("crates/low/specs/Lost.antt", "= 1", "= 2", files), [wanted] * 3)
+            self.assertEqual(self.changed(*turned, files), wanted)
+
+    def test_what_another_crate_cannot_name_is_not_reached_by_its_word(self):
+        named = {**FILES, "crates/high/src/lib.rt": FILES["crates/high/src/lib.rt"].replace("// as it is\n", "Lost::three();\n")}
+        for shown, wanted in [("pub struct Lost", SOME), ("pub struct Alone", [DUE] * 3), ("use place::Place as Lost;\npub struct Alone", [DUE] * 3)]:
+            text = FILES["crates/low/src/lost.rt"].replace("pub struct Lost", shown).replace("for Lost", "for Lost" if wanted == SOME else "for Alone")
+            files = {**named, "crates/low/src/lost.rt": text}
+            self.known = Known()
+            for label, key in keys(files).items():
+                self.known.note(label, key)
+            self.assertEqual(self.changed("crates/low/specs/Lost.antt", "= 1", "= 2", files), wanted)
 
     def test_under_another_kit(self):
         self.assertEqual(self.standings(keys(FILES, "kit-1 logic a")), [HELD] * 3)
@@ -224,9 +282,9 @@ class Twins(unittest.TestCase):
         found, texts = self.refused("proved", "not proved (`returns`)")
         self.assertEqual([BODY], found)
         text = texts["src/lib.rt"]
-        self.assertIn("pub fn two() -> u8 {\n    // as it is\n    one() + 1\n}", text)
-        self.assertIn("pub fn two_twin0() -> u8 {\n    // as it is\n    one() + 1\n}", text)
-        self.assertIn("pub fn two_twin1() -> u8 {\n    // as it is\n    one() + 2\n}", text)
+        self.assertIn("pub fn two(kept: Kept) -> u8\nensures it { result == word + two }\n{\n    // as it is\n    one() + 1\n}", text)
+        self.assertIn("pub fn two_twin0(kept: Kept) -> u8\nensures it { result == word + two }\n{\n    // as it is\n    one() + 1\n}", text)
+        self.assertIn("pub fn two_twin1(kept: Kept) -> u8\nensures it { result == word + two }\n{\n    // as it is\n    one() + 2\n}", text)
         self.assertEqual({"src/lib.rt", "proofs/two_twin0/Answers.antt", "proofs/two_twin1/Answers.antt"}, {*texts})
 
     def test_nothing_counts_where_the_own_body_is_not_proved_under_another_name(self):

@@ -14,11 +14,11 @@ lines 'old: TEXT' and 'new: TEXT', where each old TEXT stands in that file exact
 
 Which are tried. .ci/refused.txt has a line for each that was seen refused, with what that rests on (known.py):
 
-  must   it has no such line, or one of these has changed since: the logic, the edit, its crate but for the bodies and
-         proofs of other functions, the definitions (specs/) below that its crate reaches (reach.py). Or more than sixteen
+  must   it has no such line, or one of these has changed since: the logic, the edit, the functions that it changes or their
+         proofs, what these reach of the crate and of definitions (specs/) below it (reach.py). Or more than sixteen
          gates have passed since: each run with --follow counts, once its refused.txt is committed. It is tried first
-  due    only the code, contracts or lemmas of crates below have changed, definitions there that its crate does not reach,
-         how edits are judged, or the kit. It is tried with --due
+  due    only other code, definitions or lemmas of the crate or of those below have changed, how edits are judged, or the kit.
+         It is tried with --due
   held   nothing has changed. It is tried with --all alone, and read and applied always
 
 With --minutes, as in the gate, no check begins after so many, or forty-five more for what must be tried: one of these that was not fails. Beside these,
