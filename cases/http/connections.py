@@ -26,7 +26,7 @@ MALFORMED = '{"error":{"code":1,"name":"Malformed"}}'
 LENGTH_REQUIRED = '{"error":{"code":0,"name":"LengthRequired"}}'
 TOO_LARGE = '{"error":{"code":0,"name":"BodyTooLarge"}}'
 NO_ROUTE = '{"error":{"code":0,"name":"NoRoute"}}'
-NO_RELATION = '{"error":{"code":2,"name":"UnknownRelation","zookie":"AQAAAAAAAAABAAAAAAAAAAA"}}'
+NO_RELATION = '{"error":{"code":2,"name":"UnknownRelation","zookie":"AgAAAAAAAAABAAAAAAAAAAA"}}'
 CHECK = '{"node":"doc:1#viewer","user":"user:ann"}'
 
 
@@ -512,7 +512,7 @@ def one_worker_alone_leaves_the_parts_to_its_callers(program, folder):
 
 
 def one_worker_alone_keeps_a_file(program, folder):
-    first, second = "AQAAAAAAAAABAAAAAAAAAAE", "AQAAAAAAAAABAAAAAAAAAAI"
+    first, second = "AgAAAAAAAAABAAAAAAAAAAE", "AgAAAAAAAAABAAAAAAAAAAI"
     found = (200, f'{{"allowed":true,"zookie":"{second}"}}')
     with Server(program, folder, "--workers", "1", "--db", "alone.db", "--store", "1") as server, server.connect() as stream:
         same("config", (200, f'{{"shown":true,"zookie":"{first}"}}'), ask(stream, "config", CONFIG))
@@ -528,7 +528,7 @@ def a_service_makes_no_new_store_over_one(program, folder):
     for workers in ("1", "4"):
         wanted = (1, b"zanz: refused 22 StoreFault\n")
         same(f"{workers} workers", wanted, refused(program, folder, "--workers", workers, "--db", "there.db", "--store", "1", "--port", "0"))
-    second = "AQAAAAAAAAABAAAAAAAAAAI"
+    second = "AgAAAAAAAAABAAAAAAAAAAI"
     kept = [(200, f'{{"allowed":true,"zookie":"{second}"}}')]
     same("what the file holds", kept, answered(program, folder, [("check", exactly(second))], "--db", "there.db"))
 

@@ -373,7 +373,7 @@ def inner(line):
 def as_process_1_it_is_ended_by_sigkill_alone(program, folder, lines):
     first, _ = lines.splitlines()
     assert " --init " in first, f"there is no --init in {first}\n"
-    for found in (b'"newest":"AQAAAAAAAAABAAAAAAAAAAA"', b'"newest":"AQAAAAAAAAABAAAAAAAAAAE"'):
+    for found in (b'"newest":"AgAAAAAAAAABAAAAAAAAAAA"', b'"newest":"AgAAAAAAAAABAAAAAAAAAAE"'):
         with Contained(program, folder, inner(first)) as server:
             same("port", 8080, server.port)
             same("process 1", b"zanz\n", content("/proc", f"{server.number}/comm")[0])
@@ -468,7 +468,7 @@ def a_file_without_its_log_is_an_older_store_or_none(program, folder, start, mer
         begun(server, "ann")
     os.makedirs(f"{folder}/alone")
     shutil.copy(f"{folder}/store.db", f"{folder}/alone")
-    same("the newest revision without the log", "AQAAAAAAAAABAAAAAAAAAAA", stored(program, f"{folder}/alone")["newest"])
+    same("the newest revision without the log", "AgAAAAAAAAABAAAAAAAAAAA", stored(program, f"{folder}/alone")["newest"])
     log = os.path.getsize(f"{folder}/store.db-wal")
     same("merging into a file that may not grow", (0, ""), done(program, folder, f"trap '' XFSZ; ulimit -f 0; {merge}"))
     same("bytes of the log that was not merged", log, os.path.getsize(f"{folder}/store.db-wal"))
@@ -476,7 +476,7 @@ def a_file_without_its_log_is_an_older_store_or_none(program, folder, start, mer
     same("bytes of the log", 41, os.path.getsize(f"{folder}/store.db-wal"))
     assert log > 41, f"the log had {log} bytes before\n"
     os.remove(f"{folder}/store.db-wal")
-    same("the newest revision of what was merged", "AQAAAAAAAAABAAAAAAAAAAI", stored(program, folder)["newest"])
+    same("the newest revision of what was merged", "AgAAAAAAAAABAAAAAAAAAAI", stored(program, folder)["newest"])
     os.makedirs(f"{folder}/none")
     made(program, f"{folder}/none")
     os.remove(f"{folder}/none/store.db-wal")
@@ -495,7 +495,7 @@ def sqlite3_is_told_that_it_is_locked_and_merges_the_log_later(program, folder, 
     for name in os.listdir(folder):
         if name.startswith("store.db-"):
             os.remove(f"{folder}/{name}")
-    same("the newest revision of the file alone", "AQAAAAAAAAABAAAAAAAAAAI", stored(program, folder)["newest"])
+    same("the newest revision of the file alone", "AgAAAAAAAAABAAAAAAAAAAI", stored(program, folder)["newest"])
 
 
 def refuses(program, folder, file="store.db", new=False, **how):
@@ -620,7 +620,7 @@ def a_journal_is_played_back_by_sqlite_alone(program, folder, check):
     same("what ls tells", (0, "store.db-journal\n"), looked(program, folder, check))
     refuses(program, folder)
     same("the configurations, once it was played back", (0, "1\n"), done(program, folder, "sqlite3 store.db 'SELECT count(*) FROM config'"))
-    same("the newest revision", "AQAAAAAAAAABAAAAAAAAAAI", stored(program, folder)["newest"])
+    same("the newest revision", "AgAAAAAAAAABAAAAAAAAAAI", stored(program, folder)["newest"])
 
 
 @runs("df .")
@@ -693,7 +693,7 @@ def a_file_of_another_format_is_refused(program, folder, check):
         refuses(program, folder)
         assert f"{key}|{value}\n" in looked(program, folder, check)[1], f"sqlite3 does not tell that {key} is {value}\n"
         done(program, folder, f"sqlite3 store.db \"UPDATE state SET value={kept} WHERE key='{key}'\"")
-    same("the newest revision of what is as before", "AQAAAAAAAAABAAAAAAAAAAI", stored(program, folder)["newest"])
+    same("the newest revision of what is as before", "AgAAAAAAAAABAAAAAAAAAAI", stored(program, folder)["newest"])
 
 
 def sorted_lines(told):

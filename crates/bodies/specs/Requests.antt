@@ -10,7 +10,7 @@ use Rattle.names.specs.declared.node.Node.{Node}
 use Rattle.names.specs.declared.object.Object.{Object}
 use Rattle.names.specs.declared.refusal.Refusal.{Refusal}
 use Rattle.names.specs.declared.refusal.Refusal.TheVariants.{Malformed, BadZookie, Memory}
-use Rattle.zookie.specs.Text.{zookie_text}
+use Rattle.zookie.specs.Text.{IsTextOf}
 use Rattle.zookie.specs.declared.Zookie.{Zookie}
 use Rattle.zookie.specs.declared.consistency.Consistency.{Consistency}
 use Rattle.zookie.specs.declared.consistency.Consistency.TheVariants.{Latest, AtLeast, Exactly}
@@ -49,11 +49,11 @@ HasZookieText at text = (least_text at ≡ Some text) ⊎ (exact_text at ≡ Som
 abbrev pub IsAtForm : Option Data → Type 0
 IsAtForm at = (is_latest_or_none at ≡ true) ⊎ ((text : List ℕ) × HasZookieText at text)
 
--- the text is the zookie's
+-- the text is one of the zookie's two
 pub record IsZookieOf (text : List ℕ) (zookie : Zookie) : Type 0 where
   pub store_fits : zookie.store < 2 ^ 64
   pub rev_fits : zookie.rev < 2 ^ 64
-  pub text_is : text ≡ zookie_text zookie.store zookie.rev
+  pub text_is : IsTextOf text zookie.store zookie.rev
 
 -- the text, which is there, is the zookie's
 abbrev pub IsZookieText : Option (List ℕ) → Zookie → Type 0

@@ -18,7 +18,7 @@ const GROUPS: &[u8] = br#"{"namespaces":{"group":{"member":{"types":["user"]}},"
 const INSERT: &[u8] = br#"{"ops":[{"op":"insert","tuple":"group:a#member@user:ann"}]}"#;
 
 const NEXT: &[u8] =
-    br#"{"at":{"at_least":"AQAAAAAAAAABAAAAAAAAAAI"},"node":"group:a#member","user":"user:ann"}"#;
+    br#"{"at":{"at_least":"AgAAAAAAAAABAAAAAAAAAAI"},"node":"group:a#member","user":"user:ann"}"#;
 
 // The status of a reply, or 0.
 pub(crate) fn status_of(reply: &Reply) -> u16 {

@@ -97,9 +97,9 @@ fn is_at(alloc: Global, body: &str, wanted: &Consistency) -> Result<bool, Fail> 
 fn the_revision_may_be_chosen(rt: HostRuntime) -> Result<(), Fail> {
     let alloc = rt.alloc();
     let least =
-        r#"{"at":{"at_least":"AQAAAAAAAAABAAAAAAAAAAk"},"expr":{"m2g":"user:ann"},"limit":1}"#;
+        r#"{"at":{"at_least":"AgAAAAAAAAABAAAAAAAAAAk"},"expr":{"m2g":"user:ann"},"limit":1}"#;
     let exact =
-        r#"{"at":{"exactly":"AQAAAAAAAAACAAAAAAAAAAE"},"expr":{"m2g":"user:ann"},"limit":1}"#;
+        r#"{"at":{"exactly":"AgAAAAAAAAACAAAAAAAAAAE"},"expr":{"m2g":"user:ann"},"limit":1}"#;
     assert!(rt;
         is_at(
             alloc,
@@ -260,8 +260,8 @@ fn are_told(alloc: Global) -> Result<bool, Fail> {
     let nodes = vec![in alloc; first, second]?;
     let nobody: Vec<Node> = Vec::new(alloc);
     let both =
-        r#"{"groups":["group:a#member","group:b#member"],"zookie":"AQAAAAAAAAABAAAAAAAAAAI"}"#;
-    let none = r#"{"groups":[],"zookie":"AQAAAAAAAAABAAAAAAAAAAI"}"#;
+        r#"{"groups":["group:a#member","group:b#member"],"zookie":"AgAAAAAAAAABAAAAAAAAAAI"}"#;
+    let none = r#"{"groups":[],"zookie":"AgAAAAAAAAABAAAAAAAAAAI"}"#;
     Ok(
         says(&groups(alloc, nodes.as_slice(), &zookie), both)
             && says(&groups(alloc, nobody.as_slice(), &zookie), none),

@@ -152,8 +152,8 @@ fn marked_nodes_are_counted(rt: HostRuntime) {
 fn are_bases(alloc: Global) -> bool {
     let first = Zookie { store: 1, rev: 1 };
     let later = Zookie { store: 1, rev: 9 };
-    let shown = r#"{"base":"AQAAAAAAAAABAAAAAAAAAAE","shown":true}"#;
-    let waits = r#"{"base":"AQAAAAAAAAABAAAAAAAAAAk","shown":false}"#;
+    let shown = r#"{"base":"AgAAAAAAAAABAAAAAAAAAAE","shown":true}"#;
+    let waits = r#"{"base":"AgAAAAAAAAABAAAAAAAAAAk","shown":false}"#;
     says(&base(alloc, &first, true), shown) && says(&base(alloc, &later, false), waits)
 }
 

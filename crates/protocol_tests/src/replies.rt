@@ -22,8 +22,8 @@ fn is_no_memory(reply: &Reply) -> bool {
 
 fn waits(alloc: Global) -> bool {
     let zookie = Zookie { store: 1, rev: 9 };
-    let told = r#"{"shown":false,"zookie":"AQAAAAAAAAABAAAAAAAAAAk"}"#;
-    let moved = r#"{"cursor":"AQAAAAAAAAABAAAAAAAAAAk","shown":false}"#;
+    let told = r#"{"shown":false,"zookie":"AgAAAAAAAAABAAAAAAAAAAk"}"#;
+    let moved = r#"{"cursor":"AgAAAAAAAAABAAAAAAAAAAk","shown":false}"#;
     says(&receipt(alloc, false, &zookie), 200, told)
         && says(&cursor(alloc, &zookie, false), 200, moved)
 }
@@ -55,9 +55,9 @@ fn has_each_number(alloc: Global) -> bool {
         rows: 7,
         tuples: 6,
     };
-    let told = "{\"base\":\"AQAAAAAAAAABAAAAAAAAAAI\",\"floor\":\"AQAAAAAAAAABAAAAAAAAAAE\",\
-        \"hot\":\"AQAAAAAAAAABAAAAAAAAAAM\",\"index\":\"AQAAAAAAAAABAAAAAAAAAAQ\",\"marked\":256,\
-        \"newest\":\"AQAAAAAAAAABAAAAAAAAAAU\",\"rows\":7,\"tuples\":6}";
+    let told = "{\"base\":\"AgAAAAAAAAABAAAAAAAAAAI\",\"floor\":\"AgAAAAAAAAABAAAAAAAAAAE\",\
+        \"hot\":\"AgAAAAAAAAABAAAAAAAAAAM\",\"index\":\"AgAAAAAAAAABAAAAAAAAAAQ\",\"marked\":256,\
+        \"newest\":\"AgAAAAAAAAABAAAAAAAAAAU\",\"rows\":7,\"tuples\":6}";
     says(&state(alloc, 1, &numbers), 200, told)
 }
 

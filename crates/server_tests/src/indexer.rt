@@ -31,11 +31,11 @@ const WRITE: &[u8] = b"POST /v1/write HTTP/1.1\r\nContent-Length: 58\r\n\r\n\
 const STATE: &[u8] = b"GET /v1/state HTTP/1.1\r\nConnection: close\r\n\r\n";
 
 const TRIM: &[u8] = b"POST /v1/trim HTTP/1.1\r\nContent-Length: 35\r\nConnection: close\r\n\r\n\
-{\"floor\":\"AQAAAAAAAAABAAAAAAAAACk\"}";
+{\"floor\":\"AgAAAAAAAAABAAAAAAAAACk\"}";
 
 const CAUGHT_UP: &[u8] =
-    b"\"hot\":\"AQAAAAAAAAABAAAAAAAAACk\",\"index\":\"AQAAAAAAAAABAAAAAAAAACk\",\
-\"marked\":0,\"newest\":\"AQAAAAAAAAABAAAAAAAAACk\"";
+    b"\"hot\":\"AgAAAAAAAAABAAAAAAAAACk\",\"index\":\"AgAAAAAAAAABAAAAAAAAACk\",\
+\"marked\":0,\"newest\":\"AgAAAAAAAAABAAAAAAAAACk\"";
 
 // Takes connections until its owner is done.
 #[derive(Drop)]
