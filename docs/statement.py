@@ -28,6 +28,7 @@ CASES = {
     "check": ["Call.Check", "Question.Check", "Told.Checked"],
     "read": ["Call.Read", "Question.Read", "Told.Found"],
     "expand": ["Call.Expand", "Question.Expand", "Told.Expanded", "Refusal.TooLarge"],
+    "lookup": ["Call.Lookup", "Question.Lookup", "Told.Looked"],
     "leopard": ["Call.Leopard", "Question.Groups", "Told.Grouped", "Refusal.NotIndexed"],
     "watch": ["Call.Watch", "Question.Watch", "Told.Watched"],
     "state": ["Call.State", "Question.State", "Told.Numbers"],

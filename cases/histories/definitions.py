@@ -39,7 +39,7 @@ def told(refusal):
 
 
 def zookie_of(revision, store=1):
-    return base64.urlsafe_b64encode(b"\1" + store.to_bytes(8, "big") + revision.to_bytes(8, "big")).decode().rstrip("=")
+    return base64.urlsafe_b64encode(b"\2" + store.to_bytes(8, "big") + revision.to_bytes(8, "big")).decode().rstrip("=")
 
 
 def read_zookie(text):
@@ -259,6 +259,13 @@ class Snapshot:
     def needs(self, node):
         if not self.config.has(*parts_of(node)[::2]):
             raise Refused(UNKNOWN)
+
+    def lookup(self, namespace, relation, user, after=None, limit=1000):
+        """The first of the namespace's objects of whose relation the user is a member."""
+        if not self.config.has(namespace, relation):
+            raise Refused(UNKNOWN)
+        found = sorted(parts_of(node)[1] for it, node in self.members() if it == user and parts_of(node)[::2] == (namespace, relation))
+        return [f"{namespace}:{it}" for it in found if after is None or after < it][:limit]
 
     def tree(self, node, depth):
         self.needs(node)

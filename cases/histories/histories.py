@@ -124,7 +124,7 @@ def new_tuple(choose, config):
 
 def a_zookie(choose, newest):
     if some(choose, 0.04):
-        return choose.choice(["", "AQAAAAAAAAABAAAAAAAAAAF", zookie_of(newest)[:-1], "x"])
+        return choose.choice(["", "AgAAAAAAAAABAAAAAAAAAAF", zookie_of(newest)[:-1], "x"])
     store = 2 if some(choose, 0.03) else 1
     return zookie_of(choose.randrange(newest + (2 if some(choose, 0.1) else 1)), store)
 
@@ -246,6 +246,22 @@ class Script:
 
         self.add("read", {**at, **body}, answer)
 
+    def lookup(self):
+        choose = self.choose
+        at, (namespace, name) = asked_at(choose, self.history.newest), thing(choose).split(":")
+        body = {"namespace": namespace, "relation": choose.choice(RELATIONS[namespace] * 8 + ["none"]), "user": choose.choice(USERS * 4 + [thing(choose)])}
+        body.update({"after": choose.choice(["0", name])} if some(choose, 0.4) else {})
+        body.update({"limit": choose.choice([0, 1001] if some(choose, 0.1) else [1, 1, 2, 1000])} if some(choose, 0.5) else {})
+
+        def answer():
+            if not 1 <= body.get("limit", 1) <= 1000:
+                raise Refused(MALFORMED)
+            asked = (body.get(it) for it in ("namespace", "relation", "user", "after"))
+            objects, zookie = self.history.ask(at.get("at"), lambda it: it.lookup(*asked, body.get("limit", 1000)))
+            return {"objects": objects, "zookie": zookie}
+
+        self.add("lookup", {**at, **body}, answer)
+
     def expression(self, depth):
         """A set expression over groups."""
         choose = self.choose
@@ -340,7 +356,7 @@ class Script:
         self.add("state", {}, self.history.state)
 
     def go_on(self, calls):
-        kinds = [self.configure] + [self.write] * 8 + [self.check] * 8 + [self.expand] * 4 + [self.read] * 4 + [self.leopard] * 4 + [self.watch] * 3 + [self.catch_up] * 2
+        kinds = [self.configure] + [self.write] * 8 + [self.check] * 8 + [self.expand] * 4 + [self.read] * 4 + [self.lookup] * 4 + [self.leopard] * 4 + [self.watch] * 3 + [self.catch_up] * 2
         kinds += [self.marking] * 2 + [self.trim, self.rebuild, self.state]
         for _ in range(calls):
             self.choose.choice(kinds)()

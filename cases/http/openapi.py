@@ -24,12 +24,13 @@ CHANGES = (*STORED, "catchup", "hot", "rebuild")
 ANNOTATIONS = ("default", "description")
 TYPES = {"array": list, "boolean": bool, "integer": int, "object": dict, "string": str}
 # The zookie of the first revision of the store with number 1.
-FIRST = "AQAAAAAAAAABAAAAAAAAAAE"
+FIRST = "AgAAAAAAAAABAAAAAAAAAAE"
 ANN = "group:a#member@user:ann"
 # What asks for the first revision, and is refused once the floor is above it.
 EXPIRED = {
     "check": {"at": {"exactly": FIRST}, "node": "group:a#member", "user": "user:ann"},
     "expand": {"at": {"exactly": FIRST}, "depth": 1, "node": "group:a#member"},
+    "lookup": {"at": {"exactly": FIRST}, "namespace": "group", "relation": "member", "user": "user:ann"},
     "leopard": {"at": {"exactly": FIRST}, "expr": {"m2g": "user:ann"}, "limit": 10},
     "read": {"at": {"exactly": FIRST}, "namespace": "group"},
     "watch": {"commits": 1, "cursor": FIRST},

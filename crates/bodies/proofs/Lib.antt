@@ -5,6 +5,7 @@ pub mod AskedWrites
 pub mod Checking
 pub mod Literals
 pub mod Listing
+pub mod Looked
 pub mod Refusing
 pub mod Branches
 pub mod Naming

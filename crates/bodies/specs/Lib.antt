@@ -8,5 +8,6 @@ pub mod Trimming
 pub mod Marking
 pub mod Pages
 pub mod Paging
+pub mod Looking
 pub mod Grouping
 pub mod inside

@@ -4,6 +4,7 @@
 mod conditions;
 mod exprs;
 pub mod grouping;
+pub mod looking;
 pub mod marking;
 mod members;
 mod ops;

@@ -22,7 +22,7 @@ use std::alloc::{AllocError, Global};
 use zookie::{Consistency, Zookie};
 
 /// The id that a member is, if it is there.
-fn id_of(member: Option<&Value>) -> Result<Option<ObjectId>, Refusal>
+pub(crate) fn id_of(member: Option<&Value>) -> Result<Option<ObjectId>, Refusal>
     ensures ok { IfOk result (λ id. SpellsIfThere SpellsId (option_map (λ v. view v.now) member.entry) id) }
     ensures err { IfErr result (IsMalformed
         ((id : Option (List ℕ)) → ¬ (SpellsIfThere SpellsId (option_map (λ v. view v.now) member.entry) id))) }
@@ -86,7 +86,7 @@ fn tuple_of(member: Option<&Value>) -> Result<Option<Tuple>, Refusal>
 }
 
 /// The limit that a member is, or the greatest where it is not there.
-fn limit_of(member: Option<&Value>) -> Result<u16, Refusal>
+pub(crate) fn limit_of(member: Option<&Value>) -> Result<u16, Refusal>
     ensures ok { IfOk result (λ limit. IsLimit (option_map (λ v. view v.now) member.entry) limit) }
     ensures err { IfErr result (IsMalformed
         ((limit : ℕ) → ¬ (IsLimit (option_map (λ v. view v.now) member.entry) limit))) }

@@ -13,11 +13,12 @@ use Rattle.leopard.specs.Exprs.{query_of}
 use Rattle.tables.specs.declared.tables.Tables.{Ghosts}
 use Rattle.shown.specs.declared.answer.Refused.{Refused}
 use Rattle.shown.specs.declared.question.Question.{Question}
-use Rattle.shown.specs.declared.question.Question.TheVariants.{Check, Expand, Read, Groups, Watch, State}
+use Rattle.shown.specs.declared.question.Question.TheVariants.{Check, Expand, Read, Lookup, Groups, Watch, State}
 use Rattle.shown.specs.Standing.{Standing, standing}
 use Rattle.shown.specs.Answers.{CheckRefused}
 use Rattle.shown.specs.Expanding.{ExpandRefused}
 use Rattle.shown.specs.Paging.{ReadRefused}
+use Rattle.shown.specs.Looking.{LookupRefused}
 use Rattle.shown.specs.Grouping.{GroupsRefused}
 use Rattle.shown.specs.Watching.{WatchRefused}
 use Rattle.shown.specs.Asked.{RefusesQuestion, IsAhead}
@@ -52,6 +53,7 @@ future_of : (s : Standing) (question : Question) (refused : Refused) → refused
 future_of s (Check consistency node user) refused is why = told_future s consistency refused.at (subst (λ (e : Refusal). CheckRefused s consistency node e refused.at) is why)
 future_of s (Expand consistency node depth) refused is why = told_future s consistency refused.at (subst (λ (e : Refusal). ExpandRefused s consistency node depth.nodes e refused.at) is why)
 future_of s (Read consistency asked) refused is why = told_future s consistency refused.at (subst (λ (e : Refusal). ReadRefused s consistency e refused.at) is why)
+future_of s (Lookup consistency asked) refused is why = told_future s consistency refused.at (subst (λ (e : Refusal). LookupRefused s consistency asked e refused.at) is why)
 future_of s (Groups consistency expr limit) refused is why =
     cause_future consistency s.kept.number s.kept.floor (newest s.kept)
     (middle_of (is_allowed (query_of expr) limit ≡ true) (IsFirstCause consistency s.kept.number s.kept.floor (newest s.kept) Future) (refused.at ≡ None)

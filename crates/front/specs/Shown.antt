@@ -4,7 +4,7 @@ use Rattle.zookie.specs.declared.consistency.Consistency.{Consistency}
 use Rattle.zookie.specs.declared.consistency.Consistency.TheVariants.{Latest, AtLeast, Exactly}
 use Rattle.tables.specs.declared.tables.Tables.{Ghosts}
 use Rattle.shown.specs.declared.question.Question.{Question}
-use Rattle.shown.specs.declared.question.Question.TheVariants.{Check, Expand, Read, Groups, Watch, State}
+use Rattle.shown.specs.declared.question.Question.TheVariants.{Check, Expand, Read, Lookup, Groups, Watch, State}
 use Rattle.shown.specs.Standing.{standing}
 use Rattle.published.specs.Rising.{Rises}
 use Rattle.desk.specs.Posts.{Posts}
@@ -14,6 +14,7 @@ abbrev pub consistency_of : Question → Consistency
 consistency_of (Check consistency node user) = consistency
 consistency_of (Expand consistency node depth) = consistency
 consistency_of (Read consistency asked) = consistency
+consistency_of (Lookup consistency asked) = consistency
 consistency_of (Groups consistency expr limit) = consistency
 consistency_of (Watch cursor namespaces commits) = Exactly cursor
 consistency_of State = Latest

@@ -15,7 +15,7 @@ use std::test::*;
 use tables::{Listed, Tables};
 
 // The calls of the stored script, and calls that are refused.
-const CALLS: [(Call, &str); 37] = [
+const CALLS: [(Call, &str); 39] = [
     (
         Call::Config,
         r#"{"namespaces":{"group":{"member":{"types":["user","group#member"]}},"user":{}}}"#,
@@ -47,17 +47,17 @@ const CALLS: [(Call, &str); 37] = [
     (Call::CatchUp, r#"{"part":"index","commits":65537}"#),
     (
         Call::Check,
-        r#"{"at":{"exactly":"AQAAAAAAAAABAAAAAAAAAAI"},"node":"group:a#member","user":"user:ann"}"#,
+        r#"{"at":{"exactly":"AgAAAAAAAAABAAAAAAAAAAI"},"node":"group:a#member","user":"user:ann"}"#,
     ),
     (
         Call::Check,
-        r#"{"at":{"at_least":"AQAAAAAAAAABAAAAAAAAAAk"},"node":"group:a#member","user":"user:ann"}"#,
+        r#"{"at":{"at_least":"AgAAAAAAAAABAAAAAAAAAAk"},"node":"group:a#member","user":"user:ann"}"#,
     ),
     (Call::Expand, r#"{"depth":3,"node":"group:a#member"}"#),
     (Call::Expand, r#"{"depth":9,"node":"group:a#member"}"#),
     (
         Call::Expand,
-        r#"{"at":{"at_least":"AQAAAAAAAAABAAAAAAAAAAk"},"depth":1,"node":"group:a#member"}"#,
+        r#"{"at":{"at_least":"AgAAAAAAAAABAAAAAAAAAAk"},"depth":1,"node":"group:a#member"}"#,
     ),
     (Call::Read, "{}"),
     (
@@ -66,31 +66,36 @@ const CALLS: [(Call, &str); 37] = [
     ),
     (
         Call::Read,
-        r#"{"at":{"exactly":"AQAAAAAAAAABAAAAAAAAAAk"},"namespace":"group"}"#,
+        r#"{"at":{"exactly":"AgAAAAAAAAABAAAAAAAAAAk"},"namespace":"group"}"#,
+    ),
+    (Call::Lookup, "{}"),
+    (
+        Call::Lookup,
+        r#"{"limit":1,"namespace":"group","relation":"member","user":"user:ann"}"#,
     ),
     (Call::Watch, "{}"),
     (
         Call::Watch,
-        r#"{"commits":256,"cursor":"AQAAAAAAAAABAAAAAAAAAAA"}"#,
+        r#"{"commits":256,"cursor":"AgAAAAAAAAABAAAAAAAAAAA"}"#,
     ),
     (
         Call::Watch,
-        r#"{"commits":1,"cursor":"AQAAAAAAAAABAAAAAAAAAAk","namespaces":["group"]}"#,
+        r#"{"commits":1,"cursor":"AgAAAAAAAAABAAAAAAAAAAk","namespaces":["group"]}"#,
     ),
     (Call::Leopard, "{}"),
     (Call::Leopard, r#"{"expr":{"m2g":"user:ann"},"limit":2}"#),
     (
         Call::Leopard,
-        r#"{"at":{"exactly":"AQAAAAAAAAABAAAAAAAAAAI"},"expr":{"g2g":"group:a#member"},"limit":2}"#,
+        r#"{"at":{"exactly":"AgAAAAAAAAABAAAAAAAAAAI"},"expr":{"g2g":"group:a#member"},"limit":2}"#,
     ),
     (
         Call::Leopard,
-        r#"{"at":{"exactly":"AQAAAAAAAAABAAAAAAAAAAk"},"expr":{"m2g":"user:ann"},"limit":1}"#,
+        r#"{"at":{"exactly":"AgAAAAAAAAABAAAAAAAAAAk"},"expr":{"m2g":"user:ann"},"limit":1}"#,
     ),
     (Call::Trim, "{}"),
-    (Call::Trim, r#"{"floor":"AQAAAAAAAAABAAAAAAAAAAI"}"#),
+    (Call::Trim, r#"{"floor":"AgAAAAAAAAABAAAAAAAAAAI"}"#),
     (Call::CatchUp, r#"{"part":"hot","commits":2}"#),
-    (Call::Trim, r#"{"floor":"AQAAAAAAAAABAAAAAAAAAAI"}"#),
+    (Call::Trim, r#"{"floor":"AgAAAAAAAAABAAAAAAAAAAI"}"#),
     (Call::Hot, "{}"),
     (Call::Hot, r#"{"mark":"group:a#member"}"#),
     (Call::Hot, r#"{"mark":"group:a#owner"}"#),
@@ -101,11 +106,11 @@ const CALLS: [(Call, &str); 37] = [
 ];
 
 // What the program answers to the stored script.
-const STORED: &str = r#"200 {"shown":true,"zookie":"AQAAAAAAAAABAAAAAAAAAAE"}
-200 {"shown":true,"zookie":"AQAAAAAAAAABAAAAAAAAAAI"}
-200 {"allowed":true,"zookie":"AQAAAAAAAAABAAAAAAAAAAI"}
-200 {"shown":true,"zookie":"AQAAAAAAAAABAAAAAAAAAAM"}
-200 {"allowed":false,"zookie":"AQAAAAAAAAABAAAAAAAAAAM"}
+const STORED: &str = r#"200 {"shown":true,"zookie":"AgAAAAAAAAABAAAAAAAAAAE"}
+200 {"shown":true,"zookie":"AgAAAAAAAAABAAAAAAAAAAI"}
+200 {"allowed":true,"zookie":"AgAAAAAAAAABAAAAAAAAAAI"}
+200 {"shown":true,"zookie":"AgAAAAAAAAABAAAAAAAAAAM"}
+200 {"allowed":false,"zookie":"AgAAAAAAAAABAAAAAAAAAAM"}
 "#;
 
 // What the calls that mark nodes and rebuild the index are answered, which are the last ones.
@@ -113,7 +118,7 @@ const MARKED: &str = r#"400 {"error":{"code":1,"name":"Malformed"}}
 200 {"marked":1,"shown":true}
 400 {"error":{"code":2,"name":"UnknownRelation"}}
 400 {"error":{"code":1,"name":"Malformed"}}
-200 {"base":"AQAAAAAAAAABAAAAAAAAAAM","shown":true}
+200 {"base":"AgAAAAAAAAABAAAAAAAAAAM","shown":true}
 200 {"marked":0,"shown":true}
 200 {"marked":0,"shown":true}
 "#;

@@ -6,6 +6,7 @@ ghost use Rattle.bodies.specs.Replies.{SaysRefusalAt};
 ghost use Rattle.keeper.specs.Questions.{Asks, AsksNothing, SaysTold};
 
 use bodies::grouping::{groups, groups_body};
+use bodies::looking::{lookup_body, objects};
 use bodies::pages::watched;
 use bodies::paging::{page, read_body};
 use bodies::refusals::{refusal, refusal_at};
@@ -14,7 +15,7 @@ use bodies::requests::{check_body, expand_body};
 use bodies::trees::expanded;
 use bodies::watching::watch_body;
 use names::{Call, Refusal, Reply};
-use shown::{Depth, Question, Refused, Told};
+use shown::{Depth, Objects, Question, Refused, Told};
 use std::alloc::Global;
 use zookie::Zookie;
 
@@ -36,6 +37,10 @@ pub fn question_of(alloc: Global, call: Call, body: &[u8]) -> Result<Question, R
         Call::Read => {
             let (consistency, asked) = read_body(alloc, body)?;
             Ok(Question::Read(consistency, asked))
+        }
+        Call::Lookup => {
+            let (consistency, asked) = lookup_body(alloc, body)?;
+            Ok(Question::Lookup(consistency, asked))
         }
         Call::Leopard => {
             let (consistency, expr, limit) = groups_body(alloc, body)?;
@@ -80,6 +85,11 @@ fn answer_reply(alloc: Global, store: u64, asked: &Told) -> Reply
         Told::Found(found) => {
             let rev = found.rev;
             page(alloc, found.value.as_slice(), &Zookie { store, rev })
+        }
+        Told::Looked(found) => {
+            let rev = found.rev;
+            let Objects { namespace, ids } = &found.value;
+            objects(alloc, namespace, ids.as_slice(), &Zookie { store, rev })
         }
         Told::Grouped(found) => {
             let rev = found.rev;

@@ -72,6 +72,7 @@ call_pending word =
       same_short word_room word (codes "check") (omega arith),
       same_short word_room word (codes "read") (omega arith),
       same_short word_room word (codes "expand") (omega arith),
+      same_short word_room word (codes "lookup") (omega arith),
       same_short word_room word (codes "watch") (omega arith),
       same_short word_room word (codes "leopard") (omega arith),
       same_short word_room word (codes "hot") (omega arith),

@@ -2,11 +2,8 @@
 
 use names::{Object, ObjectId, RelationName};
 
-/// The most objects of a lookup; the least is 1.
-pub const MAX_OBJECTS: u16 = 1_000;
-
 /// Which objects are asked for: those of the namespace to which the user has the relation. Of them those whose
-/// ids come later than one by their bytes, where it is given, and at most so many.
+/// ids come later than one by their bytes, where it is given, and at most so many, which should be from 1 to [`rows::MAX_PAGE`].
 #[derive(Debug, Drop)]
 pub struct Lookup {
     pub relation: RelationName,

@@ -5,6 +5,6 @@ mod asked;
 mod law;
 mod looking;
 
-pub use asked::{Lookup, MAX_OBJECTS};
+pub use asked::Lookup;
 pub use law::{an_object_that_no_tuple_names_has_no_users, lookups_are_one};
 pub use looking::lookup_at;

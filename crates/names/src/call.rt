@@ -10,6 +10,7 @@ pub enum Call {
     Check,
     Read,
     Expand,
+    Lookup,
     Watch,
     Leopard,
     Hot,
@@ -38,6 +39,9 @@ impl Call {
         }
         if word == b"expand".as_slice() {
             return Some(Call::Expand);
+        }
+        if word == b"lookup".as_slice() {
+            return Some(Call::Lookup);
         }
         if word == b"watch".as_slice() {
             return Some(Call::Watch);

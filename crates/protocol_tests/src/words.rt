@@ -73,6 +73,7 @@ fn words_name_calls(rt: HostRuntime) {
         ("check", Some(Call::Check)),
         ("read", Some(Call::Read)),
         ("expand", Some(Call::Expand)),
+        ("lookup", Some(Call::Lookup)),
         ("watch", Some(Call::Watch)),
         ("leopard", Some(Call::Leopard)),
         ("hot", Some(Call::Hot)),

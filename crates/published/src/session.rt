@@ -8,6 +8,7 @@ ghost use Rattle.shown.specs.Asked.{IsTold, RefusesQuestion};
 ghost use Rattle.shown.specs.Expanding.{IsTree, IsTreeRefusal};
 ghost use Rattle.leopard.specs.Exprs.{query_of};
 ghost use Rattle.shown.specs.Grouping.{AreGroups, IsGroupsRefusal};
+ghost use Rattle.shown.specs.Looking.{AreObjects, IsLookupRefusal};
 ghost use Rattle.shown.specs.Paging.{IsPage, IsPageRefusal};
 ghost use Rattle.shown.specs.Watching.{IsWatched};
 ghost use Rattle.published.specs.Known.{Known, Begins};
@@ -21,9 +22,10 @@ use crate::rule::{CopyReader, Seeing};
 use core::mem::replace_with;
 use expand::Tree;
 use leopard::Expr;
+use lookup::Lookup;
 use names::{Items, Node, Object, Refusal, State, Tuple};
 use rows::Tupleset;
-use shown::{Answer, Depth, Question, Refused, Told};
+use shown::{Answer, Depth, Objects, Question, Refused, Told};
 use std::marker::Model;
 use watch::{Namespaces, Page};
 use zookie::{Consistency, Zookie};
@@ -144,6 +146,26 @@ impl Session {
     {
         match self.ask(&Question::Read(consistency, asked)) {
             Some((_, Ok(Told::Found(answer)))) => Ok(answer),
+            Some((_, Ok(_))) => unreachable!(),
+            Some((_, Err(refused))) => Err(refused),
+            None => Err(no_publication()),
+        }
+    }
+
+    /// The objects to which the user has the relation, at the revision that the consistency chooses.
+    pub fn lookup(
+        &mut self,
+        consistency: Consistency,
+        asked: Lookup,
+    ) -> Result<Answer<Objects>, Refused>
+        ensures ok { IfOk result (AreObjects (standing self.new.steps) consistency asked) }
+        ensures err { IfErr result (IsRefusedIn self.old self.new
+            (IsLookupRefusal (standing self.new.steps) consistency asked)) }
+        ensures judged { AreJudged self.new.steps }
+        ensures later { Begins self.old self.new }
+    {
+        match self.ask(&Question::Lookup(consistency, asked)) {
+            Some((_, Ok(Told::Looked(answer)))) => Ok(answer),
             Some((_, Ok(_))) => unreachable!(),
             Some((_, Err(refused))) => Err(refused),
             None => Err(no_publication()),

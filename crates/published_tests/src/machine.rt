@@ -2,8 +2,11 @@
 
 use config::Config;
 use leopard::Expr;
+use lookup::Lookup;
 use names::limits::MAX_MARKS;
-use names::{Commit, Items, Marking, Name, Node, Object, Op, OpKind, Part, Refusal, Tuple};
+use names::{
+    Commit, Items, Marking, Name, Node, Object, Op, OpKind, Part, Refusal, RelationName, Tuple,
+};
 use publication::{Event, Outcome, Posting, World};
 use rows::{Loaded, Tupleset, events_of};
 use shown::{Depth, Question, Told};
@@ -247,6 +250,24 @@ fn has_page(world: &mut World) -> Result<bool, Refusal> {
     })
 }
 
+fn has_objects(world: &mut World) -> Result<bool, Refusal> {
+    let relation = RelationName {
+        namespace: Name::parse("group")?,
+        relation: Name::parse("member")?,
+    };
+    let asked = Lookup {
+        relation,
+        user: Object::parse("user:ann")?,
+        after: None,
+        limit: 9,
+    };
+    let told = told(world, Question::Lookup(Consistency::Latest, asked))?;
+    Ok(match &told {
+        Some(Told::Looked(found)) => found.rev == 2 && found.value.ids.as_slice().len() == 1,
+        _ => false,
+    })
+}
+
 fn has_groups(world: &mut World) -> Result<bool, Refusal> {
     let expr = Expr::Member2Group(Object::parse("user:ann")?);
     let told = told(world, Question::Groups(Consistency::Latest, expr, 9))?;
@@ -275,7 +296,8 @@ fn has_numbers(world: &mut World) -> Result<bool, Refusal> {
 fn answers_each(alloc: Global, world: &mut World) -> Result<bool, Refusal> {
     let seen = is_put_and_taken(alloc, world)? && has_numbers(world)?;
     let listed = seen && has_tree(world)? && has_page(world)?;
-    Ok(listed && has_groups(world)? && has_events(world)?)
+    let found = listed && has_objects(world)? && has_groups(world)?;
+    Ok(found && has_events(world)?)
 }
 
 fn is_answered(alloc: Global) -> bool {

@@ -1,12 +1,13 @@
-//! Trees, pages and groups that a session answers: the program asks for the same beside the number of the store.
+//! Trees, pages, objects and groups that a session answers: the program asks for the same beside the number of the store.
 
 use crate::desk::{Desk, configure, insert, on_desk};
 use expand::Tree;
 use leopard::Expr;
-use names::{EventKind, Name, Node, Object, Refusal, Tuple};
+use lookup::Lookup;
+use names::{EventKind, Name, Node, Object, Refusal, RelationName, Tuple};
 use published::Session;
 use rows::Tupleset;
-use shown::Depth;
+use shown::{Depth, Objects};
 use std::alloc::Global;
 use std::process::Abort;
 use std::sync::Wait;
@@ -77,6 +78,30 @@ fn has_page(session: &mut Session) -> Result<bool, Refusal> {
     }
 }
 
+fn is_object(found: &Objects, wanted: &str) -> bool {
+    match found.ids.as_slice() {
+        [only] => found.namespace.as_str() == "group" && only.as_str() == wanted,
+        _ => false,
+    }
+}
+
+fn has_objects(session: &mut Session) -> Result<bool, Refusal> {
+    let relation = RelationName {
+        namespace: Name::parse("group")?,
+        relation: Name::parse("member")?,
+    };
+    let asked = Lookup {
+        relation,
+        user: Object::parse("user:ann")?,
+        after: None,
+        limit: 9,
+    };
+    match session.lookup(Consistency::Latest, asked) {
+        Ok(found) => Ok(found.rev == 2 && is_object(&found.value, "a")),
+        Err(refused) => Err(refused.why),
+    }
+}
+
 fn is_group(found: &[Node], wanted: &Node) -> bool {
     match found {
         [only] => *only == *wanted,
@@ -111,6 +136,7 @@ fn answers<A: Abort, R: Wait + Drop>(rt: &A, alloc: Global, desk: &mut Desk<R>) 
     let mut session = filled(rt, alloc, desk);
     assert!(rt; has_tree(&mut session).expect(rt, "a tree"));
     assert!(rt; has_page(&mut session).expect(rt, "a page"));
+    assert!(rt; has_objects(&mut session).expect(rt, "objects"));
     assert!(rt; has_groups(&mut session).expect(rt, "groups"));
     assert!(rt; has_events(&mut session).expect(rt, "events"));
 }

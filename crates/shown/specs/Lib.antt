@@ -6,6 +6,7 @@ pub mod KeptAnswers
 pub mod Expanding
 pub mod Watching
 pub mod Paging
+pub mod Looking
 pub mod Grouping
 pub mod Asked
 pub mod inside

@@ -20,6 +20,7 @@ impl Shown {
                 Ok(Told::Expanded(self.expand(at, node, depth.nodes)?))
             }
             Question::Read(at, asked) => Ok(Told::Found(self.read(at, asked)?)),
+            Question::Lookup(at, asked) => Ok(Told::Looked(self.lookup(at, asked)?)),
             Question::Groups(at, expr, limit) => Ok(Told::Grouped(self.groups(at, expr, *limit)?)),
             Question::Watch(cursor, namespaces, commits) => {
                 match self.watch(cursor, namespaces, *commits) {

@@ -13,6 +13,6 @@ mod shown;
 mod step;
 
 pub use answer::{Answer, Refused};
-pub use question::{Depth, Question, Told};
+pub use question::{Depth, Objects, Question, Told};
 pub use shown::Shown;
 pub use step::Step;

@@ -5,7 +5,8 @@ ghost use Rattle.expand.specs.declared.limits.TheConstants.{MAX_DEPTH};
 use crate::answer::Answer;
 use expand::Tree;
 use leopard::Expr;
-use names::{Items, Node, Object, State, Tuple};
+use lookup::Lookup;
+use names::{Items, Name, Node, Object, ObjectId, State, Tuple};
 use rows::Tupleset;
 use watch::{Namespaces, Page};
 use zookie::{Consistency, Zookie};
@@ -18,6 +19,13 @@ pub struct Depth {
     pub ghost bounded: { nodes ≤ MAX_DEPTH },
 }
 
+/// Objects of one namespace.
+#[derive(Drop)]
+pub struct Objects {
+    pub namespace: Name,
+    pub ids: Items<ObjectId>,
+}
+
 /// One question, and how fresh its answer must be.
 #[derive(Drop)]
 pub enum Question {
@@ -27,6 +35,8 @@ pub enum Question {
     Expand(Consistency, Node, Depth),
     /// The page of a tupleset (section 2.4.1).
     Read(Consistency, Tupleset),
+    /// Which objects of a namespace a user has a relation to (ListObjects of OpenFGA).
+    Lookup(Consistency, Lookup),
     /// The first so many groups that the expression means (section 3.2.4).
     Groups(Consistency, Expr, u32),
     /// The events of so many commits above the cursor on tuples of the namespaces (section 2.4.3).
@@ -41,6 +51,7 @@ pub enum Told {
     Checked(Answer<bool>),
     Expanded(Answer<Tree>),
     Found(Answer<Items<Tuple>>),
+    Looked(Answer<Objects>),
     Grouped(Answer<Items<Node>>),
     Watched(Page),
     Numbers(State),

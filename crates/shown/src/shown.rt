@@ -24,6 +24,9 @@ ghost use Rattle.shown.specs.KeptAnswers.{AreRetainedAnswers};
 ghost use Rattle.shown.specs.Expanding.{IsTreeOf, IsTree, IsTreeRefusal};
 ghost use Rattle.shown.specs.Watching.{IsWatched, WatchRefused};
 ghost use Rattle.shown.specs.Paging.{IsPage, IsPageRefusal};
+ghost use Rattle.lookup.specs.Causes.{LookupCause};
+ghost use Rattle.lookup.specs.Found.{IsLookup};
+ghost use Rattle.shown.specs.Looking.{AreObjects, IsLookupRefusal};
 ghost use Rattle.leopard.specs.Answers.{AreFirst};
 ghost use Rattle.leopard.specs.Causes.{IsAnswerable, AskCause};
 ghost use Rattle.leopard.specs.Exprs.{query_of};
@@ -38,6 +41,7 @@ use crate::groups::{self, index_later};
 use crate::known::{Known, answers_at};
 use crate::marks::{count_with, remark};
 use crate::members::{members_after, members_later, members_of};
+use crate::question::Objects;
 use crate::step::Step;
 use answer_cache::CachedAnswers;
 use config::Config;
@@ -46,8 +50,9 @@ use facts::each_view_is_valid;
 use group_index::{At, GroupIndex};
 use hot::Hot;
 use leopard::Expr;
+use lookup::Lookup;
 use names::limits::MAX_MARKS;
-use names::{Items, Marking, Node, Object, Op, Part, Refusal, State, Tuple, Write};
+use names::{Items, Marking, Node, Object, ObjectId, Op, Part, Refusal, State, Tuple, Write};
 use rows::{Loaded, Rows, Tupleset, what_follows_has_room};
 use std::alloc::{AllocError, Global};
 use std::marker::Model;
@@ -492,6 +497,58 @@ impl Shown {
                 at: None,
             }),
         }
+    }
+
+    /// The objects to which the user has the relation, at the revision that the consistency chooses: the first so many of those
+    /// asked for, in the order of their ids' bytes.
+    pub fn lookup(
+        &self,
+        consistency: &Consistency,
+        asked: &Lookup,
+    ) -> Result<Answer<Objects>, Refused>
+        ensures ok { IfOk result (AreObjects self.now consistency.now asked.now) }
+        ensures err { IfErr result (IsLookupRefusal self.now consistency.now asked.now) }
+    {
+        let rev = match self.choose(consistency) {
+            Ok(rev) => rev,
+            Err(why) => return Err(Refused { why, at: None }),
+        };
+        match self.lookup_at(rev, asked) {
+            Ok(ids) => {
+                let namespace = asked.relation.namespace.again();
+                let ids = Items::of(ids);
+                Ok(Answer {
+                    rev,
+                    value: Objects { namespace, ids },
+                })
+            }
+            Err(why) => {
+                let at = match &why {
+                    Refusal::Memory => None,
+                    _ => Some(rev),
+                };
+                Err(Refused { why, at })
+            }
+        }
+    }
+
+    /// The ids of the objects at a retained revision.
+    fn lookup_at(&self, rev: u64, asked: &Lookup) -> Result<Vec<ObjectId>, Refusal>
+        requires { IsRetained self.now.kept rev }
+        ensures ok { IfOk result (λ ids. IsLookup (snap_at self.now.kept rev) asked.now ids.items) }
+        ensures known { OnOk result
+            (has_relation (snap_at self.now.kept rev).config asked.now.relation ≡ true) }
+        ensures err { IfErr result (LookupCause (snap_at self.now.kept rev) asked.now) }
+    {
+        let view = self.rows.at(rev);
+        each_view_is_valid(&view);
+        let (hot, groups) = (self.members_at(rev), self.index_at(rev));
+        let mut known = Known {
+            hot,
+            groups,
+            answers: None,
+        };
+        lookup::lookup_at(self.alloc, &view, &mut known, asked)
     }
 
     /// The first so many groups that the expression means, in the order of nodes, at the revision that the consistency
