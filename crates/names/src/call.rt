@@ -26,45 +26,34 @@ impl Call {
         ensures { result ≡ call_of word.now }
     {
         if word == b"write".as_slice() {
-            return Some(Call::Write);
+            Some(Call::Write)
+        } else if word == b"config".as_slice() {
+            Some(Call::Config)
+        } else if word == b"check".as_slice() {
+            Some(Call::Check)
+        } else if word == b"read".as_slice() {
+            Some(Call::Read)
+        } else if word == b"expand".as_slice() {
+            Some(Call::Expand)
+        } else if word == b"lookup".as_slice() {
+            Some(Call::Lookup)
+        } else if word == b"watch".as_slice() {
+            Some(Call::Watch)
+        } else if word == b"leopard".as_slice() {
+            Some(Call::Leopard)
+        } else if word == b"hot".as_slice() {
+            Some(Call::Hot)
+        } else if word == b"trim".as_slice() {
+            Some(Call::Trim)
+        } else if word == b"catchup".as_slice() {
+            Some(Call::CatchUp)
+        } else if word == b"rebuild".as_slice() {
+            Some(Call::Rebuild)
+        } else if word == b"state".as_slice() {
+            Some(Call::State)
+        } else {
+            None
         }
-        if word == b"config".as_slice() {
-            return Some(Call::Config);
-        }
-        if word == b"check".as_slice() {
-            return Some(Call::Check);
-        }
-        if word == b"read".as_slice() {
-            return Some(Call::Read);
-        }
-        if word == b"expand".as_slice() {
-            return Some(Call::Expand);
-        }
-        if word == b"lookup".as_slice() {
-            return Some(Call::Lookup);
-        }
-        if word == b"watch".as_slice() {
-            return Some(Call::Watch);
-        }
-        if word == b"leopard".as_slice() {
-            return Some(Call::Leopard);
-        }
-        if word == b"hot".as_slice() {
-            return Some(Call::Hot);
-        }
-        if word == b"trim".as_slice() {
-            return Some(Call::Trim);
-        }
-        if word == b"catchup".as_slice() {
-            return Some(Call::CatchUp);
-        }
-        if word == b"rebuild".as_slice() {
-            return Some(Call::Rebuild);
-        }
-        if word == b"state".as_slice() {
-            return Some(Call::State);
-        }
-        None
     }
 }
 
