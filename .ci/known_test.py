@@ -198,6 +198,34 @@ class Keys(unittest.TestCase):
                 self.known.note(label, key)
             self.assertEqual(self.changed("crates/low/specs/Lost.antt", "= 1", "= 2", files), wanted)
 
+    def test_what_only_a_crate_can_use_of_its_types_is_not_reached_from_above(self):
+        model = "ghost use Rattle.low.specs.Lost.{lost};\npub struct Kept {\n    at: u8,\n}\nimpl Model for Kept {\n    ghost Value = { ℕ };\n    ghost view = { seen };\n    ghost invariant = { held };\n}\n"
+        lost = ("crates/low/specs/Lost.antt", "= 1", "= 2")
+        for old, new, wanted in [
+            ("seen", "lost", [DUE] * 3),
+            ("held", "lost s.at", [DUE] * 3),
+            ("at: u8", "at: Lost", [DUE] * 3),
+            ("ℕ", "lost", SOME),
+            ("at: u8", "pub at: Lost", SOME),
+            ("at: u8", "at: Lost,\n    pub other: u8", SOME),
+            ("at: u8,", "at: u8,\n    ghost it: { lost },", SOME),
+            ("Model for Kept", "Other for Kept", SOME),
+        ]:
+            text = model.replace(old, new).replace("seen", "lost" if "Other" in new else "seen")
+            files = {**FILES, "crates/low/src/kept.rt": text}
+            self.known = Known()
+            for label, key in keys(files).items():
+                self.known.note(label, key)
+            self.assertEqual(self.changed(*lost, files), wanted, (old, new))
+
+    def test_what_only_a_crate_can_use_of_its_types_is_reached_in_it(self):
+        code = "ghost use Rattle.high.specs.Two.{second};\npub struct Kept {\n    at: u8,\n}\nimpl Model for Kept {\n    ghost Value = { ℕ };\n    ghost invariant = { second };\n}\n"
+        files = {**FILES, "crates/high/src/kept.rt": code}
+        self.known = Known()
+        for label, key in keys(files).items():
+            self.known.note(label, key)
+        self.assertEqual(self.changed("crates/high/specs/Two.antt", "second = 4", "second = 3", files), SOME)
+
     def test_under_another_kit(self):
         self.assertEqual(self.standings(keys(FILES, "kit-1 logic a")), [HELD] * 3)
         self.assertEqual(self.standings(keys(FILES, "kit-2 logic a")), [DUE] * 3)

@@ -59,6 +59,47 @@ def uses_in(tokens):
     return found
 
 
+def block(tokens, first):
+    """Returns the place of the brace that opens the next block of code after a place, and of the one that closes it, or None."""
+    depth, start = 0, None
+    for at in range(first, len(tokens)):
+        if tokens[at].kind == "Code" and tokens[at].text in (";", "{", "}"):
+            if tokens[at].text == ";" and not depth:
+                return None
+            depth += {"{": 1, "}": -1}.get(tokens[at].text, 0)
+            start = at if depth == 1 and tokens[at].text == "{" else start
+            if not depth:
+                return start, at
+    return None
+
+
+def clause(tokens, start, end, name):
+    """Returns the range of the words that a block says a ghost item of this name is, or an empty one."""
+    for at in range(start, end - 3):
+        if [it.text for it in tokens[at : at + 4]] == ["ghost", name, "=", "{"]:
+            last = next((k for k in range(at + 4, end) if tokens[k].kind == "End"), at + 4)
+            return range(at + 4, last)
+    return range(0)
+
+
+def inner_of(tokens):
+    """Returns where the tokens are that only the crate itself can use: of a type that contracts see as a value, the fields, where all are private, how the
+    value is made of them, and what is always true of them."""
+    structs, found = {}, set()
+    for at, it in enumerate(tokens[:-1]):
+        if it.kind == "Code" and it.text == "struct":
+            its = block(tokens, at)
+            words = tokens[its[0] + 1 : its[1]] if its else []
+            is_private = its and not any(word.text == "pub" or word.kind != "Code" for word in words)
+            structs[tokens[at + 1].text] = range(its[0] + 1, its[1]) if is_private else None
+    for at in range(len(tokens) - 2):
+        if [it.text for it in tokens[at : at + 2]] == ["Model", "for"] and structs.get(tokens[at + 2].text):
+            its = block(tokens, at)
+            if its:
+                found.update(structs[tokens[at + 2].text], clause(tokens, *its, "view"), clause(tokens, *its, "invariant"))
+    return {tokens[at].start for at in found}
+
+
 def import_of(line):
     """Returns the path of a line that brings names in, and these, or the line and None where they are not certain."""
     path, _, names = line.partition(".{")
@@ -92,12 +133,16 @@ class Code:
                 self.shown += names if line[0].text == "pub" else []
         heads = [(source.item(it)[0][0], *it.body, it.is_open) for it in self.functions]
         starts = [it[0] for it in heads]
-        self.texts = {at: [] for at in range(-1, len(heads))}
+        self.texts, inner = {at: [] for at in range(-1, len(heads))}, inner_of(source.tokens)
+        # what crates above may use of what else stands there
+        self.outer = []
         for it in [*kept, *source.tokens[left:]]:
             at = bisect.bisect(starts, it.start) - 1
             at = at if at >= 0 and it.start < heads[at][2] else -1
             if at < 0 or it.start < heads[at][1] or heads[at][3]:
                 self.texts[at].append((it.kind, it.text))
+            if at < 0 and it.start not in inner:
+                self.outer.append((it.kind, it.text))
         self.note_names()
 
     def note_names(self):
@@ -114,10 +159,10 @@ class Code:
             types += [(it.owner.of_type, at, True)] if is_of_trait else []
         self.types = types
 
-    def words(self, at):
+    def words(self, at, is_own):
         owner = self.functions[at].owner if at >= 0 else None
         more = {old for old, _ in self.shown} if at < 0 else {owner.of_type, owner.of_trait, *owner.arguments} if owner else set()
-        return split(it for _, it in self.texts[at]) | more
+        return split(it for _, it in (self.texts[at] if is_own or at >= 0 else self.outer)) | more
 
     def named(self, words):
         """Returns the parts that these words name in a path of this file."""
@@ -157,7 +202,7 @@ class Definitions:
         # an operator counts always
         self.names = {at: None if any(not NAME.fullmatch(it) for it in its) else words_in(" ".join(its)) for at, its in self.names.items()}
 
-    def words(self, at):
+    def words(self, at, is_own=True):
         return words_in("\n".join(self.texts[at]))
 
     def named(self, words):
@@ -252,14 +297,15 @@ class Reach:
                     found.add((it.name, item))
         return found, methods
 
-    def step(self, crate, item):
-        """Returns what an item of the crate names, and the methods that it may call."""
-        if (crate.name, item) not in self.known:
+    def step(self, crate, item, is_own):
+        """Returns what an item of the crate names, and the methods that it may call. is_own: whether the crate itself asks, and none above it."""
+        key = (crate.name, item, is_own)
+        if key not in self.known:
             files = self.of(crate)
             part = files.parts.get(item.path)
             if item.path.endswith(".rt"):
                 is_open = not part or item.at >= 0 and part.functions[item.at].is_open
-                found, methods = self.by_words(crate, item.path, part.words(item.at) if part else words_in(files.texts[item.path]), is_open)
+                found, methods = self.by_words(crate, item.path, part.words(item.at, is_own) if part else words_in(files.texts[item.path]), is_open)
                 # (what an impl says at its head stands in the rest of its file)
                 found = found | {(crate.name, Item(item.path))} if part and item.at >= 0 and part.functions[item.at].owner else found, methods
             elif part:
@@ -269,8 +315,8 @@ class Reach:
             else:
                 text = files.text(item)
                 found = self.by_paths(crate, text if isinstance(text, str) else "\n".join(text)), set()
-            self.known[crate.name, item] = found
-        return self.known[crate.name, item]
+            self.known[key] = found
+        return self.known[key]
 
     def reached(self, crate, bodies, proofs, text):
         """Returns all that an edit of this text reaches. bodies: the functions that share a proof with one that it changes, with the words of their bodies;
@@ -297,7 +343,7 @@ class Reach:
             it = left.pop()
             if it not in seen:
                 seen.add(it)
-                found, more = self.step(crates[it[0]], it[1])
+                found, more = self.step(crates[it[0]], it[1], it[0] == crate.name)
                 left, methods = [*left, *found], methods | more
             if not left:
                 ready = {(name, item) for name, owner, item in methods if any((name, of) in seen for of in self.of(crates[name]).types[True].get(owner, ()))}
