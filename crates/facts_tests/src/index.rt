@@ -1,6 +1,7 @@
 //! Questions about groups and their members, answered by the index of each revision as its tuples answer them.
 
 use crate::groups::{add, are_nodes, events_of, fill};
+use by_subject::ViewBySubject;
 use decide::check_at;
 use facts::each_view_is_valid;
 use group_index::{At, GroupIndex};
@@ -40,7 +41,7 @@ fn by_tuples(
     limit: u32,
     wanted: &str,
 ) -> Result<bool, Refusal> {
-    let found = groups_at(alloc, view, expr, limit)?;
+    let found = groups_at(alloc, &ViewBySubject::of(view, None), expr, limit)?;
     are_nodes(&found, wanted)
 }
 

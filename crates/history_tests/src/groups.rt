@@ -1,6 +1,7 @@
 //! Questions about groups, answered by an index and from the tuples.
 
 use crate::histories::fill;
+use by_subject::ViewBySubject;
 use idsets::{IdSet, Ids};
 use leopard::{
     Built, Expr, Found, answers_are_one, first_named, found_of, groups_at,
@@ -72,7 +73,8 @@ fn by_tuples(
     limit: u32,
     wanted: &str,
 ) -> Result<bool, Refusal> {
-    let found = groups_at(alloc, &rows.at(rows.newest()), expr, limit)?;
+    let view = rows.at(rows.newest());
+    let found = groups_at(alloc, &ViewBySubject::of(&view, None), expr, limit)?;
     are_nodes(&found, wanted)
 }
 
@@ -241,7 +243,7 @@ fn an_index_refuses_as_the_tuples_do(rt: HostRuntime) -> Result<(), Fail> {
 fn found(alloc: Global, view: &View<'_>, id: u64) -> Result<Found, Refusal> {
     let expr = Expr::Member2Group(Object::parse("user:ann")?);
     let ids = IdSet::of(vec![in alloc; id]?);
-    let Found { others, .. } = found_of(alloc, view, &expr)?;
+    let Found { others, .. } = found_of(alloc, &ViewBySubject::of(view, None), &expr)?;
     Ok(Found { ids, others })
 }
 

@@ -64,3 +64,19 @@ pub(crate) fn history(alloc: Global, lines: &[&str]) -> Result<Rows, Refusal> {
     fill(alloc, &mut rows, lines)?;
     Ok(rows)
 }
+
+/// The words' tuples.
+pub(crate) fn tuples_in(alloc: Global, words: &str) -> Result<Vec<Tuple>, Refusal> {
+    let mut tuples = Vec::new(alloc);
+    for word in words.split_ascii_whitespace() {
+        tuples.push(Tuple::parse(word)?)?;
+    }
+    Ok(tuples)
+}
+
+/// Trims the history up to the floor, where it goes so far.
+pub(crate) fn trims(rows: &mut Rows, floor: u64) {
+    if floor <= rows.newest() {
+        rows.trim(floor);
+    }
+}

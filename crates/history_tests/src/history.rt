@@ -1,6 +1,6 @@
 //! Calls of a history that the program does not make yet.
 
-use crate::histories::{history, written};
+use crate::histories::{history, trims, tuples_in, written};
 use config::Config;
 use names::{Commit, EventKind, Node, Object, Refusal, Tuple};
 use rows::Rows;
@@ -49,14 +49,6 @@ const IN_ORDER: &str =
     "a:x#r@u:v a:x#r@u:v#m a:x-#r@u:v a0:x#r@u:v doc:a#viewer@u:a doc:b#view@u:a doc:b#viewer@u:a doc:b#viewer@u:a#m doc:b#viewer@u:b doc:b#viewer_@u:a doc:b-#viewer@u:a doc:c#viewer@u:a";
 
 const OF_B: &str = "doc:b#viewer@u:a doc:b#viewer@u:a#m doc:b#viewer@u:b";
-
-fn tuples_in(alloc: Global, words: &str) -> Result<Vec<Tuple>, Refusal> {
-    let mut tuples = Vec::new(alloc);
-    for word in words.split_ascii_whitespace() {
-        tuples.push(Tuple::parse(word)?)?;
-    }
-    Ok(tuples)
-}
 
 fn lists(alloc: Global, rows: &Rows, words: &str) -> Result<bool, Refusal> {
     let found = rows.at(rows.newest()).tuples(alloc)?;
@@ -172,12 +164,6 @@ fn change_last(alloc: Global) -> Result<bool, Refusal> {
 fn a_tuple_is_unchanged_since_its_last_event(rt: HostRuntime) -> Result<(), Fail> {
     assert!(rt; change_last(rt.alloc())?);
     Ok(())
-}
-
-fn trims(rows: &mut Rows, floor: u64) {
-    if floor <= rows.newest() {
-        rows.trim(floor);
-    }
 }
 
 fn has(rows: &Rows, floor: u64, newest: u64, spans: u64, tuples: u64) -> bool {

@@ -1,4 +1,4 @@
-//! Tests of a history, `rows`, and of what is read off its revisions (`watch`, `expand`, `lookup`, and of groups `leopard`), of the policies (`config`,
+//! Tests of a history, `rows`, and of what is read off its revisions (`watch`, `expand`, `lookup`, `by_subject`, and of groups `leopard`), of the policies (`config`,
 //! `snapshots` and `plain`), and of a session's answers, `answer_cache`, by their public calls: what no run of the program shows.
 #![tactic(auto)]
 
@@ -16,6 +16,8 @@ mod kept;
 mod lookups;
 #[cfg(test)]
 mod memberships;
+#[cfg(test)]
+mod naming;
 #[cfg(test)]
 mod pages;
 #[cfg(test)]

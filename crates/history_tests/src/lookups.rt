@@ -1,24 +1,31 @@
 //! Lookups.
+ghost use Rattle.std.specs.Prelude.{IfOk, IfSome};
+ghost use Rattle.by_subject.specs.Complete.{Covers};
 
 use crate::histories::history;
+use by_subject::{BySubject, ViewBySubject};
 use decide::Nothing;
 use lookup::{Lookup, an_object_that_no_tuple_names_has_no_users, lookup_at, lookups_are_one};
-use names::{Name, Object, ObjectId, Refusal, RelationName};
-use rows::Rows;
-use std::alloc::Global;
+use names::{Items, Name, Object, ObjectId, Refusal, RelationName};
+use rows::{Loaded, Rows, View};
+use std::alloc::{AllocError, Global};
 use std::test::Fail;
 
-// Two groups that hold each other, and documents whose readers are their viewers, but for who is blocked.
+// Two groups that hold each other, and documents whose readers are their viewers, but for who is blocked. A document in a
+// folder is found by those who see the folder, too.
 const CONFIG: &str =
     r#"{"namespaces":{"user":{},"group":{"member":{"types":["user","group#member"]}},
-"doc":{"viewer":{"types":["user","group#member"]},"blocked":{"types":["user"]},
-"reader":{"rewrite":{"exclusion":[{"computed":"viewer"},{"computed":"blocked"}]}}}}}"#;
+"folder":{"viewer":{"types":["group#member"]}},
+"doc":{"viewer":{"types":["user","group#member"]},"blocked":{"types":["user"]},"parent":{"types":["folder"]},
+"reader":{"rewrite":{"exclusion":[{"computed":"viewer"},{"computed":"blocked"}]}},
+"finder":{"rewrite":{"union":[{"computed":"reader"},{"tuple_to":{"tupleset":"parent","relation":"viewer"}}]}}}}}"#;
 
-const LINES: [&str; 4] = [
+const LINES: [&str; 5] = [
     CONFIG,
     "group:a#member@group:b#member group:b#member@group:a#member group:b#member@user:ann",
     "doc:1#viewer@group:a#member doc:10#viewer@user:ann doc:2#viewer@user:ann doc:2#blocked@user:ann",
     "doc:3#viewer@group:b#member doc:4#viewer@user:bob doc:5#viewer@group:a#member doc:5#viewer@user:ann",
+    "folder:f#viewer@group:a#member doc:2#parent@folder:f doc:6#parent@folder:f doc:7#parent@folder:g",
 ];
 
 fn id_of(text: &str) -> Result<Option<ObjectId>, Refusal> {
@@ -57,34 +64,72 @@ fn are_ids(ids: &[ObjectId], words: &str) -> bool {
     ids.len() == words.split_ascii_whitespace().count()
 }
 
+// The view's tuples, found by whom they name.
+fn index_of(alloc: Global, view: &View) -> Result<BySubject, AllocError>
+    ensures { IfOk result (λ found. Covers found view.now.tuples) }
+{
+    let config = view.config().again(alloc)?;
+    let tuples = view.tuples(alloc)?;
+    let loaded = Loaded {
+        number: 0,
+        floor: 0,
+        config,
+        tuples: Items::of(tuples),
+        commits: Items::of(Vec::new(alloc)),
+    };
+    let found = BySubject::of(alloc, &loaded)?;
+    Ok(found)
+}
+
+// Whether a lookup gives these ids.
+fn looks_up(
+    alloc: Global,
+    view: &View,
+    found: Option<&BySubject>,
+    asked: &Lookup,
+    wanted: &str,
+) -> Result<bool, Refusal>
+    requires { IfSome found (λ found. Covers found.now view.now.tuples) }
+{
+    let by_subject = ViewBySubject::of(view, found);
+    let ids = lookup_at(alloc, &by_subject, &mut Nothing, asked)?;
+    Ok(are_ids(&ids, wanted))
+}
+
+// Whether both ways give these ids: over the namespace, and up from the user.
 fn gives(alloc: Global, asked: &Lookup, wanted: &str) -> Result<bool, Refusal> {
     let rows = history(alloc, &LINES)?;
-    let found = lookup_at(alloc, &rows.at(rows.newest()), &mut Nothing, asked)?;
-    Ok(are_ids(&found, wanted))
+    let view = rows.at(rows.newest());
+    let subjects = index_of(alloc, &view)?;
+    let over = looks_up(alloc, &view, None, asked, wanted)?;
+    Ok(over && looks_up(alloc, &view, Some(&subjects), asked, wanted)?)
 }
 
 #[test]
 fn the_objects_of_a_user_are_found_in_order(rt: HostRuntime) -> Result<(), Fail> {
     an_object_that_no_tuple_names_has_no_users();
     lookups_are_one();
-    for (user, after, limit, wanted) in [
-        ("user:ann", "", 1000, "1 10 3 5"),
-        ("user:ann", "", 2, "1 10"),
-        ("user:ann", "1", 2, "10 3"),
-        ("user:ann", "2", 1000, "3 5"),
-        ("user:ann", "5", 1000, ""),
-        ("user:bob", "", 1000, "4"),
-        ("user:cy", "", 1000, ""),
+    for (relation, user, after, limit, wanted) in [
+        ("reader", "user:ann", "", 1000, "1 10 3 5"),
+        ("reader", "user:ann", "", 2, "1 10"),
+        ("reader", "user:ann", "1", 2, "10 3"),
+        ("reader", "user:ann", "2", 1000, "3 5"),
+        ("reader", "user:ann", "5", 1000, ""),
+        ("reader", "user:bob", "", 1000, "4"),
+        ("reader", "user:cy", "", 1000, ""),
+        ("finder", "user:ann", "", 1000, "1 10 2 3 5 6"),
+        ("finder", "user:bob", "", 1000, "4"),
     ] {
-        let asked = asked("reader", user, after, limit)?;
+        let asked = asked(relation, user, after, limit)?;
         let right = gives(rt.alloc(), &asked, wanted)?;
-        assert!(rt; right, "{user} after {after}");
+        assert!(rt; right, "{relation} of {user} after {after}");
     }
     Ok(())
 }
 
 fn is_unknown(alloc: Global, rows: &Rows, asked: &Lookup) -> bool {
-    let found = lookup_at(alloc, &rows.at(rows.newest()), &mut Nothing, asked);
+    let view = rows.at(rows.newest());
+    let found = lookup_at(alloc, &ViewBySubject::of(&view, None), &mut Nothing, asked);
     matches!(found, Err(Refusal::UnknownRelation))
 }
 

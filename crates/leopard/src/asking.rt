@@ -13,12 +13,12 @@ use crate::refusing::refusal_of;
 use crate::sets::first_of;
 use crate::source::GroupSets;
 use crate::walk::reached;
+use by_subject::ViewBySubject;
 use names::{Node, Object, Refusal};
-use rows::View;
 use std::alloc::{AllocError, Global};
 
 /// The tuples give no id to any group.
-impl<'a> GroupSets for View<'a> {
+impl<'a> GroupSets for ViewBySubject<'a> {
     ghost use Rattle.std.specs.Prelude.{◌≡◌, []};
     ghost use Rattle.leopard.specs.inside.Unnamed.{distinct_none};
 
@@ -32,7 +32,7 @@ impl<'a> GroupSets for View<'a> {
     }
 
     fn closure(&self, alloc: Global, group: &Node) -> Result<Found, AllocError> {
-        let groups = reached(alloc, self, group)?;
+        let groups = reached(alloc, self.view(), group)?;
         Ok(unnamed(alloc, groups))
     }
 
@@ -40,16 +40,21 @@ impl<'a> GroupSets for View<'a> {
 }
 
 /// The first groups of an expression at the view's revision, in the order of nodes, read from its tuples (Zanzibar,
-/// section 3.2.4). Of a user's direct groups the tuples of a namespace are gone over once for each relation of it that
-/// is indexed, for each place where they are asked for; of a group the tuples of each group to which it leads, once,
-/// however cycles of groups run. It takes memory for a page of tuples, or for one group's, and for all groups of the
-/// expression, however few are asked for.
-pub fn groups_at(alloc: Global, view: &View, expr: &Expr, limit: u32) -> Result<Vec<Node>, Refusal>
+/// section 3.2.4). Of a user's direct groups the tuples that name the user are gone over once for each relation that is
+/// indexed, for each place where they are asked for, or else those of its namespace, as a read of the view does; of a group the
+/// tuples of each group to which it leads, once, however cycles of groups run. It takes memory for a page of tuples, or for one
+/// group's, and for all groups of the expression, however few are asked for.
+pub fn groups_at(
+    alloc: Global,
+    view: &ViewBySubject,
+    expr: &Expr,
+    limit: u32,
+) -> Result<Vec<Node>, Refusal>
     ensures ok { IfOk result (λ v. IsAnswerable view.now.config (query_of expr.now) limit) }
     ensures groups { IfOk result (λ v. AreFirst limit (Means view.now (query_of expr.now)) v.items) }
     ensures err { IfErr result (λ why. AskCause view.now.config (query_of expr.now) limit why) }
 {
-    if let Some(why) = refusal_of(view.config(), expr, limit) {
+    if let Some(why) = refusal_of(view.view().config(), expr, limit) {
         return Err(why);
     }
     let found = found_of(alloc, view, expr)?;

@@ -5,22 +5,22 @@ ghost use Rattle.leopard.specs.inside.Asking.{AreAll, Gains};
 ghost use Rattle.leopard.specs.inside.Direct.{Names, sought};
 
 use crate::sets::put;
+use by_subject::ViewBySubject;
 use names::{Node, Object, RelationName, Subject, Tuple};
-use rows::{MAX_PAGE, Tupleset, View};
+use rows::{MAX_PAGE, Tupleset};
 use std::alloc::{AllocError, Global};
 use std::collections::BTreeSet;
 
-/// The groups that name the user by a tuple of their own. The tuples of a namespace are gone over once for each
-/// relation of it that is indexed, a page of those that name the user at a time: memory is taken for one page and
-/// for the groups that are found.
+/// The groups that name the user by a tuple of their own. The tuples that name the user are read once for each relation that
+/// is indexed, a page at a time: memory is taken for one page and for the groups that are found.
 pub(crate) fn direct(
     alloc: Global,
-    view: &View,
+    view: &ViewBySubject,
     user: &Object,
 ) -> Result<BTreeSet<Node>, AllocError>
     ensures { IfOk result (λ groups. AreAll (MemberToGroup view.now user.now) groups.keys) }
 {
-    let relations = view.config().relations();
+    let relations = view.view().config().relations();
     let mut groups = BTreeSet::new(alloc);
     for relation in relations {
         if relation.indexed {
@@ -33,7 +33,7 @@ pub(crate) fn direct(
 /// Puts in the relation's nodes that name the user by a tuple of their own.
 fn put_named(
     alloc: Global,
-    view: &View,
+    view: &ViewBySubject,
     relation: &RelationName,
     user: &Object,
     groups: &mut BTreeSet<Node>,

@@ -4,3 +4,9 @@ pub mod Pages
 pub mod Steps
 pub mod Ends
 pub mod One
+pub mod Reach
+pub mod ReadBy
+pub mod Growing
+pub mod Stepping
+pub mod Candidates
+pub mod Adding

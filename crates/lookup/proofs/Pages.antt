@@ -1,5 +1,5 @@
 -- Going over a namespace's tuples, page by page.
-use Rattle.std.proofs.Common.{◌≡◌, ℕ, zero, suc, ◌<◌, ◌≤◌, List, [], ◌∷◌, ◌++◌, length, take, drop, Bool, true, false, cond, T, refl, ap, sym, subst, ◌∙◌, inl, inr, arith, append_assoc}
+use Rattle.std.proofs.Common.{◌≡◌, ℕ, zero, suc, ◌<◌, List, [], ◌∷◌, ◌++◌, length, take, drop, Bool, true, false, cond, T, refl, ap, sym, subst, ◌∙◌, arith, append_assoc}
 use Rattle.std.specs.Prelude.{◌&&◌, Contains, filter, map, Option, Some, None, IsSome}
 use Rattle.std.specs.FinMap as finite
 use Rattle.std.specs.FinMap.{is_sorted}
@@ -27,7 +27,7 @@ use Rattle.meaning.specs.Config.{Defined, IsWhole}
 use Rattle.meaning.specs.Snap.{Snap, one}
 use Rattle.meaning.specs.TupleSet as set
 use Rattle.meaning.specs.TupleSet.{Tuples}
-use Rattle.meaning.proofs.Lists.{contains_here, contains_there, contains_map, contains_map_back, contains_none}
+use Rattle.meaning.proofs.Lists.{contains_here, contains_there, contains_map, contains_map_back}
 use Rattle.meaning.proofs.TupleSets.{tuples_total}
 use Rattle.rows.specs.Tuplesets.{matches, is_after, page}
 use Rattle.rows.specs.declared.tupleset.Tupleset.{Tupleset}
@@ -40,6 +40,7 @@ use Rattle.lookup.specs.Found.{node_of, is_later, IsFound}
 use Rattle.lookup.specs.inside.Pages.{tuples_in, start_of, unread, ids_of}
 use Rattle.lookup.specs.inside.Underway.{IsRising, IsUnderway}
 use Rattle.lookup.proofs.Ids.{is_less}
+use Rattle.lookup.proofs.Steps.{begins}
 use Rattle.lookup.proofs.Known.{only_known}
 
 -- ---- the items of a set are in order
@@ -170,22 +171,11 @@ start_passes : (asked : Lookup) (after : Option (List ℕ)) (t : Tuple) → t.no
 start_passes asked None t same later = refl
 start_passes asked (Some id) t same later = ap is_lt (by_id (record { node = node_of asked.relation id; subject = one asked.user }) t (sym same) (is_less (slice_cmp nat_cmp id t.node.object.id) later))
 
-nothing_sorted : IsStrictlySortedBy (slice_cmp nat_cmp) []
-unfolding IsStrictlySortedBy
-nothing_sorted = tt
-
 pub starts : (S : Snap) (asked : Lookup) (found : Found) (tupleset : Tupleset) → ((d : Defined) → Contains S.config.relations d → IsWhole d.form)
     → found.ids.items ≡ [] → found.last ≡ asked.after → tupleset ≡ tuples_in asked.relation.namespace (start_of asked) → IsUnderway S asked found (ids_of (unread tupleset S.tuples))
 starts S asked found tupleset whole none last is =
-    let namespace = asked.relation.namespace in
-    subst (λ (q : Tupleset). IsUnderway S asked found (ids_of (unread q S.tuples))) (sym is) (record {
-      rising = unread_rising namespace (start_of asked) S.tuples;
-      behind = λ id l. sym (ap (λ o. is_later o id) last) ∙ l;
-      sorted = subst (IsStrictlySortedBy (slice_cmp nat_cmp)) (sym none) nothing_sorted;
-      few = subst (λ (xs : List (List ℕ)). length xs ≤ asked.limit) (sym none) (omega arith);
-      only = λ id c. absurd (contains_none id (subst (λ (xs : List (List ℕ)). Contains xs id) none c));
-      others = λ id f. inr (ap (λ o. is_later o id) last ∙ f.1, inl (of_tuple id f));
-    })
+    subst (λ (q : Tupleset). IsUnderway S asked found (ids_of (unread q S.tuples))) (sym is)
+    (begins S asked found (ids_of (unread (tuples_in asked.relation.namespace (start_of asked)) S.tuples)) (unread_rising asked.relation.namespace (start_of asked) S.tuples) of_tuple none last)
   where
     of_tuple : (id : List ℕ) → IsFound S asked id → Contains (ids_of (unread (tuples_in asked.relation.namespace (start_of asked)) S.tuples)) id
     of_tuple id f =

@@ -11,12 +11,28 @@ use Rattle.std.proofs.lemmas.List.Elements.{Contains-append_left, Contains-push,
 use Rattle.std.proofs.lemmas.Map.Lookups.{exact_bytes}
 use Rattle.meaning.specs.Snap.{Snap}
 use Rattle.meaning.specs.Membership.{IsMember}
-use Rattle.meaning.proofs.Lists.{contains_cases}
+use Rattle.meaning.proofs.Lists.{contains_cases, contains_none}
 use Rattle.lookup.specs.declared.asked.Lookup.{Lookup}
 use Rattle.lookup.specs.declared.looking.Found.{Found}
 use Rattle.lookup.specs.Found.{node_of, is_later, IsFound}
-use Rattle.lookup.specs.inside.Underway.{IsUnderway}
+use Rattle.lookup.specs.inside.Underway.{IsRising, IsUnderway}
 use Rattle.lookup.proofs.Ids.{between, later_on, turned, turned_back, sorted_push}
+
+nothing_sorted : IsStrictlySortedBy (slice_cmp nat_cmp) []
+unfolding IsStrictlySortedBy
+nothing_sorted = tt
+
+-- nothing was found yet, and all that are found are left
+pub begins : (S : Snap) (asked : Lookup) (found : Found) (left : List (List ℕ)) → IsRising left → ((id : List ℕ) → IsFound S asked id → Contains left id)
+    → found.ids.items ≡ [] → found.last ≡ asked.after → IsUnderway S asked found left
+begins S asked found left rising there none last = record {
+  rising = rising;
+  behind = λ id l. sym (ap (λ o. is_later o id) last) ∙ l;
+  sorted = subst (IsStrictlySortedBy (slice_cmp nat_cmp)) (sym none) nothing_sorted;
+  few = subst (λ (xs : List (List ℕ)). length xs ≤ asked.limit) (sym none) (omega arith);
+  only = λ id c. absurd (contains_none id (subst (λ (xs : List (List ℕ)). Contains xs id) none c));
+  others = λ id f. inr (ap (λ o. is_later o id) last ∙ f.1, inl (there id f));
+}
 
 module _ (S : Snap) (asked : Lookup) (found : Found) (id : List ℕ) (left : List (List ℕ)) (is : IsUnderway S asked found (id ∷ left)) where
   -- it was asked for before
@@ -104,3 +120,8 @@ module _ (S : Snap) (asked : Lookup) (found : Found) (id : List ℕ) (left : Lis
     pub judged : (has : Bool) → IsTrue has ↔ IsMember S asked.user (node_of asked.relation id) → now.ids.items ≡ (if has then found.ids.items ++ id ∷ [] else found.ids.items) → IsUnderway S asked now left
     judged true answer ids = with_it (answer.0 refl) ids
     judged false answer ids = without_it (λ m. true≢false (sym (answer.1 m))) ids
+
+-- the same of all that are left
+pub enough_of : (S : Snap) (asked : Lookup) (found : Found) (ids left : List (List ℕ)) → IsUnderway S asked found (ids ++ left) → asked.limit ≤ length found.ids.items → IsUnderway S asked found left
+enough_of S asked found [] left is full = is
+enough_of S asked found (id ∷ ids) left is full = enough_of S asked found ids left (enough S asked found id (ids ++ left) is full) full

@@ -1,4 +1,6 @@
 //! What a lookup asks for.
+ghost use Rattle.std.specs.Prelude.{◌≡◌};
+ghost use Rattle.lookup.specs.Found.{is_later};
 
 use names::{Object, ObjectId, RelationName};
 
@@ -10,4 +12,14 @@ pub struct Lookup {
     pub user: Object,
     pub after: Option<ObjectId>,
     pub limit: u16,
+}
+
+/// Whether the id comes later than this, if one is given.
+pub(crate) fn is_later(after: &Option<ObjectId>, id: &ObjectId) -> bool
+    ensures { result ≡ is_later after.now id.now }
+{
+    match after {
+        Some(after) => after.cmp(id).is_lt(),
+        None => true,
+    }
 }

@@ -3,7 +3,9 @@
 
 mod asked;
 mod law;
+mod leading;
 mod looking;
+mod walking;
 
 pub use asked::Lookup;
 pub use law::{an_object_that_no_tuple_names_has_no_users, lookups_are_one};

@@ -1,12 +1,15 @@
 //! The lookup.
-ghost use Rattle.std.specs.Prelude.{◌≡◌, ◌+◌, ◌++◌, ◌≤◌, ◌∷◌, [], ℕ, List, IfOk, IfErr, OnOk, Some, true, false, length, if◌then◌else◌};
+ghost use Rattle.std.specs.Prelude.{◌≡◌, ◌+◌, ◌++◌, ◌≤◌, ◌∷◌, [], ℕ, List, Contains, IfSome, IfOk, IfErr, OnOk, Some, true, false, length, if◌then◌else◌};
 ghost use Rattle.meaning.specs.Admits.{has_relation};
-ghost use Rattle.lookup.specs.Found.{node_of, is_later, IsLookup};
+ghost use Rattle.by_subject.specs.Complete.{Covers};
+ghost use Rattle.lookup.specs.Found.{node_of, IsFound, IsLookup};
 ghost use Rattle.lookup.specs.Causes.{LookupCause};
 ghost use Rattle.lookup.specs.inside.Pages.{tuples_in, start_of, ids_of};
-ghost use Rattle.lookup.specs.inside.Underway.{IsUnderway};
+ghost use Rattle.lookup.specs.inside.Underway.{IsRising, IsUnderway};
 
-use crate::asked::Lookup;
+use crate::asked::{Lookup, is_later};
+use crate::walking::candidates;
+use by_subject::{BySubject, ViewBySubject, most_for};
 use config::Config;
 use decide::{Asker, Oracle};
 use names::{Node, Object, ObjectId, Refusal, Subject, Tuple};
@@ -23,13 +26,14 @@ struct Found {
 /// The objects that are asked for, in the order of their ids. It is refused where the namespace lacks the
 /// relation, and where there is no memory. After an answer the oracle tells of the view still.
 ///
-/// The tuples of the namespace's objects are gone over from the object on that the others come after, a page at
-/// a time, and one asker is asked of each object once, until as many are found as are asked for. So it costs what
-/// the namespace holds there, and not what the user can see: it is slow on a large store. It takes memory for
-/// a page of tuples, for what the asker keeps and for the ids.
+/// Where tuples are kept by their subjects it walks up from the user, and asks for the objects that it meets until
+/// as many are found as are asked for: it costs what is reached from the user, and what the checks cost. Without
+/// them, or where more nodes are reached than [`most_for`] the limit, it goes over the namespace's tuples: it costs
+/// what the namespace holds, and is slow on a large store. It takes memory for the reached nodes or a page of tuples,
+/// for what the asker keeps and for the ids.
 pub fn lookup_at<O: Oracle>(
     alloc: Global,
-    view: &View,
+    view: &ViewBySubject,
     oracle: &mut O,
     asked: &Lookup,
 ) -> Result<Vec<ObjectId>, Refusal>
@@ -39,10 +43,96 @@ pub fn lookup_at<O: Oracle>(
     ensures err { IfErr result (LookupCause view.now asked.now) }
     ensures tells { OnOk result (O.tells oracle.new view.now) }
 {
-    let config = view.config();
-    if !has_relation(config, asked)? {
+    look_up(alloc, view.view(), oracle, view.found(), asked)
+}
+
+/// The same, of a view and its tuples by their subjects.
+fn look_up<O: Oracle>(
+    alloc: Global,
+    view: &View,
+    oracle: &mut O,
+    subjects: Option<&BySubject>,
+    asked: &Lookup,
+) -> Result<Vec<ObjectId>, Refusal>
+    requires tells { O.tells oracle.old view.now }
+    requires covers { IfSome subjects (λ found. Covers found.now view.now.tuples) }
+    ensures ok { IfOk result (λ ids. IsLookup view.now asked.now ids.items) }
+    ensures known { OnOk result (has_relation view.now.config asked.now.relation ≡ true) }
+    ensures err { IfErr result (LookupCause view.now asked.now) }
+    ensures tells { OnOk result (O.tells oracle.new view.now) }
+{
+    if !has_relation(view.config(), asked)? {
         return Err(Refusal::UnknownRelation);
     }
+    if let Some(subjects) = subjects {
+        let most = most_for(asked.limit);
+        if let Some(ids) = candidates(alloc, view.config(), subjects, asked, most)? {
+            return look_among(alloc, view, oracle, asked, &ids);
+        }
+    }
+    look_over(alloc, view, oracle, asked)
+}
+
+/// The objects that are asked for, where all that are found are among some candidates.
+fn look_among<O: Oracle>(
+    alloc: Global,
+    view: &View,
+    oracle: &mut O,
+    asked: &Lookup,
+    ids: &[ObjectId],
+) -> Result<Vec<ObjectId>, Refusal>
+    requires tells { O.tells oracle.old view.now }
+    requires rising { IsRising ids.now }
+    requires there { (id : List ℕ) → IsFound view.now asked.now id → Contains ids.now id }
+    ensures ok { IfOk result (λ found. IsLookup view.now asked.now found.items) }
+    ensures err { IfErr result (LookupCause view.now asked.now) }
+    ensures tells { OnOk result (O.tells oracle.new view.now) }
+{
+    let mut asker = Asker::of(alloc, view);
+    let mut found = begin(alloc, asked)?;
+    ask_each(&mut asker, oracle, asked, ids, &mut found)?;
+    Ok(found.ids)
+}
+
+/// Asks for each object, as long as fewer are found than are asked for.
+fn ask_each<O: Oracle>(
+    asker: &mut Asker,
+    oracle: &mut O,
+    asked: &Lookup,
+    ids: &[ObjectId],
+    found: &mut Found,
+) -> Result<(), Refusal>
+    requires { O.tells oracle.old asker.old }
+    ensures underway { OnOk result ((left : List (List ℕ))
+        → IsUnderway asker.old asked.now found.old (ids.now ++ left)
+        → IsUnderway asker.old asked.now found.new left) }
+    ensures tells { OnOk result (O.tells oracle.new asker.old) }
+    ensures err { IfErr result (LookupCause asker.old asked.now) }
+    ensures same { asker.new ≡ asker.old }
+{
+    for id in ids {
+        if is_full(asked, found) {
+            return Ok(());
+        }
+        look_at(asker, oracle, asked, id, found)?;
+    }
+    Ok(())
+}
+
+/// The objects that are asked for, by going over the tuples of the namespace's objects from the object on that the
+/// others come after, a page at a time. One asker is asked of each object once.
+fn look_over<O: Oracle>(
+    alloc: Global,
+    view: &View,
+    oracle: &mut O,
+    asked: &Lookup,
+) -> Result<Vec<ObjectId>, Refusal>
+    requires { O.tells oracle.old view.now }
+    ensures ok { IfOk result (λ ids. IsLookup view.now asked.now ids.items) }
+    ensures err { IfErr result (LookupCause view.now asked.now) }
+    ensures tells { OnOk result (O.tells oracle.new view.now) }
+{
+    let config = view.config();
     // No configuration has an empty intersection, as this call says.
     config.relations();
     let mut asker = Asker::of(alloc, view);
@@ -137,16 +227,6 @@ fn is_full(asked: &Lookup, found: &Found) -> bool
     ensures room { result ≡ false → length found.now.ids.items + 1 ≤ asked.now.limit }
 {
     found.ids.len() >= asked.limit as usize
-}
-
-/// Whether the id comes later than this, if one is given.
-fn is_later(after: &Option<ObjectId>, id: &ObjectId) -> bool
-    ensures { result ≡ is_later after.now id.now }
-{
-    match after {
-        Some(after) => after.cmp(id).is_lt(),
-        None => true,
-    }
 }
 
 /// Whether the namespace has the relation.

@@ -92,6 +92,11 @@ done (Err e) u is p = absurd cc
 
 -- ---- a higher floor
 
+pub above_floor : (s now : Standing) (floor : ℕ) → s ≡ now → CanRaise now floor → s.kept.floor ≤ floor
+above_floor s now floor same room =
+    let above = (subst (λ (t : Standing). CanRaise t floor) (sym same) room).above in
+    omega (arith, above)
+
 pub sound_above : (s now : Standing) (old index : Option GroupIndex) (members : Option Hot) (floor : ℕ) (new : Retained) → s ≡ now → CanRaise now floor → IsSound s old members
     → ((snaps : ℕ → Snap) (from cursor : ℕ) → IfSome old (IsIndexIn snaps from cursor) → IfSome index (IsIndexIn snaps floor cursor))
     → (s.kept.floor ≤ floor → new ≡ after_trim s.kept floor) → IsSound (record { kept = new; base = s.base; index = s.index; hot = s.hot; marks = s.marks }) index members

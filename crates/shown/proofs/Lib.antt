@@ -6,3 +6,4 @@ pub mod Indexing
 pub mod Knowing
 pub mod Following
 pub mod Taking
+pub mod Naming

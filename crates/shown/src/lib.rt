@@ -11,6 +11,7 @@ mod members;
 mod question;
 mod shown;
 mod step;
+mod subjects;
 
 pub use answer::{Answer, Refused};
 pub use question::{Depth, Objects, Question, Told};

@@ -34,6 +34,8 @@ ghost use Rattle.leopard.specs.Groups.{Means};
 ghost use Rattle.leopard.specs.Query.{is_allowed};
 ghost use Rattle.group_index.specs.Indices.{TellsOf};
 ghost use Rattle.shown.specs.Grouping.{AreGroups, IsGroupsRefusal};
+ghost use Rattle.by_subject.specs.Complete.{Covers};
+ghost use Rattle.rows.specs.Tuplesets.{page};
 ghost use Rattle.shown.specs.inside.Basing.{AreMarked, IsIndexIn};
 
 use crate::answer::{Answer, Refused};
@@ -43,7 +45,12 @@ use crate::marks::{count_with, remark};
 use crate::members::{members_after, members_later, members_of};
 use crate::question::Objects;
 use crate::step::Step;
+use crate::subjects::{subjects_of, subjects_with};
 use answer_cache::CachedAnswers;
+use by_subject::{
+    BySubject, ViewBySubject, it_is_complete_after_a_trim,
+    it_is_complete_without_the_newest_commit, what_is_retained_is_found,
+};
 use config::Config;
 use expand::Tree;
 use facts::each_view_is_valid;
@@ -72,12 +79,13 @@ pub struct Shown {
     keeps_parts: bool,
     groups: Option<GroupIndex>,
     members: Option<Hot>,
+    subjects: Option<BySubject>,
 }
 
 impl Model for Shown {
     ghost use Rattle.shown.specs.Standing.{Standing};
     ghost use Rattle.shown.specs.inside.Codes.{coded_standing};
-    ghost use Rattle.shown.specs.inside.Basing.{IsSound};
+    ghost use Rattle.shown.specs.inside.Basing.{IsSound, AreKeptSubjects};
 
     ghost Value = { Standing };
 
@@ -87,19 +95,20 @@ impl Model for Shown {
 
     ghost invariant = { λ s.
         IsSound (record { kept = s.rows; base = s.base; index = s.index; hot = s.hot; marks = s.marks.items })
-        s.groups s.members };
+        s.groups s.members × AreKeptSubjects s.rows s.subjects };
 }
 
 impl Shown {
-    /// The state before the first step. Once a base is asked for, the group index is kept from it up to the index cursor,
-    /// and once a node is marked, who is a member of it at the revision of the hot table.
+    /// The state before the first step. From the first step on tuples are kept by their subjects too, as far as there is memory.
+    /// Once a base is asked for, the group index is kept from it up to the index cursor, and once a node is marked, who is a
+    /// member of it at the revision of the hot table.
     pub fn new(alloc: Global) -> Shown
         ensures { result ≡ nothing }
     {
         Shown::before_all(alloc, true)
     }
 
-    /// The state before the first step, for one who judges changes alone: no index and no members are kept.
+    /// The state before the first step, for one who judges changes alone: none of these are kept.
     pub fn without_parts(alloc: Global) -> Shown
         ensures { result ≡ nothing }
     {
@@ -119,6 +128,7 @@ impl Shown {
             keeps_parts,
             groups: None,
             members: None,
+            subjects: None,
         }
     }
 
@@ -150,6 +160,7 @@ impl Shown {
         ensures { self.new ≡ after_step self.old (Step.Trim floor) }
     {
         groups::raise(&mut self.groups, floor);
+        it_is_complete_after_a_trim();
         self.rows.trim(floor);
     }
 
@@ -271,6 +282,7 @@ impl Shown {
         requires { CanGoBack self.old }
         ensures { self.new ≡ before_commit self.old }
     {
+        it_is_complete_without_the_newest_commit();
         self.rows.back();
     }
 
@@ -486,8 +498,7 @@ impl Shown {
             Ok(rev) => rev,
             Err(why) => return Err(Refused { why, at: None }),
         };
-        let page = self.rows.at(rev).read(self.alloc, asked);
-        match page {
+        match self.read_at(rev, asked) {
             Ok(tuples) => Ok(Answer {
                 rev,
                 value: Items::of(tuples),
@@ -497,6 +508,15 @@ impl Shown {
                 at: None,
             }),
         }
+    }
+
+    /// The page of a tupleset at a retained revision.
+    fn read_at(&self, rev: u64, asked: &Tupleset) -> Result<Vec<Tuple>, AllocError>
+        requires { IsRetained self.now.kept rev }
+        ensures { IfOk result (λ v. v.items ≡ page asked.now (snap_at self.now.kept rev).tuples) }
+    {
+        let view = self.rows.at(rev);
+        ViewBySubject::of(&view, self.subjects_at(rev)).read(self.alloc, asked)
     }
 
     /// The objects to which the user has the relation, at the revision that the consistency chooses: the first so many of those
@@ -548,7 +568,17 @@ impl Shown {
             groups,
             answers: None,
         };
+        let view = ViewBySubject::of(&view, self.subjects_at(rev));
         lookup::lookup_at(self.alloc, &view, &mut known, asked)
+    }
+
+    /// The tuples by their subjects, where they are kept: all of a retained revision are among them.
+    fn subjects_at(&self, rev: u64) -> Option<&BySubject>
+        requires { IsRetained self.now.kept rev }
+        ensures { IfSome result (λ found. Covers found.now (snap_at self.now.kept rev).tuples) }
+    {
+        what_is_retained_is_found();
+        self.subjects.as_ref()
     }
 
     /// The first so many groups that the expression means, in the order of nodes, at the revision that the consistency
@@ -604,6 +634,7 @@ impl Shown {
             return at.first_groups(expr, limit);
         }
         let view = self.rows.at(rev);
+        let view = ViewBySubject::of(&view, self.subjects_at(rev));
         leopard::groups_at(self.alloc, &view, expr, limit)
     }
 
@@ -652,6 +683,7 @@ impl Shown {
         let newest = rows.newest();
         self.groups = None;
         self.members = None;
+        self.subjects = subjects_of(self.alloc, loaded, self.keeps_parts);
         self.rows = rows;
         self.base = newest;
         self.index = newest;
@@ -667,6 +699,7 @@ impl Shown {
     {
         self.rows.admits_its_tuples();
         what_follows_has_room();
+        self.subjects = subjects_with(self.subjects.take(), commit);
         self.rows.absorb(commit)
     }
 

@@ -1,4 +1,4 @@
--- The group index and the members of marked nodes that are kept.
+-- The group index, the members of marked nodes and the tuples by their subjects that are kept.
 use Rattle.std.specs.Prelude.{ℕ, ◌≡◌, ◌≤◌, ◌↔◌, true, List, Option, Some, None, IfSome}
 use Rattle.names.specs.declared.node.Node.{Node}
 use Rattle.meaning.specs.Snap.{Snap}
@@ -6,7 +6,9 @@ use Rattle.group_index.specs.Indices.{IsGroupIndexOf, base_of, cursor_of}
 use Rattle.group_index.specs.declared.index.GroupIndex.{GroupIndex}
 use Rattle.hot.specs.Kept.{IsHot, IsMarked}
 use Rattle.hot.specs.declared.hot.Hot.{Hot}
-use Rattle.rows.specs.Retained.{snap_at}
+use Rattle.by_subject.specs.Complete.{IsCompleteFor}
+use Rattle.meaning.specs.TupleSet.{Tuples}
+use Rattle.rows.specs.Retained.{Retained, snap_at}
 use Rattle.shown.specs.Marks.{is_marked}
 use Rattle.shown.specs.Standing.{Standing, IsSteady}
 
@@ -33,3 +35,7 @@ pub record IsSound (s : Standing) (index : Option GroupIndex) (members : Option 
   pub steady : IsSteady s
   pub index_right : IsKeptIndex s index
   pub members_right : AreKeptMembers s members
+
+-- if tuples are kept by their subjects, each that the history had since its floor is among them
+abbrev pub AreKeptSubjects : Retained → Option Tuples → Type 0
+AreKeptSubjects r subjects = IfSome subjects (IsCompleteFor r)

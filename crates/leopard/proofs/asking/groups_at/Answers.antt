@@ -1,5 +1,6 @@
-use Rattle.std.proofs.Common.{◌≡◌, refl, false, subst}
+use Rattle.std.proofs.Common.{◌≡◌, refl, false, subst, ap, ◌∙◌}
 use Rattle.meaning.specs.Config.{Configured}
+use Rattle.meaning.specs.Snap.{Snap}
 use Rattle.leopard.specs.Causes.{names_unindexed}
 use Rattle.leopard.specs.Exprs.{query_of}
 use Rattle.leopard.specs.Groups.{Means}
@@ -12,6 +13,6 @@ returns-clause-groups c =
     let S = c.args.view.now in
     let q = query_of c.args.expr.now in
     let found = c.in_ok-found.found in
-    let are = c.in_ok-found.ensures S refl (subst (λ (k : Configured). names_unindexed k q ≡ false) c.config.ensures.config c.in_default.ensures.none.indexed) in
+    let are = c.in_ok-found.ensures S refl (subst (λ (k : Configured). names_unindexed k q ≡ false) (c.config.ensures.config ∙ ap (λ (T : Snap). T.config) c.view.ensures) c.in_default.ensures.none.indexed) in
     are_first c.args.limit (Means S q) found.others.keys c.in_ok-first_of.field-0.items
     c.in_ok-first_of.ensures.sorted (unnamed_all (Means S q) found.ids found.others.keys are) c.in_ok-first_of.ensures.first

@@ -1,6 +1,7 @@
 use Rattle.std.proofs.Common.{Any, Contains, ◌+◌, drop, arith, ap, sym, ◌∙◌}
 use Rattle.std.proofs.lemmas.Bool.{false≢true}
 use Rattle.meaning.specs.Config.{Configured}
+use Rattle.meaning.specs.Snap.{Snap}
 use Rattle.leopard.specs.inside.Direct.{Names, NamesIndexed}
 use Rattle.leopard.proofs.Gather.{gather_more, gather_none, gather_all, left_at, left_none}
 use Rattle.leopard.proofs.Named.{named_by_all, under_test}
@@ -34,5 +35,5 @@ returns c n =
     (Contains c.loop-relation.groups.keys n) (drop c.loop-relation.relation-index c.relations-relations.result.now)
     (left_none c.relations-relations.result.now c.loop-relation.relation-index (omega (arith, c.loop-relation-test.false, c.loop-relation.auto.relation-index-end)))
     (c.loop-relation.invariant n) in
-    let named = named_by_all c.args.view.now c.args.user.now c.relations-relations.result.now (c.relations-relations.ensures.relations ∙ ap (λ (k : Configured). k.relations) c.config.ensures.config) n in
+    let named = named_by_all c.args.view.now c.args.user.now c.relations-relations.result.now (c.relations-relations.ensures.relations ∙ ap (λ (k : Configured). k.relations) c.config.ensures.config ∙ ap (λ (S : Snap). S.config.relations) c.view.ensures) n in
     (λ h. named.0 (all.0 h), λ m. all.1 (named.1 m))

@@ -15,7 +15,7 @@ returns-clause-marked c =
     subst (λ (t : Standing). IfSome c.match-kept-2.result (λ hot. AreMarked t.marks hot)) c.self.view_is
     (elim c.match-kept-2.branch [
       | in-Some w ↦ subst (λ (o : Option Hot). IfSome o (λ hot. AreMarked inside.marks.items hot)) (sym w.result-is)
-          (still_marked inside.marks.items inside.members w.in-Some.hot w.members_later.result (sym c.take-kept.ensures.value ∙ w.in-Some.is) (have_marks stood inside.members c.self.invariant.members_right) w.members_later.ensures.marked)
+          (still_marked inside.marks.items inside.members w.in-Some.hot w.members_later.result (sym c.take-kept.ensures.value ∙ w.in-Some.is) (have_marks stood inside.members c.self.invariant.0.members_right) w.members_later.ensures.marked)
       | in-None w ↦ subst (λ (o : Option Hot). IfSome o (λ hot. AreMarked inside.marks.items hot)) (sym w.result-is)
           (subst (λ (ns : List Node). IfSome w.members_of.result (λ hot. AreMarked ns hot)) w.deref.ensures.value w.members_of.ensures.marked)
     ])

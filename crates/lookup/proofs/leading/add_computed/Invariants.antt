@@ -1,0 +1,12 @@
+use Rattle.std.proofs.Common.{take}
+use Rattle.std.specs.Prelude.{All}
+use Rattle.lookup.specs.inside.Leading.{computes}
+use Rattle.lookup.specs.inside.Walking.{Grew}
+use Rattle.lookup.proofs.Adding.{IsAdded}
+use Rattle.lookup.proofs.leading.add_computed.Given as goal
+
+abbrev pub invariant-loop-relation : goal.invariant-loop-relation
+invariant-loop-relation l = record {
+  kept : Grew l.fn.reached l.reached;
+  added : All (IsAdded (computes l.node.relation) l.node.object l.reached) (take l.relation-index l.relation-items);
+}
