@@ -13,6 +13,7 @@ use Rattle.names.proofs.node.Node.TheSendSync as Node
 use Rattle.names.proofs.relation.RelationName.TheSendSync as RelationName
 use Rattle.names.proofs.relation.SubjectType.TheSendSync as SubjectType
 use Rattle.versions.proofs.version_map.VersionMap.TheSendSync as VersionMap
+use Rattle.by_subject.proofs.by_subject.BySubject.TheSendSync as BySubject
 use Rattle.config_text.specs.contracts.rewrite.Rewrite as Rewrite
 use Rattle.config_text.specs.contracts.relation.Relation as Relation
 use Rattle.names.proofs.tuple.Tuple.TheSendSync as Tuple
@@ -133,10 +134,10 @@ Hot-sync : IsSync Hot.the_row
 Hot-sync = let T = Hot.the_type in recorded_sync _ _ T.to T.to_one Hot-field-sync
 
 pub Shown-send : IsSend Shown.the_row
-Shown-send = search (Config-send, KeptCommit-send, GroupIndex-send, Hot-send, VersionMap.the_send, Node.the_send, crosses, sendable) depth 40
+Shown-send = search (Config-send, KeptCommit-send, GroupIndex-send, Hot-send, VersionMap.the_send, BySubject.the_send, Node.the_send, crosses, sendable) depth 40
 
 pub Shown-sync : IsSync Shown.the_row
-Shown-sync = search (Config-sync, KeptCommit-sync, GroupIndex-sync, Hot-sync, VersionMap.the_sync, Node.the_sync, crosses, sendable) depth 40
+Shown-sync = search (Config-sync, KeptCommit-sync, GroupIndex-sync, Hot-sync, VersionMap.the_sync, BySubject.the_sync, Node.the_sync, crosses, sendable) depth 40
 
 pub Loaded-send : IsSend Loaded.the_row
 Loaded-send = search (Config-send, KeptCommit-send, Tuple.the_send, crosses, sendable) depth 40
