@@ -5,6 +5,8 @@ ghost use Rattle.std.specs.Map.{keys_of, values_of};
 ghost use Rattle.std.specs.Map.Iter.{deref_pair};
 ghost use Rattle.std.specs.Borrow.{Lends, LendsSo, sem};
 ghost use Rattle.std.specs.Option.{option_copied_mut};
+ghost use Rattle.std.specs.String.{string_bytes, string_len, string_capacity};
+ghost use Rattle.std.specs.Vec.{vec_len, vec_capacity};
 ghost use Rattle.shelf.specs.contracts.block.Block.{the_row};
 ghost use Rattle.shelf.specs.inside.Ends.{with_end};
 ghost use Rattle.shelf.specs.inside.Written.{with_value};
@@ -14,6 +16,9 @@ use std::alloc::{AllocError, Global};
 use std::cmp::Ordering;
 use std::marker::Model;
 use std::mem::replace;
+
+/// As many texts as a block that is out of room gets room for. Twice what it had would stay unused for a third.
+const STEP: usize = 8;
 
 /// As many texts as a block has at most. So many of at most 511 bytes each end below 2^16.
 pub(crate) const FULL: usize = 128;
@@ -167,8 +172,8 @@ impl<V> Block<V> {
         ensures ok { OnOk result (self.new ≡ insert self.old i (key.now, value)) }
         ensures err { OnErr result (self.new ≡ self.old) }
     {
-        self.texts.reserve(key.len())?;
-        self.values.reserve(1)?;
+        make_room_in(&mut self.texts, key.len())?;
+        make_room(&mut self.values)?;
         let start = start_of(&self.ends, i);
         put_end(&mut self.ends, i, key.len() as u16)?;
         self.texts.insert_str(start as usize, key)?;
@@ -237,6 +242,29 @@ impl<V> Block<V> {
     }
 }
 
+/// Makes room for one more, and for a few beyond. For want of memory nothing changes.
+fn make_room<T>(items: &mut Vec<T>) -> Result<(), AllocError>
+    ensures items { items.new.items ≡ items.old.items }
+    ensures room { OnOk result (vec_len items.new < vec_capacity items.new) }
+{
+    if items.len() < items.capacity() {
+        return Ok(());
+    }
+    items.reserve_exact(STEP)
+}
+
+/// Makes room for a text of so many bytes, and for a few such beyond. For want of memory nothing changes.
+fn make_room_in(texts: &mut String, bytes: usize) -> Result<(), AllocError>
+    requires { bytes ≤ 511 }
+    ensures bytes { string_bytes texts.new ≡ string_bytes texts.old }
+    ensures room { OnOk result (string_len texts.new + bytes ≤ string_capacity texts.new) }
+{
+    if bytes <= texts.capacity() - texts.len() {
+        return Ok(());
+    }
+    texts.reserve_exact(STEP * bytes)
+}
+
 /// Adds so much to each.
 fn raise(ends: &mut [u16], by: u16)
     requires { All (λ end. end + by < 2 ^ 16) ends.old }
@@ -276,6 +304,7 @@ fn put_end(ends: &mut Vec<u16>, i: usize, by: u16) -> Result<(), AllocError>
     ensures err { OnErr result (ends.new.items ≡ ends.old.items) }
 {
     let start = start_of(ends, i);
+    make_room(ends)?;
     ends.insert(i, start)?;
     raise(&mut ends[i..], by);
     Ok(())
