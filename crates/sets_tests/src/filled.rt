@@ -125,6 +125,57 @@ fn a_written_value_is_given_back(rt: HostRuntime) -> Result<(), Fail> {
     Ok(())
 }
 
+/// Takes out the texts of the numbers below a thousand that leave such a rest, by steps of so many. Whether each was there with its number,
+/// and was gone then.
+fn takes_out(
+    alloc: Global,
+    shelf: &mut Shelf<u64>,
+    step: u64,
+    rest: u64,
+) -> Result<bool, AllocError> {
+    for i in 0..COUNT {
+        let number = i.wrapping_mul(step) % COUNT;
+        let text = text_of(alloc, number)?;
+        if number % 3 == rest
+            && (shelf.remove(text.as_str()) != Some(number)
+                || shelf.remove(text.as_str()).is_some())
+        {
+            return Ok(false);
+        }
+    }
+    Ok(true)
+}
+
+#[test]
+fn a_text_that_was_taken_out_is_gone(rt: HostRuntime) -> Result<(), Fail> {
+    let alloc = rt.alloc();
+    let mut shelf = filled(alloc, 617)?;
+    let first = takes_out(alloc, &mut shelf, 1, 0)? && shelf.len() == 666;
+    let next = takes_out(alloc, &mut shelf, 617, 1)? && shelf.len() == 333;
+    let left = shelf
+        .iter()
+        .next()
+        .map(|(text, number)| text == "document d002" && *number == 2);
+    let last = takes_out(alloc, &mut shelf, 999, 2)? && shelf.is_empty();
+    assert!(rt; first && next && left == Some(true) && last);
+    Ok(())
+}
+
+#[test]
+fn texts_are_put_in_again_where_some_were_taken_out(rt: HostRuntime) -> Result<(), Fail> {
+    let alloc = rt.alloc();
+    let mut shelf = filled(alloc, 1)?;
+    assert!(rt; takes_out(alloc, &mut shelf, 617, 0)? && takes_out(alloc, &mut shelf, 617, 1)?);
+    for i in 0..COUNT {
+        let text = text_of(alloc, i)?;
+        if text.as_str().len() <= 511 {
+            let _ = shelf.insert(text.as_str(), i)?;
+        }
+    }
+    assert!(rt; is_full(alloc, &shelf)?);
+    Ok(())
+}
+
 /// Whether each text of an odd number is put in with it, and each of an even one, which is there, has the value that
 /// was written at it.
 fn enters(alloc: Global, shelf: &mut Shelf<u64>) -> Result<bool, AllocError> {

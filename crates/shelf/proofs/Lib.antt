@@ -11,3 +11,5 @@ pub mod Parting
 pub mod Entering
 pub mod Skipping
 pub mod Spots
+pub mod Cutting
+pub mod Taking

@@ -48,7 +48,7 @@ module _ {V : Type 0} where
   first_least key (e ∷ es) (suc i) sorted within same is =
       let both : Less ≡ Greater = sym (subst (λ k. text_cmp e.0 k ≡ Less) same (head_at es e.0 i (sorted_head text_cmp e.0 (keys_of es) sorted) (omega arith))) ∙ is in cc
 
-  keys_above : (key : List ℕ) (es : List (List ℕ × V)) → AllByRecursion (λ k. text_cmp key k ≡ Less) (keys_of es) → AreAbove key es
+  pub keys_above : (key : List ℕ) (es : List (List ℕ × V)) → AllByRecursion (λ k. text_cmp key k ≡ Less) (keys_of es) → AreAbove key es
   keys_above key [] h = tt
   keys_above key (e ∷ es) h = (h.0, keys_above key es h.1)
 

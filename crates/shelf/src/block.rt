@@ -1,6 +1,7 @@
 //! One block of texts.
-ghost use Rattle.std.specs.Prelude.{◌≡◌, ℕ, ◌+◌, ◌-◌, ◌^◌, ◌<◌, ◌≤◌, [], ◌∷◌, length, map, take, drop, slice_index, slice_index_or, Some, IfOk, IfErr, OnOk, OnErr, All};
-ghost use Rattle.std.specs.List.{slice_get, insert};
+ghost use Rattle.std.specs.Prelude.{◌≡◌, ℕ, ◌+◌, ◌-◌, ◌^◌, ◌<◌, ◌≤◌, [], ◌∷◌, ◌++◌, length, map, take, drop, slice_index, slice_index_or, Some, IfOk, IfErr, OnOk, OnErr, All};
+ghost use Rattle.std.specs.List.{slice_get, insert, remove, remove_range};
+ghost use Rattle.std.specs.String.Boundary.{IsSplitPoint};
 ghost use Rattle.std.specs.Map.{keys_of, values_of};
 ghost use Rattle.std.specs.Map.Iter.{deref_pair};
 ghost use Rattle.std.specs.Borrow.{Lends, LendsSo, sem};
@@ -8,7 +9,7 @@ ghost use Rattle.std.specs.Option.{option_copied_mut};
 ghost use Rattle.std.specs.String.{string_bytes, string_len, string_capacity};
 ghost use Rattle.std.specs.Vec.{vec_len, vec_capacity};
 ghost use Rattle.shelf.specs.contracts.block.Block.{the_row};
-ghost use Rattle.shelf.specs.inside.Ends.{with_end};
+ghost use Rattle.shelf.specs.inside.Ends.{with_end, without_end};
 ghost use Rattle.shelf.specs.inside.Written.{with_value};
 ghost use Rattle.shelf.specs.inside.Places.{AreSorted, AreFilled, AreBelow, AreAbove, IsAt, IsBetween, IsPlace, IsBlockOf, joined};
 
@@ -207,6 +208,32 @@ impl<V> Block<V> {
         replace(&mut self.values[i], value)
     }
 
+    /// Takes the text at a place out, and gives its value. It takes no memory.
+    pub(crate) fn remove(&mut self, i: usize) -> V
+        requires { i < length self.old }
+        ensures value { slice_get (values_of self.old) i ≡ Some result }
+        ensures rest { self.new ≡ remove self.old i }
+    {
+        let start = start_of(&self.ends, i);
+        let end = self.ends[i];
+        cut_out(&mut self.texts, start as usize, end as usize);
+        take_end(&mut self.ends, i, end - start);
+        let value = self.values.remove(i);
+        self.give_back();
+        value
+    }
+
+    /// Gives room back that no text needs, now and then.
+    fn give_back(&mut self)
+        ensures { self.new ≡ self.old }
+    {
+        if self.values.len() % STEP == 0 {
+            self.texts.shrink_to_fit();
+            self.ends.shrink_to_fit();
+            self.values.shrink_to_fit();
+        }
+    }
+
     /// Takes the texts from a place on, with their values. For want of memory nothing changes.
     pub(crate) fn split_off(&mut self, alloc: Global, at: usize) -> Result<Block<V>, AllocError>
         requires { at ≤ length self.old }
@@ -285,6 +312,15 @@ fn lower(ends: &mut [u16], by: u16)
     }
 }
 
+/// The same from a place on.
+fn lower_from(ends: &mut [u16], i: usize, by: u16)
+    requires within { i ≤ length ends.old }
+    requires rising { All (λ end. by ≤ end) (drop i ends.old) }
+    ensures { ends.new ≡ take i ends.old ++ map (λ end. end - by) (drop i ends.old) }
+{
+    lower(&mut ends[i..], by);
+}
+
 /// The ends of the texts from a place on, as they are where that text comes first.
 fn ends_from(alloc: Global, ends: &[u16], at: usize) -> Result<Vec<u16>, AllocError>
     requires within { at ≤ length ends.now }
@@ -308,6 +344,26 @@ fn put_end(ends: &mut Vec<u16>, i: usize, by: u16) -> Result<(), AllocError>
     ends.insert(i, start)?;
     raise(&mut ends[i..], by);
     Ok(())
+}
+
+/// Takes the end of a text of so many bytes out.
+fn take_end(ends: &mut Vec<u16>, i: usize, by: u16)
+    requires within { i < length ends.old.items }
+    requires rising { All (λ end. by ≤ end) (drop (i + 1) ends.old.items) }
+    ensures { ends.new.items ≡ without_end ends.old.items i by }
+{
+    ends.remove(i);
+    lower_from(ends, i, by);
+}
+
+/// Cuts a part out of texts. It takes no memory.
+fn cut_out(texts: &mut String, start: usize, end: usize)
+    requires up { start ≤ end }
+    requires starts { IsSplitPoint (string_bytes texts.old) start }
+    requires stops { IsSplitPoint (string_bytes texts.old) end }
+    ensures { string_bytes texts.new ≡ remove_range (string_bytes texts.old) start end }
+{
+    let _ = texts.replace_range(start..end, "");
 }
 
 /// The block in which the text is, or would be put in.

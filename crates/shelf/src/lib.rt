@@ -4,6 +4,7 @@
 mod block;
 mod filling;
 mod finding;
+mod removing;
 mod texts;
 mod walk;
 

@@ -1,9 +1,9 @@
 //! All texts.
-ghost use Rattle.std.specs.Prelude.{◌≡◌, ◌≤◌, ◌==◌, [], length, IfOk, OnOk, OnErr};
+ghost use Rattle.std.specs.Prelude.{◌≡◌, ◌≤◌, ◌==◌, [], length, None, IfOk, OnOk, OnErr};
 ghost use Rattle.std.specs.BTreeMap.{insert_entry};
 ghost use Rattle.std.specs.Option.{option_copied, option_copied_mut, unwrap_or};
 ghost use Rattle.std.specs.List.Sorted.{IsStrictlySortedBy};
-ghost use Rattle.std.specs.Map.{lookup, keys_of, set_value};
+ghost use Rattle.std.specs.Map.{lookup, keys_of, set_value, remove_entry};
 ghost use Rattle.std.specs.BTreeMap.Range.{entries_between};
 ghost use Rattle.std.specs.declared.ops.Bound.TheVariants.{Included, Unbounded};
 ghost use Rattle.std.specs.Borrow.{LendsSo, LendsSoOk, sem};
@@ -13,6 +13,7 @@ ghost use Rattle.shelf.specs.Texts.{text_cmp, is_text};
 use crate::block::Block;
 use crate::filling::put;
 use crate::finding::{enter, find, spot};
+use crate::removing::take_out;
 use crate::walk::{Walk, walk_all, walk_from};
 use std::alloc::{AllocError, Global};
 use std::marker::Model;
@@ -133,6 +134,18 @@ impl<V> Shelf<V> {
                 Ok(None)
             }
         }
+    }
+
+    /// Takes a text out, and gives its value, if it is there. It takes no memory.
+    pub fn remove(&mut self, key: &str) -> Option<V>
+    where
+        V: Drop,
+        ensures entries { self.new ≡ remove_entry (is_text key.now) self.old }
+        ensures gone { lookup (is_text key.now) self.new ≡ None }
+        ensures value { result ≡ lookup (is_text key.now) self.old }
+    {
+        let (at, i) = spot(&self.blocks, key)?;
+        Some(take_out(&mut self.blocks, at, i))
     }
 
     /// All texts in order, each with its value.

@@ -4,20 +4,23 @@ use Rattle.std.specs.Prelude.{Bool, true, false, cond, Option, None, Some, IsSom
 use Rattle.std.specs.Option.{unwrap_or}
 use Rattle.std.specs.List.{AllByRecursion}
 use Rattle.std.specs.List.Sorted.{IsStrictlySortedBy}
-use Rattle.std.specs.Map.{lookup, set_value, keys_of}
+use Rattle.std.specs.Map.{lookup, set_value, remove_entry, keys_of}
 use Rattle.std.specs.BTreeMap.{insert_entry}
 use Rattle.std.specs.Ordering.{match_ordering, is_eq, nat_cmp}
 use Rattle.std.specs.Cmp.Lexicographic.{slice_cmp}
 use Rattle.std.specs.declared.cmp.Ordering.{Ordering}
 use Rattle.std.specs.declared.cmp.Ordering.TheVariants.{Less, Equal, Greater}
+use Rattle.std.specs.Cmp.{eq_by_cmp_equiv}
 use Rattle.shelf.specs.Texts.{text_cmp, is_text}
 use Rattle.names.specs.Order.{tuple_cmp, is_same_tuple}
 use Rattle.names.specs.declared.tuple.Tuple.{Tuple}
+use Rattle.meaning.proofs.TupleSets.{tuples_total}
 use Rattle.versions.specs.declared.version.Version.{Version}
 use Rattle.tuple_keys.specs.Spelled.{tuple_of, IsSpelling}
 use Rattle.versions.specs.Versions.{Entries, versions_at, items_or, keys}
 use Rattle.versions.specs.Texts.{Texts, entry_of, entries_of, AreSpelled}
 use Rattle.tuple_keys.proofs.Spellings.{texts_order}
+use Rattle.versions.proofs.Bases.{same_is}
 use Rattle.versions.proofs.Placing.{placed, set_at, inserted_at, nothing_changed}
 
 same_text : (a b : List ℕ) → IsSpelling a → IsSpelling b → is_eq (slice_cmp nat_cmp a b) ≡ is_same_tuple (tuple_of a) (tuple_of b)
@@ -39,6 +42,24 @@ module _ (text : List ℕ) (is : IsSpelling text) where
           → entries_of (cond b ((e.0, w) ∷ es) (e ∷ set_value (is_text text) es w)) ≡ cond b ((tuple_of e.0, w) ∷ entries_of es) (entry_of e ∷ set_value (is_same_tuple (tuple_of text)) (entries_of es) w)
       by_same true rest = refl
       by_same false rest = ap (λ (fs : Entries). entry_of e ∷ fs) rest
+
+  spelled_out : (es : Texts) → AreSpelled es → AreSpelled (remove_entry (is_text text) es)
+  spelled_out [] s = s
+  spelled_out (e ∷ es) s = by_same (is_text text e.0) (spelled_out es s.1)
+    where
+      by_same : (b : Bool) → AreSpelled (remove_entry (is_text text) es) → AreSpelled (cond b es (e ∷ remove_entry (is_text text) es))
+      by_same true rest = s.1
+      by_same false rest = (s.0, rest)
+
+  -- a tuple that another one was taken out beside
+  others_stay : (es : Texts) → AreSpelled es → (q : Tuple) → is_same_tuple q (tuple_of text) ≡ false → lookup (is_same_tuple q) (entries_of (remove_entry (is_text text) es)) ≡ lookup (is_same_tuple q) (entries_of es)
+  others_stay [] s q other = refl
+  others_stay (e ∷ es) s q other = by_same (is_text text e.0) refl (others_stay es s.1 q other)
+    where
+      by_same : (b : Bool) → is_text text e.0 ≡ b → lookup (is_same_tuple q) (entries_of (remove_entry (is_text text) es)) ≡ lookup (is_same_tuple q) (entries_of es)
+          → lookup (is_same_tuple q) (entries_of (cond b es (e ∷ remove_entry (is_text text) es))) ≡ cond (is_same_tuple q (tuple_of e.0)) (Some e.1) (lookup (is_same_tuple q) (entries_of es))
+      by_same true is_e rest = sym (ap (λ b. cond b (Some e.1) (lookup (is_same_tuple q) (entries_of es))) (ap (is_same_tuple q) (sym (same_is (tuple_of text) (tuple_of e.0) (sym (same_text text e.0 is s.0) ∙ is_e))) ∙ other))
+      by_same false is_e rest = ap (λ o. cond (is_same_tuple q (tuple_of e.0)) (Some e.1) o) rest
 
   spelled_set : (es : Texts) (w : List Version) → AreSpelled es → AreSpelled (set_value (is_text text) es w)
   spelled_set [] w s = s
@@ -112,6 +133,25 @@ module _ (text : List ℕ) (is : IsSpelling text) (t : Tuple) (reads : tuple_of 
 
   pub written_spelled : (fs : Texts) (new : List Version) → fs ≡ set_value (is_text text) es new → AreSpelled fs
   written_spelled fs new now = subst AreSpelled (sym now) (spelled_set text is es new s)
+
+  -- no versions were written there
+  pub written_none : (fs : Texts) (old new : List Version) → Some old ≡ lookup (is_text text) es → fs ≡ set_value (is_text text) es new → new ≡ [] → versions_at (entries_of fs) t ≡ []
+  written_none fs old new was now none = written fs old new (λ _. []) was now none t ∙ ap (λ b. cond b [] (versions_at (entries_of es) t)) ((eq_by_cmp_equiv tuples_total).refl t)
+
+  -- it had no versions, and was taken out
+  pub taken_out : (fs : Texts) → fs ≡ remove_entry (is_text text) es → lookup (is_text text) fs ≡ None → versions_at (entries_of es) t ≡ [] → (q : Tuple) → versions_at (entries_of fs) q ≡ versions_at (entries_of es) q
+  taken_out fs now none empty q = by_same (is_same_tuple q t) refl
+    where
+      by_same : (b : Bool) → is_same_tuple q t ≡ b → versions_at (entries_of fs) q ≡ versions_at (entries_of es) q
+      by_same true is_t =
+          ap (versions_at (entries_of fs)) (same_is q t is_t)
+          ∙ ap items_or (ap (λ x. lookup (is_same_tuple x) (entries_of fs)) (sym reads) ∙ sym (looked_up text is fs (subst AreSpelled (sym now) (spelled_out text is es s))) ∙ none)
+          ∙ sym (ap (versions_at (entries_of es)) (same_is q t is_t) ∙ empty)
+      by_same false is_t =
+          ap items_or (ap (λ (ds : Texts). lookup (is_same_tuple q) (entries_of ds)) now ∙ others_stay text is es s q (ap (is_same_tuple q) reads ∙ is_t))
+
+  pub taken_out_spelled : (fs : Texts) → fs ≡ remove_entry (is_text text) es → AreSpelled fs
+  taken_out_spelled fs now = subst AreSpelled (sym now) (spelled_out text is es s)
 
   pub none_found : None ≡ lookup (is_text text) es → [] ≡ versions_at (entries_of es) t
   none_found h = ap items_or h ∙ versions_found

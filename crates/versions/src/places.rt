@@ -1,5 +1,5 @@
 //! The versions at one text.
-ghost use Rattle.std.specs.Prelude.{◌≡◌, true, IfOk, OnOk, OnErr};
+ghost use Rattle.std.specs.Prelude.{◌≡◌, [], true, IfOk, OnOk, OnErr};
 ghost use Rattle.std.specs.Option.{option_map};
 ghost use Rattle.versions.specs.Versions.{items_or, versions_at, is_there, is_based, with_version, drop_last, after_settle, base_versions};
 ghost use Rattle.versions.specs.Texts.{entries_of, AreSpelled, TextsStay, TextsChangeAt};
@@ -48,6 +48,9 @@ pub(crate) fn pop_version(map: &mut Texts, key: &TupleRef<'_>)
 {
     if let Some(versions) = map.get_mut(key.as_str()) {
         versions.drop_newest();
+        if versions.is_empty() {
+            forget(map, key);
+        }
     }
 }
 
@@ -57,10 +60,24 @@ pub(crate) fn settle_version(map: &mut Texts, key: &TupleRef<'_>) -> bool
     ensures versions { TextsChangeAt key.now after_settle map.old map.new }
     ensures was_based { result ≡ is_based (versions_at (entries_of map.old) key.now) }
 {
-    if let Some(versions) = map.get_mut(key.as_str()) {
-        return versions.settle();
+    let Some(versions) = map.get_mut(key.as_str()) else {
+        return false;
+    };
+    let was_based = versions.settle();
+    if versions.is_empty() {
+        forget(map, key);
     }
-    false
+    was_based
+}
+
+/// Takes a tuple out that has no versions, so that it takes no memory.
+fn forget(map: &mut Texts, key: &TupleRef<'_>)
+    requires spelled { AreSpelled map.old }
+    requires empty { versions_at (entries_of map.old) key.now ≡ [] }
+    ensures spelled { AreSpelled map.new }
+    ensures same { TextsStay map.old map.new }
+{
+    map.remove(key.as_str());
 }
 
 /// Puts the tuple into what the floor holds.

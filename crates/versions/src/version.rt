@@ -1,5 +1,5 @@
 //! Versions.
-ghost use Rattle.std.specs.Prelude.{◌≡◌, ◌<◌, ◌≤◌, ◌++◌, ◌∷◌, [], drop, length, OnOk, OnErr, IfOk};
+ghost use Rattle.std.specs.Prelude.{◌≡◌, ◌<◌, ◌≤◌, ◌++◌, ◌∷◌, [], true, drop, length, OnOk, OnErr, IfOk};
 ghost use Rattle.std.specs.List.{AllWithin};
 ghost use Rattle.versions.specs.Versions.{is_put, version_of, stands, IsRising, is_there, is_based, last_rev, drop_last, after_settle, after_settle_first};
 ghost use Rattle.versions.specs.Inline.{kept_versions};
@@ -73,6 +73,16 @@ impl Versions {
         Versions {
             alloc,
             kept: Kept::One(version),
+        }
+    }
+
+    pub(crate) fn is_empty(&self) -> bool
+        ensures { result ≡ true → self.now ≡ [] }
+    {
+        match &self.kept {
+            Kept::None => true,
+            Kept::One(_) => false,
+            Kept::Many(versions) => versions.is_empty(),
         }
     }
 
