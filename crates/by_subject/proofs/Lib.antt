@@ -3,6 +3,7 @@ pub mod Keeping
 pub mod Putting
 pub mod Going
 pub mod Counting
+pub mod Forgotten
 pub mod Named
 pub mod Origins
 pub mod Pages

@@ -1,6 +1,7 @@
 //! Tuples, found by whom they name.
-ghost use Rattle.std.specs.Prelude.{◌≡◌, ◌↔◌, ◌++◌, ◌<◌, true, length, filter, Contains, IfOk, IfSome, IfNone, OnOk, OnErr};
+ghost use Rattle.std.specs.Prelude.{◌≡◌, ◌↔◌, ◌++◌, ◌<◌, true, false, length, filter, Contains, IfOk, IfSome, IfNone, OnOk, OnErr};
 ghost use Rattle.std.specs.Option.{option_to_list};
+ghost use Rattle.names.specs.Order.{is_same_tuple};
 ghost use Rattle.names.specs.declared.tuple.Tuple.{Tuple};
 ghost use Rattle.names.specs.declared.node.Node.{Node};
 ghost use Rattle.meaning.specs.TupleSet as set;
@@ -113,6 +114,13 @@ impl BySubject {
         let key = scratch.tuple_ref();
         self.texts.insert(key.as_str(), ())?;
         Ok(())
+    }
+
+    /// Takes a tuple out that was turned round.
+    pub(crate) fn take_out(&mut self, turned: &TupleRef<'_>)
+        ensures { (u : Tuple) → is_same_tuple u turned.now ≡ false → set.contains self.old u ≡ true → set.contains self.new u ≡ true }
+    {
+        self.texts.remove(turned.as_str());
     }
 
     fn texts(&self) -> &Shelf<()>

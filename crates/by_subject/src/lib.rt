@@ -3,6 +3,7 @@
 #![tactic(auto)]
 
 mod by_subject;
+mod forgetting;
 mod law;
 mod limits;
 mod reading;
@@ -10,9 +11,6 @@ mod turning;
 mod view_by_subject;
 
 pub use by_subject::BySubject;
-pub use law::{
-    it_is_complete_after_a_trim, it_is_complete_without_the_newest_commit,
-    what_is_retained_is_found,
-};
+pub use law::{it_is_complete_without_the_newest_commit, what_is_retained_is_found};
 pub use limits::most_for;
 pub use view_by_subject::ViewBySubject;

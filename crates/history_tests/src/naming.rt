@@ -5,7 +5,7 @@ ghost use Rattle.by_subject.specs.Complete.{IsCompleteFor};
 
 use crate::histories::{history, trims, tuples_in};
 use by_subject::{BySubject, ViewBySubject, what_is_retained_is_found};
-use names::{Items, Name, ObjectId, Refusal, Subject, Tuple};
+use names::{Items, Name, Object, ObjectId, Refusal, Subject, Tuple};
 use rows::{Loaded, Rows, Tupleset};
 use std::alloc::{AllocError, Global};
 use std::test::Fail;
@@ -172,5 +172,24 @@ fn tuples_are_read_by_whom_they_name(rt: HostRuntime) -> Result<(), Fail> {
         let right = gives(rt.alloc(), rev, &asked, wanted)?;
         assert!(rt; right, "{subject} at {rev}: {wanted}");
     }
+    Ok(())
+}
+
+/// How many nodes have a tuple that names her, once what no revision from one on has is forgotten.
+fn nodes_left(alloc: Global, floor: u64) -> Result<Option<usize>, Refusal> {
+    let rows = history(alloc, &LINES)?;
+    let mut found = BySubject::of(alloc, &loaded_of(alloc, &rows)?)?;
+    if rows.floor() <= floor && floor <= rows.newest() {
+        found.forget_below(&rows, floor);
+    }
+    let nodes = found.naming(alloc, &Object::parse("user:ann")?, 8)?;
+    Ok(nodes.map(|nodes| nodes.len()))
+}
+
+// Of the five tuples that name her the last write deletes one.
+#[test]
+fn what_no_later_revision_has_is_forgotten(rt: HostRuntime) -> Result<(), Fail> {
+    assert!(rt; nodes_left(rt.alloc(), 2)? == Some(5));
+    assert!(rt; nodes_left(rt.alloc(), 3)? == Some(4));
     Ok(())
 }

@@ -6,4 +6,3 @@ pub mod Indexing
 pub mod Knowing
 pub mod Following
 pub mod Taking
-pub mod Naming

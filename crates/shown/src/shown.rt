@@ -45,11 +45,10 @@ use crate::marks::{count_with, remark};
 use crate::members::{members_after, members_later, members_of};
 use crate::question::Objects;
 use crate::step::Step;
-use crate::subjects::{subjects_of, subjects_with};
+use crate::subjects::{subjects_from, subjects_of, subjects_with};
 use answer_cache::CachedAnswers;
 use by_subject::{
-    BySubject, ViewBySubject, it_is_complete_after_a_trim,
-    it_is_complete_without_the_newest_commit, what_is_retained_is_found,
+    BySubject, ViewBySubject, it_is_complete_without_the_newest_commit, what_is_retained_is_found,
 };
 use config::Config;
 use expand::Tree;
@@ -160,7 +159,7 @@ impl Shown {
         ensures { self.new ≡ after_step self.old (Step.Trim floor) }
     {
         groups::raise(&mut self.groups, floor);
-        it_is_complete_after_a_trim();
+        self.subjects = subjects_from(self.subjects.take(), &self.rows, floor);
         self.rows.trim(floor);
     }
 

@@ -2,10 +2,10 @@
 ghost use Rattle.std.specs.Prelude.{IfSome};
 ghost use Rattle.by_subject.specs.Complete.{IsCompleteFor};
 ghost use Rattle.rows.specs.Loads.{retained_of};
-ghost use Rattle.rows.specs.Retained.{Retained, with_commit};
+ghost use Rattle.rows.specs.Retained.{Retained, IsRetained, with_commit, after_trim};
 
 use by_subject::BySubject;
-use rows::Loaded;
+use rows::{Loaded, Rows};
 use std::alloc::Global;
 use tuple_keys::KeptCommit;
 
@@ -28,5 +28,19 @@ pub(crate) fn subjects_with(subjects: Option<BySubject>, commit: &KeptCommit) ->
 {
     let mut subjects = subjects?;
     subjects.take(commit).ok()?;
+    Some(subjects)
+}
+
+/// The same where the floor is to rise: what no revision from that on has is forgotten.
+pub(crate) fn subjects_from(
+    subjects: Option<BySubject>,
+    rows: &Rows,
+    floor: u64,
+) -> Option<BySubject>
+    requires { IsRetained rows.now floor }
+    ensures { IfSome subjects (IsCompleteFor rows.now) → IfSome result (IsCompleteFor (after_trim rows.now floor)) }
+{
+    let mut subjects = subjects?;
+    subjects.forget_below(rows, floor);
     Some(subjects)
 }

@@ -8,7 +8,8 @@ use Rattle.names.specs.declared.commit.EventKind.TheVariants.{Put, Del}
 use Rattle.meaning.specs.TupleSet as set
 use Rattle.meaning.specs.TupleSet.{Tuples}
 use Rattle.by_subject.specs.Turned.{turned}
-use Rattle.by_subject.specs.Complete.{puts_tuple}
+use Rattle.by_subject.specs.Complete.{puts_tuple, IsOf}
+use Rattle.rows.specs.Retained.{Retained}
 
 -- the turned tuples, with the event's where it puts that
 abbrev pub with_event : EventKind → Tuple → Tuples → Tuples
@@ -22,3 +23,7 @@ HasPuts events found = (t : Tuple) → list_any (puts_tuple t) events ≡ true �
 -- what was there is there
 abbrev pub Keeps : Tuples → Tuples → Type 0
 Keeps old new = (t : Tuple) → set.contains old t ≡ true → set.contains new t ≡ true
+
+-- what was there of a history's tuples is there
+abbrev pub KeepsOf : Retained → Tuples → Tuples → Type 0
+KeepsOf r old new = (t : Tuple) → IsOf r t → set.contains old (turned t) ≡ true → set.contains new (turned t) ≡ true
