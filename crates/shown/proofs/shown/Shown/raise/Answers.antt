@@ -8,5 +8,5 @@ pub invariant_of-self : goal.invariant_of-self
 invariant_of-self c =
     let raised = c.trim.ensures.raised (above_floor _ c.args.self.now c.args.floor c.self.view_is c.requires) in (
       sound_above _ c.args.self.now c.self.inside.groups c.raise.new.index c.self.inside.members c.args.floor c.trim.new.self c.self.view_is c.requires c.self.invariant.0 c.raise.ensures c.trim.ensures.raised,
-      subst (λ (x : Retained). AreKeptSubjects x c.subjects_from.result) (sym raised) (c.subjects_from.ensures c.self.invariant.1),
+      subst (λ (x : Retained). AreKeptSubjects x c.subjects_from.result) (sym raised) (c.subjects_from.ensures (subst (AreKeptSubjects c.self.inside.rows) (sym c.take.ensures.value) c.self.invariant.1)),
     )
