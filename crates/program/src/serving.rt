@@ -75,7 +75,12 @@ fn serve_listed<
         return share(host, tables, offer, writer);
     }
     match Answering::open(host.rt.alloc(), host.wait, tables) {
-        Ok(mut answering) => serve(host.rt, host.net, offer.port, &mut answering, writer),
+        Ok(mut answering) => {
+            match serve(host.rt, host.net, offer.port, &mut answering, writer) {
+                Ok(()) => Ok(()),
+                Err(fault) => Err(fault),
+            }
+        }
         Err((why, _)) => Err(Fault::Refused(why)),
     }
 }
