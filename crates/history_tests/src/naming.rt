@@ -108,69 +108,66 @@ fn gives(alloc: Global, rev: u64, asked: &Tupleset, words: &str) -> Result<bool,
     reads(alloc, &rows, &found, rev, asked, words)
 }
 
-const NONE: [&str; 4] = ["doc", "", "", ""];
+const DOCS: [&str; 4] = ["doc", "", "", ""];
+
+const A: &str = "doc:a#viewer@user:ann";
+
+const B: &str = "doc:b#editor@user:ann";
+
+const E: &str = "doc:e#viewer@user:ann";
+
+const FOLDER: &str = "folder:f#viewer@user:ann";
+
+// Of a revision: what is asked for, and a page of so many at most.
+fn reads_all(
+    alloc: Global,
+    rev: u64,
+    subject: &str,
+    pages: &[([&str; 4], u16, &str)],
+) -> Result<bool, Refusal> {
+    for (of, limit, wanted) in pages {
+        if !gives(alloc, rev, &asked(*of, subject, *limit)?, wanted)? {
+            return Ok(false);
+        }
+    }
+    Ok(true)
+}
 
 #[test]
 fn tuples_are_read_by_whom_they_name(rt: HostRuntime) -> Result<(), Fail> {
-    let (ann, group) = ("user:ann", "group:g#member");
-    let (a, b, e) = (
-        "doc:a#viewer@user:ann",
-        "doc:b#editor@user:ann",
-        "doc:e#viewer@user:ann",
-    );
-    for (rev, of, subject, limit, wanted) in [
+    let alloc = rt.alloc();
+    let before = "doc:a#viewer@user:ann doc:b#editor@user:ann doc:b#viewer@user:ann";
+    assert!(rt; reads_all(alloc, 2, "user:ann", &[(DOCS, 1000, before)])?);
+    let now = "doc:a#viewer@user:ann doc:b#editor@user:ann doc:e#viewer@user:ann";
+    let pages = [
+        (DOCS, 1000, now),
+        (DOCS, 2, "doc:a#viewer@user:ann doc:b#editor@user:ann"),
+        (["doc", "", "", A], 1, B),
+        (["doc", "", "", E], 1000, ""),
         (
-            3,
-            NONE,
-            ann,
-            1000,
-            "doc:a#viewer@user:ann doc:b#editor@user:ann doc:e#viewer@user:ann",
-        ),
-        (
-            2,
-            NONE,
-            ann,
-            1000,
-            "doc:a#viewer@user:ann doc:b#editor@user:ann doc:b#viewer@user:ann",
-        ),
-        (
-            3,
-            NONE,
-            ann,
-            2,
-            "doc:a#viewer@user:ann doc:b#editor@user:ann",
-        ),
-        (3, ["doc", "", "", a], ann, 1, b),
-        (3, ["doc", "", "", e], ann, 1000, ""),
-        (
-            3,
             ["doc", "", "viewer", ""],
-            ann,
             1000,
             "doc:a#viewer@user:ann doc:e#viewer@user:ann",
         ),
-        (3, ["doc", "b", "", ""], ann, 1000, b),
-        (
-            3,
-            ["folder", "", "", ""],
-            ann,
-            1000,
-            "folder:f#viewer@user:ann",
-        ),
-        (
-            3,
-            NONE,
-            group,
-            1000,
-            "doc:aa#viewer@group:g#member doc:c#viewer@group:g#member",
-        ),
-        (2, NONE, group, 1000, "doc:c#viewer@group:g#member"),
-        (3, NONE, "group:g", 1000, ""),
-        (3, NONE, "user:cy", 1000, ""),
-    ] {
-        let asked = asked(of, subject, limit)?;
-        let right = gives(rt.alloc(), rev, &asked, wanted)?;
-        assert!(rt; right, "{subject} at {rev}: {wanted}");
+        (["doc", "b", "", ""], 1000, B),
+        (["folder", "", "", ""], 1000, FOLDER),
+    ];
+    assert!(rt; reads_all(alloc, 3, "user:ann", &pages)?);
+    Ok(())
+}
+
+#[test]
+fn tuples_are_read_by_whose_members_they_name(rt: HostRuntime) -> Result<(), Fail> {
+    let alloc = rt.alloc();
+    let (group, before) = ("group:g#member", "doc:c#viewer@group:g#member");
+    let now = "doc:aa#viewer@group:g#member doc:c#viewer@group:g#member";
+    assert!(rt; reads_all(alloc, 2, group, &[(DOCS, 1000, before)])?);
+    assert!(rt; reads_all(alloc, 3, group, &[(DOCS, 1000, now)])?);
+    for nobody in ["group:g", "user:cy"] {
+        assert!(rt;
+            reads_all(alloc, 3, nobody, &[(DOCS, 1000, "")])?,
+            "{nobody}"
+        );
     }
     Ok(())
 }

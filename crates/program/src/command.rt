@@ -6,18 +6,16 @@ ghost use Rattle.command_line.specs.declared.fault.Fault.TheVariants.{Refused};
 ghost use Rattle.command_line.specs.Faults.{IsRunFault, IsLineFault};
 ghost use Rattle.command_line.specs.Words.{asks_to_serve, OnServe};
 ghost use Rattle.runs.specs.Runs.{is_read_fault, is_write_fault};
-ghost use Rattle.program.specs.Listening.{Announced, IsStartFault, NotAnnounced, StoppedServing};
 ghost use Rattle.program.specs.Ran.{AreWhole, RanAt, RefusedAt, Reported, StoppedReport, IsReport, DoneOf, StoppedOf, Obeyed, Stopped, all_lines, whole_lines, first_lines};
 ghost use Rattle.program.specs.Telling.{Tells};
 
-use crate::listening::{see_port, serve};
+use crate::host::Host;
 use crate::place::{is_number, is_there};
-use crate::sharing::{share, share_over};
+use crate::serving::{Offer, serve_at};
 use crate::telling::tell;
 use command_line::{Fault, Place, Task, read_file, report_of, task_of};
-use keeper::Answering;
 use names::Refusal;
-use runs::{Left, find_blank, open_in, run, run_in, tables_in};
+use runs::{Left, run, run_in};
 use sqlite::Start;
 use std::alloc::Global;
 use std::env::Args;
@@ -101,202 +99,6 @@ fn run_at<P: Start, H: Wait + Drop, R: Read, W: Write>(
     }
 }
 
-// Sees that a new store can be made in a file and served on a port, and gives back what says what the file holds. Where the
-// port cannot be had, what stands in the way of the store is still told first; it is not made, so that another port can be tried.
-fn see_new<P: Start, N: Net<Listener = TcpListener, Stream = TcpStream>>(
-    rt: &HostRuntime,
-    net: &N,
-    file: &str,
-    store: u64,
-    port: u16,
-    start: P,
-) -> Result<P, Fault>
-    ensures number { OnOk result ((1 ≤ store) × (store < 2 ^ 63)) }
-    ensures same { IfOk result (λ given. given ≡ start) }
-    ensures err { IfErr result IsStartFault }
-{
-    if !is_number(store) {
-        return Err(Fault::Refused(Refusal::StoreFault));
-    }
-    if see_port(net, port).is_ok() {
-        return Ok(start);
-    }
-    match find_blank(rt, file, start) {
-        Ok(_) => Err(Fault::CannotListen),
-        Err((fault, _)) => Err(fault),
-    }
-}
-
-// Serves connections from the store at a place, one after the other, from a desk of its own. `start` says what its file
-// holds.
-fn serve_alone_at<
-    P: Start,
-    H: Wait + Drop,
-    N: Net<Listener = TcpListener, Stream = TcpStream>,
-    W: Write,
->(
-    rt: &HostRuntime,
-    wait: H,
-    net: &N,
-    place: &Place,
-    port: u16,
-    start: P,
-    writer: &mut TrackedWriter<W>,
-) -> Result<(), Fault>
-    requires unbroken_writer { writer.old.failed ≡ false }
-    ensures ok { OnOk result (Announced port writer.old writer.new) }
-    ensures whole { OnOk result ((writer.new.failed ≡ false) × (writer.new.flushed ≡ true)) }
-    ensures line { IfErr result (λ fault. fault ≢ Fault.CommandLine) }
-    ensures failed { IfErr result (λ fault. NotAnnounced port fault writer.old writer.new) }
-{
-    match place {
-        Place::Memory { store } => {
-            let alloc = rt.alloc();
-            match Answering::open(alloc, wait, Listed::new(alloc, *store)) {
-                Ok(mut answering) => serve(rt, net, port, &mut answering, writer),
-                Err((why, _)) => Err(Fault::Refused(why)),
-            }
-        }
-        Place::New { file, store } => {
-            let start = see_new(rt, net, file.as_str(), *store, port, start)?;
-            let mut answering = match open_in(rt, wait, file.as_str(), Some(*store), start) {
-                Ok(answering) => answering,
-                Err((fault, _)) => return Err(fault),
-            };
-            serve(rt, net, port, &mut answering, writer)
-        }
-        Place::There { file } => {
-            is_there(fs::open(rt, file.as_str()))?;
-            let mut answering = match open_in(rt, wait, file.as_str(), None, start) {
-                Ok(answering) => answering,
-                Err((fault, _)) => return Err(fault),
-            };
-            serve(rt, net, port, &mut answering, writer)
-        }
-    }
-}
-
-// Serves connections from the store in a file, by so many workers. `start` says what the file holds.
-fn share_in<
-    P: Start + Send,
-    H: Wait + Drop + Send,
-    N: Net<Listener = TcpListener, Stream = TcpStream> + Threads + Wait + Clock + Sync,
-    W: Write,
->(
-    rt: &HostRuntime,
-    wait: H,
-    net: &N,
-    file: &str,
-    store: Option<u64>,
-    port: u16,
-    workers: u64,
-    start: P,
-    writer: &mut TrackedWriter<W>,
-) -> Result<(), Fault>
-    requires number { IfSome store (λ number. (1 ≤ number) × (number < 2 ^ 63)) }
-    requires unbroken_writer { writer.old.failed ≡ false }
-    ensures ok { OnOk result (Announced port writer.old writer.new) }
-    ensures whole { OnOk result ((writer.new.failed ≡ false) × (writer.new.flushed ≡ true)) }
-    ensures line { IfErr result (λ fault. fault ≢ Fault.CommandLine) }
-    ensures failed { IfErr result (λ fault. StoppedServing port fault writer.old writer.new) }
-{
-    match tables_in(rt, file, store, start) {
-        Ok(tables) => share_over(rt.alloc(), net, wait, tables, port, workers, writer),
-        Err((fault, _)) => Err(fault),
-    }
-}
-
-// Serves connections from the store at a place, by so many workers. `start` says what its file holds.
-fn serve_shared_at<
-    P: Start + Send,
-    H: Wait + Drop + Send,
-    N: Net<Listener = TcpListener, Stream = TcpStream> + Threads + Wait + Clock + Sync,
-    W: Write,
->(
-    rt: &HostRuntime,
-    wait: H,
-    net: &N,
-    place: &Place,
-    port: u16,
-    workers: u64,
-    start: P,
-    writer: &mut TrackedWriter<W>,
-) -> Result<(), Fault>
-    requires unbroken_writer { writer.old.failed ≡ false }
-    ensures ok { OnOk result (Announced port writer.old writer.new) }
-    ensures whole { OnOk result ((writer.new.failed ≡ false) × (writer.new.flushed ≡ true)) }
-    ensures line { IfErr result (λ fault. fault ≢ Fault.CommandLine) }
-    ensures failed { IfErr result (λ fault. StoppedServing port fault writer.old writer.new) }
-{
-    match place {
-        Place::Memory { store } => {
-            let alloc = rt.alloc();
-            let tables = Listed::new(alloc, *store);
-            share(alloc, net, wait, tables, port, workers, writer)
-        }
-        Place::New { file, store } => {
-            let start = see_new(rt, net, file.as_str(), *store, port, start)?;
-            share_in(
-                rt,
-                wait,
-                net,
-                file.as_str(),
-                Some(*store),
-                port,
-                workers,
-                start,
-                writer,
-            )
-        }
-        Place::There { file } => {
-            is_there(fs::open(rt, file.as_str()))?;
-            share_in(
-                rt,
-                wait,
-                net,
-                file.as_str(),
-                None,
-                port,
-                workers,
-                start,
-                writer,
-            )
-        }
-    }
-}
-
-// Serves connections from the store at a place, by so many workers.
-fn serve_at<
-    P: Start + Send,
-    H: Wait + Drop + Send,
-    N: Net<Listener = TcpListener, Stream = TcpStream> + Threads + Wait + Clock + Sync,
-    W: Write,
->(
-    rt: &HostRuntime,
-    wait: H,
-    net: &N,
-    place: &Place,
-    port: u16,
-    workers: u64,
-    start: P,
-    writer: &mut TrackedWriter<W>,
-) -> Result<(), Fault>
-    requires unbroken_writer { writer.old.failed ≡ false }
-    ensures ok { OnOk result (Announced port writer.old writer.new) }
-    ensures whole { OnOk result ((writer.new.failed ≡ false) × (writer.new.flushed ≡ true)) }
-    ensures line { IfErr result (λ fault. fault ≢ Fault.CommandLine) }
-    ensures failed { IfErr result (λ fault. StoppedServing port fault writer.old writer.new) }
-{
-    if workers == 1 {
-        match serve_alone_at(rt, wait, net, place, port, start, writer) {
-            Ok(()) => Ok(()),
-            Err(fault) => Err(fault),
-        }
-    } else {
-        serve_shared_at(rt, wait, net, place, port, workers, start, writer)
-    }
-}
-
 /// Does a task, and answers the status that the process ends with, and what is left of the file of a run, of which
 /// `start` says what it held.
 pub fn obey<
@@ -306,9 +108,7 @@ pub fn obey<
     R: Read,
     W: Write,
 >(
-    rt: &HostRuntime,
-    wait: H,
-    net: &N,
+    host: Host<'_, H, N>,
     task: Task,
     start: P,
     reader: &mut TrackedReader<R>,
@@ -333,7 +133,7 @@ pub fn obey<
 {
     match task {
         Task::Run { place } => {
-            let (ended, left) = run_at(rt, wait, &place, start, reader, writer);
+            let (ended, left) = run_at(host.rt, host.wait, &place, start, reader, writer);
             match ended {
                 Ok(()) => (Ok(0), left),
                 Err(fault) => (Err(fault), left),
@@ -344,12 +144,16 @@ pub fn obey<
             port,
             workers,
         } => {
-            match serve_at(rt, wait, net, &place, port, workers, start, writer) {
+            let offer = Offer { port, workers };
+            match serve_at(host, &place, offer, start, writer) {
                 Ok(()) => (Ok(0), Err(None)),
                 Err(fault) => (Err(fault), Err(None)),
             }
         }
-        Task::Config { file } => (report(rt.alloc(), rt, file.as_str(), writer), Err(None)),
+        Task::Config { file } => {
+            let rt = host.rt;
+            (report(rt.alloc(), rt, file.as_str(), writer), Err(None))
+        }
     }
 }
 
@@ -380,9 +184,7 @@ pub fn command<
     W: Write,
     E: Write,
 >(
-    rt: &HostRuntime,
-    wait: H,
-    net: &N,
+    host: Host<'_, H, N>,
     words: Args,
     start: P,
     reader: &mut TrackedReader<R>,
@@ -410,9 +212,9 @@ pub fn command<
     // Whatever the status, where no write failed, a writer that held nothing back before holds nothing back.
     ensures flushed { writer.new.failed ≡ false → writer.old.flushed ≡ true → writer.new.flushed ≡ true }
 {
-    match task_named(rt.alloc(), words) {
+    match task_named(host.rt.alloc(), words) {
         Ok(task) => {
-            let (obeyed, left) = obey(rt, wait, net, task, start, reader, writer);
+            let (obeyed, left) = obey(host, task, start, reader, writer);
             match obeyed {
                 Ok(status) => (status, left),
                 Err(fault) => {

@@ -2,10 +2,13 @@
 #![tactic(auto)]
 
 mod command;
+mod host;
 mod listening;
 mod place;
 mod process;
+mod serving;
 mod sharing;
 mod telling;
 
+pub use host::Host;
 pub use process::{Closed, program};

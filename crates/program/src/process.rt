@@ -11,6 +11,7 @@ ghost use Rattle.program.specs.Ran.{AreWhole, Obeyed, Stopped};
 ghost use Rattle.program.specs.Telling.{Tells};
 
 use crate::command::command;
+use crate::host::Host;
 use crate::telling::tell;
 use command_line::Fault;
 use names::Refusal;
@@ -92,9 +93,7 @@ pub fn program<
     W: Write,
     E: Write,
 >(
-    rt: &HostRuntime,
-    wait: H,
-    net: &N,
+    host: Host<'_, H, N>,
     words: io::Result<Args>,
     start: P,
     reader: &mut TrackedReader<R>,
@@ -143,6 +142,6 @@ pub fn program<
         Err(e) => return unbegun(errors, Fault::Refused(Refusal::Memory), Err(e)),
     };
     let mut writer = TrackedWriter::new(output);
-    let (status, left) = command(rt, wait, net, words, start, reader, &mut writer, errors);
+    let (status, left) = command(host, words, start, reader, &mut writer, errors);
     (status, closed(status, left), Some(writer))
 }

@@ -3,13 +3,14 @@ ghost use Rattle.std.specs.Prelude.{◌≡◌, ◌≢◌, true, false, IfErr, On
 ghost use Rattle.desk.specs.Posts.{OpensWith, Posts};
 ghost use Rattle.program.specs.Listening.{Announced, StoppedServing};
 
+use crate::host::Host;
 use crate::listening::listen;
+use crate::serving::Offer;
 use command_line::Fault;
 use front::{Keeper, KeeperName, Opening};
 use names::Refusal;
 use server::{Gate, run};
 use sqlite::Alter;
-use std::alloc::Global;
 use std::io::Write;
 use std::marker::Brand;
 use std::net::{Net, TcpListener, TcpStream};
@@ -43,85 +44,70 @@ fn serve_by_many<
     H: Wait + Drop + Send,
     W: Write,
 >(
-    alloc: Global,
-    net: &N,
-    wait: H,
+    host: Host<'_, H, N>,
     opening: Opening,
     tables: T,
-    port: u16,
-    workers: usize,
+    offer: Offer,
     writer: &mut TrackedWriter<W>,
 ) -> Result<(), Fault>
     requires book { opening.opened.book ≡ J.book }
     requires history { opening.history ≡ J.table }
     requires starts { (desk : Posts T) → OpensWith T.Tables tables desk → J.starts desk }
     requires unbroken_writer { writer.old.failed ≡ false }
-    ensures ok { OnOk result (Announced port writer.old writer.new) }
+    ensures ok { OnOk result (Announced offer.port writer.old writer.new) }
     ensures whole { OnOk result ((writer.new.failed ≡ false) × (writer.new.flushed ≡ true)) }
     ensures line { IfErr result (λ fault. fault ≢ Fault.CommandLine) }
-
-    ensures failed { IfErr result (λ fault. StoppedServing port fault writer.old writer.new) }
+    ensures failed { IfErr result (λ fault. StoppedServing offer.port fault writer.old writer.new) }
 {
-    let keeper = match Keeper::<T, J, H>::open(alloc, wait, opening, tables) {
+    let alloc = host.rt.alloc();
+    let workers = offer.workers as usize;
+    let keeper = match Keeper::<T, J, H>::open(alloc, host.wait, opening, tables) {
         Ok(keeper) => keeper,
         Err((why, _)) => return Err(Fault::Refused(why)),
     };
-    let listener = listen(alloc, net, port, writer)?;
-    match run(net, alloc, &listener, &keeper, workers, &AlwaysOpen) {
+    let listener = listen(alloc, host.net, offer.port, writer)?;
+    match run(host.net, alloc, &listener, &keeper, workers, &AlwaysOpen) {
         Ok(()) => Ok(()),
         Err(why) => Err(Fault::Refused(why)),
     }
 }
 
-/// Listens on a port, 0 for one that is free, says so, and serves connections by so many workers, from tables that they
-/// share.
-pub fn share<
+/// Listens on a port, says so, and serves connections by so many workers, from tables that they share.
+pub(crate) fn share<
     N: Net<Listener = TcpListener, Stream = TcpStream> + Threads + Wait + Clock + Sync,
     T: Tables + Drop + Send,
     H: Wait + Drop + Send,
     W: Write,
->(
-    alloc: Global,
-    net: &N,
-    wait: H,
-    tables: T,
-    port: u16,
-    workers: u64,
-    writer: &mut TrackedWriter<W>,
-) -> Result<(), Fault>
+>(host: Host<'_, H, N>, tables: T, offer: Offer, writer: &mut TrackedWriter<W>) -> Result<(), Fault>
     requires unbroken_writer { writer.old.failed ≡ false }
-    ensures ok { OnOk result (Announced port writer.old writer.new) }
+    ensures ok { OnOk result (Announced offer.port writer.old writer.new) }
     ensures whole { OnOk result ((writer.new.failed ≡ false) × (writer.new.flushed ≡ true)) }
     ensures line { IfErr result (λ fault. fault ≢ Fault.CommandLine) }
-    ensures failed { IfErr result (λ fault. StoppedServing port fault writer.old writer.new) }
+    ensures failed { IfErr result (λ fault. StoppedServing offer.port fault writer.old writer.new) }
 {
-    let Ok(opening) = Opening::new(alloc) else {
+    let Ok(opening) = Opening::new(host.rt.alloc()) else {
         return Err(Fault::Refused(Refusal::Memory));
     };
-    let workers = workers as usize;
-    serve_by_many::<N, T, Brand, H, W>(alloc, net, wait, opening, tables, port, workers, writer)
+    serve_by_many::<N, T, Brand, H, W>(host, opening, tables, offer, writer)
 }
 
 /// The same from tables over a database connection.
-pub fn share_over<
-    N: Net<Listener = TcpListener, Stream = TcpStream> + Threads + Wait + Clock + Sync,
+pub(crate) fn share_over<
     S: Alter + Drop + Send,
     H: Wait + Drop + Send,
+    N: Net<Listener = TcpListener, Stream = TcpStream> + Threads + Wait + Clock + Sync,
     W: Write,
 >(
-    alloc: Global,
-    net: &N,
-    wait: H,
+    host: Host<'_, H, N>,
     tables: Store<S>,
-    port: u16,
-    workers: u64,
+    offer: Offer,
     writer: &mut TrackedWriter<W>,
 ) -> Result<(), Fault>
     requires unbroken_writer { writer.old.failed ≡ false }
-    ensures ok { OnOk result (Announced port writer.old writer.new) }
+    ensures ok { OnOk result (Announced offer.port writer.old writer.new) }
     ensures whole { OnOk result ((writer.new.failed ≡ false) × (writer.new.flushed ≡ true)) }
     ensures line { IfErr result (λ fault. fault ≢ Fault.CommandLine) }
-    ensures failed { IfErr result (λ fault. StoppedServing port fault writer.old writer.new) }
+    ensures failed { IfErr result (λ fault. StoppedServing offer.port fault writer.old writer.new) }
 {
-    share(alloc, net, wait, tables, port, workers, writer)
+    share(host, tables, offer, writer)
 }

@@ -3,7 +3,7 @@
 //! until it is stopped; `zanz config FILE` prints the level of each relation of a configuration, or why it is refused.
 #![tactic(auto)]
 
-use program::program;
+use program::{Host, program};
 use sqlite::Unknown;
 use std::io::BufWriter;
 use std::process::ExitCode;
@@ -12,9 +12,11 @@ use tracked_io::{TrackedReader, TrackedWriter};
 
 fn main(rt: HostRuntime) -> ExitCode {
     let ended = program(
-        &rt,
-        &rt,
-        &rt,
+        Host {
+            rt: &rt,
+            wait: &rt,
+            net: &rt,
+        },
         env::args(&rt),
         Unknown,
         &mut TrackedReader::new(rt.reader()),

@@ -4,7 +4,7 @@ use Rattle.std.proofs.Crossing.{crosses}
 use Rattle.front.proofs.Crossing.{Config-send, KeptCommit-send}
 use Rattle.versions.proofs.version_map.VersionMap.TheSendSync as VersionMap
 use Rattle.tables.specs.contracts.listed.Listed as Listed
-use Rattle.program.proofs.command.serve_shared_at.Goals as goal
+use Rattle.program.proofs.serving.serve_listed.Goals as goal
 
 -- Tables in memory reach a rewrite, so Rattle does not find this by itself.
 Listed-send : IsSend Listed.the_row
