@@ -45,7 +45,6 @@ FIGURES = [
     ("the same, in a file", "of 1 operation", 2),
     ("the same rows, by `sqlite3` alone", "of 1 operation", 3),
     ("opening a file of 1,000,000 tuples", "1,000,000", 6),
-    ("memory for each of these tuples, without a file", "1,000,000", 2),
     ("a check among them, through folders eight deep with bans", "folders", 4),
     ("the same, by a statement of SQLite written for it", "folders", 5),
 ]
