@@ -39,15 +39,13 @@ pub fn run_in<P: Start, H: Wait + Drop, R: Read, W: Write>(
     writer: &mut TrackedWriter<W>,
 ) -> (Result<(), Fault>, Left<P>)
     requires number { IfSome store (λ number. (1 ≤ number) × (number < 2 ^ 63)) }
-    requires unbroken_reader { reader.old.failed ≡ false }
-    requires unbroken_writer { writer.old.failed ≡ false }
+    requires unbroken { (reader.old.failed ≡ false) × (writer.old.failed ≡ false) }
 
     // All that was there was read, each line answered, and the answers handed on. Here and below none was held back: at
     // each read, also of one that failed, each whole line of what was read before had its answer, handed on.
-    ensures ok { OnOk result.0 ((input : List ℕ) × ReadsAll R.remaining reader.old reader.new input × IsOkAnd result.1
+    ensures ok { OnOk result.0 ((writer.new.flushed ≡ true) × ((input : List ℕ) × ReadsAll R.remaining reader.old reader.new input × IsOkAnd result.1
         (EndedOver over_files (BeginsIn (image_at P.Start) store) input
-        (ServedBy (over over_files) (reader.old, writer.old) input (reader.new, writer.new)))) }
-    ensures handed_on { OnOk result.0 (writer.new.flushed ≡ true) }
+        (ServedBy (over over_files) (reader.old, writer.old) input (reader.new, writer.new))))) }
 
     // Each whole line of what was read was answered.
     ensures cannot_read { IfErr result.0 (λ fault. fault ≡ Fault.CannotRead → (input : List ℕ)
@@ -63,8 +61,7 @@ pub fn run_in<P: Start, H: Wait + Drop, R: Read, W: Write>(
 
     // A fault is told exactly where the flag of the tracked reader or writer is set in the call. Where the writer's is not, one
     // that held nothing back before holds nothing back.
-    ensures read_failed { reader.new.failed ≡ is_read_fault result.0 }
-    ensures write_failed { writer.new.failed ≡ is_write_fault result.0 }
+    ensures failed { (reader.new.failed ≡ is_read_fault result.0) × (writer.new.failed ≡ is_write_fault result.0) }
     ensures flushed { writer.new.failed ≡ false → writer.old.flushed ≡ true → writer.new.flushed ≡ true }
 
     // Nothing was read or written.
@@ -76,8 +73,8 @@ pub fn run_in<P: Start, H: Wait + Drop, R: Read, W: Write>(
     ensures taken { CannotBeginIn (image_at P.Start) store → IfOk result.1 (λ conn. HasCleanDisk (file_state conn)
         → (result.0 ≡ Err (Refused StoreFault)) × IsFoundIn (image_at P.Start) (file_state conn)) }
     ensures unopened { IfErr result.1 (λ _. (why : Refusal) × (result.0 ≡ Err (Refused why))) }
-    ensures caused { IfErr result.0 (λ fault. fault ≡ Refused StoreFault → IsDeservedIn (image_at P.Start) store result.1) }
-    ensures cause { IfErr result.0 IsRunFault }
+    ensures cause { IfErr result.0 (λ fault. IsRunFault fault
+        × (fault ≡ Refused StoreFault → IsDeservedIn (image_at P.Start) store result.1)) }
     ensures lasts { IfOk result.1 (λ conn. Lasts sound_device (device_below over_files conn)) }
 {
     match connect(rt, path, start) {

@@ -33,18 +33,15 @@ pub fn run_over<S: Alter + Drop, H: Wait + Drop, R: Read, W: Write>(
     reader: &mut TrackedReader<R>,
     writer: &mut TrackedWriter<W>,
 ) -> (Result<(), Fault>, Connection<S>)
-    requires idle { conn.in_transaction ≡ false }
-    requires unlimited { conn.step_limit ≡ None }
+    requires idle { (conn.in_transaction ≡ false) × (conn.step_limit ≡ None) }
     requires number { IfSome store (λ number. (1 ≤ number) × (number < 2 ^ 63)) }
-    requires unbroken_reader { reader.old.failed ≡ false }
-    requires unbroken_writer { writer.old.failed ≡ false }
+    requires unbroken { (reader.old.failed ≡ false) × (writer.old.failed ≡ false) }
 
     // All that was there was read, each line answered, and the answers handed on. Here and below none was held back: at
     // each read, also of one that failed, each whole line of what was read before had its answer, handed on.
-    ensures ok { OnOk result.0 ((input : List ℕ) × ReadsAll R.remaining reader.old reader.new input
+    ensures ok { OnOk result.0 ((writer.new.flushed ≡ true) × ((input : List ℕ) × ReadsAll R.remaining reader.old reader.new input
         × EndedOver S.Store (Begins S.Store conn store) input
-        (ServedBy (over S.Store) (reader.old, writer.old) input (reader.new, writer.new)) result.1) }
-    ensures handed_on { OnOk result.0 (writer.new.flushed ≡ true) }
+        (ServedBy (over S.Store) (reader.old, writer.old) input (reader.new, writer.new)) result.1)) }
 
     // Each whole line of what was read was answered.
     ensures cannot_read { IfErr result.0 (λ fault. fault ≡ Fault.CannotRead → (input : List ℕ)
@@ -60,8 +57,7 @@ pub fn run_over<S: Alter + Drop, H: Wait + Drop, R: Read, W: Write>(
 
     // A fault is told exactly where the flag of the tracked reader or writer is set in the call. Where the writer's is not, one
     // that held nothing back before holds nothing back.
-    ensures read_failed { reader.new.failed ≡ is_read_fault result.0 }
-    ensures write_failed { writer.new.failed ≡ is_write_fault result.0 }
+    ensures failed { (reader.new.failed ≡ is_read_fault result.0) × (writer.new.failed ≡ is_write_fault result.0) }
     ensures flushed { writer.new.failed ≡ false → writer.old.flushed ≡ true → writer.new.flushed ≡ true }
 
     // Nothing was read or written.
@@ -71,9 +67,8 @@ pub fn run_over<S: Alter + Drop, H: Wait + Drop, R: Read, W: Write>(
     // A database in which there is another thing than is asked for is left alone.
     ensures taken { CannotBegin S.Store conn store
         → (result.0 ≡ Err (Refused StoreFault)) × (result.1 ≡ conn) × (reader.new ≡ reader.old) × (writer.new ≡ writer.old) }
-    ensures caused { IfErr result.0 (λ fault. fault ≡ Refused StoreFault → IsOpen (device_below S.Store conn)
-        → IsDeserved S.Store conn store result.1) }
-    ensures cause { IfErr result.0 IsRunFault }
+    ensures cause { IfErr result.0 (λ fault. IsRunFault fault
+        × (fault ≡ Refused StoreFault → IsOpen (device_below S.Store conn) → IsDeserved S.Store conn store result.1)) }
     ensures lasts { Lasts (device_below S.Store conn) (device_below S.Store result.1) }
 {
     match start(alloc, conn, store) {
@@ -93,8 +88,7 @@ pub fn open_over<S: Alter + Drop, H: Wait + Drop>(
     conn: Connection<S>,
     store: Option<u64>,
 ) -> Result<Answering<Store<S>, H>, (Fault, Connection<S>)>
-    requires idle { conn.in_transaction ≡ false }
-    requires unlimited { conn.step_limit ≡ None }
+    requires idle { (conn.in_transaction ≡ false) × (conn.step_limit ≡ None) }
     requires number { IfSome store (λ number. (1 ≤ number) × (number < 2 ^ 63)) }
     ensures ok { IfOk result (λ answering. OpenedOver S.Store (Begins S.Store conn store) answering) }
     ensures refused { IfErr result (λ e. (why : Refusal) × (e.0 ≡ Refused why)) }
@@ -123,8 +117,7 @@ pub(crate) fn start<S: Alter + Drop>(
     conn: Connection<S>,
     store: Option<u64>,
 ) -> Result<Store<S>, (TablesError, Connection<S>)>
-    requires idle { conn.in_transaction ≡ false }
-    requires unlimited { conn.step_limit ≡ None }
+    requires idle { (conn.in_transaction ≡ false) × (conn.step_limit ≡ None) }
     requires number { IfSome store (λ number. (1 ≤ number) × (number < 2 ^ 63)) }
     ensures ok { IfOk result (λ s. StartsFrom S.Store conn store (connection s)) }
     ensures err { IfErr result (λ e. FailsToStart S.Store conn store e.0 e.1) }

@@ -28,8 +28,7 @@ pub fn run<T: Tables + Drop, H: Wait + Drop, R: Read, W: Write>(
     reader: &mut TrackedReader<R>,
     writer: &mut TrackedWriter<W>,
 ) -> (Result<(), Fault>, T)
-    requires unbroken_reader { reader.old.failed ≡ false }
-    requires unbroken_writer { writer.old.failed ≡ false }
+    requires unbroken { (reader.old.failed ≡ false) × (writer.old.failed ≡ false) }
 
     // All that was there was read, each line answered, and the answers handed on. Here and below none was held back: at
     // each read, also of one that failed, each whole line of what was read before had its answer, handed on.
@@ -49,8 +48,7 @@ pub fn run<T: Tables + Drop, H: Wait + Drop, R: Read, W: Write>(
 
     // A fault is told exactly where the flag of the tracked reader or writer is set in the call. Where the writer's is not, one
     // that held nothing back before holds nothing back.
-    ensures read_failed { reader.new.failed ≡ is_read_fault result.0 }
-    ensures write_failed { writer.new.failed ≡ is_write_fault result.0 }
+    ensures failed { (reader.new.failed ≡ is_read_fault result.0) × (writer.new.failed ≡ is_write_fault result.0) }
     ensures flushed { writer.new.failed ≡ false → writer.old.flushed ≡ true → writer.new.flushed ≡ true }
 
     // Nothing was read or written, and the tables hold and leave what they did, and hold nothing else. They are at fault only
@@ -78,8 +76,7 @@ fn serve<T: Tables + Drop, H: Wait + Drop, R: Read, W: Write>(
     reader: &mut TrackedReader<R>,
     writer: &mut TrackedWriter<W>,
 ) -> Result<(), Fault>
-    requires unbroken_reader { reader.old.failed ≡ false }
-    requires unbroken_writer { writer.old.failed ≡ false }
+    requires unbroken { (reader.old.failed ≡ false) × (writer.old.failed ≡ false) }
 
     // All that was there was read, each line answered, and the answers handed on. Here and below none was held back: at
     // each read, also of one that failed, each whole line of what was read before had its answer, handed on.
@@ -99,8 +96,7 @@ fn serve<T: Tables + Drop, H: Wait + Drop, R: Read, W: Write>(
 
     // A fault is told exactly where the flag of the tracked reader or writer is set in the call. Where the writer's is not, one
     // that held nothing back before holds nothing back.
-    ensures read_failed { reader.new.failed ≡ is_read_fault result }
-    ensures write_failed { writer.new.failed ≡ is_write_fault result }
+    ensures failed { (reader.new.failed ≡ is_read_fault result) × (writer.new.failed ≡ is_write_fault result) }
     ensures flushed { writer.new.failed ≡ false → writer.old.flushed ≡ true → writer.new.flushed ≡ true }
 
     // Nothing was read or written, for want of memory.

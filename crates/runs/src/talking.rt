@@ -30,8 +30,7 @@ pub fn talk<T: Tables + Drop, H: Wait + Drop, R: Read, W: Write>(
     writer: &mut TrackedWriter<W>,
 ) -> End
     requires routes { routes.now ≡ table }
-    requires unbroken_reader { reader.old.failed ≡ false }
-    requires unbroken_writer { writer.old.failed ≡ false }
+    requires unbroken { (reader.old.failed ≡ false) × (writer.old.failed ≡ false) }
 
     // All that was there was read, and each request answered; or the last one breaks off.
     ensures closed { result ≡ End.Closed → (input : List ℕ) × ReadsAll R.remaining reader.old reader.new input
@@ -61,8 +60,7 @@ pub fn talk<T: Tables + Drop, H: Wait + Drop, R: Read, W: Write>(
 
     // A fault is told exactly where the flag of the tracked reader or writer is set in the call. Where the writer's is not, one
     // that held nothing back before holds nothing back.
-    ensures read_failed { reader.new.failed ≡ is_read_fault result }
-    ensures write_failed { writer.new.failed ≡ is_write_fault result }
+    ensures failed { (reader.new.failed ≡ is_read_fault result) × (writer.new.failed ≡ is_write_fault result) }
     ensures flushed { writer.new.failed ≡ false → writer.old.flushed ≡ true → writer.new.flushed ≡ true }
 
     // However it ended, what is known of a desk that has served connections is still known.

@@ -10,11 +10,14 @@ use Rattle.runs.proofs.Imaged.{cannot_begin, deserved_in, deserved_unopened, is_
 use Rattle.runs.proofs.in_files.run_in.Goals as goal
 
 pub returns-in-Ok-clause-ok : goal.returns-in-Ok-clause-ok
-returns-in-Ok-clause-ok g c = on_ok c.run_over-ended.result.0 (λ h. (
+returns-in-Ok-clause-ok g c = on_ok c.run_over-ended.result.0 (λ h. let k = h.1 in (
   h.0,
-  h.1,
-  ended_in (image_at g.P.Start) c.in-Ok.conn c.in-Ok.ensures.sees c.in-Ok.ensures.found c.args.store h.0
-      (ServedBy (over over_files) (c.args.reader.now, c.args.writer.now) h.0 (c.run_over-ended.new.reader, c.run_over-ended.new.writer)) c.run_over-ended.result.1 h.2,
+  (
+    k.0,
+    k.1,
+    ended_in (image_at g.P.Start) c.in-Ok.conn c.in-Ok.ensures.sees c.in-Ok.ensures.found c.args.store k.0
+        (ServedBy (over over_files) (c.args.reader.now, c.args.writer.now) k.0 (c.run_over-ended.new.reader, c.run_over-ended.new.writer)) c.run_over-ended.result.1 k.2,
+  ),
 )) c.run_over-ended.ensures.ok
 
 pub returns-in-Ok-clause-cannot_read : goal.returns-in-Ok-clause-cannot_read
@@ -46,10 +49,13 @@ returns-in-Ok-clause-taken g c = λ cannot clean.
     let k = c.run_over-ended.ensures.taken (cannot_begin (image_at g.P.Start) c.in-Ok.conn c.in-Ok.ensures.sees c.in-Ok.ensures.found c.args.store before cannot) in
     (k.0, subst (λ d. IsFoundIn (image_at g.P.Start) (file_state d)) (sym k.1) (c.in-Ok.ensures.sees before))
 
-pub returns-in-Ok-clause-caused : goal.returns-in-Ok-clause-caused
-returns-in-Ok-clause-caused g c = on_err c.run_over-ended.result.0 (λ e h is.
-    deserved_in (image_at g.P.Start) c.in-Ok.conn c.in-Ok.ensures.sees c.in-Ok.ensures.found c.run_over-ended.result.1 c.run_over-ended.ensures.lasts c.args.store
-    (h is (is_whole (image_at g.P.Start) c.in-Ok.conn c.in-Ok.ensures.sees c.in-Ok.ensures.found))) c.run_over-ended.ensures.caused
+pub returns-in-Ok-clause-cause : goal.returns-in-Ok-clause-cause
+returns-in-Ok-clause-cause g c = on_err c.run_over-ended.result.0 (λ e h. (
+  h.0,
+  λ is.
+      deserved_in (image_at g.P.Start) c.in-Ok.conn c.in-Ok.ensures.sees c.in-Ok.ensures.found c.run_over-ended.result.1 c.run_over-ended.ensures.lasts c.args.store
+      (h.1 is (is_whole (image_at g.P.Start) c.in-Ok.conn c.in-Ok.ensures.sees c.in-Ok.ensures.found)),
+)) c.run_over-ended.ensures.cause
 
 pub returns-in-Ok-clause-lasts : goal.returns-in-Ok-clause-lasts
 returns-in-Ok-clause-lasts g c = lasted (image_at g.P.Start) c.in-Ok.conn c.in-Ok.ensures.sees c.in-Ok.ensures.found c.run_over-ended.result.1 c.run_over-ended.ensures.lasts
@@ -60,11 +66,11 @@ returns-in-Err-clause-cannot_read g c = λ is. absurd (is_no_read_fault c.in-Err
 pub returns-in-Err-clause-cannot_write : goal.returns-in-Err-clause-cannot_write
 returns-in-Err-clause-cannot_write g c = λ is. absurd (is_no_write_fault c.in-Err.fault c.in-Err.ensures.refused.0 c.in-Err.ensures.refused.1 is)
 
-pub returns-in-Err-clause-read_failed : goal.returns-in-Err-clause-read_failed
-returns-in-Err-clause-read_failed g c = c.requires.unbroken_reader ∙ sym (is_unread (Unit {0}) c.in-Err.fault c.in-Err.ensures.refused.0 c.in-Err.ensures.refused.1)
-
-pub returns-in-Err-clause-write_failed : goal.returns-in-Err-clause-write_failed
-returns-in-Err-clause-write_failed g c = c.requires.unbroken_writer ∙ sym (is_unwritten (Unit {0}) c.in-Err.fault c.in-Err.ensures.refused.0 c.in-Err.ensures.refused.1)
+pub returns-in-Err-clause-failed : goal.returns-in-Err-clause-failed
+returns-in-Err-clause-failed g c = (
+  c.requires.unbroken.0 ∙ sym (is_unread (Unit {0}) c.in-Err.fault c.in-Err.ensures.refused.0 c.in-Err.ensures.refused.1),
+  c.requires.unbroken.1 ∙ sym (is_unwritten (Unit {0}) c.in-Err.fault c.in-Err.ensures.refused.0 c.in-Err.ensures.refused.1),
+)
 
 pub returns-in-Err-clause-refused : goal.returns-in-Err-clause-refused
 returns-in-Err-clause-refused g c = λ why is. (refl, refl, left_unopened (image_at g.P.Start) c.args.store c.in-Err.left c.in-Err.ensures.left)
@@ -72,5 +78,5 @@ returns-in-Err-clause-refused g c = λ why is. (refl, refl, left_unopened (image
 pub returns-in-Err-clause-unopened : goal.returns-in-Err-clause-unopened
 returns-in-Err-clause-unopened g c = (c.in-Err.ensures.refused.0, ap Err c.in-Err.ensures.refused.1)
 
-pub returns-in-Err-clause-caused : goal.returns-in-Err-clause-caused
-returns-in-Err-clause-caused g c = λ is. deserved_unopened (image_at g.P.Start) c.args.store c.in-Err.left (c.in-Err.ensures.caused is)
+pub returns-in-Err-clause-cause : goal.returns-in-Err-clause-cause
+returns-in-Err-clause-cause g c = (c.in-Err.ensures.cause, λ is. deserved_unopened (image_at g.P.Start) c.args.store c.in-Err.left (c.in-Err.ensures.caused is))
