@@ -10,7 +10,7 @@ use Rattle.leopard.specs.Groups.{IsGroup, GroupToGroup, MemberToGroup, Means}
 use Rattle.leopard.specs.Query.{Query}
 use Rattle.leopard.specs.Causes.{names_unindexed}
 use Rattle.leopard.specs.Answers.{AreFirst}
-use Rattle.leopard.specs.Index.{Index, IsIndexOf, MeansBy}
+use Rattle.leopard.specs.Index.{Index, IsIndexOf, IsBuiltOf, MeansBy}
 
 -- For a group the closure and a user's direct groups meet exactly where the user is a member of it.
 abbrev pub MeetWhereMember : Type 0
@@ -27,3 +27,7 @@ MeanTheSame = (S : Snap) (x : Index) (q : Query) → IsIndexOf S x → names_uni
 -- A question about groups has one answer, so the index answers as the tuples do.
 abbrev pub AnswersAreOne : Type 0
 AnswersAreOne = (S : Snap) (q : Query) (limit : ℕ) (one other : List Node) → AreFirst limit (Means S q) one → AreFirst limit (Means S q) other → one ≡ other
+
+-- A snapshot has one index of each revision.
+abbrev pub ThereIsOneBuild : Type 0
+ThereIsOneBuild = (S : Snap) (rev : ℕ) (one other : Index) → IsBuiltOf S rev one → IsBuiltOf S rev other → one ≡ other

@@ -1,5 +1,6 @@
 pub mod Query
 pub mod Groups
+pub mod Input
 pub mod Index
 pub mod Answers
 pub mod Causes
