@@ -124,6 +124,8 @@ impl Built {
         ensures groups { IfOk result (λ v. (S : Snap) → IsIndexOf S self.now → AreFirst limit (Means S (query_of expr.now)) v.items) }
         ensures err { IfErr result (λ why. AskCause self.now.config (query_of expr.now) limit why) }
     {
+        // Its groups are in order, as this call says.
+        self.groups.as_slice();
         if let Some(why) = refusal_of(self.config(), expr, limit) {
             return Err(why);
         }

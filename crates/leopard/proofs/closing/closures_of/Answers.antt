@@ -12,5 +12,5 @@ loop-at-preserved c = subst (AreWalkSetsTo c.args.arcs.now (c.loop-at.at + 1)) (
 
 pub returns : goal.returns
 returns c =
-    let all : c.loop-at.at ≡ length c.args.arcs.now = omega (arith, c.loop-at-test.false, c.loop-at.auto.at-end, c.len-at-end.ensures) in
+    let all : c.loop-at.at ≡ length c.args.arcs.now = omega (arith, c.loop-at-test.false, c.loop-at.auto.at-end) in
     subst (λ n. AreWalkSetsTo c.args.arcs.now n c.loop-at.sets.items) all c.loop-at.invariant
