@@ -1,5 +1,5 @@
 -- Walks over ids are walks over groups.
-use Rattle.std.proofs.Common.{◌≡◌, ℕ, zero, suc, ◌<◌, ◌+◌, List, [], ◌∷◌, ◌++◌, length, true, refl, ap, sym, subst, ◌∙◌, inl, inr, ⊎_elim, arith, length-append}
+use Rattle.std.proofs.Common.{◌≡◌, ℕ, zero, suc, ◌<◌, ◌+◌, List, [], ◌∷◌, ◌++◌, length, refl, ap, sym, subst, ◌∙◌, inl, inr, ⊎_elim, arith, length-append}
 use Rattle.std.specs.Prelude.{◌↔◌, ◌⊎◌, Contains, Some}
 use Rattle.std.specs.List.{slice_get}
 use Rattle.std.proofs.lemmas.Bool.{cases_lt}
@@ -9,10 +9,9 @@ use Rattle.names.specs.declared.node.Node.{Node}
 use Rattle.meaning.specs.Snap.{Snap}
 use Rattle.graphs.specs.Groups.{IsGroupArc, GroupWalk, here, on}
 use Rattle.idsets.specs.Naming.{AreDistinct}
-use Rattle.idsets.specs.Sets.{has}
 use Rattle.idsets.proofs.Numbering.{last_get}
 use Rattle.leopard.specs.Index.{IsSetOf, AreSetsOf}
-use Rattle.leopard.specs.inside.Closing.{IsIdArc, IdWalk, stay, go, IsWalkSet, AreWalkSetsTo, AreWalkSets}
+use Rattle.leopard.specs.inside.Closing.{IdWalk, stay, go, IsWalkSet, AreWalkSetsTo, AreWalkSets}
 use Rattle.leopard.proofs.Ordered.{get_contains, contains_get}
 
 -- ---- sets one behind the other

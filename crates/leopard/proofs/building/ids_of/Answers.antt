@@ -1,4 +1,4 @@
-use Rattle.std.proofs.Common.{◌≡◌, ℕ, List, ◌+◌, drop, true, Any, ap, sym, subst, ◌∙◌, arith}
+use Rattle.std.proofs.Common.{◌≡◌, List, ◌+◌, drop, true, Any, sym, subst, arith}
 use Rattle.std.specs.Prelude.{◌↔◌, ◌⊎◌, Some}
 use Rattle.std.specs.List.{slice_get}
 use Rattle.names.specs.declared.node.Node.{Node}

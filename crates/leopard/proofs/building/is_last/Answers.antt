@@ -1,10 +1,9 @@
-use Rattle.std.proofs.Common.{◌≡◌, true, length, ◌-◌, ap, sym, subst, ◌∙◌}
+use Rattle.std.proofs.Common.{◌≡◌, length, ◌-◌, ap, sym, subst, ◌∙◌}
 use Rattle.std.specs.Prelude.{Contains, Some}
 use Rattle.std.specs.List.{slice_get}
 use Rattle.std.specs.Ordering.{is_eq}
 use Rattle.std.proofs.lemmas.Bool.{false≢true}
 use Rattle.std.proofs.lemmas.Map.Views.{tells_apart}
-use Rattle.names.specs.Order.{node_cmp}
 use Rattle.names.specs.declared.node.Node.{Node}
 use Rattle.meaning.proofs.TupleSets.{exact_nodes}
 use Rattle.leopard.proofs.Ordered.{get_contains}

@@ -1,7 +1,5 @@
 use Rattle.std.proofs.Common.{◌≡◌, Any, Contains, ◌+◌, drop, sym, ◌∙◌, arith}
-use Rattle.std.specs.Prelude.{◌↔◌, ◌⊎◌}
 use Rattle.std.proofs.lemmas.Bool.{false≢true}
-use Rattle.names.specs.declared.node.Node.{Node}
 use Rattle.meaning.specs.Config.{rel_of}
 use Rattle.config.specs.Valid.{is_indexed}
 use Rattle.leopard.specs.inside.Building.{Owns}

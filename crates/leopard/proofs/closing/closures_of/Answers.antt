@@ -1,4 +1,4 @@
-use Rattle.std.proofs.Common.{◌≡◌, ◌+◌, List, ℕ, length, sym, subst, arith}
+use Rattle.std.proofs.Common.{◌≡◌, ◌+◌, length, sym, subst, arith}
 use Rattle.leopard.specs.inside.Closing.{AreWalkSetsTo}
 use Rattle.leopard.proofs.Closures.{walks_none, walks_more}
 use Rattle.leopard.proofs.closing.closures_of.Goals as goal

@@ -1,4 +1,4 @@
-use Rattle.std.proofs.Common.{◌≡◌, [], ◌∷◌, ◌++◌, true, ap, sym, ◌∙◌}
+use Rattle.std.proofs.Common.{◌≡◌, [], ◌∷◌, ◌++◌, ap, sym, ◌∙◌}
 use Rattle.idsets.specs.Sets.{has}
 use Rattle.leopard.proofs.Numbers.{has_one}
 use Rattle.leopard.proofs.closing.one.Goals as goal

@@ -1,4 +1,4 @@
-use Rattle.leopard.proofs.Inputs.{IsPart, part_order, part_is}
+use Rattle.leopard.proofs.Inputs.{part_order, part_is}
 use Rattle.leopard.proofs.input.tuples_at.Goals as goal
 
 pub slice_bounds-result-count : goal.slice_bounds-result-count

@@ -1,7 +1,6 @@
-use Rattle.std.proofs.Common.{◌≡◌, ℕ, List, [], ◌+◌, drop, length, ap, sym, ◌∙◌, subst, arith}
+use Rattle.std.proofs.Common.{[], ◌+◌, drop, length, ap, sym, ◌∙◌, subst, arith}
 use Rattle.std.specs.List.Sorted.{IsStrictlyIncreasing}
 use Rattle.std.proofs.lemmas.List.{length-map}
-use Rattle.names.specs.declared.object.Object.{Object}
 use Rattle.leopard.specs.inside.Building.{HasId, Tells, NamesOne}
 use Rattle.leopard.proofs.DirectSets.{no_id, each_empty, none_ascends}
 use Rattle.leopard.proofs.Finding.{all_yet}

@@ -1,4 +1,4 @@
-use Rattle.std.proofs.Common.{ℕ, [], length-set, refl, ap, ◌∙◌}
+use Rattle.std.proofs.Common.{[], length-set, refl, ap, ◌∙◌}
 use Rattle.std.specs.Prelude.{◌||◌, nat_eq}
 use Rattle.std.proofs.lemmas.List.{get_or_default}
 use Rattle.idsets.specs.Sets.{has}

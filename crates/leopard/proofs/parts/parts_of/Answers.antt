@@ -1,4 +1,4 @@
-use Rattle.std.proofs.Common.{◌≡◌, ℕ, List, Any, subst}
+use Rattle.std.proofs.Common.{ℕ, List, Any, subst}
 use Rattle.std.specs.Prelude.{◌↔◌, Contains}
 use Rattle.names.specs.declared.object.Object.{Object}
 use Rattle.names.specs.declared.node.Node.{Node}

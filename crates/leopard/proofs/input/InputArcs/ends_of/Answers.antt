@@ -1,8 +1,5 @@
-use Rattle.std.proofs.Common.{List, ap, sym, subst}
-use Rattle.std.specs.Prelude.{Contains}
-use Rattle.names.specs.declared.node.Node.{Node}
+use Rattle.std.proofs.Common.{ap, sym, subst}
 use Rattle.meaning.specs.Config.{Configured, Defined, Has, rel_of}
-use Rattle.meaning.specs.Membership.{HasSet}
 use Rattle.config.specs.Valid as valid
 use Rattle.config.proofs.Searching.{read_there}
 use Rattle.config_text.specs.Forms.{form_of}
