@@ -20,5 +20,6 @@ pub mod Numbers
 pub mod OneBuild
 pub mod Ordered
 pub mod Pages
+pub mod Pieces
 pub mod Rounds
 pub mod Walking

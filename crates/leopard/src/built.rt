@@ -1,6 +1,6 @@
 //! The group index of one revision.
 
-ghost use Rattle.std.specs.Prelude.{◌≡◌, IfOk, IfErr, OnErr, ℕ, List};
+ghost use Rattle.std.specs.Prelude.{◌≡◌, ◌≤◌, IfOk, IfErr, OnErr, ℕ, List};
 ghost use Rattle.names.specs.declared.refusal.Refusal.TheVariants.{Memory};
 ghost use Rattle.meaning.specs.Snap.{Snap};
 ghost use Rattle.leopard.specs.Answers.{AreFirst};
@@ -13,7 +13,7 @@ ghost use Rattle.leopard.specs.inside.Parts.{AreParts};
 
 use crate::Expr;
 use crate::answering::answer_of;
-use crate::closing::closures_of;
+use crate::closing::{closures_in_pieces, closures_of};
 use crate::evaluating::found_of;
 use crate::input::Input;
 use crate::parts::{Parts, parts_of};
@@ -24,6 +24,7 @@ use idsets::IdSet;
 use names::{Node, Object, Refusal};
 use std::alloc::{AllocError, Global};
 use std::marker::Model;
+use std::thread::Threads;
 
 /// The group index of one revision (Zanzibar, section 3.2.4): of each group the groups to which it leads, of each user
 /// the groups that name it by a tuple of their own, flattened, as sets of ids. The ids are in the order of the groups,
@@ -71,6 +72,43 @@ impl Built {
     {
         let parts = parts_of(alloc, &input)?;
         let closures = closures_of(alloc, &parts.arcs)?;
+        Ok(Built::assembled(input, rev, parts, closures))
+    }
+
+    /// The same, where the closures are worked out in so many pieces, each by a thread of its own. However many there
+    /// are, it is the same index.
+    pub fn of_parallel<R: Threads + Sync>(
+        rt: &R,
+        alloc: Global,
+        input: Input,
+        rev: u64,
+        workers: u32,
+    ) -> Result<Built, Refusal>
+        requires some { 1 ≤ workers }
+        requires few { workers ≤ 64 }
+        ensures index { IfOk result (λ built. IsIndexOf input built) }
+        ensures rev { IfOk result (λ built. built.rev ≡ rev) }
+        ensures same { IfOk result (λ built. IsBuiltOf input rev built) }
+        ensures err { IfErr result (λ why. why ≡ Memory) }
+    {
+        Ok(Built::build_parallel(rt, alloc, input, rev, workers)?)
+    }
+
+    fn build_parallel<R: Threads + Sync>(
+        rt: &R,
+        alloc: Global,
+        input: Input,
+        rev: u64,
+        workers: u32,
+    ) -> Result<Built, AllocError>
+        requires { 1 ≤ workers }
+        ensures index { IfOk result (λ built. IsIndexOf input built) }
+        ensures rev { IfOk result (λ built. built.rev ≡ rev) }
+        ensures same { IfOk result (λ built. IsBuiltOf input rev built) }
+    {
+        let parts = parts_of(alloc, &input)?;
+        let piece = parts.arcs.len().div_ceil(workers as usize);
+        let closures = closures_in_pieces(rt, alloc, &parts.arcs, piece)?;
         Ok(Built::assembled(input, rev, parts, closures))
     }
 

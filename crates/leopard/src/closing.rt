@@ -6,7 +6,9 @@ ghost use Rattle.idsets.specs.Sets.{has};
 ghost use Rattle.leopard.specs.inside.Closing.{IsIdArc, IsWalkSet, AreWalkSets};
 
 use idsets::{IdSet, exclude, union};
+use rayon::prelude::*;
 use std::alloc::{AllocError, Global};
+use std::thread::Threads;
 
 /// The ids of the set at a place.
 fn set_at(sets: &[IdSet], at: u64) -> &[u64]
@@ -70,4 +72,26 @@ pub(crate) fn closures_of(alloc: Global, arcs: &[IdSet]) -> Result<Vec<IdSet>, A
         sets.push(ids)?;
     }
     Ok(sets)
+}
+
+/// The same, in pieces of so many ids: each piece has a thread of its own.
+pub(crate) fn closures_in_pieces(
+    rt: &(impl Threads + Sync),
+    alloc: Global,
+    arcs: &[IdSet],
+    piece: usize,
+) -> Result<Vec<IdSet>, AllocError>
+    ensures { IfOk result (λ sets. AreWalkSets arcs.now sets.items) }
+{
+    let sets: Result<Vec<IdSet>, AllocError> = (0..arcs.len())
+        .into_par_iter()
+        .with_min_len(piece)
+        .map(
+            |at: usize| -> Result<IdSet, AllocError>
+                requires { at < length arcs.now }
+                ensures { IfOk result (λ set. IsWalkSet arcs.entry.now at set) }
+            { walk_set(alloc, arcs, at as u64) },
+        )
+        .collect(rt, alloc)?;
+    sets
 }
