@@ -20,18 +20,15 @@ pub given : {X Y E V : Type 0} (P : X → Y → Type 0) (items : V → List Y) (
 given P items bad Q xs answers (Ok v) each h goes = goes v (all_ok _ P xs (items v) (subst (λ l. AllZip (λ x r. IfOk r (P x)) xs l) (h.1 ∙ ap (map Ok) (sym h.2)) each))
 given P items bad Q xs answers (Err e) each h goes = tt
 
+zip_each : (P : ℕ → List ℕ → Type 0) (a n : ℕ) (y : List ℕ) (ys : List (List ℕ)) → P a y → ((k : ℕ) → k < n → P (a + 1 + k) (get_or ys k [])) → (k : ℕ) → k < suc n → P (a + k) (get_or (y ∷ ys) k [])
+zip_each P a n y ys first rest zero lt = let e : a ≡ a + 0 = omega arith in subst (λ j. P j y) e first
+zip_each P a n y ys first rest (suc k) lt = let e : a + 1 + k ≡ a + suc k = omega arith in subst (λ j. P j (get_or ys k [])) e (rest k (omega (arith, lt)))
+
 zip_at : (P : ℕ → List ℕ → Type 0) (a n : ℕ) (ys : List (List ℕ)) → AllZip P (range_with_len a n) ys → (length ys ≡ n) × ((k : ℕ) → k < n → P (a + k) (get_or ys k []))
 zip_at P a zero [] h = (refl, λ k lt. absurd (omega (arith, lt)))
 zip_at P a zero (y ∷ ys) h = absurd h
 zip_at P a (suc n) [] h = absurd h
-zip_at P a (suc n) (y ∷ ys) h = (ap suc rest.0, each)
-  where
-    rest : (length ys ≡ n) × ((k : ℕ) → k < n → P (a + 1 + k) (get_or ys k []))
-    rest = zip_at P (a + 1) n ys h.1
-
-    each : (k : ℕ) → k < suc n → P (a + k) (get_or (y ∷ ys) k [])
-    each zero lt = let e : a ≡ a + 0 = omega arith in subst (λ j. P j y) e h.0
-    each (suc k) lt = let e : a + 1 + k ≡ a + suc k = omega arith in subst (λ j. P j (get_or ys k [])) e (rest.1 k (omega (arith, lt)))
+zip_at P a (suc n) (y ∷ ys) h = let rest = zip_at P (a + 1) n ys h.1 in (ap suc rest.0, zip_each P a n y ys h.0 rest.1)
 
 pub walks_in_pieces : (arcs sets : List (List ℕ)) → AllZip (IsWalkSet arcs) (nat_range 0 (length arcs)) sets → AreWalkSets arcs sets
 walks_in_pieces arcs sets h =
