@@ -4,9 +4,8 @@ use mathlib.Core.Option.{some}
 use lib.ListN.{get_elem?}
 use Rattle.left_right.specs.Register.{Admits, TurnsAt, Turns, Forks, Merges}
 use Rattle.atomic_table.proofs.Lists.{at_set, at_snoc}
-use Rattle.published.specs.declared.copy.ShownCopy.{ShownCopy}
 use Rattle.published.specs.Known.{Known, Begins}
-use Rattle.published.specs.Copies.{Stands, KnowsNoMore, Keeps, Sees}
+use Rattle.published.specs.Copies.{Copy, Stands, KnowsNoMore, Keeps, Sees}
 use Rattle.published.proofs.Prefixes.{prefix_self, prefix_trans}
 
 pub begins_self : (k : Known) → Begins k k
@@ -35,7 +34,7 @@ pub admits : Admits Keeps None
 admits x views h = (h.0, all_snoc views x.prefix None h.1 tt)
 
 -- the list of the copy goes on, or stays
-pub turns : (seat : ℕ) (v : Option Known) (x y : ShownCopy) → (Stands x → Stands y) → Begins x.prefix y.prefix → TurnsAt Keeps seat v x y Sees
+pub turns : (seat : ℕ) (v : Option Known) (x y : Copy) → (Stands x → Stands y) → Begins x.prefix y.prefix → TurnsAt Keeps seat v x y Sees
 turns seat v x y stands on views h at =
     let later : All views y.prefix = λ j u e. knows_on u x.prefix y.prefix (h.1 j u e) on in
     let now : Stands y = stands h.0 in

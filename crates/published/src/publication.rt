@@ -8,7 +8,7 @@ ghost use Rattle.published.specs.Posts.{IsLater};
 ghost use Rattle.published.specs.Judged.{AreJudged, WereJudged};
 ghost use Rattle.published.specs.Publishing.{ShowsMoreOf, IsSameBut, shown_by};
 
-use crate::book::{Book, Opened, StepPrefix};
+use crate::book::{Book, Naming, Opened, StepPrefix};
 use crate::copy::ShownCopy;
 use crate::hand::publish_all;
 use crate::post::Post;
@@ -26,20 +26,19 @@ use std::sync::Wait;
 /// How many sessions a store gives out.
 pub const MAX_SESSIONS: usize = 32;
 
-/// The posted steps, those that are shown, and the sessions that were not given out. Any number of posted
-/// steps may wait to be shown, each in memory that was taken before it was posted.
+/// The posted steps, those that are shown, and the sessions that were not given out, of the book that `J` names. Any number of
+/// posted steps may wait to be shown, each in memory that was taken before it was posted.
 #[derive(Drop)]
-pub struct Publication<R: Wait + Drop> {
-    alloc: Global,
-    publisher: Publisher<R>,
+pub struct Publication<J: Naming, R: Wait + Drop> {
+    publisher: Publisher<J, R>,
     book: Book,
     entered: StepPrefix,
     backlog: VecDeque<Step>,
-    stuck: Option<Post>,
-    sessions: Vec<Session>,
+    stuck: Option<Post<J>>,
+    sessions: Vec<Session<J>>,
 }
 
-impl<R: Wait + Drop> Model for Publication<R> {
+impl<J: Naming, R: Wait + Drop> Model for Publication<J, R> {
     ghost use Rattle.std.specs.Prelude.{◌++◌, ◌-◌, vec_len};
     ghost use Rattle.std.specs.VecDeque.{deque_len, deque_capacity};
     ghost use Rattle.published.specs.Publishing.{Publishing};
@@ -60,18 +59,19 @@ impl<R: Wait + Drop> Model for Publication<R> {
     } };
 
     ghost invariant = { λ p.
-        IsSound p.book p.entered p.backlog.items p.publisher p.stuck p.sessions.items };
+        IsSound J.book p.book p.entered p.backlog.items p.publisher p.stuck p.sessions.items };
 }
 
-impl<R: Wait + Drop> Publication<R> {
+impl<J: Naming, R: Wait + Drop> Publication<J, R> {
     /// A publication that shows the first step.
     pub fn open(
         alloc: Global,
         rt: R,
         opened: Opened,
         first: Step,
-    ) -> Result<Publication<R>, AllocError>
-        requires { HasRoom nothing first }
+    ) -> Result<Publication<J, R>, AllocError>
+        requires named { opened.book ≡ J.book }
+        requires room { HasRoom nothing first }
         ensures book { IfOk result (λ p. p.book ≡ opened.book) }
         ensures posted { IfOk result (λ p. p.posted ≡ first ∷ []) }
         ensures shown { IfOk result (λ p. p.shown ≡ p.posted) }
@@ -88,7 +88,6 @@ impl<R: Wait + Drop> Publication<R> {
         publisher.publish()?;
         let sessions = make_sessions(alloc, &mut publisher, &entered)?;
         Ok(Publication {
-            alloc,
             publisher,
             book,
             entered,
@@ -128,7 +127,6 @@ impl<R: Wait + Drop> Publication<R> {
         ensures all { IsTrue result ↔ (self.new.shown ≡ self.new.posted) }
     {
         publish_all(
-            self.alloc,
             &self.book,
             &mut self.entered,
             &mut self.backlog,
@@ -142,14 +140,14 @@ impl<R: Wait + Drop> Publication<R> {
         ensures steps { result ≡ shown_by self.now }
         ensures judged { AreJudged self.now.shown }
     {
-        ShownSteps::of(self.publisher.published().prefix.again())
+        ShownSteps::of(self.publisher.published().prefix().again())
     }
 
     /// The state that is shown, for whoever holds the publication. Sessions ask it with no lock.
     pub fn shown(&self) -> &Shown
         ensures { result.now ≡ standing self.now.shown }
     {
-        &self.publisher.published().shown
+        self.publisher.published().shown()
     }
 
     /// The newest shown revision.
@@ -160,7 +158,7 @@ impl<R: Wait + Drop> Publication<R> {
     }
 
     /// A session that knows what is shown now. It is refused exactly where all were given out.
-    pub fn session(&mut self) -> Result<Session, Refusal>
+    pub fn session(&mut self) -> Result<Session<J>, Refusal>
         ensures known { IfOk result (λ session. Begins (shown_by self.new) session) }
         ensures judged { IfOk result (λ session. AreJudged session.steps) }
         ensures seats { IfOk result (λ _. self.new.seats + 1 ≡ self.old.seats) }
@@ -179,11 +177,11 @@ impl<R: Wait + Drop> Publication<R> {
     }
 }
 
-fn make_sessions<R: Wait + Drop>(
+fn make_sessions<J: Naming, R: Wait + Drop>(
     alloc: Global,
-    publisher: &mut Publisher<R>,
+    publisher: &mut Publisher<J, R>,
     entered: &StepPrefix,
-) -> Result<Vec<Session>, AllocError>
+) -> Result<Vec<Session<J>>, AllocError>
     requires told { publisher.old.told ≡ Some entered.now }
     requires judged { AreJudged entered.now.steps }
     ensures same { OnOk result (publisher.new ≡ publisher.old) }

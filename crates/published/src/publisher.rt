@@ -5,6 +5,7 @@ ghost use Rattle.published.specs.Known.{Known};
 ghost use Rattle.published.specs.Judged.{AreJudged};
 ghost use Rattle.published.specs.Copies.{Stands, Chain, absorbed};
 
+use crate::book::Naming;
 use crate::copy::ShownCopy;
 use crate::post::Post;
 use crate::rule::{CopyReader, CopyWriter, Seeing, Told};
@@ -14,12 +15,12 @@ use std::marker::Model;
 use std::sync::Wait;
 
 /// Contracts see it as the published copy, the posts that wait, and what the writer's place knows.
-pub struct Publisher<R: Wait + Drop> {
-    writer: CopyWriter,
+pub struct Publisher<J: Naming, R: Wait + Drop> {
+    writer: CopyWriter<J>,
     rt: R,
 }
 
-impl<R: Wait + Drop> Model for Publisher<R> {
+impl<J: Naming, R: Wait + Drop> Model for Publisher<J, R> {
     ghost use Rattle.std.specs.Prelude.{drop};
     ghost use Rattle.left_right.specs.Sides.{view as seen_by};
     ghost use Rattle.published.specs.Writing.{Writing};
@@ -36,15 +37,15 @@ impl<R: Wait + Drop> Model for Publisher<R> {
     } };
 }
 
-impl<R: Wait + Drop> Publisher<R> {
+impl<J: Naming, R: Wait + Drop> Publisher<J, R> {
     /// A publisher of two copies that are alike, with room for so many readers.
     pub fn new(
         alloc: Global,
         rt: R,
-        first: ShownCopy,
-        second: ShownCopy,
+        first: ShownCopy<J>,
+        second: ShownCopy<J>,
         readers: usize,
-    ) -> Result<Publisher<R>, AllocError>
+    ) -> Result<Publisher<J, R>, AllocError>
         requires readers { (0 < readers) × (readers < 2 ^ 32) }
         requires alike { first ≡ second }
         requires stands { Stands first }
@@ -56,7 +57,7 @@ impl<R: Wait + Drop> Publisher<R> {
     }
 
     /// The copy that is read.
-    pub fn published(&self) -> &ShownCopy
+    pub fn published(&self) -> &ShownCopy<J>
         ensures { result.now ≡ self.now.published }
     {
         self.writer.published()
@@ -70,7 +71,7 @@ impl<R: Wait + Drop> Publisher<R> {
     }
 
     /// Takes one post. It comes back for want of memory.
-    pub fn append(&mut self, post: Post) -> Result<(), Post>
+    pub fn append(&mut self, post: Post<J>) -> Result<(), Post<J>>
         ensures same { (self.new.published ≡ self.old.published) × (self.new.told ≡ self.old.told) }
         ensures waiting { MatchResult result
             (λ _. self.new.waiting ≡ self.old.waiting ++ post ∷ [])
@@ -93,7 +94,7 @@ impl<R: Wait + Drop> Publisher<R> {
     }
 
     /// A new reader, which knows what the writer's place knows.
-    pub fn reader(&mut self) -> Result<CopyReader, AllocError>
+    pub fn reader(&mut self) -> Result<CopyReader<J>, AllocError>
         ensures same { self.new ≡ self.old }
         ensures told { IfOk result (λ r. seen_by r.place ≡ self.old.told) }
     {
@@ -104,7 +105,10 @@ impl<R: Wait + Drop> Publisher<R> {
 }
 
 // The publication, as a function of the writer.
-fn show<R: Wait>(writer: CopyWriter, rt: &R) -> (CopyWriter, Result<(), AllocError>)
+fn show<J: Naming, R: Wait>(
+    writer: CopyWriter<J>,
+    rt: &R,
+) -> (CopyWriter<J>, Result<(), AllocError>)
     requires { (end : Known)
         × Chain writer.desk.shown.value.prefix (drop writer.behind writer.log.items) end
         × AreJudged end.steps }
@@ -121,7 +125,7 @@ fn show<R: Wait>(writer: CopyWriter, rt: &R) -> (CopyWriter, Result<(), AllocErr
     writer.publish_as::<Seeing, R>(rt)
 }
 
-impl<R: Wait + Drop> Drop for Publisher<R> {
+impl<J: Naming, R: Wait + Drop> Drop for Publisher<J, R> {
     fn drop(self) {
         let Self { writer, rt } = self;
         drop(writer.take(&rt));

@@ -1,5 +1,5 @@
 use Rattle.std.proofs.Common.{sym, subst}
-use Rattle.published.specs.declared.copy.ShownCopy.{ShownCopy}
+use Rattle.published.specs.Copies.{Copy}
 use Rattle.published.specs.Known.{Begins}
 use Rattle.published.specs.Judged.{AreJudged}
 use Rattle.published.proofs.Leading.{entered_judged, waiting_judged, ok_leads, ok_later, shown_where_done, not_shown_where_left, none_left}
@@ -24,7 +24,7 @@ returns-in-Ok-clause-leads g c =
 
 pub returns-in-Ok-clause-later : goal.returns-in-Ok-clause-later
 returns-in-Ok-clause-later g c =
-    subst (λ (x : ShownCopy). Begins x.prefix c.publish.new.self.published.prefix) c.hand_over.ensures.same
+    subst (λ (x : Copy). Begins x.prefix c.publish.new.self.published.prefix) c.hand_over.ensures.same
     (ok_later c.args.book.now c.hand_over.new.entered c.hand_over.new.publisher c.publish.new.self c.hand_over.new.stuck c.hand_over.ensures.leads c.in-Ok.ensures.ok.0)
 
 pub returns-in-Ok-clause-all : goal.returns-in-Ok-clause-all

@@ -5,9 +5,9 @@ use Rattle.published.proofs.Rules.{enters}
 use Rattle.published.proofs.session.look.Goals as goal
 
 pub enter_as-requires : goal.enter_as-requires
-enter_as-requires c = enters _ _
+enter_as-requires g c = enters _ _
 
 pub answer_knowing-answer-requires : goal.answer_knowing-answer-requires
-answer_knowing-answer-requires c =
+answer_knowing-answer-requires g c =
     let stands : c.get-copy.result.now.shown ≡ standing c.get-copy.result.now.prefix.steps = search rules in
     subst (λ (s : Standing). AreRetainedAnswers s.kept c.in-Some.kept.now) (sym stands) c.in-Some.ensures.right
