@@ -1,5 +1,5 @@
 //! What sessions read: the state, with the steps that it stands for.
-ghost use Rattle.std.specs.Prelude.{◌≡◌, IfOk};
+ghost use Rattle.std.specs.Prelude.{◌≡◌, ◌∷◌, [], IfOk};
 ghost use Rattle.shown.specs.Standing.{nothing, after_step, HasRoom};
 ghost use Rattle.published.specs.Copies.{Stands};
 

@@ -115,7 +115,7 @@ fn enter_next<J: Naming>(
     Some(Post::new(step, after))
 }
 
-fn is_done(stuck: &Option<Post<J>>, backlog: &VecDeque<Step>) -> bool
+fn is_done<J: Naming>(stuck: &Option<Post<J>>, backlog: &VecDeque<Step>) -> bool
     ensures { IsTrue result ↔ ((stuck.now ≡ None) × (backlog.now.items ≡ [])) }
 {
     match stuck {

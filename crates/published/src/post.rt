@@ -67,7 +67,8 @@ impl<J: Naming> Post<J> {
     /// Whether it is the next step after these. It compares two lengths: there is one list of the book.
     pub(crate) fn is_next_of(&self, steps: &StepPrefix) -> bool
         requires { steps.now.book ≡ J.book }
-        ensures { IsTrue result → self.now.after ≡ next_of steps.now self.now.step }
+        ensures next { IsTrue result → self.now.after ≡ next_of steps.now self.now.step }
+        ensures judged { AreJudged self.now.after.steps }
     {
         steps.begins(&self.after) && steps.len() + 1 == self.after.len()
     }

@@ -5,22 +5,32 @@ ghost use Rattle.published.specs.Known.{Known};
 ghost use Rattle.published.specs.Judged.{AreJudged};
 ghost use Rattle.published.specs.Copies.{Stands, Chain, absorbed};
 
-use crate::book::Naming;
+use crate::book::{Naming, StepPrefix};
 use crate::copy::ShownCopy;
 use crate::post::Post;
-use crate::rule::{CopyReader, CopyWriter, Seeing, Told};
+use crate::rule::{CopyReader, CopyWriter, Published, Seeing, Told};
 use core::mem::replace_with;
+use crossbeam_utils::rule::Protocol;
+use left_right::Absorb;
 use std::alloc::{AllocError, Global};
 use std::marker::Model;
 use std::sync::Wait;
 
 /// Contracts see it as the published copy, the posts that wait, and what the writer's place knows.
-pub struct Publisher<J: Naming, R: Wait + Drop> {
+pub struct Publisher<J: Naming, R: Wait + Drop>
+where
+    ShownCopy<J>: Absorb<Post<J>, State = ShownCopy<J>>,
+    Published: Protocol<ShownCopy<J>, Option<StepPrefix>>,
+{
     writer: CopyWriter<J>,
     rt: R,
 }
 
-impl<J: Naming, R: Wait + Drop> Model for Publisher<J, R> {
+impl<J: Naming, R: Wait + Drop> Model for Publisher<J, R>
+where
+    ShownCopy<J>: Absorb<Post<J>, State = ShownCopy<J>>,
+    Published: Protocol<ShownCopy<J>, Option<StepPrefix>>,
+{
     ghost use Rattle.std.specs.Prelude.{drop};
     ghost use Rattle.left_right.specs.Sides.{view as seen_by};
     ghost use Rattle.published.specs.Writing.{Writing};
@@ -37,7 +47,11 @@ impl<J: Naming, R: Wait + Drop> Model for Publisher<J, R> {
     } };
 }
 
-impl<J: Naming, R: Wait + Drop> Publisher<J, R> {
+impl<J: Naming, R: Wait + Drop> Publisher<J, R>
+where
+    ShownCopy<J>: Absorb<Post<J>, State = ShownCopy<J>>,
+    Published: Protocol<ShownCopy<J>, Option<StepPrefix>>,
+{
     /// A publisher of two copies that are alike, with room for so many readers.
     pub fn new(
         alloc: Global,
@@ -125,7 +139,11 @@ fn show<J: Naming, R: Wait>(
     writer.publish_as::<Seeing, R>(rt)
 }
 
-impl<J: Naming, R: Wait + Drop> Drop for Publisher<J, R> {
+impl<J: Naming, R: Wait + Drop> Drop for Publisher<J, R>
+where
+    ShownCopy<J>: Absorb<Post<J>, State = ShownCopy<J>>,
+    Published: Protocol<ShownCopy<J>, Option<StepPrefix>>,
+{
     fn drop(self) {
         let Self { writer, rt } = self;
         drop(writer.take(&rt));
