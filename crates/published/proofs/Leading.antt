@@ -14,7 +14,7 @@ use Rattle.published.proofs.Prefixes.{prefix_trans}
 use Rattle.published.proofs.Judging.{judged_between}
 use Rattle.published.proofs.Chains.{chain_stands, chain_done, chain_goes_on, chain_begins, chain_moves, chain_length}
 
-module _ (b : Book) (front : Known) (p q : Writing) (stuck : Option Posted) (leads : Leads b front p stuck) where
+module _ (b : Book) (front : Known) (p q : Writing Copy Posted) (stuck : Option Posted) (leads : Leads b front p stuck) where
   -- all that waited at the writer was published
   pub ok_leads : AreJudged front.steps → q.published ≡ fold absorbed p.published p.waiting → q.waiting ≡ [] → q.told ≡ Some q.published.prefix → Leads b front q stuck
   ok_leads judged is none told =
@@ -45,7 +45,7 @@ module _ (b : Book) (front : Known) (p q : Writing) (stuck : Option Posted) (lea
   shown_book = shown_begins.0 ∙ leads.of_book
 
 -- the next post is made
-pub made : (b : Book) (front front' : Known) (p q : Writing) (stuck stuck' : Option Posted) (post : Posted) → Leads b front p stuck
+pub made : (b : Book) (front front' : Known) (p q : Writing Copy Posted) (stuck stuck' : Option Posted) (post : Posted) → Leads b front p stuck
     → q.waiting ++ option_to_list stuck' ≡ p.waiting ++ option_to_list stuck → (q.published ≡ p.published) × (q.told ≡ p.told) → stuck' ≡ None
     → (post.after ≡ front') × (front' ≡ next_of front post.step) → Leads b front' q (Some post)
 made b front front' p q stuck stuck' post leads order same none some =
@@ -62,7 +62,7 @@ chain_part : (k : Known) (posts more : List Posted) (end : Known) → Chain k (p
 chain_part k [] more end chain = (k, refl, chain)
 chain_part k (p ∷ posts) more end chain = let rest = chain_part p.after posts more end chain.1 in (rest.0, (chain.0, rest.1), rest.2)
 
-module _ (b : Book) (entered : Known) (p : Writing) (stuck : Option Posted) (leads : Leads b entered p stuck) where
+module _ (b : Book) (entered : Known) (p : Writing Copy Posted) (stuck : Option Posted) (leads : Leads b entered p stuck) where
   -- what was entered was judged, as all that was posted
   pub entered_judged : (backlog : List Step) → AreJudged (entered.steps ++ backlog) → AreJudged entered.steps
   entered_judged backlog judged =
@@ -80,7 +80,7 @@ module _ (b : Book) (entered : Known) (p : Writing) (stuck : Option Posted) (lea
       )
 
 -- a publication as its callers see it
-pub shows_more : (b : Book) (n room room' : ℕ) (front front' : Known) (backlog backlog' : List Step) (p q : Writing) (stuck' : Option Posted)
+pub shows_more : (b : Book) (n room room' : ℕ) (front front' : Known) (backlog backlog' : List Step) (p q : Writing Copy Posted) (stuck' : Option Posted)
     → Leads b front' q stuck' → AreJudged (front.steps ++ backlog) → front'.steps ++ backlog' ≡ front.steps ++ backlog → Begins p.published.prefix q.published.prefix → room ≤ room'
     → ShowsMoreOf (record { book = b; posted = front.steps ++ backlog; shown = p.published.prefix.steps; seats = n; room = room })
     (record { book = b; posted = front'.steps ++ backlog'; shown = q.published.prefix.steps; seats = n; room = room' })
@@ -95,7 +95,7 @@ shows_more b n room room' front front' backlog backlog' p q stuck' leads judged 
       room = more;
     }
 
-module _ (b : Book) (entered : Known) (p : Writing) (stuck : Option Posted) (backlog : List Step) (leads : Leads b entered p stuck) where
+module _ (b : Book) (entered : Known) (p : Writing Copy Posted) (stuck : Option Posted) (backlog : List Step) (leads : Leads b entered p stuck) where
   -- where all is shown, nothing waits
   pub none_waits : p.published.prefix.steps ≡ entered.steps ++ backlog → (length p.waiting ≡ 0) × (length (option_to_list stuck) ≡ 0) × (length backlog ≡ 0)
   none_waits all =
@@ -125,10 +125,10 @@ module _ (b : Book) (entered : Known) (p : Writing) (stuck : Option Posted) (bac
   not_all_shown some all = omega (arith, some, (none_waits all).0)
 
   -- so it is where the publication stayed as it was
-  pub not_shown_where_left : (q : Writing) (w : Bool) → q ≡ p → IsTrue w → (IsTrue w ↔ (0 < length p.waiting)) → IsTrue false ↔ (q.published.prefix.steps ≡ entered.steps ++ backlog)
+  pub not_shown_where_left : (q : Writing Copy Posted) (w : Bool) → q ≡ p → IsTrue w → (IsTrue w ↔ (0 < length p.waiting)) → IsTrue false ↔ (q.published.prefix.steps ≡ entered.steps ++ backlog)
   not_shown_where_left q w same waits is = (
     λ yes. absurd (cc yes),
-    λ all. absurd (not_all_shown (is.0 waits) (subst (λ (x : Writing). x.published.prefix.steps ≡ entered.steps ++ backlog) same all)),
+    λ all. absurd (not_all_shown (is.0 waits) (subst (λ (x : Writing Copy Posted). x.published.prefix.steps ≡ entered.steps ++ backlog) same all)),
   )
 
 -- nothing is left where the test says so

@@ -8,7 +8,6 @@ use Rattle.shown.specs.Standing.{nothing, after_step, HasRoom}
 use Rattle.published.specs.Known.{Known, start_of, next_of}
 use Rattle.published.specs.Judged.{AreJudged}
 use Rattle.published.specs.Copies.{Copy, Stands, Chain, KnowsNoMore, Keeps}
-use Rattle.published.specs.Writing.{Writing}
 
 -- the writer knows nothing yet
 abbrev fresh : List (Option Known)
@@ -30,8 +29,3 @@ module _ (b : Book) (start k : Known) (first : Step) (empty : start ≡ start_of
 
   pub first_judged : HasRoom nothing first → AreJudged k.steps
   first_judged room = subst AreJudged (sym first_alone) (room, tt)
-
-  pub first_leads : HasRoom nothing first → (w : Writing) (x : Copy) → w ≡ record { published = x; waiting = []; told = None } → x ≡ record { shown = after_step nothing first; prefix = k }
-      → (m : Known) × Chain w.published.prefix w.waiting m × AreJudged m.steps
-  first_leads room w x waits is =
-      (k, subst (λ (v : Writing). Chain v.published.prefix v.waiting k) (sym waits) (ap (λ (c : Copy). c.prefix) is), first_judged room)

@@ -6,6 +6,7 @@ use Rattle.left_right.specs.Register.{Admits, TurnsAt, Turns, Forks, Merges}
 use Rattle.atomic_table.proofs.Lists.{at_set, at_snoc}
 use Rattle.published.specs.Known.{Known, Begins}
 use Rattle.published.specs.Copies.{Copy, Stands, KnowsNoMore, Keeps, Sees}
+use Rattle.published.specs.Writing.{KeepsRule}
 use Rattle.published.proofs.Prefixes.{prefix_self, prefix_trans}
 
 pub begins_self : (k : Known) → Begins k k
@@ -52,3 +53,6 @@ merges seat v other w x views h at apart there =
     let theirs : KnowsNoMore w x.prefix =
     ⊎_elim (λ (t : (other ≡ seat) × (w ≡ w)). absurd (apart t.0)) (λ (t : (other ≢ seat) × (get_elem? views other ≡ some w)). h.1 other w t.1) (at_set views seat other w w there) in
     (h.0, all_set (set views seat w) x.prefix other None (all_set views x.prefix seat w h.1 theirs) tt)
+
+pub keeps_rule : (told : Option Known) → KeepsRule Keeps None told
+keeps_rule told = record { admits = admits; forks = λ seat. forks seat told; merges = λ seat other. merges seat None other told }

@@ -1,23 +1,27 @@
 //! How posted steps get to the writer.
-ghost use Rattle.std.specs.Prelude.{◌≡◌, ◌↔◌, ◌<◌, ◌≤◌, ◌++◌, [], length, true, None, IsTrue, IfSome, IfNone, option_to_list};
+ghost use Rattle.std.specs.Prelude.{◌≡◌, ◌↔◌, ◌<◌, ◌≤◌, ◌++◌, [], length, true, None, Some, IsTrue, IfSome, IfNone, OnErr, OnOk, fold, option_to_list};
 ghost use Rattle.std.specs.VecDeque.{deque_len, deque_capacity};
-ghost use Rattle.published.specs.Known.{Begins, next_of};
+ghost use Rattle.published.specs.Copies.{Chain, absorbed};
+ghost use Rattle.published.specs.Known.{Begins, Known, next_of};
 ghost use Rattle.published.specs.Judged.{AreJudged};
 ghost use Rattle.published.specs.Invariant.{Leads};
 
 use crate::book::{Book, Naming, StepPrefix};
 use crate::post::Post;
-use crate::publisher::Publisher;
+use crate::rule::{CopyPublisher, Seeing};
+use core::mem::replace_with;
 use shown::Step;
+use std::alloc::AllocError;
 use std::collections::VecDeque;
 use std::sync::Wait;
 
 /// Publishes what waits, in order, as far as there is memory, and says whether nothing waits any more.
-pub(crate) fn publish_all<J: Naming, R: Wait + Drop>(
+pub(crate) fn publish_all<J: Naming, R: Wait>(
+    rt: &R,
     book: &Book,
     entered: &mut StepPrefix,
     backlog: &mut VecDeque<Step>,
-    publisher: &mut Publisher<J, R>,
+    publisher: &mut CopyPublisher<J>,
     stuck: &mut Option<Post<J>>,
 ) -> bool
     requires book { book.now ≡ J.book }
@@ -35,18 +39,46 @@ pub(crate) fn publish_all<J: Naming, R: Wait + Drop>(
     if !publisher.is_waiting() {
         return is_done(stuck, backlog);
     }
-    match publisher.publish() {
+    match publish(publisher, rt) {
         Ok(()) => is_done(stuck, backlog),
         Err(_) => false,
     }
 }
 
+/// Shows all posts that wait at the publisher, or none for want of memory.
+pub(crate) fn publish<J: Naming, R: Wait>(
+    publisher: &mut CopyPublisher<J>,
+    rt: &R,
+) -> Result<(), AllocError>
+    requires { (end : Known) × Chain publisher.old.published.prefix publisher.old.waiting end × AreJudged end.steps }
+    ensures ok { OnOk result (
+        (publisher.new.published ≡ fold absorbed publisher.old.published publisher.old.waiting)
+        × (publisher.new.waiting ≡ []) × (publisher.new.told ≡ Some publisher.new.published.prefix)) }
+    ensures err { OnErr result (publisher.new ≡ publisher.old) }
+{
+    replace_with(publisher, rt, show)
+}
+
+// The same, as a function of the publisher.
+fn show<J: Naming, R: Wait>(
+    publisher: CopyPublisher<J>,
+    rt: &R,
+) -> (CopyPublisher<J>, Result<(), AllocError>)
+    requires { (end : Known) × Chain publisher.published.prefix publisher.waiting end × AreJudged end.steps }
+    ensures ok { OnOk result.1 (
+        (result.0.published ≡ fold absorbed publisher.published publisher.waiting)
+        × (result.0.waiting ≡ []) × (result.0.told ≡ Some result.0.published.prefix)) }
+    ensures err { OnErr result.1 (result.0 ≡ publisher) }
+{
+    publisher.publish::<Seeing, R>(rt)
+}
+
 // Hands the backlog to the writer, in order, as far as there is memory.
-fn hand_over<J: Naming, R: Wait + Drop>(
+fn hand_over<J: Naming>(
     book: &Book,
     entered: &mut StepPrefix,
     backlog: &mut VecDeque<Step>,
-    publisher: &mut Publisher<J, R>,
+    publisher: &mut CopyPublisher<J>,
     stuck: &mut Option<Post<J>>,
 )
     requires book { book.now ≡ J.book }
@@ -67,10 +99,7 @@ fn hand_over<J: Naming, R: Wait + Drop>(
 }
 
 // Hands over the post that found no memory before, if there is one, and says whether none is left.
-fn retry<J: Naming, R: Wait + Drop>(
-    publisher: &mut Publisher<J, R>,
-    stuck: &mut Option<Post<J>>,
-) -> bool
+fn retry<J: Naming>(publisher: &mut CopyPublisher<J>, stuck: &mut Option<Post<J>>) -> bool
     ensures order { publisher.new.waiting ++ option_to_list stuck.new
         ≡ publisher.old.waiting ++ option_to_list stuck.old }
     ensures same { (publisher.new.published ≡ publisher.old.published)

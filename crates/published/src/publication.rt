@@ -10,11 +10,11 @@ ghost use Rattle.published.specs.Publishing.{ShowsMoreOf, IsSameBut, shown_by};
 
 use crate::book::{Book, Naming, Opened, StepPrefix};
 use crate::copy::ShownCopy;
-use crate::hand::publish_all;
+use crate::hand::{publish, publish_all};
 use crate::post::Post;
-use crate::publisher::Publisher;
 use crate::receipt::ShownSteps;
 use crate::remembered::Remembered;
+use crate::rule::CopyPublisher;
 use crate::session::Session;
 use names::Refusal;
 use shown::{Shown, Step};
@@ -28,9 +28,9 @@ pub const MAX_SESSIONS: usize = 32;
 
 /// The posted steps, those that are shown, and the sessions that were not given out, of the book that `J` names. Any number of
 /// posted steps may wait to be shown, each in memory that was taken before it was posted.
-#[derive(Drop)]
 pub struct Publication<J: Naming, R: Wait + Drop> {
-    publisher: Publisher<J, R>,
+    publisher: CopyPublisher<J>,
+    rt: R,
     book: Book,
     entered: StepPrefix,
     backlog: VecDeque<Step>,
@@ -84,17 +84,22 @@ impl<J: Naming, R: Wait + Drop> Publication<J, R> {
         };
         let one = ShownCopy::after_first(alloc, &first, &entered)?;
         let other = ShownCopy::after_first(alloc, &first, &entered)?;
-        let mut publisher = Publisher::new(alloc, rt, one, other, MAX_SESSIONS)?;
-        publisher.publish()?;
-        let sessions = make_sessions(alloc, &mut publisher, &entered)?;
-        Ok(Publication {
-            publisher,
-            book,
-            entered,
-            backlog: VecDeque::new(alloc),
-            stuck: None,
-            sessions,
-        })
+        let mut publisher = CopyPublisher::<J>::new(alloc, one, other, MAX_SESSIONS)?;
+        match begin(alloc, &rt, &mut publisher, &entered) {
+            Ok(sessions) => Ok(Publication {
+                publisher,
+                rt,
+                book,
+                entered,
+                backlog: VecDeque::new(alloc),
+                stuck: None,
+                sessions,
+            }),
+            Err(e) => {
+                publisher.end(&rt);
+                Err(e)
+            }
+        }
     }
 
     /// Makes room for one step more to wait, where there is none.
@@ -127,6 +132,7 @@ impl<J: Naming, R: Wait + Drop> Publication<J, R> {
         ensures all { IsTrue result ↔ (self.new.shown ≡ self.new.posted) }
     {
         publish_all(
+            &self.rt,
             &self.book,
             &mut self.entered,
             &mut self.backlog,
@@ -177,9 +183,44 @@ impl<J: Naming, R: Wait + Drop> Publication<J, R> {
     }
 }
 
-fn make_sessions<J: Naming, R: Wait + Drop>(
+impl<J: Naming, R: Wait + Drop> Drop for Publication<J, R> {
+    fn drop(self) {
+        let Self {
+            publisher,
+            rt,
+            book: _book,
+            entered: _entered,
+            backlog: _backlog,
+            stuck: _stuck,
+            sessions: _sessions,
+        } = self;
+        publisher.end(&rt);
+    }
+}
+
+// Publishes two copies that were made of the first step, and makes the sessions.
+fn begin<J: Naming, R: Wait>(
     alloc: Global,
-    publisher: &mut Publisher<J, R>,
+    rt: &R,
+    publisher: &mut CopyPublisher<J>,
+    entered: &StepPrefix,
+) -> Result<Vec<Session<J>>, AllocError>
+    requires first { publisher.old.published.prefix ≡ entered.now }
+    requires waiting { publisher.old.waiting ≡ [] }
+    requires judged { AreJudged entered.now.steps }
+    ensures same { OnOk result (publisher.new.published ≡ publisher.old.published) }
+    ensures waiting { OnOk result (publisher.new.waiting ≡ []) }
+    ensures told { OnOk result (publisher.new.told ≡ Some publisher.new.published.prefix) }
+    ensures sessions { IfOk result (λ v.
+        (vec_len v ≡ 32) × All (λ s. s.book ≡ entered.now.book) v.items) }
+{
+    publish(publisher, rt)?;
+    make_sessions(alloc, publisher, entered)
+}
+
+fn make_sessions<J: Naming>(
+    alloc: Global,
+    publisher: &mut CopyPublisher<J>,
     entered: &StepPrefix,
 ) -> Result<Vec<Session<J>>, AllocError>
     requires told { publisher.old.told ≡ Some entered.now }

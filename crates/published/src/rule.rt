@@ -2,10 +2,10 @@
 use crate::book::{Naming, StepPrefix};
 use crate::copy::ShownCopy;
 use crate::post::Post;
+use crate::publisher::Publisher;
 use atomic_table::{Join, Split};
 use crossbeam_utils::rule::{Outcome, Protocol};
 use left_right::reader::Reader;
-use left_right::writer::Writer;
 
 /// A view is a prefix that its owner knows, or none yet.
 pub struct Published;
@@ -47,4 +47,4 @@ impl Join<Option<StepPrefix>> for Told {
 
 pub type CopyReader<J> = Reader<ShownCopy<J>, Option<StepPrefix>, Published>;
 
-pub type CopyWriter<J> = Writer<ShownCopy<J>, Post<J>, Option<StepPrefix>, Published>;
+pub type CopyPublisher<J> = Publisher<ShownCopy<J>, Post<J>, Published>;

@@ -20,9 +20,9 @@ coded_posted =
     code_by (Step × Known) (coded× step_row.the_row.coded coded_known)
     (λ p. (p.step, p.after)) (λ p. record { step = p.0; after = p.1 }) (λ _. refl)
 
-abbrev pub coded_writing : Coded Writing
-coded_writing =
-    code_by (Copy × (List Posted × Option Known))
-    (coded× coded_copy (coded× (coded_list coded_posted) (coded_option coded_known)))
+abbrev pub coded_writing : {C O : Type 0} → Coded C → Coded O → Coded (Writing C O)
+coded_writing {C} {O} copies posts =
+    code_by (C × (List O × Option Known))
+    (coded× copies (coded× (coded_list posts) (coded_option coded_known)))
     (λ w. (w.published, (w.waiting, w.told)))
     (λ p. record { published = p.0; waiting = p.1.0; told = p.1.1 }) (λ _. refl)

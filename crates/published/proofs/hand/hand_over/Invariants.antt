@@ -3,8 +3,8 @@ use Rattle.published.specs.Invariant.{Leads}
 use Rattle.published.specs.Judged.{AreJudged}
 use Rattle.published.proofs.hand.hand_over.Given as goal
 
-abbrev pub invariant-loop-alloc : goal.invariant-loop-alloc
-invariant-loop-alloc g l = record {
+abbrev pub invariant-loop-entered : goal.invariant-loop-entered
+invariant-loop-entered g l = record {
   leads : Leads l.book l.entered l.publisher l.stuck;
   judged : AreJudged (l.entered.steps ++ l.backlog.items);
   posted : l.entered.steps ++ l.backlog.items ≡ l.fn.entered.steps ++ l.fn.backlog.items;
@@ -13,5 +13,5 @@ invariant-loop-alloc g l = record {
   published : l.publisher.published ≡ l.fn.publisher.published;
 }
 
-abbrev pub decreases-loop-alloc : goal.decreases-loop-alloc
-decreases-loop-alloc g l = length l.backlog.items
+abbrev pub decreases-loop-entered : goal.decreases-loop-entered
+decreases-loop-entered g l = length l.backlog.items
