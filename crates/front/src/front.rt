@@ -26,7 +26,7 @@ use tables::Tables;
 pub struct Front<'k, T: Tables + Drop, J: KeeperName<T>, R: Wait + Drop> {
     alloc: Global,
     keeper: &'k Keeper<T, J, R>,
-    session: Session,
+    session: Session<J>,
     place: Place<'k, J>,
 }
 

@@ -68,7 +68,7 @@ pub struct Closed<T: Drop, J: HistoryName> {
 /// Contracts see it as the desk.
 #[derive(Drop)]
 pub struct KeptDesk<T: Tables + Drop, J: KeeperName<T>, R: Wait + Drop> {
-    desk: Desk<T, R>,
+    desk: Desk<T, J, R>,
     log: Log<Deed, J>,
 }
 
@@ -89,7 +89,7 @@ impl<T: Tables + Drop, J: KeeperName<T>, R: Wait + Drop> Model for KeptDesk<T, J
 
 impl<T: Tables + Drop, J: KeeperName<T>, R: Wait + Drop> KeptDesk<T, J, R> {
     // A desk that was opened, to which nothing was done yet.
-    fn of_desk(desk: Desk<T, R>, log: Log<Deed, J>) -> KeptDesk<T, J, R>
+    fn of_desk(desk: Desk<T, J, R>, log: Log<Deed, J>) -> KeptDesk<T, J, R>
         requires of_book { IsOfBook J.book desk }
         requires starts { J.starts desk }
         requires log { log ≡ [] }
@@ -121,7 +121,7 @@ impl<T: Tables + Drop, J: KeeperName<T>, R: Wait + Drop> KeptDesk<T, J, R> {
         &mut self,
         rt: &W,
         history: &'k History<Deed, J>,
-    ) -> Result<(Session, Place<'k, J>), Refusal>
+    ) -> Result<(Session<J>, Place<'k, J>), Refusal>
         ensures more { ShowsMore self.old self.new }
         ensures same { SameTables self.old self.new }
         ensures known { IfOk result (λ given. Begins (shown_by self.new) given.0) }
@@ -148,7 +148,7 @@ impl<T: Tables + Drop, J: KeeperName<T>, R: Wait + Drop> KeptDesk<T, J, R> {
         &mut self,
         rt: &W,
         place: &mut Place<'_, J>,
-        session: &mut Session,
+        session: &mut Session<J>,
     ) -> Receipt
         requires { session.old.book ≡ J.book }
         ensures more { ShowsMore self.old self.new }
@@ -215,7 +215,7 @@ impl<T: Tables + Drop, J: KeeperName<T>, R: Wait + Drop> KeptDesk<T, J, R> {
         rt: &W,
         alloc: Global,
         place: &mut Place<'_, J>,
-        session: &mut Session,
+        session: &mut Session<J>,
         asked: ChangeAsked<'_>,
     ) -> Reply
         requires book { session.old.book ≡ J.book }
@@ -291,7 +291,7 @@ impl<T: Tables + Drop, J: KeeperName<T>, R: Wait + Drop> Keeper<T, J, R> {
     }
 
     /// A session that knows what is shown now, and a place for who uses it. It is refused exactly where all have been given out.
-    pub fn session<W: Wait>(&self, rt: &W) -> Result<(Session, Place<'_, J>), Refusal>
+    pub fn session<W: Wait>(&self, rt: &W) -> Result<(Session<J>, Place<'_, J>), Refusal>
         ensures seated { IfOk result (λ given. IsSeated T.Tables J.book J.starts (record { known = given.0; hand = given.1 })) }
         ensures of_book { IfOk result (λ given. IsKnownIn J.book given.0) }
         ensures err { IfErr result (λ why. why ≡ NoSeat) }

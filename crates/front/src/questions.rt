@@ -6,7 +6,7 @@ ghost use Rattle.front.specs.Questions.{AgainTold, IsAsked};
 use bodies::refusals::refusal;
 use keeper::{is_of_the_future, question_of, told_reply};
 use names::{Call, Refusal, Reply};
-use published::Session;
+use published::{Naming, Session};
 use shown::Question;
 use std::alloc::Global;
 
@@ -19,7 +19,12 @@ pub enum Asked {
 
 /// Reads a question, and asks it. Where it is of a revision that the session does not know yet, it comes back, to be asked again
 /// once the session knows more.
-pub fn ask_from(alloc: Global, session: &mut Session, call: Call, body: &[u8]) -> Asked
+pub fn ask_from<J: Naming>(
+    alloc: Global,
+    session: &mut Session<J>,
+    call: Call,
+    body: &[u8],
+) -> Asked
     ensures { IsAsked session.old call body.now result session.new }
 {
     let question = match question_of(alloc, call, body) {
@@ -38,7 +43,7 @@ pub fn ask_from(alloc: Global, session: &mut Session, call: Call, body: &[u8]) -
 }
 
 /// Asks a question, whatever its answer is.
-pub fn ask_again(alloc: Global, session: &mut Session, question: &Question) -> Reply
+pub fn ask_again<J: Naming>(alloc: Global, session: &mut Session<J>, question: &Question) -> Reply
     ensures told { AgainTold session.old session.new question.now (told result) }
     ensures later { KnowsMore session.old session.new }
 {

@@ -7,7 +7,7 @@ use answers::Answers;
 use desk::Desk;
 use keeper::answer_on;
 use names::{Call, Reply};
-use published::{Opened, Session};
+use published::{Naming, Opened, Session};
 use std::alloc::Global;
 use std::marker::Model;
 use std::process::Abort;
@@ -16,13 +16,13 @@ use tables::Tables;
 
 /// A desk, and a session of it.
 #[derive(Drop)]
-pub struct Lent<T: Tables + Drop, H: Wait + Drop> {
+pub struct Lent<T: Tables + Drop, J: Naming, H: Wait + Drop> {
     alloc: Global,
-    desk: Desk<T, H>,
-    session: Session,
+    desk: Desk<T, J, H>,
+    session: Session<J>,
 }
 
-impl<T: Tables + Drop, H: Wait + Drop> Model for Lent<T, H> {
+impl<T: Tables + Drop, J: Naming, H: Wait + Drop> Model for Lent<T, J, H> {
     ghost use Rattle.published.specs.Known.{Begins, Known};
     ghost use Rattle.published.specs.inside.Codes.{coded_known};
     ghost use Rattle.desk.specs.Posts.{shown_by};
@@ -36,7 +36,7 @@ impl<T: Tables + Drop, H: Wait + Drop> Model for Lent<T, H> {
     ghost invariant = { λ l. Begins (shown_by l.desk) l.session };
 }
 
-impl<T: Tables + Drop, H: Wait + Drop> Answers for Lent<T, H> {
+impl<T: Tables + Drop, J: Naming, H: Wait + Drop> Answers for Lent<T, J, H> {
     ghost use Rattle.std.specs.Prelude.{⊤};
 
     ghost step = { λ s call body told t. ⊤ };
@@ -47,13 +47,16 @@ impl<T: Tables + Drop, H: Wait + Drop> Answers for Lent<T, H> {
 }
 
 /// A desk over a new store, with a session.
-pub(crate) fn open<A: Abort, T: Tables + Drop, H: Wait + Drop>(
+pub(crate) fn open<A: Abort, T: Tables + Drop, J: Naming, H: Wait + Drop>(
     rt: &A,
     handle: H,
     alloc: Global,
+    opened: Opened,
     tables: T,
-) -> Lent<T, H> {
-    let Ok(mut desk) = Desk::open(alloc, handle, Opened::new(), tables) else {
+) -> Lent<T, J, H>
+    requires { opened.book ≡ J.book }
+{
+    let Ok(mut desk) = Desk::open(alloc, handle, opened, tables) else {
         panic!(rt; "no desk");
     };
     let session = desk.session().expect(rt, "a session");

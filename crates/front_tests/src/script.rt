@@ -7,6 +7,7 @@ use crate::workers::keeper_of;
 use answers::Answers;
 use front::{Front, Keeper, KeeperName, Opening};
 use names::{Call, Reply};
+use published::{Naming, Opened};
 use std::alloc::{AllocError, Global};
 use std::marker::Brand;
 use std::process::Abort;
@@ -153,13 +154,16 @@ fn replies_of<A: Answers>(alloc: Global, machine: &mut A) -> Result<Vec<u8>, All
     Ok(text)
 }
 
-fn by_lent<A: Abort, T: Tables + Drop, H: Wait + Drop>(
+fn by_lent<A: Abort, T: Tables + Drop, J: Naming, H: Wait + Drop>(
     rt: &A,
     handle: H,
     alloc: Global,
+    opened: Opened,
     tables: T,
-) -> Vec<u8> {
-    let mut machine = lent::open(rt, handle, alloc, tables);
+) -> Vec<u8>
+    requires { opened.book ≡ J.book }
+{
+    let mut machine = lent::open::<A, T, J, H>(rt, handle, alloc, opened, tables);
     replies_of(alloc, &mut machine).expect(rt, "replies")
 }
 
@@ -208,7 +212,8 @@ fn by_locked<J: KeeperName<T>, H: Wait + Drop, W: Abort + Wait, T: Tables + Drop
 #[test]
 fn a_worker_is_answered_as_one_who_holds_the_desk(rt: HostRuntime) {
     let alloc = rt.alloc();
-    let lent = by_lent(&rt, &rt, alloc, Listed::new(alloc, 1));
+    let own = Listed::new(alloc, 1);
+    let lent = by_lent::<_, _, Brand, _>(&rt, &rt, alloc, Opened::new(), own);
     let tables = Listed::new(alloc, 1);
     let locked = by_locked::<Brand, _, _, _>(
         &rt,

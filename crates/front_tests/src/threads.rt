@@ -29,7 +29,7 @@ const QUESTIONS: u64 = 10_000;
 /// A session of the book that `J` names.
 #[derive(Drop)]
 struct Reader<J: Naming> {
-    session: Session,
+    session: Session<J>,
     of: PhantomData<J>,
     ghost of_book: { session.book ≡ J.book },
 }
@@ -140,7 +140,7 @@ fn refreshed<J: KeeperName<T>, H: Wait + Drop, W: Wait, T: Tables + Drop>(
     rt: &W,
     keeper: &Keeper<T, J, H>,
     place: &mut Place<'_, J>,
-    session: &mut Session,
+    session: &mut Session<J>,
 ) -> Handed<J>
     requires { session.old.book ≡ J.book }
     ensures { session.new.book ≡ J.book }
@@ -171,7 +171,7 @@ fn readers_of<J: KeeperName<T>, H: Wait + Drop, W: Abort + Wait, T: Tables + Dro
     readers
 }
 
-fn reader_of<J: Naming>(session: Session) -> Reader<J>
+fn reader_of<J: Naming>(session: Session<J>) -> Reader<J>
     requires { session.book ≡ J.book }
 {
     Reader {
@@ -227,7 +227,7 @@ fn sessions_beside_a_worker_that_writes(rt: HostRuntime) {
 }
 
 // Whether a session that was refused once is refused ever after.
-fn stays_shut(session: &mut Session) -> bool {
+fn stays_shut<J: Naming>(session: &mut Session<J>) -> bool {
     let mut shut = false;
     for _ in 0..QUESTIONS {
         match session.state() {

@@ -15,7 +15,7 @@ use crate::questions::question_of;
 use bodies::refusals::refusal;
 use desk::Desk;
 use names::{Call, Reply};
-use published::Session;
+use published::{Naming, Session};
 use std::alloc::Global;
 use std::sync::Wait;
 use tables::Tables;
@@ -23,10 +23,10 @@ use tables::Tables;
 /// Answers a call, whose body is these bytes, on a desk that the caller holds. The session then knows no less than it did,
 /// and all that is shown. A question of the future is asked once more after what waits was shown. What is shown never goes
 /// back: its floor and its newest revision are no lower than before, in the same store.
-pub fn answer_on<T: Tables + Drop, R: Wait + Drop>(
+pub fn answer_on<T: Tables + Drop, J: Naming, R: Wait + Drop>(
     alloc: Global,
-    desk: &mut Desk<T, R>,
-    session: &mut Session,
+    desk: &mut Desk<T, J, R>,
+    session: &mut Session<J>,
     call: Call,
     body: &[u8],
 ) -> Reply

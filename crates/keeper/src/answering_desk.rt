@@ -11,7 +11,7 @@ use crate::answer::answer_on;
 use answers::Answers;
 use desk::Desk;
 use names::{Call, Refusal, Reply};
-use published::{Opened, Session};
+use published::{Naming, Opened, Session};
 use std::alloc::Global;
 use std::marker::Model;
 use std::sync::Wait;
@@ -20,13 +20,13 @@ use tables::Tables;
 /// A desk and a session of it, which knows all that is shown, with what they allocate by. It answers the calls of
 /// lines, and those of connections one after another. Contracts see it as the desk.
 #[derive(Drop)]
-pub struct Answering<T: Tables + Drop, H: Wait + Drop> {
+pub struct Answering<T: Tables + Drop, J: Naming, H: Wait + Drop> {
     alloc: Global,
-    desk: Desk<T, H>,
-    session: Session,
+    desk: Desk<T, J, H>,
+    session: Session<J>,
 }
 
-impl<T: Tables + Drop, H: Wait + Drop> Model for Answering<T, H> {
+impl<T: Tables + Drop, J: Naming, H: Wait + Drop> Model for Answering<T, J, H> {
     ghost use Rattle.published.specs.Known.{Begins};
     ghost use Rattle.desk.specs.Posts.{Posts, shown_by};
     ghost use Rattle.desk.specs.inside.DeskCodes.{coded_posts};
@@ -40,24 +40,30 @@ impl<T: Tables + Drop, H: Wait + Drop> Model for Answering<T, H> {
     ghost invariant = { λ a. Begins (shown_by a.desk) a.session };
 }
 
-impl<T: Tables + Drop, H: Wait + Drop> Answering<T, H> {
+impl<T: Tables + Drop, J: Naming, H: Wait + Drop> Answering<T, J, H> {
     /// A desk on the store that these tables keep, with its first session. Where it cannot be opened it gives the
     /// tables back: for want of memory, or where they failed or hold no history.
-    pub fn open(alloc: Global, rt: H, tables: T) -> Result<Answering<T, H>, (Refusal, T)>
+    pub fn open(
+        alloc: Global,
+        rt: H,
+        opened: Opened,
+        tables: T,
+    ) -> Result<Answering<T, J, H>, (Refusal, T)>
+        requires { opened.book ≡ J.book }
         ensures ok { IfOk result (λ answering. Began T.Tables tables answering) }
         ensures err { IfErr result (λ refused. CannotOpen refused.0) }
         ensures kept { IfErr result (λ refused. ComesBack T.Tables tables refused.1) }
         ensures caused { IfErr result (λ refused. refused.0 ≡ StoreFault
             → IsOpen (T.device tables) → FailsToLoad T.Tables tables refused.1) }
     {
-        match Desk::open(alloc, rt, Opened::new(), tables) {
+        match Desk::open(alloc, rt, opened, tables) {
             Ok(desk) => Ok(Answering::of_desk(alloc, desk)),
             Err(refused) => Err(refused),
         }
     }
 
     // A desk of which no session was given out, with the first.
-    fn of_desk(alloc: Global, desk: Desk<T, H>) -> Answering<T, H>
+    fn of_desk(alloc: Global, desk: Desk<T, J, H>) -> Answering<T, J, H>
         requires { desk.seats ≡ MAX_SESSIONS }
         ensures more { ShowsMore desk result }
         ensures same { SameTables desk result }
@@ -82,7 +88,7 @@ impl<T: Tables + Drop, H: Wait + Drop> Answering<T, H> {
     }
 }
 
-impl<T: Tables + Drop, H: Wait + Drop> Answers for Answering<T, H> {
+impl<T: Tables + Drop, J: Naming, H: Wait + Drop> Answers for Answering<T, J, H> {
     ghost use Rattle.keeper.specs.Rules.{DeskStep};
 
     ghost step = { λ s call body told t. DeskStep T.Tables s call body told t };

@@ -9,7 +9,7 @@ ghost use Rattle.keeper.specs.Showing.{ShowsFor};
 
 use desk::Desk;
 use names::Refusal;
-use published::Session;
+use published::{Naming, Session};
 use shown::{Question, Refused, Told};
 use std::sync::Wait;
 use tables::Tables;
@@ -27,9 +27,9 @@ pub fn is_of_the_future(asked: &Result<Told, Refused>) -> bool
 
 /// What the question is told. Where it is of a revision that is not shown yet, what waits is shown first, and the session then
 /// knows it.
-pub(crate) fn ask<T: Tables + Drop, R: Wait + Drop>(
-    desk: &mut Desk<T, R>,
-    session: &mut Session,
+pub(crate) fn ask<T: Tables + Drop, J: Naming, R: Wait + Drop>(
+    desk: &mut Desk<T, J, R>,
+    session: &mut Session<J>,
     question: &Question,
 ) -> Result<Told, Refused>
     requires { Begins (shown_by desk.old) session.old }

@@ -12,6 +12,7 @@ use http_api::serve_by;
 use keeper::Answering;
 use matchit::Router;
 use names::Call;
+use published::Naming;
 use std::alloc::Global;
 use std::io::{Read, Write};
 use std::sync::Wait;
@@ -22,10 +23,10 @@ use tracked_io::{TrackedReader, TrackedWriter};
 /// connection goes on from where it leaves the desk.
 ///
 /// The routes are those that [`routes`](http_api::routes) made. However it ends, the desk can serve another.
-pub fn talk<T: Tables + Drop, H: Wait + Drop, R: Read, W: Write>(
+pub fn talk<T: Tables + Drop, J: Naming, H: Wait + Drop, R: Read, W: Write>(
     alloc: Global,
     routes: &Router<Call>,
-    answering: &mut Answering<T, H>,
+    answering: &mut Answering<T, J, H>,
     reader: &mut TrackedReader<R>,
     writer: &mut TrackedWriter<W>,
 ) -> End

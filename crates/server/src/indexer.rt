@@ -19,7 +19,7 @@ use tables::Tables;
 #[derive(Drop)]
 pub(crate) struct Indexer<'k, T: Tables + Drop, J: KeeperName<T>, H: Wait + Drop> {
     keeper: &'k Keeper<T, J, H>,
-    session: Session,
+    session: Session<J>,
     place: Place<'k, J>,
     woken: Receiver<()>,
     ghost of_book: { session.book ≡ J.book },

@@ -31,7 +31,7 @@ pub fn take_turn<T: Tables + Drop, J: KeeperName<T>, R: Wait + Drop, W: Wait>(
     rt: &W,
     desk: &mut KeptDesk<T, J, R>,
     place: &mut Place<'_, J>,
-    session: &mut Session,
+    session: &mut Session<J>,
 ) -> Result<Turn, Refusal>
     requires { session.old.book ≡ J.book }
     ensures ok { IfOk result (λ turn.

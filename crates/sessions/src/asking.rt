@@ -5,7 +5,7 @@ ghost use Rattle.desk.specs.Posts.{Posts};
 use front::{Front, Keeper, KeeperName, Opening};
 use keeper::question_of;
 use names::{Call, Refusal, Reply};
-use published::Session;
+use published::{Naming, Session};
 use shown::{Question, Told as Answered};
 use std::alloc::{AllocError, Global};
 use std::sync::Wait;
@@ -55,9 +55,9 @@ pub(crate) struct Told {
 
 /// A session, and the place of its first question in the list that it goes through again and again.
 #[derive(Drop)]
-struct Asker {
+struct Asker<J: Naming> {
     alloc: Global,
-    session: Session,
+    session: Session<J>,
     first: usize,
 }
 
@@ -91,7 +91,12 @@ fn questions_of(alloc: Global, lines: &str) -> Result<Vec<Question>, Refusal> {
 }
 
 // Goes through the list, so many questions long.
-fn ask(session: &mut Session, list: &[Question], first: usize, questions: u32) -> Count {
+fn ask<J: Naming>(
+    session: &mut Session<J>,
+    list: &[Question],
+    first: usize,
+    questions: u32,
+) -> Count {
     let mut count = Count::none();
     let mut last = 0;
     let asked = list.iter().cycle().skip(first).take(questions as usize);
@@ -110,7 +115,12 @@ fn ask(session: &mut Session, list: &[Question], first: usize, questions: u32) -
 }
 
 // A session has its own questions: they are read before it is timed.
-fn ask_timed<W: Clock + CpuClock>(rt: &W, asker: Asker, lines: &str, questions: u32) -> Count {
+fn ask_timed<J: Naming, W: Clock + CpuClock>(
+    rt: &W,
+    asker: Asker<J>,
+    lines: &str,
+    questions: u32,
+) -> Count {
     let Asker {
         alloc,
         mut session,
@@ -144,9 +154,9 @@ fn sum_of(counts: &[Count]) -> Count {
 }
 
 // Each session asks in a thread of its own.
-fn ask_all<W: Threads + Clock + CpuClock + Sync>(
+fn ask_all<J: Naming + Send + Sync, W: Threads + Clock + CpuClock + Sync>(
     rt: &W,
-    askers: Vec<Asker>,
+    askers: Vec<Asker<J>>,
     lines: &str,
     questions: u32,
     done: &AtomicBool,
@@ -223,7 +233,7 @@ fn askers_of<T: Tables + Drop, J: KeeperName<T>, H: Wait + Drop, W: Wait>(
     alloc: Global,
     keeper: &Keeper<T, J, H>,
     sessions: u32,
-) -> Result<Vec<Asker>, Refusal> {
+) -> Result<Vec<Asker<J>>, Refusal> {
     let mut askers = Vec::new(alloc);
     for number in 0..sessions {
         let (session, _) = keeper.session(rt)?;
@@ -239,7 +249,7 @@ fn askers_of<T: Tables + Drop, J: KeeperName<T>, H: Wait + Drop, W: Wait>(
 
 fn ask_beside<
     T: Tables + Drop,
-    J: KeeperName<T>,
+    J: KeeperName<T> + Send + Sync,
     H: Wait + Drop,
     W: Threads + Wait + Clock + CpuClock + Sync,
 >(

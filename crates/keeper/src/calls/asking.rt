@@ -12,17 +12,17 @@ use crate::asking::ask;
 use crate::questions::told_reply;
 use desk::Desk;
 use names::Reply;
-use published::Session;
+use published::{Naming, Session};
 use shown::Question;
 use std::alloc::Global;
 use std::sync::Wait;
 use tables::Tables;
 
 /// Asks a question, and tells of it. The session then knows no less than it did, and all that is shown.
-pub(crate) fn question_on<T: Tables + Drop, R: Wait + Drop>(
+pub(crate) fn question_on<T: Tables + Drop, J: Naming, R: Wait + Drop>(
     alloc: Global,
-    desk: &mut Desk<T, R>,
-    session: &mut Session,
+    desk: &mut Desk<T, J, R>,
+    session: &mut Session<J>,
     question: &Question,
 ) -> Reply
     requires { Begins (shown_by desk.old) session.old }

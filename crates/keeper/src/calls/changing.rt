@@ -13,16 +13,16 @@ use crate::calls::refusing::refuse;
 use crate::changes::made_reply;
 use desk::{Change, Desk};
 use names::Reply;
-use published::Session;
+use published::{Naming, Session};
 use std::alloc::Global;
 use std::sync::Wait;
 use tables::Tables;
 
 /// Makes a change, and tells of it. The session then knows no less than it did, and all that is shown.
-pub fn change_on<T: Tables + Drop, R: Wait + Drop>(
+pub fn change_on<T: Tables + Drop, J: Naming, R: Wait + Drop>(
     alloc: Global,
-    desk: &mut Desk<T, R>,
-    session: &mut Session,
+    desk: &mut Desk<T, J, R>,
+    session: &mut Session<J>,
     change: Change,
 ) -> Reply
     requires { session.old.book ≡ desk.old.book }

@@ -9,16 +9,16 @@ ghost use Rattle.desk.specs.Posts.{ShowsMore, SameTables, shown_by};
 use bodies::refusals::refusal;
 use desk::Desk;
 use names::{Refusal, Reply};
-use published::Session;
+use published::{Naming, Session};
 use std::alloc::Global;
 use std::sync::Wait;
 use tables::Tables;
 
 /// What a refused change is answered. The session then knows what is shown.
-pub(crate) fn refuse<T: Tables + Drop, R: Wait + Drop>(
+pub(crate) fn refuse<T: Tables + Drop, J: Naming, R: Wait + Drop>(
     alloc: Global,
-    desk: &mut Desk<T, R>,
-    session: &mut Session,
+    desk: &mut Desk<T, J, R>,
+    session: &mut Session<J>,
     why: &Refusal,
 ) -> Reply
     requires { session.old.book ≡ desk.old.book }

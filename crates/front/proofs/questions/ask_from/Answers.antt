@@ -5,10 +5,10 @@ use Rattle.front.proofs.Told.{asked_told}
 use Rattle.front.proofs.questions.ask_from.Goals as goal
 
 pub returns-in-Err : goal.returns-in-Err
-returns-in-Err c = from_unasked c.in-Err.why c.in-Err.ensures.err c.refusal.ensures refl
+returns-in-Err g c = from_unasked c.in-Err.why c.in-Err.ensures.err c.refusal.ensures refl
 
 pub returns-in-Some : goal.returns-in-Some
-returns-in-Some c =
+returns-in-Some g c =
     from_asked c.in-Ok.question c.in-Ok.ensures.ok
     (asked_told c.ask.new.self.steps c.in-Ok.question c.in-Some.number c.in-Some.asked _
     c.in-Some.ensures.number c.in-Some.ensures.ok c.in-Some.ensures.err c.told_reply.ensures.ok c.told_reply.ensures.err
@@ -16,4 +16,4 @@ returns-in-Some c =
     (c.ask.ensures.later, c.ask.ensures.judged)
 
 pub returns : goal.returns
-returns c = from_shut c.in-Ok.question c.in-Ok.ensures.ok c.refusal-in-None.ensures (inl c.in-None.ensures.none) (c.ask.ensures.later, c.ask.ensures.judged)
+returns g c = from_shut c.in-Ok.question c.in-Ok.ensures.ok c.refusal-in-None.ensures (inl c.in-None.ensures.none) (c.ask.ensures.later, c.ask.ensures.judged)
