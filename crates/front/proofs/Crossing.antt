@@ -48,8 +48,6 @@ use Rattle.published.specs.contracts.publisher.Publisher as Publisher
 use Rattle.published.specs.contracts.publication.Publication as Publication
 use Rattle.left_right.proofs.writer.Writer.TheSendSync as Writer
 use Rattle.names.proofs.marking.Marking.TheSendSync as Marking
-use Rattle.names.proofs.write.Op.TheSendSync as Op
-use Rattle.names.proofs.items.Items.TheSendSync as Items
 
 Rewrite-field-send : IsSend (Enum (E.shape Rewrite.the_type))
 Rewrite-field-send = search (rewrites_cross, Name.the_send, crosses, sendable) depth 40
@@ -163,40 +161,47 @@ Step-send = let T = Step.the_type in recorded_send _ _ T.to T.to_one Step-field-
 pub Step-sync : IsSync Step.the_row
 Step-sync = let T = Step.the_type in recorded_sync _ _ T.to T.to_one Step-field-sync
 
-ShownCopy-field-send : IsSend (Struct (S.shape ShownCopy.the_type))
-ShownCopy-field-send = search (Shown-send, StepPrefix.the_send, sendable) depth 40
+ShownCopy-inside-send : (J : RattleType) (n : _) → IsSend J → IsSend (ShownCopy.TheInside.the_row J n)
+ShownCopy-inside-send J n s =
+    let C = ShownCopy.TheInside.the_type J n in
+    recorded_send _ _ C.to C.to_one (struct_send (S.shape C) (Shown-send, (StepPrefix.the_send, ((search (s, crosses, sendable) depth 20), tt))))
 
-ShownCopy-field-sync : IsSync (Struct (S.shape ShownCopy.the_type))
-ShownCopy-field-sync = search (Shown-sync, StepPrefix.the_sync, sendable) depth 40
+ShownCopy-inside-sync : (J : RattleType) (n : _) → IsSync J → IsSync (ShownCopy.TheInside.the_row J n)
+ShownCopy-inside-sync J n y =
+    let C = ShownCopy.TheInside.the_type J n in
+    recorded_sync _ _ C.to C.to_one (struct_sync (S.shape C) (Shown-sync, (StepPrefix.the_sync, ((search (y, crosses, sendable) depth 20), tt))))
 
-pub ShownCopy-send : IsSend ShownCopy.the_row
-ShownCopy-send = search (Shown-send, StepPrefix.the_send, sendable) depth 40
+pub ShownCopy-send : (J : RattleType) (n : _) → IsSend J → IsSend (ShownCopy.the_row J n)
+ShownCopy-send J n s = search (ShownCopy-inside-send, sendable) depth 10
 
-pub ShownCopy-sync : IsSync ShownCopy.the_row
-ShownCopy-sync = search (Shown-sync, StepPrefix.the_sync, sendable) depth 40
+pub ShownCopy-sync : (J : RattleType) (n : _) → IsSync J → IsSync (ShownCopy.the_row J n)
+ShownCopy-sync J n y = search (ShownCopy-inside-sync, sendable) depth 10
 
-Session-inside-send : IsSend Session.TheInside.the_row
-Session-inside-send = search (Reader.the_field_send, ShownCopy-sync, Remembered.the_send, crosses, sendable) depth 40
+Session-inside-send : (J : RattleType) (n : _) → IsSend J → IsSync J → IsSend (Session.TheInside.the_row J n)
+Session-inside-send J n s y = search (Reader.the_field_send, ShownCopy-send, ShownCopy-sync, Remembered.the_send, crosses, sendable) depth 40
 
-pub Session-send : IsSend Session.the_row
-Session-send = search (Session-inside-send, sendable) depth 10
+pub Session-send : (J : RattleType) (n : _) → IsSend J → IsSync J → IsSend (Session.the_row J n)
+Session-send J n s y = search (Session-inside-send, sendable) depth 10
 
-pub Post-send : IsSend Post.the_row
-Post-send = search (Step-field-send, Op.the_send, Items.the_send, StepPrefix.the_send, crosses, sendable) depth 40
+Post-inside-send : (J : RattleType) (n : _) → IsSend J → IsSend (Post.TheInside.the_row J n)
+Post-inside-send J n s =
+    let P = Post.TheInside.the_type J n in
+    recorded_send _ _ P.to P.to_one (struct_send (S.shape P) (Step-field-send, (StepPrefix.the_send, ((search (s, crosses, sendable) depth 20), tt))))
 
-Publisher-inside-send : (R : RattleType) → IsSend R → IsSend (Publisher.TheInside.the_row R)
-Publisher-inside-send R s =
-    let T = Publisher.TheInside.the_type R in
-    recorded_send _ _ T.to T.to_one (struct_send (S.shape T) (search (Writer.the_field_send, ShownCopy-send, ShownCopy-sync, Post-send, crosses, sendable) depth 40, (s, tt)))
+pub Post-send : (J : RattleType) (n : _) → IsSend J → IsSend (Post.the_row J n)
+Post-send J n s = search (Post-inside-send, sendable) depth 10
 
-pub Publisher-send : (R : RattleType) → IsSend R → IsSend (Publisher.the_row R)
-Publisher-send R s = search (Publisher-inside-send, sendable) depth 10
+Publisher-inside-send : (C O P : RattleType) (a p : _) → IsSend C → IsSync C → IsSend O → IsSend (Publisher.TheInside.the_row C O P a p)
+Publisher-inside-send C O P a p s y o = search (Writer.the_field_send, StepPrefix.the_send, crosses, sendable) depth 40
 
-Publication-inside-send : (R : RattleType) → IsSend R → IsSend (Publication.TheInside.the_row R)
-Publication-inside-send R s = search (Publisher-send, Book.the_send, StepPrefix.the_send, Step-send, Post-send, Session-send, crosses, sendable) depth 40
+pub Publisher-send : (C O P : RattleType) (a p : _) → IsSend C → IsSync C → IsSend O → IsSend (Publisher.the_row C O P a p)
+Publisher-send C O P a p s y o = search (Publisher-inside-send, sendable) depth 10
 
-pub Publication-send : (R : RattleType) → IsSend R → IsSend (Publication.the_row R)
-Publication-send R s = search (Publication-inside-send, sendable) depth 10
+Publication-inside-send : (J R : RattleType) (n : _) → IsSend J → IsSync J → IsSend R → IsSend (Publication.TheInside.the_row J R n)
+Publication-inside-send J R n s y r = search (Publisher-send, ShownCopy-send, ShownCopy-sync, Book.the_send, StepPrefix.the_send, Step-send, Post-send, Session-send, crosses, sendable) depth 40
+
+pub Publication-send : (J R : RattleType) (n : _) → IsSend J → IsSync J → IsSend R → IsSend (Publication.the_row J R n)
+Publication-send J R n s y r = search (Publication-inside-send, sendable) depth 10
 
 -- for `search`, beside std's own set
 pub ruleset crosses_published = (Config-send, Config-sync, KeptCommit-send, KeptCommit-sync, Loaded-send, Loaded-sync, Shown-send, Shown-sync, Step-send, Step-sync, Session-send, Publication-send)

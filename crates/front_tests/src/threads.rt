@@ -244,7 +244,12 @@ fn stays_shut<J: Naming>(session: &mut Session<J>) -> bool {
     true
 }
 
-fn closed<J: KeeperName<T>, H: Wait + Drop, W: Abort + Threads + Wait, T: Tables + Drop>(
+fn closed<
+    J: KeeperName<T> + Send + Sync,
+    H: Wait + Drop,
+    W: Abort + Threads + Wait,
+    T: Tables + Drop,
+>(
     rt: &W,
     handle: H,
     alloc: Global,

@@ -15,8 +15,8 @@ use Rattle.std.proofs.Crossing.{crosses, send}
 use Rattle.front.proofs.Crossing.{Session-send}
 use Rattle.sessions.specs.contracts.asking.Asker as Asker
 
-pub Asker-send : IsSend Asker.the_row
-Asker-send = declared_send Asker.the_type (send, (Session-send, ((search sendable), tt)))
+pub Asker-send : (J : RattleType) (n : _) → IsSend J → IsSync J → IsSend (Asker.the_row J n)
+Asker-send J n s y = declared_send (Asker.the_type J n) (send, ((Session-send J n s y), ((search sendable), tt)))
 
 pub Str-send : (ℓ : Lifetime) (κ : Lft) → IsSend (Str ℓ κ)
 Str-send ℓ κ = search sendable

@@ -282,7 +282,7 @@ fn ask_beside<
 /// book is passed no `&str`.
 pub(crate) fn run<
     T: Tables + Drop,
-    J: KeeperName<T>,
+    J: KeeperName<T> + Send + Sync,
     H: Wait + Drop,
     W: Threads + Wait + Clock + CpuClock + Sync,
 >(

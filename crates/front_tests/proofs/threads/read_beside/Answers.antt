@@ -13,8 +13,8 @@ use Rattle.front_tests.specs.contracts.threads.Handed as Handed
 use Rattle.front_tests.proofs.Crossing.{Option-send, three_send}
 use Rattle.front_tests.proofs.threads.read_beside.Goals as goal
 
-Reader-send : (A : RattleType) (j : _) → IsSend A → IsSend (Reader.the_row A j)
-Reader-send A j s = declared_send (Reader.the_type A j) (Session-send, ((search (crosses, sendable) depth 10), tt))
+Reader-send : (A : RattleType) (j : _) → IsSend A → IsSync A → IsSend (Reader.the_row A j)
+Reader-send A j s y = declared_send (Reader.the_type A j) ((Session-send A _ s y), ((search (crosses, sendable) depth 10), tt))
 
 Handed-send : (A : RattleType) (j : _) → IsSend A → IsSend (Handed.the_row A j)
 Handed-send A j s = declared_send (Handed.the_type A j) (Receipt.the_send, ((search (crosses, sendable) depth 10), tt))
@@ -27,6 +27,6 @@ Desktop-sync A j s =
 pub join-right-requires-send-F : goal.join-right-requires-send-F
 join-right-requires-send-F g c κs within =
     let b = c.type_bounds in
-    let readers = Vec-send _ (Reader-send (param 0 g.row.J) g.J.Naming b.send-J) in
+    let readers = Vec-send _ (Reader-send (param 0 g.row.J) g.J.Naming b.send-J b.sync-J) in
     let desktop = Desktop-sync (param 0 g.row.J) g.J.Naming b.send-J in
     param_send 1 _ (arg_send _ no _ (three_send _ _ _ _ (shr_send _ _ _ b.sync-W) readers (shr_send _ _ _ desktop)))
