@@ -173,7 +173,7 @@ module _ {T : Type 0} (g : Ghosts T) (weaker : Weaker g) (P : TableChange → Ty
       → IsAnswer (DeskStep g) old fits k body text new → HasLeft g P start old → HasLeft g P start new
   after_answer old false k body text new asked s h = same_desk old new s.1 h
   after_answer old true None body text new asked s h = same_desk old new s.1 h
-  after_answer old true (Some it) body text new asked s h = after_step_of old it body s.reply new (asked it refl) s.may h
+  after_answer old true (Some it) body text new asked s h = after_step_of old it body s.0 new (asked it refl) s.1 h
 
   -- the tables of a desk that answered lines leave a commit more only where one of them asked for it
   pub after_run : (lines : List (List ℕ)) (old : Posts T) (text : List ℕ) (new : Posts T) → ((c : TableChange) → IsAskedIn lines c → P c)
