@@ -53,8 +53,7 @@ rev_data store rev = string (zookie_text store rev)
 
 -- the numbers of a store's published state
 abbrev pub state_data : ℕ → State → Data
-state_data store s = object_of (
-    (codes "base", rev_data store s.base) ∷ (codes "floor", rev_data store s.floor) ∷ (codes "hot", rev_data store s.hot)
+state_data store s = object_of ((codes "base", rev_data store s.base) ∷ (codes "floor", rev_data store s.floor) ∷ (codes "hot", rev_data store s.hot)
     ∷ (codes "index", rev_data store s.index) ∷ (codes "marked", number (unsigned s.marked)) ∷ (codes "newest", rev_data store s.newest)
     ∷ (codes "rows", number (unsigned s.rows)) ∷ (codes "tuples", number (unsigned s.tuples)) ∷ [])
 
@@ -73,34 +72,23 @@ cycle_items steps = items_of (string (start_text steps) ∷ map (λ s. string (s
 
 -- `{"error": {.., "code": .., .., "name": .., ..}}`: a refusal's number and name, and in the three places these members
 abbrev pub error_data : Refusal → List (List ℕ × Data) → List (List ℕ × Data) → List (List ℕ × Data) → Data
-error_data why before between after = object_of ((
-  codes "error",
-  object_of
-      (before ++ (codes "code", number (unsigned (number_of why))) ∷ between ++ (codes "name", string (name_of why)) ∷ after),
-) ∷ [])
+error_data why before between after = object_of ((codes "error", object_of (before ++ (codes "code", number (unsigned (number_of why))) ∷ between ++ (codes "name", string (name_of why)) ∷ after)) ∷ [])
 
 -- with the place of an operation or of a condition
 abbrev pub indexed_data : Refusal → ℕ → Data
 indexed_data why index = error_data why [] ((codes "index", number (unsigned index)) ∷ []) []
-
--- with the tuple that is in the way
-abbrev pub tuple_data : Tuple → Data
-tuple_data tuple = error_data (TupleInTheWay tuple) [] [] ((codes "tuple", string (tuple_text tuple)) ∷ [])
 
 -- with the cause, and for a cycle its relations
 abbrev pub cycle_members : Cause → List (List ℕ × Data)
 cycle_members (Cycle steps) = (codes "cycle", array (cycle_items steps)) ∷ []
 cycle_members cause = []
 
-abbrev pub cause_data : Cause → Data
-cause_data cause = error_data (ConfigRefused cause) ((codes "cause", string (cause_name_of cause)) ∷ []) (cycle_members cause) []
-
 abbrev pub refusal_data : Refusal → Data
 refusal_data (ConditionFailed index) = indexed_data (ConditionFailed index) index
 refusal_data (AlreadyThere index) = indexed_data (AlreadyThere index) index
 refusal_data (NotThere index) = indexed_data (NotThere index) index
-refusal_data (ConfigRefused cause) = cause_data cause
-refusal_data (TupleInTheWay tuple) = tuple_data tuple
+refusal_data (ConfigRefused cause) = error_data (ConfigRefused cause) ((codes "cause", string (cause_name_of cause)) ∷ []) (cycle_members cause) []
+refusal_data (TupleInTheWay tuple) = error_data (TupleInTheWay tuple) [] [] ((codes "tuple", string (tuple_text tuple)) ∷ [])
 refusal_data why = error_data why [] [] []
 
 -- the reply has this status and says this, or there was no memory for it

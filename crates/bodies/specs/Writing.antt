@@ -43,8 +43,7 @@ AsksOp d o = SaysOfTuple (codes "op") (op_word o.kind) [] d o.tuple
 abbrev pub AsksCondition : (List ℕ → Zookie → Type 0) → Data → Condition Zookie → Type 0
 AsksCondition IsOf d (Exists t) = SaysOfTuple (codes "if") (codes "exists") [] d t
 AsksCondition IsOf d (Absent t) = SaysOfTuple (codes "if") (codes "absent") [] d t
-AsksCondition IsOf d (Unchanged t zookie) =
-    SaysOfTuple (codes "if") (codes "unchanged") (codes "zookie" ∷ []) d t × IsSomeAnd (text_at (codes "zookie") d) (λ text. IsOf text zookie)
+AsksCondition IsOf d (Unchanged t zookie) = SaysOfTuple (codes "if") (codes "unchanged") (codes "zookie" ∷ []) d t × IsSomeAnd (text_at (codes "zookie") d) (λ text. IsOf text zookie)
 
 -- `{"conditions": [condition, ..], "ops": [op, ..]}`, with 1 to 256 operations and at most 64 conditions, none where there is no
 -- such member

@@ -3,12 +3,12 @@ ghost use Rattle.std.specs.Prelude.{◌≡◌, [], ◌∷◌, Some, IfOk, string
 ghost use Rattle.names.specs.Calls.{told};
 ghost use Rattle.names.specs.Refusals.{status_of};
 ghost use Rattle.names.specs.Spelling.{relation_text};
-ghost use Rattle.names.specs.declared.refusal.Refusal.TheVariants.{ConfigRefused};
+ghost use Rattle.names.specs.declared.refusal.Refusal.TheVariants.{ConfigRefused, TupleInTheWay};
 ghost use Rattle.names.specs.declared.cause.Cause.TheVariants.{Cycle};
 ghost use Rattle.serde_json.specs.Data.{string};
 ghost use Rattle.serde_json.specs.View.{view, items_view};
 ghost use Rattle.zookie.specs.Text.{zookie_text};
-ghost use Rattle.bodies.specs.Replies.{Says, SaysRefusal, SaysRefusalAt, error_data, indexed_data, tuple_data, cause_data, cycle_items, signed_text, start_text};
+ghost use Rattle.bodies.specs.Replies.{Says, SaysRefusal, SaysRefusalAt, error_data, indexed_data, refusal_data, cycle_items, signed_text, start_text};
 
 use crate::replies::{say, say_text};
 use names::{Cause, CycleStep, Refusal, Reply, Tuple};
@@ -27,7 +27,7 @@ fn indexed_refusal(alloc: Global, why: &Refusal, index: u64) -> Reply
 
 /// A refusal with the tuple that is in the way.
 fn tuple_refusal(alloc: Global, tuple: &Tuple) -> Reply
-    ensures { Says (told result) 409 (tuple_data tuple.now) }
+    ensures { Says (told result) 409 (refusal_data (TupleInTheWay tuple.now)) }
 {
     let Ok(text) = format!(in alloc; "{tuple}") else {
         return Reply::NoMemory;
@@ -73,7 +73,7 @@ fn cycle_list(alloc: Global, steps: &[CycleStep]) -> Result<Vec<Value>, AllocErr
 
 /// The refusal of a configuration with a cycle, as a value.
 fn cycle_value(alloc: Global, steps: &[CycleStep]) -> Result<Value, AllocError>
-    ensures { IfOk result (λ v. view v ≡ cause_data (Cycle steps.now)) }
+    ensures { IfOk result (λ v. view v ≡ refusal_data (ConfigRefused (Cycle steps.now))) }
 {
     let list = Value::Array(cycle_list(alloc, steps)?);
     json!(in alloc; {"error": {"cause": "cycle", "code": 9u64, "cycle": list, "name": "ConfigRefused"}})

@@ -53,7 +53,7 @@ module _ {T : Type 0} (g : Ghosts T) (before after : Posts T) where
   on_shown more = (more.book, more.later)
 
   on_posted : (step : Step) → PostsStep before step after → GoesOn
-  on_posted step is = (is.book, is.later)
+  on_posted step is = (is.shows.book, is.shows.later)
 
   on_trimmed : (rev : ℕ) → IsTrimmed g before rev after → GoesOn
   on_trimmed rev (trim_raises above is stored) = on_posted _ is

@@ -39,7 +39,7 @@ module _ {T : Type 0} (g : Ghosts T) (old new : Posts T) where
       refused_so : (change : Change) (why : Refusal) → AsksChange call body change → IsRefused g old (MayStore old change) (SpeaksAgainst old change) why new
           → Refuses g old (SpeaksAgainst old change) why new → SaysRefusal told why → StaysFailed old call body told new
       refused_so change Reopen asks is cause says =
-          record { tells = told_to_reopen change asks says; failed = cause.1; tables = cause.3; posted = is.shows.posted }
+          record { tells = told_to_reopen change asks says; failed = cause.1.1 ∙ cause.0; tables = cause.1.0; posted = is.shows.posted }
       refused_so change StoreFault asks is cause says = works_not cause.0
       refused_so change Memory asks is cause says = works_not cause.0
       refused_so change _ asks is cause says = works_not cause.0

@@ -33,12 +33,15 @@ settled_still {T} g mid new more same settled works opened =
 
 -- a change that was refused is so still where more was shown since
 module _ {T : Type 0} (g : Ghosts T) (old mid new : Posts T) (made : TableChange → Type 0) (judged : Refusal → Type 0) (why : Refusal) where
+  same_since : SameTables old mid → SameTables mid new → SameTables old new
+  same_since first more = (more.0 ∙ first.0, more.1 ∙ first.1, more.2 ∙ first.2)
+
   refuses_still : (why : Refusal) → SameTables mid new → Refuses g old judged why mid → Refuses g old judged why new
-  refuses_still Reopen same cause = (cause.0, same.1 ∙ cause.1, same.2 ∙ cause.2, same.0 ∙ cause.3)
+  refuses_still Reopen same cause = (cause.0, same_since cause.1 same)
   refuses_still StoreFault same cause =
       (cause.0, same.1 ∙ cause.1, same.2 ∙ cause.2, subst (λ (t : T). IsOpen (g.device old.tables) → HasFailed (g.device old.tables) (g.device t)) (sym same.0) cause.3, cause.4)
   refuses_still Memory same cause = (cause.0, same.1 ∙ cause.1, same.2 ∙ cause.2, cause.3)
-  refuses_still _ same cause = (cause.0, same.1 ∙ cause.1, same.2 ∙ cause.2, same.0 ∙ cause.3, cause.4)
+  refuses_still _ same cause = (cause.0, same_since cause.1 same, cause.2)
 
   touches_still : SameTables mid new → Touches g old made mid → Touches g old made new
   touches_still same (leaves_alone alone) = leaves_alone (same.0 ∙ alone)

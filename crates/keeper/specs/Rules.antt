@@ -9,6 +9,5 @@ use Rattle.keeper.specs.calls.Ask.{AskStep}
 use Rattle.keeper.specs.calls.Change.{ChangeStep}
 
 -- from old, the desk may tell this to the call with this body, and go on to new: as a change, or as a question
-abbrev pub DeskStep : {T : Type 0}
-    → Ghosts T → Posts T → Call → List ℕ → Option (ℕ × List ℕ) → Posts T → Type 0
+abbrev pub DeskStep : {T : Type 0} → Ghosts T → Posts T → Call → List ℕ → Option (ℕ × List ℕ) → Posts T → Type 0
 DeskStep g old call body told new = MatchBool (is_change call) (ChangeStep g old call body told new) (AskStep old call body told new)

@@ -37,16 +37,15 @@ condition_cause r conditions =
 abbrev pub verdict : Retained → Write Zookie → Option Refusal
 verdict r write =
     let n = newest_of r in
-    let ops = write.ops in
-    or_else (refused_if Malformed (not (is_in_range ops))) (
+    or_else (refused_if Malformed (not (is_in_range write.ops))) (
     or_else (refused_if Malformed (not (nat_le (length write.conditions) MAX_CONDITIONS))) (
-    or_else (refused_if UnknownRelation (list_any (is_unknown n.held.config) ops)) (
-    or_else (refused_if TypeRefused (list_any (is_untyped n.held.config) ops)) (
-    or_else (refused_if TwiceInOneWrite (is_twice ops)) (
+    or_else (refused_if UnknownRelation (list_any (is_unknown n.held.config) write.ops)) (
+    or_else (refused_if TypeRefused (list_any (is_untyped n.held.config) write.ops)) (
+    or_else (refused_if TwiceInOneWrite (is_twice write.ops)) (
     or_else (condition_cause r write.conditions) (
-    or_else (at_place (λ i. AlreadyThere i) (first_from (inserts_again n.held.tuples) 0 ops)) (
-    or_else (at_place (λ i. NotThere i) (first_from (deletes_nothing n.held.tuples) 0 ops)) (
-    refused_if Full (is_full n (map event_of ops))))))))))
+    or_else (at_place (λ i. AlreadyThere i) (first_from (inserts_again n.held.tuples) 0 write.ops)) (
+    or_else (at_place (λ i. NotThere i) (first_from (deletes_nothing n.held.tuples) 0 write.ops)) (
+    refused_if Full (is_full n (map event_of write.ops))))))))))
 
 -- nothing speaks against the write
 abbrev pub AcceptsWrite : Retained → Write Zookie → Type 0

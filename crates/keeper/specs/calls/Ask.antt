@@ -14,15 +14,9 @@ use Rattle.keeper.specs.Showing.{zookie_at, ShowsFor}
 
 -- The body asks nothing, or there was no memory to read it; what it asks is told, or refused, from the steps that are then
 -- shown, with zookies of the desk's store.
-pub data AskStep {T : Type 0}
-    (old : Posts T) (call : Call) (body : List ℕ) (told : Option (ℕ × List ℕ)) (new : Posts T) : Type 0 where
-  asks_nothing : (why : Refusal)
-      → AsksNothing call body why → SaysRefusal told why → new ≡ old → AskStep old call body told new
-  is_told : (question : Question) (answer : Told)
-      → Asks call body question → IsTold (standing new.shown) question answer
-      → SaysTold (standing old.posted).kept.number answer told → ShowsFor question old new
-      → AskStep old call body told new
-  is_refused : (question : Question) (refused : Refused)
-      → Asks call body question → RefusesQuestion (standing new.shown) question refused
-      → SaysRefusalAt told refused.why (option_map (zookie_at old) refused.at) → ShowsFor question old new
-      → AskStep old call body told new
+pub data AskStep {T : Type 0} (old : Posts T) (call : Call) (body : List ℕ) (told : Option (ℕ × List ℕ)) (new : Posts T) : Type 0 where
+  asks_nothing : (why : Refusal) → AsksNothing call body why → SaysRefusal told why → new ≡ old → AskStep old call body told new
+  is_told : (question : Question) (answer : Told) → Asks call body question → IsTold (standing new.shown) question answer
+      → SaysTold (standing old.posted).kept.number answer told → ShowsFor question old new → AskStep old call body told new
+  is_refused : (question : Question) (refused : Refused) → Asks call body question → RefusesQuestion (standing new.shown) question refused
+      → SaysRefusalAt told refused.why (option_map (zookie_at old) refused.at) → ShowsFor question old new → AskStep old call body told new
