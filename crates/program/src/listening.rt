@@ -5,15 +5,15 @@ ghost use Rattle.tracked_io.specs.Wrote.{WroteSome, nothing_taken};
 ghost use Rattle.answers.specs.Ends.{is_read_fault, is_write_fault};
 ghost use Rattle.http_api.specs.Routes.{table};
 ghost use Rattle.http_api.specs.Talks.{TalkedAtEachRead};
-ghost use Rattle.keeper.specs.Rules.{DeskStep};
+ghost use Rattle.calls.specs.Rules.{DeskStep};
 ghost use Rattle.server.specs.Sides.{unread, TalkedOver};
 ghost use Rattle.runs.specs.Connections.{StaysServing};
 ghost use Rattle.program.specs.Listening.{Announced, IsOwnAddress, IsPortFor, IsStartFault, NotAnnounced, listening_line};
 
 use answers::End;
+use calls::Answering;
 use command_line::Fault;
 use http_api::routes;
-use keeper::Answering;
 use matchit::Router;
 use names::{Call, Refusal};
 use published::Naming;

@@ -23,11 +23,11 @@ use Rattle.desk.specs.declared.change.Change.{Change}
 use Rattle.desk.specs.declared.change.Change.TheVariants.{Write, Config, Trim, CatchUp, Mark, Rebuild}
 use Rattle.desk.specs.declared.change.Made.{Made}
 use Rattle.desk.specs.declared.change.Made.TheVariants.{Commit, Floor, Cursor, Marked, Base}
-use Rattle.keeper.specs.Beginning.{Began}
-use Rattle.keeper.specs.Changes.{is_change}
-use Rattle.keeper.specs.Rules.{DeskStep}
-use Rattle.keeper.specs.calls.Ask.{AskStep, asks_nothing, is_told, is_refused}
-use Rattle.keeper.specs.calls.Change.{ChangeStep, changes_nothing, is_made, is_not_made}
+use Rattle.calls.specs.Beginning.{Began}
+use Rattle.calls.specs.Changes.{is_change}
+use Rattle.calls.specs.Rules.{DeskStep}
+use Rattle.calls.specs.steps.Ask.{AskStep, asks_nothing, is_told, is_refused}
+use Rattle.calls.specs.steps.Change.{ChangeStep, changes_nothing, is_made, is_not_made}
 use Rattle.refinement.specs.Events.{state_after, state_of, IsRunTo}
 use Rattle.refinement.proofs.Leading.{on, stays, publishes}
 use Rattle.refinement.proofs.Posting.{judged_last, Fits, posts}

@@ -6,11 +6,11 @@ use Rattle.tables.specs.declared.tables.Tables.{Ghosts}
 use Rattle.tables.proofs.Lasting.{lasts_self, lasts_trans, clean_before}
 use Rattle.desk.specs.TableChanges.{TableChange, changed, CanChange}
 use Rattle.desk.specs.Posts.{Posts, Agrees, ComesBack}
-use Rattle.keeper.specs.Rules.{DeskStep}
+use Rattle.calls.specs.Rules.{DeskStep}
 use Rattle.lines.specs.Text.{lines_of}
 use Rattle.lines.specs.Machine.{Run}
 use Rattle.tracked_io.specs.Tracking.{TrackedReading, TrackedWriting}
-use Rattle.keeper.specs.Beginning.{Began, kept_by}
+use Rattle.calls.specs.Beginning.{Began, kept_by}
 use Rattle.runs.specs.Runs.{Ended, ServedBy, PausedBy, CutBy, IsAskedIn}
 use Rattle.runs.specs.inside.Leaving.{HasLeft, Answered}
 use Rattle.runs.proofs.Leaving.{Weaker, holds_first, after_run}

@@ -29,14 +29,14 @@ use Rattle.desk.specs.declared.change.Change.{Change}
 use Rattle.desk.specs.declared.change.Change.TheVariants as of_change
 use Rattle.desk.specs.declared.change.Made.{Made}
 use Rattle.desk.specs.declared.change.Made.TheVariants.{Commit, Floor, Cursor, Marked, Base}
-use Rattle.keeper.specs.Changes.{is_change}
-use Rattle.keeper.specs.Rules.{DeskStep}
-use Rattle.keeper.specs.Showing.{OnlyShows}
-use Rattle.keeper.specs.calls.Ask.{AskStep, asks_nothing, is_told, is_refused}
-use Rattle.keeper.specs.calls.Change.{ChangeStep, changes_nothing, is_made, is_not_made}
+use Rattle.calls.specs.Changes.{is_change}
+use Rattle.calls.specs.Rules.{DeskStep}
+use Rattle.calls.specs.Showing.{OnlyShows}
+use Rattle.calls.specs.steps.Ask.{AskStep, asks_nothing, is_told, is_refused}
+use Rattle.calls.specs.steps.Change.{ChangeStep, changes_nothing, is_made, is_not_made}
 use Rattle.lines.specs.Text.{word_of, body_of}
 use Rattle.lines.specs.Machine.{IsAnswer, Run}
-use Rattle.keeper.specs.Beginning.{Began, kept_by}
+use Rattle.calls.specs.Beginning.{Began, kept_by}
 use Rattle.runs.specs.Runs.{Stores, AsksStored, IsAskedIn}
 use Rattle.runs.specs.inside.Leaving.{HasLeft}
 use Rattle.tables.proofs.Lasting.{lasts_trans}

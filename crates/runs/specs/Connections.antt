@@ -7,14 +7,14 @@ use Rattle.tables.specs.Device.{Lasts}
 use Rattle.tables.specs.declared.tables.Tables.{Ghosts}
 use Rattle.desk.specs.TableChanges.{TableChange, changed, CanChange}
 use Rattle.desk.specs.Posts.{Posts}
-use Rattle.keeper.specs.Rules.{DeskStep}
+use Rattle.calls.specs.Rules.{DeskStep}
 use Rattle.answers.specs.declared.end.End.{End}
 use Rattle.answers.specs.Machine.{Step}
 use Rattle.http_api.specs.Routes.{route_of}
 use Rattle.http_api.specs.Connection.{HasRequest, Next, Text}
 use Rattle.http_api.specs.Talks.{Talked, TalkedSoFar, TalkCut}
 use Rattle.tracked_io.specs.Tracking.{TrackedWriting}
-use Rattle.keeper.specs.Beginning.{kept_by}
+use Rattle.calls.specs.Beginning.{kept_by}
 use Rattle.runs.specs.Runs.{AsksStored}
 
 -- ---- what was asked for

@@ -15,9 +15,9 @@ use Rattle.desk.specs.Posts.{Posts, Agrees}
 use Rattle.desk.specs.Changes.{IsCommitOf}
 use Rattle.desk.specs.declared.change.Change.{Change}
 use Rattle.desk.specs.declared.change.Change.TheVariants.{Write, Config, Trim}
-use Rattle.keeper.specs.Beginning.{kept_by}
-use Rattle.keeper.specs.Changes.{AsksChange}
-use Rattle.keeper.specs.Rules.{DeskStep}
+use Rattle.calls.specs.Beginning.{kept_by}
+use Rattle.calls.specs.Changes.{AsksChange}
+use Rattle.calls.specs.Rules.{DeskStep}
 use Rattle.lines.specs.Text.{lines_of, word_of, body_of}
 use Rattle.lines.specs.Served.{Served, Paused, Cut, PausedAtEachRead}
 use Rattle.tracked_io.specs.Tracking.{TrackedReading, TrackedWriting}

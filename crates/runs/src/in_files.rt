@@ -17,8 +17,8 @@ ghost use Rattle.runs.specs.Over.{over, BeginsIn, EndedOver, OpenedOver, TablesO
 
 use crate::files::{Left, find};
 use crate::over::{fault_of, open_over, run_over, start as tables_over};
+use calls::Answering;
 use command_line::Fault;
-use keeper::Answering;
 use names::Refusal;
 use published::{Naming, Opened};
 use sqlite::{Connection, Error, ErrorCode, FileFrom, FileStore, Leftover, Start};

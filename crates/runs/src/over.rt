@@ -12,8 +12,8 @@ ghost use Rattle.runs.specs.inside.Starting.{StartsFrom, FailsToStart};
 ghost use Rattle.runs.specs.Over.{over, Begins, EndedOver, OpenedOver, LeavesRefused, CannotBegin, IsDeserved};
 
 use crate::running::run;
+use calls::Answering;
 use command_line::Fault;
-use keeper::Answering;
 use names::Refusal;
 use published::{Naming, Opened};
 use sqlite::{Alter, Connection};

@@ -10,8 +10,8 @@ ghost use Rattle.runs.specs.inside.Leaving.{Answered};
 ghost use Rattle.runs.specs.Runs.{ServedBy, PausedBy, CutBy, Ended, is_read_fault, is_write_fault};
 
 use answers::End;
+use calls::Answering;
 use command_line::Fault;
-use keeper::Answering;
 use lines::lines;
 use names::Refusal;
 use published::{Naming, Opened};

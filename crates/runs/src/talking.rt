@@ -1,15 +1,15 @@
 //! A desk that serves a connection over HTTP.
 ghost use Rattle.std.specs.Prelude.{ℕ, ◌≡◌, ◌⊎◌, List, true, false};
 ghost use Rattle.tracked_io.specs.Tracking.{Reads, ReadsAll};
-ghost use Rattle.keeper.specs.Rules.{DeskStep};
+ghost use Rattle.calls.specs.Rules.{DeskStep};
 ghost use Rattle.answers.specs.Ends.{is_read_fault, is_write_fault};
 ghost use Rattle.http_api.specs.Routes.{table};
 ghost use Rattle.http_api.specs.Talks.{TalkedAtEachRead};
 ghost use Rattle.runs.specs.Connections.{Serves, TalkedBy, TalkedSoFarBy, TalkCutBy, StaysServing};
 
 use answers::End;
+use calls::Answering;
 use http_api::serve_by;
-use keeper::Answering;
 use matchit::Router;
 use names::Call;
 use published::Naming;

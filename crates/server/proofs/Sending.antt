@@ -8,12 +8,12 @@ use Rattle.crossbeam_channel.proofs.channel.Sender.TheSendSync as Sender
 use Rattle.crossbeam_channel.proofs.channel.Receiver.TheSendSync as Receiver
 use Rattle.one_history.proofs.log.Log.TheSendSync as Log
 use Rattle.one_history.proofs.opening.History.TheSendSync as History
-use Rattle.front.proofs.Crossing.{crosses_published, Session-send}
-use Rattle.front.proofs.deeds.Place.TheSendSync as Place
+use Rattle.keeper.proofs.Crossing.{crosses_published, Session-send}
+use Rattle.keeper.proofs.deeds.Place.TheSendSync as Place
 use Rattle.desk.specs.contracts.desk.Desk as Desk
-use Rattle.front.specs.contracts.lock.KeptDesk as KeptDesk
-use Rattle.front.specs.contracts.lock.Keeper as Keeper
-use Rattle.front.specs.contracts.front.Front as Front
+use Rattle.keeper.specs.contracts.lock.KeptDesk as KeptDesk
+use Rattle.keeper.specs.contracts.lock.Keeper as Keeper
+use Rattle.keeper.specs.contracts.front.Front as Front
 use Rattle.server.specs.contracts.locked.Locked as Locked
 use Rattle.server.specs.contracts.counted.Counted as Counted
 use Rattle.server.specs.contracts.waking.Waking as Waking

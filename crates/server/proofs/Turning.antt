@@ -14,10 +14,10 @@ use Rattle.published.proofs.Prefixes.{prefix_trans}
 use Rattle.desk.specs.Posts.{Posts, ShowsMore, SameTables, PostsStep}
 use Rattle.desk.specs.Changes.{CatchUpAccepted, TellsShown, CatchUpJudged, IsNoChange}
 use Rattle.desk.proofs.Standings.{standing_next}
-use Rattle.keeper.proofs.Refreshing.{still_refused}
+use Rattle.calls.proofs.Refreshing.{still_refused}
 use Rattle.server.specs.declared.turn.TheConstants.{TURN_COMMITS}
 use Rattle.one_history.specs.History.{Hand}
-use Rattle.front.specs.declared.deeds.Deed.{Deed}
+use Rattle.keeper.specs.declared.deeds.Deed.{Deed}
 use Rattle.server.specs.Turning.{TakesOneTurn, TurnByTurn}
 use Rattle.server.specs.Turns.{TakesTurn, TurnRefused, index_refused, hot_refused}
 

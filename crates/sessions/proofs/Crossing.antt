@@ -12,7 +12,7 @@ use denote.Text.{Str}
 use Rattle.std.specs.Prelude.{ℕ, List}
 use Rattle.std.specs.contracts.sync.atomic.AtomicBool as AtomicBool
 use Rattle.std.proofs.Crossing.{crosses, send}
-use Rattle.front.proofs.Crossing.{Session-send}
+use Rattle.keeper.proofs.Crossing.{Session-send}
 use Rattle.sessions.specs.contracts.asking.Asker as Asker
 
 pub Asker-send : (J : RattleType) (n : _) → IsSend J → IsSync J → IsSend (Asker.the_row J n)

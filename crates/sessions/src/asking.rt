@@ -2,8 +2,8 @@
 ghost use Rattle.std.specs.Prelude.{◌≡◌};
 ghost use Rattle.desk.specs.Posts.{Posts};
 
-use front::{Front, Keeper, KeeperName, Opening};
-use keeper::question_of;
+use calls::question_of;
+use keeper::{Front, Keeper, KeeperName, Opening};
 use names::{Call, Refusal, Reply};
 use published::{Naming, Session};
 use shown::{Question, Told as Answered};

@@ -7,7 +7,7 @@
 mod asking;
 
 use asking::{Asked, Count, Told, run};
-use front::Opening;
+use keeper::Opening;
 use names::Refusal;
 use std::io;
 use std::marker::Brand;
