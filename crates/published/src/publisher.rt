@@ -5,7 +5,7 @@ ghost use Rattle.left_right.specs.Sides.{view as seen_by};
 ghost use Rattle.published.specs.Writing.{Writing, KeepsRule};
 
 use crate::book::StepPrefix;
-use crate::rule::Told;
+use crate::rule::TellsAll;
 use crossbeam_utils::rule::{Outcome, Protocol};
 use left_right::Absorb;
 use left_right::reader::Reader;
@@ -105,7 +105,7 @@ impl<C: Absorb<O> + Drop, O: Drop, P: Protocol<C, Option<StepPrefix>>> Publisher
         ensures told { IfOk result (λ r. seen_by r.place ≡ self.old.told) }
     {
         let mut reader = self.writer.factory().reader()?;
-        reader.learn::<Told>(self.writer.tell::<Told>());
+        reader.learn::<TellsAll>(self.writer.tell::<TellsAll>());
         Ok(reader)
     }
 

@@ -29,15 +29,15 @@ impl<J: Naming> Outcome<ShownCopy<J>, Option<StepPrefix>> for Seeing {
 }
 
 /// The writer tells all that it knows.
-pub struct Told;
+pub struct TellsAll;
 
-impl Split<Option<StepPrefix>> for Told {
+impl Split<Option<StepPrefix>> for TellsAll {
     ghost left = { λ v. v };
 
     ghost right = { λ v. v };
 }
 
-impl Join<Option<StepPrefix>> for Told {
+impl Join<Option<StepPrefix>> for TellsAll {
     ghost use Rattle.std.specs.Prelude.{None};
 
     ghost both = { λ v w. w };

@@ -17,7 +17,7 @@ ghost use Rattle.published.specs.Answering.{IsRefusedIn, IsWatchRefusedIn};
 
 use crate::book::{Naming, StepPrefix};
 use crate::receipt::Receipt;
-use crate::remembered::{Remembered, Seen};
+use crate::remembered::{Look, Remembered};
 use crate::rule::{CopyReader, Seeing};
 use core::mem::replace_with;
 use expand::Tree;
@@ -80,7 +80,7 @@ impl<J: Naming> Session<J> {
         ensures judged { AreJudged self.new.steps }
         ensures later { Begins self.old self.new }
     {
-        let asking = Asking {
+        let asking = Inquiry {
             known: &self.known,
             question,
         };
@@ -261,7 +261,7 @@ impl<J: Naming> Session<J> {
 
 // A question, and what the session that asks it remembers.
 #[derive(Drop)]
-struct Asking<'a> {
+struct Inquiry<'a> {
     known: &'a Remembered,
     question: &'a Question,
 }
@@ -279,8 +279,8 @@ fn no_publication() -> Refused
 // Where the copy does not begin with what the session knows, it is not asked.
 fn look<J: Naming>(
     reader: CopyReader<J>,
-    asking: Asking<'_>,
-) -> (CopyReader<J>, Option<Seen<Result<Told, Refused>>>)
+    asking: Inquiry<'_>,
+) -> (CopyReader<J>, Option<Look<Result<Told, Refused>>>)
     requires book { (k : Known) × (view reader.place ≡ Some k) × (k.book ≡ asking.known.now.book) }
     ensures book { (k : Known) × (view result.0.place ≡ Some k) × (k.book ≡ asking.entry.known.now.book) }
     ensures later { IfSome result.1 (λ seen. Begins asking.entry.known.now seen.2) }

@@ -6,7 +6,7 @@ use calls::question_of;
 use keeper::{Front, Keeper, KeeperName, Opening};
 use names::{Call, Refusal, Reply};
 use published::{Naming, Session};
-use shown::{Question, Told as Answered};
+use shown::{Question, Told};
 use std::alloc::{AllocError, Global};
 use std::sync::Wait;
 use std::sync::atomic::{AtomicBool, Ordering};
@@ -19,7 +19,7 @@ const WRITES: u32 = 1_000_000;
 
 /// How many sessions ask how many questions each, and whether a writer commits all the while.
 #[derive(Clone, Copy)]
-pub(crate) struct Asked {
+pub(crate) struct Trial {
     pub sessions: u32,
     pub questions: u32,
     pub beside_a_writer: bool,
@@ -47,7 +47,7 @@ pub(crate) struct Writes {
 
 /// What came of it all.
 #[derive(Drop)]
-pub(crate) struct Told {
+pub(crate) struct Report {
     pub tuples: u64,
     pub count: Count,
     pub writes: Writes,
@@ -55,7 +55,7 @@ pub(crate) struct Told {
 
 /// A session, and the place of its first question in the list that it goes through again and again.
 #[derive(Drop)]
-struct Asker<J: Naming> {
+struct Client<J: Naming> {
     alloc: Global,
     session: Session<J>,
     first: usize,
@@ -102,7 +102,7 @@ fn ask<J: Naming>(
     let asked = list.iter().cycle().skip(first).take(questions as usize);
     for question in asked {
         match session.ask(question) {
-            Some((_, Ok(Answered::Checked(answer)))) => {
+            Some((_, Ok(Told::Checked(answer)))) => {
                 count.went_back |= answer.rev < last;
                 last = answer.rev;
                 count.yes = count.yes.saturating_add(u64::from(answer.value));
@@ -117,11 +117,11 @@ fn ask<J: Naming>(
 // A session has its own questions: they are read before it is timed.
 fn ask_timed<J: Naming, W: Clock + CpuClock>(
     rt: &W,
-    asker: Asker<J>,
+    asker: Client<J>,
     lines: &str,
     questions: u32,
 ) -> Count {
-    let Asker {
+    let Client {
         alloc,
         mut session,
         first,
@@ -156,7 +156,7 @@ fn sum_of(counts: &[Count]) -> Count {
 // Each session asks in a thread of its own.
 fn ask_all<J: Naming + Send + Sync, W: Threads + Clock + CpuClock + Sync>(
     rt: &W,
-    askers: Vec<Asker<J>>,
+    askers: Vec<Client<J>>,
     lines: &str,
     questions: u32,
     done: &AtomicBool,
@@ -233,12 +233,12 @@ fn askers_of<T: Tables + Drop, J: KeeperName<T>, H: Wait + Drop, W: Wait>(
     alloc: Global,
     keeper: &Keeper<T, J, H>,
     sessions: u32,
-) -> Result<Vec<Asker<J>>, Refusal> {
+) -> Result<Vec<Client<J>>, Refusal> {
     let mut askers = Vec::new(alloc);
     for number in 0..sessions {
         let (session, _) = keeper.session(rt)?;
         let first = number as usize * 1_000;
-        askers.push(Asker {
+        askers.push(Client {
             alloc,
             session,
             first,
@@ -257,8 +257,8 @@ fn ask_beside<
     alloc: Global,
     keeper: &Keeper<T, J, H>,
     lines: &str,
-    asked: Asked,
-) -> Result<Told, Refusal> {
+    asked: Trial,
+) -> Result<Report, Refusal> {
     let mut front = Front::new(alloc, rt, keeper)?;
     take(rt, &mut front, lines)?;
     let (mut session, _) = keeper.session(rt)?;
@@ -271,7 +271,7 @@ fn ask_beside<
         || ask_all(rt, askers, lines, questions, &done),
         || write_until(rt, alloc, &mut front, &done),
     );
-    Ok(Told {
+    Ok(Report {
         tuples,
         count: sum_of(counts?.as_slice()),
         writes: writes?,
@@ -292,8 +292,8 @@ pub(crate) fn run<
     opening: Opening,
     tables: T,
     lines: String,
-    asked: Asked,
-) -> Result<Told, Refusal>
+    asked: Trial,
+) -> Result<Report, Refusal>
     requires book { opening.opened.book ≡ J.book }
     requires history { opening.history ≡ J.table }
     requires starts { (desk : Posts T) → J.starts desk }
