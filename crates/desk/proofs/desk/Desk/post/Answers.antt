@@ -5,7 +5,7 @@ use Rattle.rows.specs.Follows.{IsNext}
 use Rattle.shown.specs.declared.step.Step.TheVariants.{Commit as CommitStep}
 use Rattle.shown.specs.Standing.{Standing, after_step, standing}
 use Rattle.desk.specs.TableChanges.{Adds, CanChange}
-use Rattle.desk.specs.Posts.{Posts}
+use Rattle.desk.specs.Posts.{ShowsMore, Posts}
 use Rattle.desk.specs.Changes.{IsRefused}
 use Rattle.desk.specs.inside.Latching.{AgreeWith}
 use Rattle.desk.specs.inside.Changing.{plain}
