@@ -191,11 +191,11 @@ Post-inside-send J n s =
 pub Post-send : (J : RattleType) (n : _) → IsSend J → IsSend (Post.the_row J n)
 Post-send J n s = search (Post-inside-send, sendable) depth 10
 
-Publisher-inside-send : (C O P : RattleType) (a p : _) → IsSend C → IsSync C → IsSend O → IsSend (Publisher.TheInside.the_row C O P a p)
-Publisher-inside-send C O P a p s y o = search (Writer.the_field_send, StepPrefix.the_send, crosses, sendable) depth 40
+Publisher-inside-send : (C O P : RattleType) (a b p : _) → IsSend C → IsSync C → IsSend O → IsSend (Publisher.TheInside.the_row C O P a b p)
+Publisher-inside-send C O P a b p s y o = search (Writer.the_field_send, StepPrefix.the_send, crosses, sendable) depth 40
 
-pub Publisher-send : (C O P : RattleType) (a p : _) → IsSend C → IsSync C → IsSend O → IsSend (Publisher.the_row C O P a p)
-Publisher-send C O P a p s y o = search (Publisher-inside-send, sendable) depth 10
+pub Publisher-send : (C O P : RattleType) (a b p : _) → IsSend C → IsSync C → IsSend O → IsSend (Publisher.the_row C O P a b p)
+Publisher-send C O P a b p s y o = search (Publisher-inside-send, sendable) depth 10
 
 Publication-inside-send : (J R : RattleType) (n : _) → IsSend J → IsSync J → IsSend R → IsSend (Publication.TheInside.the_row J R n)
 Publication-inside-send J R n s y r = search (Publisher-send, ShownCopy-send, ShownCopy-sync, Book.the_send, StepPrefix.the_send, Step-send, Post-send, Session-send, crosses, sendable) depth 40
