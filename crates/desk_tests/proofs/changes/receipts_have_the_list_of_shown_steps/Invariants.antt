@@ -1,4 +1,4 @@
 use Rattle.desk_tests.proofs.changes.receipts_have_the_list_of_shown_steps.Given as goal
 
-abbrev pub ghosts-begins_empty-J-Naming : goal.ghosts-begins_empty-J-Naming
-ghosts-begins_empty-J-Naming g a = record { book = a.opened.book }
+abbrev pub ghosts-begins_empty : goal.ghosts-begins_empty
+ghosts-begins_empty g a = record { book = a.opened.book }

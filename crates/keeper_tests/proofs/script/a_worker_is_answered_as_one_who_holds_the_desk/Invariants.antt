@@ -9,5 +9,5 @@ ghosts-by_locked-J-HistoryName g a = record { table = a.opening.history }
 abbrev pub ghosts-by_locked-J-KeeperName : goal.ghosts-by_locked-J-KeeperName
 ghosts-by_locked-J-KeeperName g a = record { starts = λ _. Unit {0} }
 
-abbrev pub ghosts-by_lent-J-Naming : goal.ghosts-by_lent-J-Naming
-ghosts-by_lent-J-Naming g a = record { book = a.opened.book }
+abbrev pub ghosts-by_lent : goal.ghosts-by_lent
+ghosts-by_lent g a = record { book = a.opened.book }
