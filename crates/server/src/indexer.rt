@@ -2,14 +2,14 @@
 ghost use Rattle.std.specs.Prelude.{◌≡◌, ◌⊎◌, ◌↔◌, IsTrue, IfOk, IfErr, false};
 ghost use Rattle.names.specs.declared.refusal.Refusal.TheVariants.{NoSeat};
 ghost use Rattle.published.specs.Known.{Begins};
-ghost use Rattle.front.specs.Fronts.{IsSeated};
+ghost use Rattle.keeper.specs.Fronts.{IsSeated};
 ghost use Rattle.server.specs.Turning.{TakesOneTurn};
 ghost use Rattle.server.specs.Turns.{IsBehind};
 
 use crate::pool::Follows;
 use crate::turn::{Turn, take_turn};
 use crossbeam_channel::{Receiver, TryRecvError};
-use front::{Keeper, KeeperName, Place};
+use keeper::{Keeper, KeeperName, Place};
 use names::{Refusal, State};
 use published::Session;
 use std::sync::Wait;
@@ -19,7 +19,7 @@ use tables::Tables;
 #[derive(Drop)]
 pub(crate) struct Indexer<'k, T: Tables + Drop, J: KeeperName<T>, H: Wait + Drop> {
     keeper: &'k Keeper<T, J, H>,
-    session: Session,
+    session: Session<J>,
     place: Place<'k, J>,
     woken: Receiver<()>,
     ghost of_book: { session.book ≡ J.book },

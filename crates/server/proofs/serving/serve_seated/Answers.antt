@@ -5,11 +5,11 @@ use denote.Param.{param}
 use mir.Syntax.{named}
 use Rattle.desk.specs.Posts.{Posts}
 use Rattle.one_history.specs.History.{Hand}
-use Rattle.front.specs.declared.deeds.Deed.{Deed}
-use Rattle.front.specs.Deeds.{AllStandIn}
-use Rattle.front.specs.Fronts.{FrontStep}
-use Rattle.front.specs.Kept.{IsKept}
-use Rattle.front.proofs.deeds.Place.TheSendSync as Place
+use Rattle.keeper.specs.declared.deeds.Deed.{Deed}
+use Rattle.keeper.specs.Deeds.{AllStandIn}
+use Rattle.keeper.specs.Fronts.{FrontStep}
+use Rattle.keeper.specs.Kept.{IsKept}
+use Rattle.keeper.proofs.deeds.Place.TheSendSync as Place
 use Rattle.server.proofs.Crossing.{Worker-send}
 use Rattle.server.proofs.Sending.{Locked-send, Counted-send, Waking-send, Indexer-send}
 use Rattle.server.proofs.Served.{all_served, attended_along}

@@ -1,6 +1,6 @@
 use Rattle.std.proofs.Common.{inr, subst, sym}
 use Rattle.desk.specs.Posts.{Posts}
-use Rattle.front.specs.Kept.{IsKept}
+use Rattle.keeper.specs.Kept.{IsKept}
 use Rattle.server.proofs.indexer.Indexer.takes_turn.Goals as goal
 
 pub returns-clause-turn : goal.returns-clause-turn
