@@ -7,7 +7,7 @@ use keeper::{Front, Keeper, KeeperName, Opening, Place};
 use names::{Call, Node, Object};
 use published::{Naming, Receipt, Session};
 use std::alloc::{AllocError, Global};
-use std::marker::{Brand, PhantomData};
+use std::marker::{Brand, Model, PhantomData};
 use std::process::Abort;
 use std::sync::{Mutex, Wait};
 use std::test::*;
@@ -26,12 +26,24 @@ const WRITES: u64 = 4_000;
 
 const QUESTIONS: u64 = 10_000;
 
-/// A session of the book that `J` names.
+/// A session of the book that `J` names. Contracts see what it knows.
 #[derive(Drop)]
 struct Reader<J: Naming> {
     session: Session<J>,
-    of: PhantomData<J>,
-    ghost of_book: { session.book ≡ J.book },
+}
+
+impl<J: Naming> Model for Reader<J> {
+    ghost use Rattle.std.specs.Prelude.{◌≡◌};
+    ghost use Rattle.published.specs.Known.{Known};
+    ghost use Rattle.published.specs.inside.Codes.{coded_known};
+
+    ghost Value = { Known };
+
+    ghost coded = { coded_known };
+
+    ghost view = { λ r. r.session };
+
+    ghost invariant = { λ r. r.session.book ≡ J.book };
 }
 
 /// A receipt that a worker hands on to a reader of the same book.
@@ -174,10 +186,7 @@ fn readers_of<J: KeeperName<T>, H: Wait + Drop, W: Abort + Wait, T: Tables + Dro
 fn reader_of<J: Naming>(session: Session<J>) -> Reader<J>
     requires { session.book ≡ J.book }
 {
-    Reader {
-        session,
-        of: PhantomData,
-    }
+    Reader { session }
 }
 
 fn read_beside<

@@ -98,7 +98,7 @@ fn serve_alone_in<
     W: Write,
 >(
     host: Host<'_, H, N>,
-    file: &str,
+    file: &String,
     store: Option<u64>,
     port: u16,
     start: P,
@@ -112,7 +112,7 @@ fn serve_alone_in<
     ensures line { IfErr result (λ fault. fault ≢ Fault.CommandLine) }
     ensures failed { IfErr result (λ fault. NotAnnounced port fault writer.old writer.new) }
 {
-    match open_in::<P, J, H>(host.rt, host.wait, host.opened, file, store, start) {
+    match open_in::<P, J, H>(host.rt, host.wait, host.opened, file.as_str(), store, start) {
         Ok(mut answering) => serve(host.rt, host.net, port, &mut answering, writer),
         Err((fault, _)) => Err(fault),
     }
@@ -126,7 +126,7 @@ fn serve_in<
     W: Write,
 >(
     host: Host<'_, H, N>,
-    file: &str,
+    file: &String,
     store: Option<u64>,
     offer: Offer,
     start: P,
@@ -147,7 +147,7 @@ fn serve_in<
             Err(fault) => Err(fault),
         };
     }
-    match tables_in(host.rt, file, store, start) {
+    match tables_in(host.rt, file.as_str(), store, start) {
         Ok(tables) => share_over(host, tables, offer, writer),
         Err((fault, _)) => Err(fault),
     }
@@ -176,11 +176,11 @@ pub(crate) fn serve_at<
         Place::Memory { store } => { serve_listed::<Brand, H, N, W>(host, *store, offer, writer) }
         Place::New { file, store } => {
             let start = see_new(host.rt, host.net, file.as_str(), *store, offer.port, start)?;
-            serve_in(host, file.as_str(), Some(*store), offer, start, writer)
+            serve_in(host, file, Some(*store), offer, start, writer)
         }
         Place::There { file } => {
             is_there(fs::open(host.rt, file.as_str()))?;
-            serve_in(host, file.as_str(), None, offer, start, writer)
+            serve_in(host, file, None, offer, start, writer)
         }
     }
 }

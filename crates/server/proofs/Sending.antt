@@ -62,7 +62,10 @@ Waking-send lives A R a s =
     let W = Waking.the_type lives A R in
     recorded_send _ _ W.to W.to_one (struct_send (S.shape W) (a, (shr_send _ _ _ s, ((search (Sender.the_send, crosses, sendable) depth 40 fits 30000), tt))))
 
-pub Indexer-send : (lives : NamedLft) (T J H : RattleType) (g : _) (j k l : _) → IsSend T → IsSend J → IsSync J → IsSend H → IsSend (Indexer.the_row lives T J H g j k l)
-Indexer-send lives T J H g j k l t s y h =
-    let I = Indexer.the_type lives T J H g j k l in
+Indexer-inside-send : (lives : NamedLft) (T J H : RattleType) (g : _) (j k l : _) → IsSend T → IsSend J → IsSync J → IsSend H → IsSend (Indexer.TheInside.the_row lives T J H g j k l)
+Indexer-inside-send lives T J H g j k l t s y h =
+    let I = Indexer.TheInside.the_type lives T J H g j k l in
     recorded_send _ _ I.to I.to_one (struct_send (S.shape I) (shr_send _ _ _ (Keeper-sync T J H _ _ _ _ t s y h), ((Session-send J _ s y), ((search (Place.the_send, crosses, sendable) depth 40), ((search (Receiver.the_send, crosses, sendable) depth 40 fits 30000), tt)))))
+
+pub Indexer-send : (lives : NamedLft) (T J H : RattleType) (g : _) (j k l : _) → IsSend T → IsSend J → IsSync J → IsSend H → IsSend (Indexer.the_row lives T J H g j k l)
+Indexer-send lives T J H g j k l t s y h = view_send _ _ _ _ _ (Indexer-inside-send lives T J H g j k l t s y h)

@@ -94,7 +94,7 @@ fn serve_seated<
     indexer: Indexer<'k, T, J, H>,
     machines: Vec<Worker<'k, Machine<'k, T, J, H, R, G>>>,
 ) -> Result<(), Refusal>
-    requires indexer { IsSeated T.Tables J.book J.starts (record { known = indexer.session; hand = indexer.place }) }
+    requires indexer { IsSeated T.Tables J.book J.starts indexer }
     requires machines { AllSeated T.Tables J.book J.starts (λ w. w.answers.answers.answers) machines.items }
     ensures served { IfOk result (λ _. AllServed T.Tables J.book J.starts (vec_len machines.entry)) }
     ensures err { IfErr result (λ why. (why ≡ NoSeat) ⊎ (why ≡ Memory)) }

@@ -1,15 +1,8 @@
 use denote.Exit.{no}
 use denote.Param.{param}
-use denote.Param.Send.{IsSend, IsSync, arg_send, param_send, sendable}
-use denote.Param.SendFields.{declared_send}
-use denote.RattleType.{RattleType}
-use Rattle.std.proofs.Crossing.{crosses}
-use Rattle.keeper.proofs.Crossing.{Session-send}
-use Rattle.keeper_tests.specs.contracts.threads.Reader as Reader
+use denote.Param.Send.{arg_send, param_send}
+use Rattle.keeper_tests.proofs.Crossing.{Reader-send}
 use Rattle.keeper_tests.proofs.threads.all_read.Goals as goal
-
-Reader-send : (A : RattleType) (j : _) → IsSend A → IsSync A → IsSend (Reader.the_row A j)
-Reader-send A j s y = declared_send (Reader.the_type A j) ((Session-send A _ s y), ((search (crosses, sendable) depth 10), tt))
 
 pub map_vec-requires-send-J : goal.map_vec-requires-send-J
 map_vec-requires-send-J g c κs within = param_send 1 _ (arg_send _ no _ (Reader-send (param 0 g.row.J) g.J.Naming c.type_bounds.send-J c.type_bounds.sync-J))

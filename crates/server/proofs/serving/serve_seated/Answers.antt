@@ -50,11 +50,11 @@ returns-in_ok-push-in-Some-clause-served g c =
       served = all.0;
       number = all.1 ∙ sym c.args.machines.ok.0;
       followed = record {
-        began = record { known = c.args.indexer.session; hand = c.args.indexer.place };
+        began = c.args.indexer;
         seated = c.requires.indexer;
         turns = turned.0;
         ended = c.leave.result;
-        followed = subst (λ (h : Hand Deed). TurnByTurn g.T.Tables book starts c.args.indexer.place turned.0 h) (sym c.leave.ensures) turned.1;
+        followed = subst (λ (h : Hand Deed). TurnByTurn g.T.Tables book starts c.args.indexer.hand turned.0 h) (sym c.leave.ensures) turned.1;
         stands = all.2;
       };
     }
