@@ -19,6 +19,9 @@ impl Oracle for At<'_> {
     ghost tells = { λ at S. AreAnswersAt at.kept.now at.revision S };
 
     fn knows(&mut self, node: &Node, user: &Object) -> Option<bool> {
+        if !self.kept.may_know(node, user) {
+            return None;
+        }
         self.kept.peek_at(self.revision, node, user)
     }
 }

@@ -6,6 +6,7 @@ ghost use Rattle.answer_cache.specs.declared.question.Question.{Question};
 ghost use Rattle.answer_cache.specs.Questions.{question};
 ghost use Rattle.answer_cache.specs.Kept.{answer_first, answers_with, HasOneAnswerEach, AreAnswers};
 
+use crate::marks::Marks;
 use crate::question::Question;
 use lru::LruCache;
 use names::{Node, Object};
@@ -23,6 +24,7 @@ pub const CAPACITY: usize = 1024;
 #[derive(Drop)]
 pub struct CachedAnswers {
     answers: LruCache<Question, bool>,
+    marks: Marks,
 }
 
 impl Model for CachedAnswers {
@@ -46,7 +48,10 @@ impl CachedAnswers {
             unreachable!()
         };
         let answers = LruCache::sparse(alloc, capacity)?;
-        Ok(CachedAnswers { answers })
+        Ok(CachedAnswers {
+            answers,
+            marks: Marks::none(),
+        })
     }
 
     /// Lets all answers go.
@@ -54,6 +59,7 @@ impl CachedAnswers {
         ensures { self.new ≡ [] }
     {
         self.answers.clear();
+        self.marks = Marks::none();
     }
 
     /// The answer that is kept of the question, which is then the one used last.
@@ -84,6 +90,11 @@ impl CachedAnswers {
         self.answers.peek(&question).copied()
     }
 
+    /// Whether the question may have been kept lately. It costs a fraction of a look-up.
+    pub(crate) fn may_know(&self, node: &Node, user: &Object) -> bool {
+        self.marks.has(node, user)
+    }
+
     /// Keeps this answer as the one used last, in the place of one of the same question, and else of the one
     /// that was used least lately where there is no room.
     pub fn keep(
@@ -108,6 +119,7 @@ impl CachedAnswers {
     {
         let question = Question::of(revision, node, user);
         self.answers.put(question, answer)?;
+        self.marks.mark(node, user);
         Ok(())
     }
 }

@@ -5,6 +5,7 @@
 mod at;
 mod cached;
 mod law;
+mod marks;
 mod question;
 
 pub use at::At;
