@@ -25,7 +25,7 @@ serve_and_follow-requires-send-S g c κs within =
 pub serve_and_follow-requires-send-F : goal.serve_and_follow-requires-send-F
 serve_and_follow-requires-send-F g c κs within =
     let b = c.type_bounds in
-    param_send 1 _ (arg_send _ no _ (Indexer-send _ (param 1 g.row.T) (param 2 g.row.J) (param 3 g.row.H) _ _ _ _ b.send-T b.send-J b.sync-J b.send-H))
+    param_send 1 _ (arg_send _ no _ (Indexer-send (record { mir = named 2; lft = _ }) (param 1 g.row.T) (param 2 g.row.J) (param 3 g.row.H) _ _ _ _ b.send-T b.send-J b.sync-J b.send-H))
 
 pub serve_and_follow-requires-send-L : goal.serve_and_follow-requires-send-L
 serve_and_follow-requires-send-L g c κs within =
