@@ -1,68 +1,90 @@
--- What the values of operations ask for, one after another.
-use Rattle.std.proofs.Common.{◌≡◌, ℕ, ◌<◌, ◌+◌, List, [], ◌∷◌, ◌++◌, length, take, drop, get_or, refl, sym, ap, ◌∙◌, subst, arith, drop-cons, ◌≤◌, add-one, suc}
-use Rattle.std.specs.Prelude.{Some, codes}
-use Rattle.std.proofs.lemmas.List.{take-append-drop}
-use Rattle.std.proofs.Math.Seq.{take-suc}
-use Rattle.serde_json.specs.Data.{Data, Items}
+-- What the values of operations ask for, and of what form the bodies without zookies are.
+use Rattle.std.proofs.Common.{◌≡◌, ℕ, ◌<◌, ◌≤◌, List, ◌∷◌, [], length, map, refl, sym, ap, ◌∙◌, subst, arith}
+use Rattle.std.specs.Prelude.{Option, Some, None, codes}
+use Rattle.std.specs.List.{AllZip}
+use Rattle.std.specs.Cmp.Lexicographic.{same_text, other_text}
+use Rattle.std.proofs.lemmas.Option.{none-some}
+use Rattle.serde_json.specs.Data.{Data}
+use Rattle.serde_json.specs.Find.{get, as_array}
+use Rattle.std.specs.Prelude.{option_and_then}
 use Rattle.serde_json.specs.View.{view, items_view}
 use Rattle.serde_json.specs.declared.value.Value.{Value}
-use Rattle.names.specs.declared.write.Op.{Op}
-use Rattle.names.specs.declared.part.Part.{Part}
+use Rattle.config_text.specs.Objects.{text_at}
 use Rattle.config_text.specs.Reading.{Reads}
-use Rattle.bodies.specs.Requests.{items_at, CatchUpOf, AsksCatchUp}
-use Rattle.bodies.specs.Writing.{AsksOp, AskOps, OpsOf}
+use Rattle.names.specs.Spelling.{SpellsTuple}
+use Rattle.names.specs.declared.tuple.Tuple.{Tuple}
+use Rattle.names.specs.declared.write.Op.{Op}
+use Rattle.names.specs.declared.write.OpKind.{OpKind}
+use Rattle.names.specs.declared.write.OpKind.TheVariants.{Insert, Touch, Delete}
+use Rattle.names.specs.declared.part.Part.{Part}
+use Rattle.names.specs.declared.part.Part.TheVariants.{Index, Hot}
+use Rattle.bodies.specs.Requests.{CatchUpOf, AsksCatchUp, part_word}
+use Rattle.bodies.specs.Writing.{AsksOp, op_word}
+use Rattle.bodies.specs.inside.Parts.{IsKind, IsPart, OpsOf}
 use Rattle.bodies.proofs.Bytes.{same_read}
+use Rattle.bodies.proofs.Options.{so_of, not_so}
+use Rattle.bodies.proofs.Values.{as_many, listed_at, is_list_at, no_list_at}
 
-ask_last : (vs : List Value) (v : Value) (os : List Op) (o : Op) → AskOps (items_view vs) os → AsksOp (view v) o → AskOps (items_view (vs ++ v ∷ [])) (os ++ o ∷ [])
-ask_last [] v [] o asks last = (last, tt)
-ask_last [] v (p ∷ os) o asks last = absurd asks
-ask_last (w ∷ vs) v [] o asks last = absurd asks
-ask_last (w ∷ vs) v (p ∷ os) o asks last = (asks.0, ask_last vs v os o asks.1 last)
+-- the words of operations and of parts
+pub kind_word : (w : List ℕ) (k : OpKind) → IsKind w k → w ≡ op_word k
+kind_word w Insert is = same_text w (codes "insert") (sym is)
+kind_word w Touch is = same_text w (codes "touch") (sym is)
+kind_word w Delete is = same_text w (codes "delete") (sym is)
 
-pub ask_more : (vs : List Value) (i : ℕ) (v : Value) (os more : List Op) (o : Op) → i < length vs → v ≡ get_or vs i v → more ≡ os ++ o ∷ []
-    → AskOps (items_view (take i vs)) os → AsksOp (view v) o → AskOps (items_view (take (i + 1) vs)) more
-ask_more vs i v os more o in_range at is asks last =
-    let t : take (i + 1) vs ≡ take i vs ++ v ∷ [] = rw (add-one, take-suc vs i v in_range, ← at) refl in
-    rw (t, is) (ask_last (take i vs) v os o asks last)
+word_kind : (w : List ℕ) (k : OpKind) → w ≡ op_word k → IsKind w k
+word_kind w Insert is = rw is refl
+word_kind w Touch is = rw is refl
+word_kind w Delete is = rw is refl
 
-dropped : (vs : List Value) (i : ℕ) (v : Value) → i < length vs → v ≡ get_or vs i v → drop i vs ≡ v ∷ drop (i + 1) vs
-dropped vs i v in_range at = grind (arith, drop-cons, in_range, at)
+pub named_part : (w : List ℕ) (p : Part) → IsPart w p → w ≡ part_word p
+named_part w Index is = same_text w (codes "index") (sym is)
+named_part w Hot is = same_text w (codes "hot") (sym is)
 
-ask_part : (us : List Value) (v : Value) (ws : List Value) → ((o : Op) → AsksOp (view v) o → ⊥) → (os : List Op) → AskOps (items_view (us ++ v ∷ ws)) os → ⊥
-ask_part [] v ws refused [] asks = asks
-ask_part [] v ws refused (p ∷ os) asks = refused p asks.0
-ask_part (u ∷ us) v ws refused [] asks = asks
-ask_part (u ∷ us) v ws refused (p ∷ os) asks = ask_part us v ws refused os asks.1
+part_named : (w : List ℕ) (p : Part) → w ≡ part_word p → IsPart w p
+part_named w Index is = rw is refl
+part_named w Hot is = rw is refl
 
-pub ask_refused : (vs : List Value) (i : ℕ) (v : Value) → i < length vs → v ≡ get_or vs i v → ((o : Op) → AsksOp (view v) o → ⊥) → (os : List Op) → AskOps (items_view vs) os → ⊥
-ask_refused vs i v in_range at refused os asks =
-    let d : drop i vs ≡ v ∷ drop (i + 1) vs = dropped vs i v in_range at in
-    let t : vs ≡ take i vs ++ v ∷ drop (i + 1) vs = sym (take-append-drop i vs) ∙ ap (λ xs. take i vs ++ xs) d in
-    ask_part (take i vs) v (drop (i + 1) vs) refused os (subst (λ (xs : List Value). AskOps (items_view xs) os) t asks)
+same_word : (at : Option (List ℕ)) (w word : List ℕ) → Some w ≡ at → at ≡ Some word → w ≡ word
+same_word at w word there is = let both : Some w ≡ Some word = there ∙ is in cc
 
-pub ask_count : (vs : List Value) (os : List Op) → AskOps (items_view vs) os → length os ≡ length vs
-ask_count [] [] asks = refl
-ask_count [] (o ∷ os) asks = absurd asks
-ask_count (v ∷ vs) [] asks = absurd asks
-ask_count (v ∷ vs) (o ∷ os) asks = ap suc (ask_count vs os asks.1)
+-- it asks for no operation
+module _ (d : Data) where
+  pub no_kind : (w : List ℕ) → Some w ≡ text_at (codes "op") d → ((k : OpKind) → IsKind w k → ⊥) → (o : Op) → AsksOp d o → ⊥
+  no_kind w there not o asks = not o.kind (word_kind w o.kind (same_word (text_at (codes "op") d) w (op_word o.kind) there asks.word_is))
 
--- as many operations as values
-asked_count : (d : Data) (vs : List Value) → Some (items_view vs) ≡ items_at (codes "ops") d → (ops : List Op) → OpsOf d ops → length ops ≡ length vs
-asked_count d vs at ops w =
-    let both : Some (items_view vs) ≡ Some w.items = at ∙ w.listed in
-    let same : items_view vs ≡ w.items = cc in
-    ask_count vs ops (subst (λ (xs : Items). AskOps xs ops) (sym same) w.each)
+  pub no_op_tuple : (text : List ℕ) → Some text ≡ text_at (codes "tuple") d → ((t : Tuple) → SpellsTuple text t → ⊥) → (o : Op) → AsksOp d o → ⊥
+  no_op_tuple text there not o asks = not o.tuple (so_of (λ s. SpellsTuple s o.tuple) (text_at (codes "tuple") d) text there asks.tuple_is)
 
-pub asked_none : (d : Data) (vs : List Value) → Some (items_view vs) ≡ items_at (codes "ops") d → length vs ≡ 0 → (ops : List Op) → OpsOf d ops → ⊥
-asked_none d vs at count ops w = let e = asked_count d vs at ops w in let r = w.in_range in grind (arith, e, r, count)
+  pub no_tuple_text : text_at (codes "tuple") d ≡ None → (o : Op) → AsksOp d o → ⊥
+  no_tuple_text none o asks = not_so (λ s. SpellsTuple s o.tuple) (text_at (codes "tuple") d) none asks.tuple_is
 
-pub asked_many : (d : Data) (vs : List Value) → Some (items_view vs) ≡ items_at (codes "ops") d → 256 < length vs → (ops : List Op) → OpsOf d ops → ⊥
-asked_many d vs at count ops w = let e = asked_count d vs at ops w in let r = w.in_range in grind (arith, e, r, count)
+  pub no_part : (w : List ℕ) → Some w ≡ text_at (codes "part") d → ((p : Part) → IsPart w p → ⊥) → (part : Part) (commits : ℕ) → CatchUpOf d part commits → ⊥
+  no_part w there not part commits asks = not part (part_named w part (same_word (text_at (codes "part") d) w (part_word part) there asks.part_at))
 
-pub asked_ops : (d : Data) (vs : List Value) (ops : List Op) → Some (items_view vs) ≡ items_at (codes "ops") d → 0 < length vs → length vs ≤ 256
-    → AskOps (items_view vs) ops → OpsOf d ops
-asked_ops d vs ops at low high each = let e = ask_count vs ops each in
-    record { items = items_view vs; listed = sym at; each = each; in_range = grind (arith, e, low, high) }
+-- the member `ops`
+module _ (d : Data) (vs : List Value) (at : Some (items_view vs) ≡ option_and_then as_array (get (codes "ops") d)) where
+  ops_count : (ops : List Op) → OpsOf d ops → length ops ≡ length vs
+  ops_count ops w = as_many AsksOp vs ops (listed_at AsksOp (get (codes "ops") d) vs at ops w.0)
+
+  pub asked_none : length vs ≡ 0 → (ops : List Op) → OpsOf d ops → ⊥
+  asked_none count ops w = let e = ops_count ops w in let r = w.1 in grind (arith, e, r, count)
+
+  pub asked_many : 256 < length vs → (ops : List Op) → OpsOf d ops → ⊥
+  asked_many count ops w = let e = ops_count ops w in let r = w.1 in grind (arith, e, r, count)
+
+  pub asked_badly : ((ops : List Op) → AllZip AsksOp (map view vs) ops → ⊥) → (ops : List Op) → OpsOf d ops → ⊥
+  asked_badly not ops w = not ops (listed_at AsksOp (get (codes "ops") d) vs at ops w.0)
+
+  pub asked_ops : (ops : List Op) → 0 < length vs → length vs ≤ 256 → AllZip AsksOp (map view vs) ops → OpsOf d ops
+  asked_ops ops low high each =
+      let e = as_many AsksOp vs ops each in
+      (is_list_at AsksOp (get (codes "ops") d) vs at ops each, grind (arith, e, low, high))
+
+pub no_ops : (d : Data) → option_and_then as_array (get (codes "ops") d) ≡ None → (ops : List Op) → OpsOf d ops → ⊥
+no_ops d none ops w = no_list_at AsksOp (get (codes "ops") d) none ops w.0
 
 pub catch_up_other : (body : List ℕ) (d : Data) → Reads body d → ((part : Part) (commits : ℕ) → CatchUpOf d part commits → ⊥) → (part : Part) (commits : ℕ) → AsksCatchUp body part commits → ⊥
-catch_up_other body d r not part commits a = not part commits (subst (λ (x : Data). CatchUpOf x part commits) (same_read body a.data_read d a.reads r) a.catch_up)
+catch_up_other body d r not part commits a = not part commits (subst (λ (x : Data). CatchUpOf x part commits) (same_read body a.0 d a.1 r) a.2)
+
+pub catch_up_unread : (body : List ℕ) → ((d : Data) → Reads body d → ⊥) → (part : Part) (commits : ℕ) → AsksCatchUp body part commits → ⊥
+catch_up_unread body not part commits a = not a.0 a.1

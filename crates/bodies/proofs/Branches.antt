@@ -31,9 +31,5 @@ mutual
   trees_plain none = refl
   trees_plain (more t ts) = rw (tree_plain t, trees_plain ts) refl
 
-expanded_plain : (t : UsersetTree) (zookie : List ℕ) → has_float (expanded_data t zookie) ≡ false
+pub expanded_plain : (t : UsersetTree) (zookie : List ℕ) → has_float (expanded_data t zookie) ≡ false
 expanded_plain t zookie = rw (tree_plain t) refl
-
-pub told_plain : (t : UsersetTree) (zookie : List ℕ) (r : Result Value AllocError) → IfOk r (λ v. view v ≡ expanded_data t zookie) → IfOk r (λ v. has_float (view v) ≡ false)
-told_plain t zookie (Ok v) is = ap has_float is ∙ expanded_plain t zookie
-told_plain t zookie (Err e) is = is

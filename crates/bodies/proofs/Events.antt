@@ -12,9 +12,5 @@ events_plain : (store : ℕ) (ws : List WatchedEvent) → items_have_float (item
 events_plain store [] = refl
 events_plain store (w ∷ ws) = events_plain store ws
 
-page_plain : (store : ℕ) (page : Page) → has_float (page_data store page) ≡ false
+pub page_plain : (store : ℕ) (page : Page) → has_float (page_data store page) ≡ false
 page_plain store page = rw (events_plain store page.events) refl
-
-pub told_plain : (store : ℕ) (page : Page) (r : Result Value AllocError) → IfOk r (λ v. view v ≡ page_data store page) → IfOk r (λ v. has_float (view v) ≡ false)
-told_plain store page (Ok v) is = ap has_float is ∙ page_plain store page
-told_plain store page (Err e) is = is

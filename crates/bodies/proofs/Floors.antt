@@ -1,24 +1,23 @@
 -- Why the body of a `trim` is refused.
-use Rattle.std.proofs.Common.{◌≡◌, ℕ, List, refl, ap, sym, ◌∙◌}
-use Rattle.std.specs.Prelude.{Option, Some, None, codes}
+use Rattle.std.proofs.Common.{◌≡◌, ℕ, List, subst}
+use Rattle.std.specs.Prelude.{Option, Some, None, IsSomeAnd, codes}
+use Rattle.names.specs.Refusals.{ReadCause}
 use Rattle.names.specs.declared.refusal.Refusal.{Refusal}
-use Rattle.names.specs.declared.refusal.Refusal.TheVariants.{Malformed, BadZookie}
+use Rattle.zookie.specs.declared.Zookie.{Zookie}
 use Rattle.serde_json.specs.Data.{Data}
 use Rattle.config_text.specs.Reading.{Reads}
 use Rattle.bodies.specs.Requests.{only_text}
-use Rattle.bodies.specs.Trimming.{FloorCause, HasFloorText, TrimBodyCause}
+use Rattle.bodies.specs.Trimming.{TrimsTo, TrimBodyCause}
+use Rattle.bodies.specs.inside.Parts.{TextCause}
 use Rattle.bodies.proofs.Bytes.{same_read}
+use Rattle.bodies.proofs.Causes.{part_cause, read_cause}
 
-module _ (body : List ℕ) (d : Data) (reads : Reads body d) where
-  no_text : only_text (codes "floor") d ≡ None → (text : List ℕ) → HasFloorText body text → ⊥
-  no_text none text has =
-      let same : None ≡ Some text = sym none ∙ ap (only_text (codes "floor")) (sym (same_read body has.data_read d has.reads reads)) ∙ has.text_there in cc
+module _ (body : List ℕ) where
+  pub floor_unread : (e : Refusal) → ReadCause ((d : Data) → Reads body d → ⊥) e → TrimBodyCause body e
+  floor_unread e cause = read_cause (λ IsOf. (floor : Zookie) × TrimsTo IsOf body floor) (λ not w. not w.1.0 w.1.1) e cause
 
-  by_text : (at : Option (List ℕ)) (e : Refusal) → only_text (codes "floor") d ≡ at → FloorCause at e → TrimBodyCause body e
-  by_text None Malformed is cause = no_text is
-  by_text None _ is cause = absurd cause
-  by_text (Some text) BadZookie is cause = record { text = text; has = record { data_read = d; reads = reads; text_there = is }; bad = cause }
-  by_text (Some text) _ is cause = absurd cause
-
-  pub floor_unasked : (e : Refusal) → FloorCause (only_text (codes "floor") d) e → TrimBodyCause body e
-  floor_unasked e cause = by_text (only_text (codes "floor") d) e refl cause
+  pub floor_unasked : (d : Data) → Reads body d → (e : Refusal) → TextCause (only_text (codes "floor") d) e → TrimBodyCause body e
+  floor_unasked d reads e cause =
+      part_cause (λ IsOf. (floor : Zookie) × IsSomeAnd (only_text (codes "floor") d) (λ text. IsOf text floor)) (λ IsOf. (floor : Zookie) × TrimsTo IsOf body floor)
+      (λ IsOf w. (w.0, subst (λ (x : Data). IsSomeAnd (only_text (codes "floor") x) (λ text. IsOf text w.0)) (same_read body w.1.0 d w.1.1 reads) w.1.2))
+      (λ w. (w.0, (d, reads, w.1))) e cause

@@ -1,8 +1,13 @@
 pub mod Bytes
+pub mod Options
+pub mod Causes
+pub mod Values
+pub mod Marks
+pub mod Questions
+pub mod Checking
 pub mod Asking
 pub mod AskedConditions
 pub mod AskedWrites
-pub mod Checking
 pub mod Literals
 pub mod Listing
 pub mod Looked
@@ -15,5 +20,5 @@ pub mod Events
 pub mod Expressions
 pub mod Alike
 pub mod Grouped
-pub mod Marks
 pub mod Written
+pub mod Saying

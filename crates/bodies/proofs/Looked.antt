@@ -1,47 +1,36 @@
--- Why the body of a lookup is refused, and the values of ids.
-use Rattle.std.proofs.Common.{◌≡◌, ℕ, ◌≤◌, false, List, [], ◌∷◌, Result, Ok, Err, IfOk, length, take, map, refl, ap, ◌∙◌, subst}
-use Rattle.std.specs.declared.alloc.AllocError.{AllocError}
-use Rattle.serde_json.specs.Data.{Data, string, item}
-use Rattle.serde_json.specs.View.{view, items_view, items_of}
-use Rattle.serde_json.specs.Written.{has_float, items_have_float}
-use Rattle.serde_json.specs.declared.value.Value.{Value}
-use Rattle.config_text.specs.Reading.{Reads}
-use Rattle.config_text.proofs.Written.{take_whole}
-use Rattle.names.specs.Refusals.{IsMalformed, ReadCause}
-use Rattle.names.specs.Spelling.{object_text}
-use Rattle.names.specs.declared.refusal.Refusal.{Refusal}
-use Rattle.names.specs.declared.refusal.Refusal.TheVariants.{Malformed, Memory}
-use Rattle.lookup.specs.declared.asked.Lookup.{Lookup}
-use Rattle.bodies.specs.Looking.{LookupOf, LookupBodyCause, texts_data, objects_data}
-use Rattle.bodies.proofs.Bytes.{same_read}
+-- What bodies ask of pages and of objects, and do not ask.
+use Rattle.std.proofs.Common.{◌≡◌, ℕ, false, List, refl}
+use Rattle.std.specs.Prelude.{Some, None, codes}
+use Rattle.serde_json.specs.Data.{Data}
+use Rattle.serde_json.specs.Written.{has_float}
+use Rattle.config_text.specs.Objects.{text_at}
+use Rattle.names.specs.Spelling.{SpellsObject, tuple_text, object_text}
+use Rattle.names.specs.declared.object.Object.{Object}
+use Rattle.names.specs.declared.tuple.Tuple.{Tuple}
+use Rattle.bodies.specs.Paging.{SpellsName, ReadOf, page_data}
+use Rattle.bodies.specs.Looking.{LookupOf, object_in, objects_data}
+use Rattle.bodies.specs.inside.Forms.{IsOfNoRead, IsOfNoLookup}
+use Rattle.bodies.proofs.Listing.{texts_plain}
+use Rattle.bodies.proofs.Options.{so_of, not_so}
 
-pub lookup_unasked : (body : List ℕ) (d : Data) (e : Refusal) → Reads body d → IsMalformed ((asked : Lookup) → LookupOf d asked → ⊥) e → LookupBodyCause body e
-lookup_unasked body d Malformed reads not = λ f. not f.asked (subst (λ (x : Data). LookupOf x f.asked) (same_read body f.data_read d f.reads reads) f.lookup)
-lookup_unasked body d _ reads not = absurd not
+module _ (d : Data) where
+  pub read_no_namespace : text_at (codes "namespace") d ≡ None → IsOfNoRead d
+  read_no_namespace none asked f = not_so (λ s. SpellsName s asked.namespace) (text_at (codes "namespace") d) none f.namespace
 
-pub lookup_unread : (body : List ℕ) (e : Refusal) → ReadCause ((d : Data) → Reads body d → ⊥) e → LookupBodyCause body e
-lookup_unread body Malformed not = λ f. not f.data_read f.reads
-lookup_unread body Memory not = tt
-lookup_unread body _ not = absurd not
+  pub lookup_no_namespace : text_at (codes "namespace") d ≡ None → IsOfNoLookup d
+  lookup_no_namespace none asked f = not_so (λ s. SpellsName s asked.relation.namespace) (text_at (codes "namespace") d) none f.namespace
 
--- an object's text, as a value
-abbrev pub text_of : List ℕ → List ℕ → Data
-text_of namespace id = string (object_text (record { namespace = namespace; id = id }))
+  pub lookup_no_relation : text_at (codes "relation") d ≡ None → IsOfNoLookup d
+  lookup_no_relation none asked f = not_so (λ s. SpellsName s asked.relation.relation) (text_at (codes "relation") d) none f.relation
 
-text_items : (namespace : List ℕ) (ids : List (List ℕ)) → items_of (map (text_of namespace) ids) ≡ texts_data namespace ids
-text_items namespace [] = refl
-text_items namespace (id ∷ ids) = ap (item (text_of namespace id)) (text_items namespace ids)
+  pub lookup_no_user : text_at (codes "user") d ≡ None → IsOfNoLookup d
+  lookup_no_user none asked f = not_so (λ s. SpellsObject s asked.user) (text_at (codes "user") d) none f.user_is
 
-pub texts_done : (namespace : List ℕ) (ids : List (List ℕ)) (vs : List Value) (i : ℕ) → length ids ≤ i → map view vs ≡ map (text_of namespace) (take i ids) → items_view vs ≡ texts_data namespace ids
-texts_done namespace ids vs i end h = ap items_of (h ∙ ap (map (text_of namespace)) (take_whole ids i end)) ∙ text_items namespace ids
+  pub lookup_other_user : (text : List ℕ) → Some text ≡ text_at (codes "user") d → ((o : Object) → SpellsObject text o → ⊥) → IsOfNoLookup d
+  lookup_other_user text there not asked f = not asked.user (so_of (λ s. SpellsObject s asked.user) (text_at (codes "user") d) text there f.user_is)
 
-texts_plain : (namespace : List ℕ) (ids : List (List ℕ)) → items_have_float (texts_data namespace ids) ≡ false
-texts_plain namespace [] = refl
-texts_plain namespace (id ∷ ids) = texts_plain namespace ids
+pub page_plain : (ts : List Tuple) (zookie : List ℕ) → has_float (page_data ts zookie) ≡ false
+page_plain ts zookie = rw (texts_plain tuple_text ts) refl
 
-objects_plain : (namespace : List ℕ) (ids : List (List ℕ)) (zookie : List ℕ) → has_float (objects_data namespace ids zookie) ≡ false
-objects_plain namespace ids zookie = rw (texts_plain namespace ids) refl
-
-pub told_plain : (namespace : List ℕ) (ids : List (List ℕ)) (zookie : List ℕ) (r : Result Value AllocError) → IfOk r (λ v. view v ≡ objects_data namespace ids zookie) → IfOk r (λ v. has_float (view v) ≡ false)
-told_plain namespace ids zookie (Ok v) is = ap has_float is ∙ objects_plain namespace ids zookie
-told_plain namespace ids zookie (Err e) is = is
+pub objects_plain : (namespace : List ℕ) (ids : List (List ℕ)) (zookie : List ℕ) → has_float (objects_data namespace ids zookie) ≡ false
+objects_plain namespace ids zookie = rw (texts_plain (λ id. object_text (object_in namespace id)) ids) refl

@@ -10,28 +10,25 @@ use Rattle.serde_json.specs.Data.{Data, string}
 use Rattle.serde_json.specs.View.{view, items_of}
 use Rattle.serde_json.specs.Written.{has_float, items_have_float}
 use Rattle.serde_json.specs.declared.value.Value.{Value}
-use Rattle.bodies.specs.Replies.{Says, SaysRefusal, error_data, index_members, refusal_members, signed_text}
+use Rattle.bodies.proofs.Listing.{texts_plain}
+use Rattle.bodies.specs.Replies.{Says, SaysRefusal, indexed_data, refusal_data, signed_text}
 
 pub said : (r : Result Value AllocError) (told : Option (ℕ × List ℕ)) (status : ℕ) (d : Data) → MatchResult r (λ v. Says told status (view v)) (λ _. told ≡ None) → IfOk r (λ v. view v ≡ d) → Says told status d
 said (Ok v) told status d says is = rw is at says
 said (Err e) told status d none is = rw none tt
 
-pub failed_condition : (told : Option (ℕ × List ℕ)) (why : Refusal) (index : ℕ) → why ≡ ConditionFailed index → Says told (status_of why) (error_data (index_members why index)) → SaysRefusal told why
+pub failed_condition : (told : Option (ℕ × List ℕ)) (why : Refusal) (index : ℕ) → why ≡ ConditionFailed index → Says told (status_of why) (indexed_data why index) → SaysRefusal told why
 failed_condition told why index is says = let s = rw is at says in rw is s
 
-pub already_there : (told : Option (ℕ × List ℕ)) (why : Refusal) (index : ℕ) → why ≡ AlreadyThere index → Says told (status_of why) (error_data (index_members why index)) → SaysRefusal told why
+pub already_there : (told : Option (ℕ × List ℕ)) (why : Refusal) (index : ℕ) → why ≡ AlreadyThere index → Says told (status_of why) (indexed_data why index) → SaysRefusal told why
 already_there told why index is says = let s = rw is at says in rw is s
 
-pub not_there : (told : Option (ℕ × List ℕ)) (why : Refusal) (index : ℕ) → why ≡ NotThere index → Says told (status_of why) (error_data (index_members why index)) → SaysRefusal told why
+pub not_there : (told : Option (ℕ × List ℕ)) (why : Refusal) (index : ℕ) → why ≡ NotThere index → Says told (status_of why) (indexed_data why index) → SaysRefusal told why
 not_there told why index is says = let s = rw is at says in rw is s
 
-signed_plain : (steps : List CycleStep) → items_have_float (items_of (map (λ s. string (signed_text s)) steps)) ≡ false
-signed_plain [] = refl
-signed_plain (s ∷ ss) = signed_plain ss
+cycle_plain : (steps : List CycleStep) → has_float (refusal_data (ConfigRefused (Cycle steps))) ≡ false
+cycle_plain steps = rw (texts_plain signed_text steps) refl
 
-cycle_plain : (steps : List CycleStep) → has_float (error_data (refusal_members (ConfigRefused (Cycle steps)))) ≡ false
-cycle_plain steps = rw (signed_plain steps) refl
-
-pub value_plain : (steps : List CycleStep) (r : Result Value AllocError) → IfOk r (λ v. view v ≡ error_data (refusal_members (ConfigRefused (Cycle steps)))) → IfOk r (λ v. has_float (view v) ≡ false)
+pub value_plain : (steps : List CycleStep) (r : Result Value AllocError) → IfOk r (λ v. view v ≡ refusal_data (ConfigRefused (Cycle steps))) → IfOk r (λ v. has_float (view v) ≡ false)
 value_plain steps (Ok v) is = ap has_float is ∙ cycle_plain steps
 value_plain steps (Err e) is = is

@@ -1,18 +1,16 @@
 -- What the body of a question about groups asks, by what `serde_json` reads from it, and what its reply says.
-use Rattle.std.specs.Prelude.{ℕ, ◌≡◌, true, List, [], ◌∷◌, Some, codes}
+use Rattle.std.specs.Prelude.{ℕ, ◌≡◌, true, List, [], ◌∷◌, Some, IsSomeAnd, map, codes}
 use Rattle.serde_json.specs.Data.{Data, string, array, object, Items, no_items, item, no_members, member}
 use Rattle.serde_json.specs.Find.{get}
+use Rattle.serde_json.specs.View.{items_of}
 use Rattle.config_text.specs.Objects.{has_only}
-use Rattle.config_text.specs.Reading.{Reads}
 use Rattle.names.specs.Spelling.{SpellsObject, SpellsNode, node_text}
 use Rattle.names.specs.declared.node.Node.{Node}
 use Rattle.names.specs.declared.refusal.Refusal.{Refusal}
-use Rattle.names.specs.declared.refusal.Refusal.TheVariants.{Malformed, BadZookie, Memory}
-use Rattle.zookie.specs.declared.Zookie.{Zookie}
 use Rattle.zookie.specs.declared.consistency.Consistency.{Consistency}
 use Rattle.leopard.specs.Query.{Query, Queries, Member2Group, Group2Group, Union, Intersection, Exclusion, none, more, is_allowed}
-use Rattle.bodies.specs.Requests.{number_at, AsksAt, IsAtForm, HasZookieText, IsZookieOf}
-use Rattle.bodies.specs.Replies.{text_member}
+use Rattle.bodies.specs.Requests.{number_at, IsZookieOf, AsksSo, QuestionCause}
+use Rattle.bodies.specs.Replies.{object_of}
 
 -- `{name: value}`
 abbrev pub only_member : List ℕ → Data → Data
@@ -44,57 +42,18 @@ AreNoExprs ds = (qs : Queries) → ¬ (AreExprs ds qs)
 -- `{"at": .., "expr": expr, "limit": number}`, whatever `at` is, where so large an expression and such a limit are allowed
 pub record GroupsOf (d : Data) (asked : Query) (limit : ℕ) : Type 0 where
   pub only : has_only (codes "at" ∷ codes "expr" ∷ codes "limit" ∷ []) d ≡ true
-  pub expr_data : Data
-  pub expr_at : get (codes "expr") d ≡ Some expr_data
-  pub expr : IsExpr expr_data asked
+  pub expr : IsSomeAnd (get (codes "expr") d) (λ value. IsExpr value asked)
   pub limit_at : number_at (codes "limit") d ≡ Some limit
   pub allowed : is_allowed asked limit ≡ true
 
--- it asks for no groups
-abbrev pub IsOfNoGroups : Data → Type 0
-IsOfNoGroups d = (asked : Query) (limit : ℕ) → ¬ (GroupsOf d asked limit)
-
 -- the body of a `leopard` asks for the first so many groups that the expression means, at such a revision
-pub record AsksGroups
-    (body : List ℕ) (consistency : Consistency) (asked : Query) (limit : ℕ) : Type 0 where
-  pub data_read : Data
-  pub reads : Reads body data_read
-  pub groups : GroupsOf data_read asked limit
-  pub at : AsksAt (get (codes "at") data_read) consistency
-
--- it is of the form of a `leopard`, whatever text is in a zookie's place
-pub record IsGroupsForm (body : List ℕ) : Type 0 where
-  pub data_read : Data
-  pub reads : Reads body data_read
-  pub asked : Query
-  pub limit : ℕ
-  pub groups : GroupsOf data_read asked limit
-  pub form : IsAtForm (get (codes "at") data_read)
-
--- it is of that form, and the text in a zookie's place is no zookie's
-pub record HasBadGroupsZookie (body : List ℕ) : Type 0 where
-  pub data_read : Data
-  pub reads : Reads body data_read
-  pub asked : Query
-  pub limit : ℕ
-  pub groups : GroupsOf data_read asked limit
-  pub text : List ℕ
-  pub at : HasZookieText (get (codes "at") data_read) text
-  pub bad : (zookie : Zookie) → ¬ (IsZookieOf text zookie)
+abbrev pub AsksGroups : List ℕ → Consistency → Query → ℕ → Type 0
+AsksGroups body consistency asked limit = AsksSo IsZookieOf body (λ d. GroupsOf d asked limit) consistency
 
 -- why the body of a `leopard` is refused
 abbrev pub GroupsBodyCause : List ℕ → Refusal → Type 0
-GroupsBodyCause body Malformed = ¬ (IsGroupsForm body)
-GroupsBodyCause body BadZookie = HasBadGroupsZookie body
-GroupsBodyCause body Memory = Unit {0}
-GroupsBodyCause body _ = ⊥
-
--- the texts of nodes
-abbrev pub nodes_data : List Node → Items
-nodes_data [] = no_items
-nodes_data (n ∷ ns) = item (string (node_text n)) (nodes_data ns)
+GroupsBodyCause body = QuestionCause body (λ d. (asked : Query) × (limit : ℕ) × GroupsOf d asked limit)
 
 -- `{"groups": [node, ..], "zookie": ..}`
 abbrev pub groups_data : List Node → List ℕ → Data
-groups_data ns zookie =
-    object (member (codes "groups") (array (nodes_data ns)) (text_member (codes "zookie") zookie no_members))
+groups_data ns zookie = object_of ((codes "groups", array (items_of (map (λ n. string (node_text n)) ns))) ∷ (codes "zookie", string zookie) ∷ [])

@@ -1,11 +1,13 @@
 //! The conditions of a write, as JSON.
-ghost use Rattle.std.specs.Prelude.{◌≡◌, ℕ, List, IfOk, IfErr, MatchOption, codes};
+ghost use Rattle.std.specs.Prelude.{◌≡◌, ℕ, List, IfOk, IfErr, MatchOption, map, codes};
+ghost use Rattle.std.specs.List.{AllZip};
 ghost use Rattle.serde_json.specs.Find.{get};
-ghost use Rattle.serde_json.specs.View.{view, items_view};
+ghost use Rattle.serde_json.specs.View.{view};
 ghost use Rattle.names.specs.Refusals.{IsMalformed};
 ghost use Rattle.names.specs.declared.tuple.Tuple.{Tuple as AskedTuple};
-ghost use Rattle.bodies.specs.Writing.{IsOfTuple, IsOfTupleSince, ConditionsOf, IsConditionList, AskConditions};
-ghost use Rattle.bodies.specs.inside.Conditions.{AsksCondition, AsksBadly, IsNoCondition, Asks, Cause};
+ghost use Rattle.bodies.specs.Requests.{IsZookieOf};
+ghost use Rattle.bodies.specs.Writing.{AsksCondition};
+ghost use Rattle.bodies.specs.inside.Conditions.{IsOfTuple, IsOfTupleSince, AsksBadly, IsNoCondition, IsConditionList, AskConditions, ConditionsCause, ListCause, MemberCause};
 
 use crate::requests::zookie_of;
 use config_text::{has_only_members, text_at};
@@ -52,7 +54,7 @@ fn tuple_since(value: &Value) -> Result<(Tuple, &str), Refusal>
 /// The condition that a value asks for; or nothing, where it is of the form and the text in the zookie's place is none.
 fn read_condition(value: &Value) -> Result<Option<Condition<Zookie>>, Refusal>
     ensures ok { IfOk result (λ read.
-        MatchOption read (AsksBadly (view value.now)) (λ condition. AsksCondition (view value.now) condition)) }
+        MatchOption read (AsksBadly (view value.now)) (λ condition. AsksCondition IsZookieOf (view value.now) condition)) }
     ensures err { IfErr result (IsMalformed (IsNoCondition (view value.now))) }
 {
     let Some(word) = text_at(value, "if") else {
@@ -79,8 +81,8 @@ fn read_condition(value: &Value) -> Result<Option<Condition<Zookie>>, Refusal>
 /// The conditions that values ask for, in their order. `BadZookie` comes only where all else is of the form.
 fn read_conditions(alloc: Global, items: &Vec<Value>) -> Result<Vec<Condition<Zookie>>, Refusal>
     ensures ok { IfOk result (λ conditions.
-        Asks (ConditionsOf (items_view items.now.items)) conditions.items) }
-    ensures err { IfErr result (Cause (ConditionsOf (items_view items.now.items))) }
+        AllZip (AsksCondition IsZookieOf) (map view items.now.items) conditions.items) }
+    ensures err { IfErr result (ConditionsCause (map view items.now.items)) }
 {
     let mut conditions = Vec::new(alloc);
     let mut bad = false;
@@ -98,8 +100,8 @@ fn read_conditions(alloc: Global, items: &Vec<Value>) -> Result<Vec<Condition<Zo
 
 /// The list of conditions that a value is.
 fn condition_list(alloc: Global, value: &Value) -> Result<Items<Condition<Zookie>>, Refusal>
-    ensures ok { IfOk result (Asks (IsConditionList (view value.now))) }
-    ensures err { IfErr result (Cause (IsConditionList (view value.now))) }
+    ensures ok { IfOk result (λ conditions. IsConditionList IsZookieOf conditions (view value.now)) }
+    ensures err { IfErr result (ListCause (view value.now)) }
 {
     let Some(items) = value.as_array() else {
         return Err(Refusal::Malformed);
@@ -116,8 +118,9 @@ pub(crate) fn conditions_of(
     alloc: Global,
     value: &Value,
 ) -> Result<Items<Condition<Zookie>>, Refusal>
-    ensures ok { IfOk result (Asks (AskConditions (get (codes "conditions") (view value.now)))) }
-    ensures err { IfErr result (Cause (AskConditions (get (codes "conditions") (view value.now)))) }
+    ensures ok { IfOk result (λ conditions.
+        AskConditions IsZookieOf conditions (get (codes "conditions") (view value.now))) }
+    ensures err { IfErr result (MemberCause (get (codes "conditions") (view value.now))) }
 {
     match value.get("conditions") {
         None => Ok(Items::of(Vec::new(alloc))),

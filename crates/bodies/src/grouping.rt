@@ -1,13 +1,16 @@
 //! What a question about groups asks, and what it is answered.
-ghost use Rattle.std.specs.Prelude.{◌≡◌, Some, IfOk, IfErr, codes};
-ghost use Rattle.serde_json.specs.View.{view, items_view};
+ghost use Rattle.std.specs.Prelude.{◌≡◌, Some, IfOk, IfErr, map, codes};
+ghost use Rattle.serde_json.specs.Data.{string};
+ghost use Rattle.serde_json.specs.View.{view};
 ghost use Rattle.names.specs.Calls.{told};
 ghost use Rattle.names.specs.Refusals.{ReadCause};
+ghost use Rattle.names.specs.Spelling.{node_text};
 ghost use Rattle.zookie.specs.Text.{zookie_text};
 ghost use Rattle.leopard.specs.Exprs.{query_of};
 ghost use Rattle.bodies.specs.Requests.{number_at};
 ghost use Rattle.bodies.specs.Replies.{Says};
-ghost use Rattle.bodies.specs.Grouping.{GroupsOf, IsOfNoGroups, AsksGroups, GroupsBodyCause, nodes_data, groups_data};
+ghost use Rattle.bodies.specs.Grouping.{GroupsOf, AsksGroups, GroupsBodyCause, groups_data};
+ghost use Rattle.bodies.specs.inside.Forms.{IsOfNoGroups};
 
 use crate::exprs::read_expr;
 use crate::replies::say;
@@ -65,7 +68,7 @@ pub fn groups_body(alloc: Global, body: &[u8]) -> Result<(Consistency, Expr, u32
 
 /// The texts of nodes, as values.
 fn node_values(alloc: Global, nodes: &[Node]) -> Result<Vec<Value>, AllocError>
-    ensures { IfOk result (λ v. items_view v.items ≡ nodes_data nodes.now) }
+    ensures { IfOk result (λ v. map view v.items ≡ map (λ n. string (node_text n)) nodes.now) }
 {
     let mut values = Vec::new(alloc);
     for node in nodes {

@@ -1,11 +1,14 @@
 //! What a `lookup` asks, and what it is answered: objects of a namespace.
-ghost use Rattle.std.specs.Prelude.{◌≡◌, IfOk, IfErr, codes};
-ghost use Rattle.serde_json.specs.View.{view, items_view};
+ghost use Rattle.std.specs.Prelude.{◌≡◌, IfOk, IfErr, map, codes};
+ghost use Rattle.serde_json.specs.Data.{string};
+ghost use Rattle.serde_json.specs.View.{view};
 ghost use Rattle.names.specs.Calls.{told};
 ghost use Rattle.names.specs.Refusals.{IsMalformed};
+ghost use Rattle.names.specs.Spelling.{object_text};
 ghost use Rattle.zookie.specs.Text.{zookie_text};
 ghost use Rattle.bodies.specs.Replies.{Says};
-ghost use Rattle.bodies.specs.Looking.{LookupOf, IsOfNoLookup, AsksLookup, LookupBodyCause, texts_data, objects_data};
+ghost use Rattle.bodies.specs.Looking.{LookupOf, AsksLookup, LookupBodyCause, object_in, objects_data};
+ghost use Rattle.bodies.specs.inside.Forms.{IsOfNoLookup};
 
 use crate::paging::{id_of, limit_of};
 use crate::replies::say;
@@ -66,7 +69,7 @@ pub fn lookup_body(alloc: Global, body: &[u8]) -> Result<(Consistency, Lookup), 
 
 /// The texts of a namespace's objects with these ids, as values.
 fn text_values(alloc: Global, namespace: &Name, ids: &[ObjectId]) -> Result<Vec<Value>, AllocError>
-    ensures { IfOk result (λ v. items_view v.items ≡ texts_data namespace.now ids.now) }
+    ensures { IfOk result (λ v. map view v.items ≡ map (λ id. string (object_text (object_in namespace.now id))) ids.now) }
 {
     let mut values = Vec::new(alloc);
     for id in ids {

@@ -1,8 +1,10 @@
 //! The operations of a write, as JSON.
-ghost use Rattle.std.specs.Prelude.{◌≡◌, List, IfOk, IfErr, MatchOption};
-ghost use Rattle.serde_json.specs.View.{view, items_view};
+ghost use Rattle.std.specs.Prelude.{◌≡◌, List, IfOk, IfErr, MatchOption, map};
+ghost use Rattle.std.specs.List.{AllZip};
+ghost use Rattle.serde_json.specs.View.{view};
 ghost use Rattle.names.specs.Refusals.{IsMalformed, ReadCause};
-ghost use Rattle.bodies.specs.Writing.{IsKind, AsksOp, AskOps};
+ghost use Rattle.bodies.specs.Writing.{AsksOp};
+ghost use Rattle.bodies.specs.inside.Parts.{IsKind};
 
 use config_text::{has_only_members, text_at};
 use names::{Op, OpKind, Refusal, Tuple};
@@ -48,9 +50,9 @@ fn read_op(value: &Value) -> Result<Op, Refusal>
 
 /// The operations that values ask for, in their order.
 pub(crate) fn read_ops(alloc: Global, items: &Vec<Value>) -> Result<Vec<Op>, Refusal>
-    ensures ok { IfOk result (λ ops. AskOps (items_view items.now.items) ops.items) }
+    ensures ok { IfOk result (λ ops. AllZip AsksOp (map view items.now.items) ops.items) }
     ensures err { IfErr result
-        (ReadCause ((ops : List Op) → ¬ (AskOps (items_view items.now.items) ops))) }
+        (ReadCause ((ops : List Op) → ¬ (AllZip AsksOp (map view items.now.items) ops))) }
 {
     let mut ops = Vec::new(alloc);
     for item in items {

@@ -1,16 +1,17 @@
 //! What a `read` asks, and what it is answered: a page of tuples.
-ghost use Rattle.std.specs.Prelude.{◌≡◌, ℕ, List, Option, Some, IfOk, IfErr, option_map, codes};
-ghost use Rattle.serde_json.specs.Data.{Data};
+ghost use Rattle.std.specs.Prelude.{◌≡◌, ℕ, List, Option, Some, IfOk, IfErr, option_map, map, codes};
+ghost use Rattle.serde_json.specs.Data.{Data, string};
 ghost use Rattle.serde_json.specs.Find.{get};
-ghost use Rattle.serde_json.specs.View.{view, items_view};
+ghost use Rattle.serde_json.specs.View.{view};
 ghost use Rattle.names.specs.Calls.{told};
 ghost use Rattle.names.specs.Refusals.{IsMalformed};
-ghost use Rattle.names.specs.Spelling.{SpellsSubject, SpellsTuple};
+ghost use Rattle.names.specs.Spelling.{SpellsSubject, SpellsTuple, tuple_text};
 ghost use Rattle.names.specs.declared.subject.Subject.{Subject};
 ghost use Rattle.names.specs.declared.tuple.Tuple.{Tuple};
 ghost use Rattle.zookie.specs.Text.{zookie_text};
 ghost use Rattle.bodies.specs.Replies.{Says};
-ghost use Rattle.bodies.specs.Paging.{SpellsName, SpellsId, SpellsIfThere, IsLimit, ReadOf, IsOfNoRead, AsksRead, ReadBodyCause, tuples_data, page_data};
+ghost use Rattle.bodies.specs.Paging.{SpellsName, SpellsId, SpellsIfThere, IsLimit, ReadOf, AsksRead, ReadBodyCause, page_data};
+ghost use Rattle.bodies.specs.inside.Forms.{IsOfNoRead};
 
 use crate::replies::say;
 use crate::requests::{consistency_of, read_value};
@@ -150,7 +151,7 @@ pub fn read_body(alloc: Global, body: &[u8]) -> Result<(Consistency, Tupleset), 
 
 /// The texts of tuples, as values.
 fn tuple_values(alloc: Global, tuples: &[Tuple]) -> Result<Vec<Value>, AllocError>
-    ensures { IfOk result (λ v. items_view v.items ≡ tuples_data tuples.now) }
+    ensures { IfOk result (λ v. map view v.items ≡ map (λ t. string (tuple_text t)) tuples.now) }
 {
     let mut values = Vec::new(alloc);
     for tuple in tuples {

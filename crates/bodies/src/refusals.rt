@@ -1,13 +1,14 @@
 //! Replies to calls that are refused.
-ghost use Rattle.std.specs.Prelude.{◌≡◌, Some, IfOk, string_bytes};
+ghost use Rattle.std.specs.Prelude.{◌≡◌, [], ◌∷◌, Some, IfOk, string_bytes, codes};
 ghost use Rattle.names.specs.Calls.{told};
 ghost use Rattle.names.specs.Refusals.{status_of};
 ghost use Rattle.names.specs.Spelling.{relation_text};
-ghost use Rattle.names.specs.declared.refusal.Refusal.TheVariants.{ConfigRefused};
+ghost use Rattle.names.specs.declared.refusal.Refusal.TheVariants.{ConfigRefused, TupleInTheWay};
 ghost use Rattle.names.specs.declared.cause.Cause.TheVariants.{Cycle};
+ghost use Rattle.serde_json.specs.Data.{string};
 ghost use Rattle.serde_json.specs.View.{view, items_view};
 ghost use Rattle.zookie.specs.Text.{zookie_text};
-ghost use Rattle.bodies.specs.Replies.{Says, SaysRefusal, SaysRefusalAt, error_data, refusal_data, index_members, tuple_members, cycle_items, signed_text, start_text};
+ghost use Rattle.bodies.specs.Replies.{Says, SaysRefusal, SaysRefusalAt, error_data, indexed_data, refusal_data, cycle_items, signed_text, start_text};
 
 use crate::replies::{say, say_text};
 use names::{Cause, CycleStep, Refusal, Reply, Tuple};
@@ -17,7 +18,7 @@ use zookie::Zookie;
 
 /// A refusal with the place of an operation or a condition.
 fn indexed_refusal(alloc: Global, why: &Refusal, index: u64) -> Reply
-    ensures { Says (told result) (status_of why.now) (error_data (index_members why.now index)) }
+    ensures { Says (told result) (status_of why.now) (indexed_data why.now index) }
 {
     let code = u64::from(why.number());
     let value = json!(in alloc; {"error": {"code": code, "index": index, "name": why.name()}});
@@ -26,7 +27,7 @@ fn indexed_refusal(alloc: Global, why: &Refusal, index: u64) -> Reply
 
 /// A refusal with the tuple that is in the way.
 fn tuple_refusal(alloc: Global, tuple: &Tuple) -> Reply
-    ensures { Says (told result) 409 (error_data (tuple_members tuple.now)) }
+    ensures { Says (told result) 409 (refusal_data (TupleInTheWay tuple.now)) }
 {
     let Ok(text) = format!(in alloc; "{tuple}") else {
         return Reply::NoMemory;
@@ -140,16 +141,20 @@ pub fn refusal(alloc: Global, why: &Refusal) -> Reply
     say_text(alloc, why.status(), text)
 }
 
+/// A refusal at a chosen revision, as a value.
+fn value_at(alloc: Global, why: &Refusal, zookie: &Zookie) -> Result<Value, AllocError>
+    ensures { IfOk result (λ v. view v ≡ error_data why.now [] []
+        ((codes "zookie", string (zookie_text zookie.now.store zookie.now.rev)) ∷ [])) }
+{
+    let text = zookie.to_text(alloc)?;
+    let code = u64::from(why.number());
+    json!(in alloc; {"error": {"code": code, "name": why.name(), "zookie": text.as_str()}})
+}
+
 /// What a question is answered that is refused at a chosen revision.
 pub fn refusal_at(alloc: Global, why: &Refusal, zookie: &Zookie) -> Reply
     ensures { SaysRefusalAt (told result) why.now
         (Some (zookie_text zookie.now.store zookie.now.rev)) }
 {
-    let Ok(text) = zookie.to_text(alloc) else {
-        return Reply::NoMemory;
-    };
-    let code = u64::from(why.number());
-    let value =
-        json!(in alloc; {"error": {"code": code, "name": why.name(), "zookie": text.as_str()}});
-    say(alloc, why.status(), value)
+    say(alloc, why.status(), value_at(alloc, why, zookie))
 }

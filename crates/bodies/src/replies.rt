@@ -1,11 +1,12 @@
 //! Replies to calls that are served, and to those that are not.
-ghost use Rattle.std.specs.Prelude.{◌≡◌, None, IfOk, MatchResult, codes, false};
+ghost use Rattle.std.specs.Prelude.{◌≡◌, [], ◌∷◌, None, IfOk, MatchResult, codes, false};
 ghost use Rattle.names.specs.Calls.{told};
-ghost use Rattle.serde_json.specs.Data.{string, object, no_members};
+ghost use Rattle.serde_json.specs.Data.{string, boolean};
 ghost use Rattle.serde_json.specs.View.{view};
 ghost use Rattle.serde_json.specs.Written.{compact_text, has_float};
 ghost use Rattle.zookie.specs.Text.{zookie_text};
-ghost use Rattle.bodies.specs.Replies.{Says, SaysText, receipt_data, answer_data, base_data, cursor_data, floor_data, flag_member, marked_data, state_data, text_member};
+ghost use Rattle.bodies.specs.Replies.{Says, object_of, receipt_data, answer_data, base_data, cursor_data, floor_data, marked_data, rev_data, state_data};
+ghost use Rattle.bodies.specs.inside.Parts.{SaysText};
 
 use crate::members::{closed, opened, put_flag, put_number, put_rev, put_zookie};
 use names::{Reply, State};
@@ -73,8 +74,8 @@ pub fn answer(alloc: Global, allowed: bool, zookie: &Zookie) -> Reply
 
 /// A truth value under a name that comes before `zookie`, and a zookie.
 fn flag_text(alloc: Global, name: &str, flag: bool, zookie: &Zookie) -> Result<Vec<u8>, AllocError>
-    ensures { IfOk result (λ b. b.items ≡ compact_text (object (flag_member name.now flag
-        (text_member (codes "zookie") (zookie_text zookie.now.store zookie.now.rev) no_members)))) }
+    ensures { IfOk result (λ b. b.items ≡ compact_text (object_of (
+        (name.now, boolean flag) ∷ (codes "zookie", string (zookie_text zookie.now.store zookie.now.rev)) ∷ []))) }
 {
     let mut out = opened(alloc)?;
     put_flag(&mut out, name, flag)?;
@@ -108,8 +109,8 @@ pub fn base(alloc: Global, base: &Zookie, shown: bool) -> Reply
 
 /// A revision under a name that comes before `shown`, and whether all that is posted is shown.
 fn shown_text(alloc: Global, name: &str, rev: &Zookie, shown: bool) -> Result<Vec<u8>, AllocError>
-    ensures { IfOk result (λ b. b.items ≡ compact_text (object (text_member name.now
-        (zookie_text rev.now.store rev.now.rev) (flag_member (codes "shown") shown no_members)))) }
+    ensures { IfOk result (λ b. b.items ≡ compact_text (object_of (
+        (name.now, string (zookie_text rev.now.store rev.now.rev)) ∷ (codes "shown", boolean shown) ∷ []))) }
 {
     let mut out = opened(alloc)?;
     put_zookie(alloc, &mut out, name, rev)?;
@@ -135,7 +136,7 @@ fn marked_text(alloc: Global, marked: u64, shown: bool) -> Result<Vec<u8>, Alloc
 
 /// The zookie of a revision of a store, as a value.
 pub(crate) fn rev_value(alloc: Global, store: u64, rev: u64) -> Result<Value, AllocError>
-    ensures { IfOk result (λ v. view v ≡ string (zookie_text store rev)) }
+    ensures { IfOk result (λ v. view v ≡ rev_data store rev) }
 {
     let text = Zookie { store, rev }.to_text(alloc)?;
     Ok(Value::String(text))

@@ -1,13 +1,15 @@
 //! The bodies of calls.
-ghost use Rattle.std.specs.Prelude.{◌≡◌, List, Some, MatchOption, IfOk, IfErr, option_map, codes};
+ghost use Rattle.std.specs.Prelude.{◌≡◌, List, Some, MatchOption, IfOk, IfErr, option_map, option_and_then, codes};
 ghost use Rattle.serde_json.specs.Data.{Data};
-ghost use Rattle.serde_json.specs.Find.{get};
+ghost use Rattle.serde_json.specs.Find.{get, as_array};
 ghost use Rattle.serde_json.specs.View.{view, items_view};
 ghost use Rattle.names.specs.Refusals.{IsMalformed, ReadCause};
 ghost use Rattle.names.specs.declared.refusal.Refusal.TheVariants.{BadZookie};
 ghost use Rattle.config_text.specs.Reading.{Reads};
-ghost use Rattle.bodies.specs.Requests.{items_at, number_at, only_text, IsZookieOf, AsksAt, AtCause, CheckOf, IsOfNoCheck, AsksCheck, CheckCause, IsPart, CatchUpOf, IsOfNoCatchUp, AsksCatchUp, AsksNoCatchUp};
-ghost use Rattle.bodies.specs.Expanding.{ExpandOf, IsOfNoExpand, AsksExpand, ExpandBodyCause};
+ghost use Rattle.bodies.specs.Requests.{number_at, only_text, IsZookieOf, AsksAt, CheckOf, AsksCheck, CheckCause, CatchUpOf, AsksCatchUp, AsksNoCatchUp};
+ghost use Rattle.bodies.specs.Expanding.{ExpandOf, AsksExpand, ExpandBodyCause};
+ghost use Rattle.bodies.specs.inside.Parts.{AtCause, IsOfNoCheck, IsPart, IsOfNoCatchUp};
+ghost use Rattle.bodies.specs.inside.Forms.{IsOfNoExpand};
 
 use config_text::{has_only_members, text_at};
 use expand::MAX_DEPTH;
@@ -40,7 +42,7 @@ pub(crate) fn read_value(alloc: Global, body: &[u8]) -> Result<Value, Refusal>
 
 /// The array that a member is.
 pub(crate) fn items_of<'a>(value: &'a Value, name: &str) -> Option<&'a Vec<Value>>
-    ensures { option_map (λ v. items_view v.now.items) result ≡ items_at name.now (view value.now) }
+    ensures { option_map (λ v. items_view v.now.items) result ≡ option_and_then as_array (get name.now (view value.now)) }
 {
     value.get(name).and_then(Value::as_array)
 }
@@ -67,7 +69,7 @@ pub(crate) fn zookie_of(text: &str) -> Result<Zookie, Refusal>
 
 /// What an `at` that is there asks for.
 fn read_at(at: &Value) -> Result<Consistency, Refusal>
-    ensures ok { IfOk result (λ c. AsksAt (Some (view at.now)) c) }
+    ensures ok { IfOk result (λ c. AsksAt IsZookieOf (Some (view at.now)) c) }
     ensures err { IfErr result (AtCause (Some (view at.now))) }
 {
     if let Some(text) = at.as_str() {
@@ -90,7 +92,7 @@ fn read_at(at: &Value) -> Result<Consistency, Refusal>
 
 /// How fresh a snapshot a value asks for.
 pub(crate) fn consistency_of(value: &Value) -> Result<Consistency, Refusal>
-    ensures ok { IfOk result (λ c. AsksAt (get (codes "at") (view value.now)) c) }
+    ensures ok { IfOk result (λ c. AsksAt IsZookieOf (get (codes "at") (view value.now)) c) }
     ensures err { IfErr result (AtCause (get (codes "at") (view value.now))) }
 {
     match value.get("at") {

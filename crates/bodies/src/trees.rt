@@ -1,12 +1,12 @@
 //! Userset trees, as JSON.
-ghost use Rattle.std.specs.Prelude.{◌≡◌, IfOk, codes};
-ghost use Rattle.serde_json.specs.Data.{array, object, no_items, item, no_members, member};
+ghost use Rattle.std.specs.Prelude.{◌≡◌, [], ◌∷◌, IfOk, codes};
+ghost use Rattle.serde_json.specs.Data.{array, string, no_items, item};
 ghost use Rattle.serde_json.specs.View.{view, items_view};
 ghost use Rattle.names.specs.Calls.{told};
 ghost use Rattle.names.specs.Spelling.{node_text, object_text};
 ghost use Rattle.zookie.specs.Text.{zookie_text};
 ghost use Rattle.expand.specs.Viewed.{tree_of, trees_of};
-ghost use Rattle.bodies.specs.Replies.{Says, text_member};
+ghost use Rattle.bodies.specs.Replies.{Says, object_of};
 ghost use Rattle.bodies.specs.Trees.{tree_data, trees_data, expanded_data};
 
 use crate::replies::say;
@@ -19,21 +19,21 @@ use zookie::Zookie;
 /// A userset that is opened into what stands below it, as a value.
 fn opened_value(alloc: Global, node: &Node, below: Value) -> Result<Value, AllocError>
     ensures { IfOk result (λ v. view v
-        ≡ object (member (codes "of") (view below) (text_member (codes "userset") (node_text node.now) no_members))) }
+        ≡ object_of ((codes "of", view below) ∷ (codes "userset", string (node_text node.now)) ∷ [])) }
 {
     let text = format!(in alloc; "{node}")?;
     json!(in alloc; {"of": below, "userset": text})
 }
 
 fn closed_value(alloc: Global, node: &Node) -> Result<Value, AllocError>
-    ensures { IfOk result (λ v. view v ≡ object (text_member (codes "userset") (node_text node.now) no_members)) }
+    ensures { IfOk result (λ v. view v ≡ object_of ((codes "userset", string (node_text node.now)) ∷ [])) }
 {
     let text = format!(in alloc; "{node}")?;
     json!(in alloc; {"userset": text})
 }
 
 fn user_value(alloc: Global, user: &Object) -> Result<Value, AllocError>
-    ensures { IfOk result (λ v. view v ≡ object (text_member (codes "user") (object_text user.now) no_members)) }
+    ensures { IfOk result (λ v. view v ≡ object_of ((codes "user", string (object_text user.now)) ∷ [])) }
 {
     let text = format!(in alloc; "{user}")?;
     json!(in alloc; {"user": text})
@@ -41,14 +41,16 @@ fn user_value(alloc: Global, user: &Object) -> Result<Value, AllocError>
 
 /// A list of trees under the name of how they are put together.
 fn listed_value(alloc: Global, name: &str, parts: Vec<Value>) -> Result<Value, AllocError>
-    ensures { IfOk result (λ v. view v ≡ object (member name.now (array (items_view parts.items)) no_members)) }
+    ensures { IfOk result (λ v. view v ≡ object_of ((name.now, array (items_view parts.items)) ∷ [])) }
 {
     json!(in alloc; {(name): Value::Array(parts)})
 }
 
 fn exclusion_value(alloc: Global, base: Value, less: Value) -> Result<Value, AllocError>
-    ensures { IfOk result (λ v. view v ≡ object (member (codes "exclusion")
-        (array (item (view base) (item (view less) no_items))) no_members)) }
+    ensures { IfOk result (λ v. view v ≡ object_of ((
+      codes "exclusion",
+      array (item (view base) (item (view less) no_items)),
+    ) ∷ [])) }
 {
     json!(in alloc; {"exclusion": [base, less]})
 }

@@ -1,8 +1,9 @@
 //! The body of a `trim`.
-ghost use Rattle.std.specs.Prelude.{◌≡◌, IfOk, IfErr, codes};
+ghost use Rattle.std.specs.Prelude.{◌≡◌, IsSomeAnd, IfOk, IfErr, codes};
 ghost use Rattle.serde_json.specs.View.{view};
-ghost use Rattle.bodies.specs.Requests.{only_text, IsZookieText};
-ghost use Rattle.bodies.specs.Trimming.{FloorCause, AsksTrim, TrimBodyCause};
+ghost use Rattle.bodies.specs.Requests.{only_text, IsZookieOf};
+ghost use Rattle.bodies.specs.Trimming.{AsksTrim, TrimBodyCause};
+ghost use Rattle.bodies.specs.inside.Parts.{TextCause};
 
 use crate::requests::{only_text, read_value, zookie_of};
 use names::Refusal;
@@ -12,8 +13,8 @@ use zookie::Zookie;
 
 /// The zookie that the floor is.
 fn floor_of(value: &Value) -> Result<Zookie, Refusal>
-    ensures ok { IfOk result (λ z. IsZookieText (only_text (codes "floor") (view value.now)) z) }
-    ensures err { IfErr result (FloorCause (only_text (codes "floor") (view value.now))) }
+    ensures ok { IfOk result (λ z. IsSomeAnd (only_text (codes "floor") (view value.now)) (λ text. IsZookieOf text z)) }
+    ensures err { IfErr result (TextCause (only_text (codes "floor") (view value.now))) }
 {
     match only_text(value, "floor") {
         None => Err(Refusal::Malformed),

@@ -1,11 +1,15 @@
 //! The body of a `watch`.
-ghost use Rattle.std.specs.Prelude.{◌≡◌, List, ℕ, Some, IfOk, IfErr, codes};
+ghost use Rattle.std.specs.Prelude.{◌≡◌, ◌≤◌, List, ℕ, Some, IsSomeAnd, IfOk, IfErr, length, map, codes};
+ghost use Rattle.std.specs.List.{AllZip};
 ghost use Rattle.serde_json.specs.Find.{get};
-ghost use Rattle.serde_json.specs.View.{view, items_view};
+ghost use Rattle.serde_json.specs.View.{view};
 ghost use Rattle.names.specs.Refusals.{IsMalformed, ReadCause};
 ghost use Rattle.config_text.specs.Objects.{text_at as text_in};
-ghost use Rattle.bodies.specs.Requests.{IsZookieText};
-ghost use Rattle.bodies.specs.Watching.{AsksName, AskNames, IsNameList, AsksNamespaces, WatchOf, IsOfNoWatch, CursorCause, AsksWatch, WatchBodyCause};
+ghost use Rattle.zookie.specs.declared.Zookie.{Zookie as AskedZookie};
+ghost use Rattle.bodies.specs.Requests.{IsAnyText, IsZookieOf};
+ghost use Rattle.bodies.specs.Watching.{AsksName, AsksNamespaces, WatchOf, AsksWatch, WatchBodyCause};
+ghost use Rattle.bodies.specs.inside.Parts.{TextCause};
+ghost use Rattle.bodies.specs.inside.Forms.{IsNameList, IsOfNoWatch};
 ghost use Rattle.watch.specs.declared.watched.Namespaces.{Namespaces as AskedNamespaces};
 
 use crate::requests::{number_of, read_value, zookie_of};
@@ -30,9 +34,9 @@ fn read_name(value: &Value) -> Result<Name, Refusal>
 
 /// The names that values are, in their order.
 fn read_names(alloc: Global, items: &Vec<Value>) -> Result<Vec<Name>, Refusal>
-    ensures ok { IfOk result (λ names. AskNames (items_view items.now.items) names.items) }
+    ensures ok { IfOk result (λ names. AllZip AsksName (map view items.now.items) names.items) }
     ensures err { IfErr result (ReadCause
-        ((names : List (List ℕ)) → ¬ (AskNames (items_view items.now.items) names))) }
+        ((names : List (List ℕ)) → ¬ (AllZip AsksName (map view items.now.items) names))) }
 {
     let mut names = Vec::new(alloc);
     for item in items {
@@ -44,9 +48,9 @@ fn read_names(alloc: Global, items: &Vec<Value>) -> Result<Vec<Name>, Refusal>
 
 /// The list of names that a value is.
 fn name_list(alloc: Global, value: &Value) -> Result<Items<Name>, Refusal>
-    ensures ok { IfOk result (λ names. IsNameList (view value.now) names) }
+    ensures ok { IfOk result (λ names. IsNameList names (view value.now)) }
     ensures err { IfErr result
-        (ReadCause ((names : List (List ℕ)) → ¬ (IsNameList (view value.now) names))) }
+        (ReadCause ((names : List (List ℕ)) → ¬ (IsNameList names (view value.now)))) }
 {
     let Some(items) = value.as_array() else {
         return Err(Refusal::Malformed);
@@ -75,7 +79,7 @@ fn namespaces_of(alloc: Global, value: &Value) -> Result<Namespaces, Refusal>
 
 /// The namespaces that a value asks to watch, and for how many commits.
 fn watch_of(alloc: Global, value: &Value) -> Result<(Namespaces, u32), Refusal>
-    ensures ok { IfOk result (λ asked. WatchOf (view value.now) asked.0 asked.1) }
+    ensures ok { IfOk result (λ asked. (cursor : AskedZookie) → WatchOf IsAnyText (view value.now) cursor asked.0 asked.1) }
     ensures err { IfErr result (ReadCause (IsOfNoWatch (view value.now))) }
 {
     if !has_only_members(value, ["commits", "cursor", "namespaces"].as_slice()) {
@@ -94,8 +98,8 @@ fn watch_of(alloc: Global, value: &Value) -> Result<(Namespaces, u32), Refusal>
 
 /// The zookie that the cursor is.
 fn cursor_of(value: &Value) -> Result<Zookie, Refusal>
-    ensures ok { IfOk result (λ z. IsZookieText (text_in (codes "cursor") (view value.now)) z) }
-    ensures err { IfErr result (CursorCause (text_in (codes "cursor") (view value.now))) }
+    ensures ok { IfOk result (λ z. IsSomeAnd (text_in (codes "cursor") (view value.now)) (λ text. IsZookieOf text z)) }
+    ensures err { IfErr result (TextCause (text_in (codes "cursor") (view value.now))) }
 {
     match text_at(value, "cursor") {
         None => Err(Refusal::Malformed),

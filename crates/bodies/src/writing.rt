@@ -2,8 +2,10 @@
 ghost use Rattle.std.specs.Prelude.{◌≡◌, List, IfOk, IfErr};
 ghost use Rattle.serde_json.specs.View.{view};
 ghost use Rattle.names.specs.Refusals.{ReadCause};
-ghost use Rattle.bodies.specs.Writing.{OpsOf, AsksWrite, WriteBodyCause};
-ghost use Rattle.bodies.specs.inside.Conditions.{AsksWriteOf, WriteCause};
+ghost use Rattle.bodies.specs.Requests.{IsZookieOf};
+ghost use Rattle.bodies.specs.Writing.{WriteOf, AsksWrite, WriteBodyCause};
+ghost use Rattle.bodies.specs.inside.Parts.{OpsOf};
+ghost use Rattle.bodies.specs.inside.Conditions.{WriteCause};
 
 use crate::conditions::conditions_of;
 use crate::ops::read_ops;
@@ -32,7 +34,7 @@ fn ops_of(alloc: Global, value: &Value) -> Result<Items<Op>, Refusal>
 
 /// The operations and conditions that a value asks for.
 fn write_of(alloc: Global, value: &Value) -> Result<Write<Zookie>, Refusal>
-    ensures ok { IfOk result (AsksWriteOf (view value.now)) }
+    ensures ok { IfOk result (λ write. WriteOf IsZookieOf (view value.now) write) }
     ensures err { IfErr result (WriteCause (view value.now)) }
 {
     if !has_only_members(value, ["conditions", "ops"].as_slice()) {

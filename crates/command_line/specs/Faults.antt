@@ -33,8 +33,7 @@ IsFileFault _ = ⊥
 
 -- a store is refused where it cannot be opened, or memory is refused
 abbrev pub IsRunFault : Fault → Type 0
-IsRunFault CommandLine = ⊥
 IsRunFault (Refused why) = CannotOpen why
 IsRunFault CannotRead = Unit {0}
 IsRunFault CannotWrite = Unit {0}
-IsRunFault CannotListen = ⊥
+IsRunFault _ = ⊥

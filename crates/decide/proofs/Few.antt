@@ -16,9 +16,9 @@ use Rattle.meaning.proofs.TupleSets.{objects_total}
 use Rattle.versions.specs.Named.{objects_in, nodes_in}
 use Rattle.tuple_keys.specs.Named.{is_at, is_of, user_tuple}
 use Rattle.rows.proofs.Naming.{contains_kept, kept_contains, of_node, is_of_itself, named_object, object_named, named_node, node_named}
-use Rattle.decide.specs.declared.facts.Named.{Named}
-use Rattle.decide.specs.declared.facts.Read.{Read}
-use Rattle.decide.specs.declared.facts.Reads.{Reads}
+use Rattle.decide.specs.declared.reads.Named.{Named}
+use Rattle.decide.specs.declared.reads.Read.{Read}
+use Rattle.decide.specs.declared.reads.Reads.{Reads}
 use Rattle.decide.specs.inside.Reading.{AreNamed, IsRead, AreRead, IsReadAt}
 use Rattle.decide.specs.inside.Reads.{AreOwn}
 
@@ -37,24 +37,24 @@ read_more S old now o r more object before few named q at = ⊎_elim
     }))
     (Contains-push_cases old r q (subst (λ rs. Contains rs q) more at))
 
--- what was read at the object's place has its tuples
-pub read_held : (S : Snap) (reads : Reads) (o : Object) (i : ℕ) (r : Read) (v : Vec Tuple Global) (ts : List Tuple) → AreRead S reads → IsReadAt reads o i → r ≡ get_or reads.read.items i r → r.few ≡ Some v → ts ≡ v.items
+-- what was read of the object has its tuples
+pub read_held : (S : Snap) (o : Object) (r : Read) (v : Vec Tuple Global) (ts : List Tuple) → IsRead S r × (r.object ≡ o) → r.few ≡ Some v → ts ≡ v.items
     → ts ≡ filter (is_at o) (set.items S.tuples)
-read_held S reads o i r v ts are (lt, at) is some items =
-    let object : r.object ≡ o = ap (λ (q : Read). q.object) is ∙ at r in
-    let all = (are r (i, lt, sym is)).few in
-    let read : v.items ≡ filter (is_at r.object) (set.items S.tuples) = subst (λ f. IfSome f (λ w. w.items ≡ filter (is_at r.object) (set.items S.tuples))) some all in
+read_held S o r v ts (all, object) some items =
+    let read : v.items ≡ filter (is_at r.object) (set.items S.tuples) = subst (λ f. IfSome f (λ w. w.items ≡ filter (is_at r.object) (set.items S.tuples))) some all.few in
     items ∙ read ∙ ap (λ p. filter (is_at p) (set.items S.tuples)) object
 
--- what was read at the object's place has what its tupleset names
-pub read_named : (S : Snap) (reads : Reads) (o : Object) (i : ℕ) (r : Read) (n : Named) (tupleset : List ℕ) (objects : List Object) → AreRead S reads → IsReadAt reads o i → r ≡ get_or reads.read.items i r → r.named ≡ Some n
+-- what was read of the object has what its tupleset names
+pub read_named : (S : Snap) (o : Object) (r : Read) (n : Named) (tupleset : List ℕ) (objects : List Object) → IsRead S r × (r.object ≡ o) → r.named ≡ Some n
     → n.tupleset ≡ tupleset → objects ≡ n.objects.items → AreNamed S o tupleset objects
-read_named S reads o i r n tupleset objects are (lt, at) is some same items =
-    let object : r.object ≡ o = ap (λ (q : Read). q.object) is ∙ at r in
-    let all = (are r (i, lt, sym is)).named in
-    let read : AreNamed S r.object n.tupleset n.objects.items = subst (λ f. IfSome f (λ m. AreNamed S r.object m.tupleset m.objects.items)) some all in
+read_named S o r n tupleset objects (all, object) some same items =
+    let read : AreNamed S r.object n.tupleset n.objects.items = subst (λ f. IfSome f (λ m. AreNamed S r.object m.tupleset m.objects.items)) some all.named in
     subst (AreNamed S o tupleset) (sym items)
     (subst (λ t. AreNamed S o t n.objects.items) same (subst (λ p. AreNamed S p n.tupleset n.objects.items) object read))
+
+-- what stands at the object's place was read of it
+pub read_at : (S : Snap) (reads : Reads) (o : Object) (i : ℕ) (r : Read) → AreRead S reads → IsReadAt reads o i → r ≡ get_or reads.read.items i r → IsRead S r × (r.object ≡ o)
+read_at S reads o i r are (lt, at) is = (are r (i, lt, sym is), ap (λ (q : Read). q.object) is ∙ at r)
 
 -- an object's tuples are all of those of its nodes
 pub held : (S : Snap) (o : Object) (ts : List Tuple) → ts ≡ filter (is_at o) (set.items S.tuples) → (t : Tuple) → t.node.object ≡ o → Contains ts t ↔ Contains (set.items S.tuples) t

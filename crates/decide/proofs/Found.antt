@@ -50,7 +50,7 @@ module _ (S : Snap) (a : Asking) where
   goes_trans s t v g h = record { asking = h.asking; grew = grew_trans s t v g.grew h.grew }
 
   pub goes_on : (s t : Search) → IsAsking S s a → Grew s t → IsRunning S a.user.now t (Some a.number) → GoesOn S s t a
-  goes_on s t h g run = record { asking = record { running = run; number = grew_number s t a.number a.node.now a.level g h.number }; grew = g }
+  goes_on s t h g run = record { asking = record { running = run; number = grew_number s t a.number a.node.now a.level g h.number; read = h.read }; grew = g }
 
   -- more was kept of the asker, or less
   pub goes_read : (s t : Search) → IsAsking S s a → Grew s t → (IsRunning S a.user.now s (Some a.number) → IsRunning S a.user.now t (Some a.number)) → GoesOn S s t a
@@ -210,10 +210,10 @@ module _ (S : Snap) (a : Asking) where
   union_found s parts false k end left unfinished = λ g. some_none S a.user.now a.node.now (IsLeft S s a) (Under S a.user.now a.level) parts k end (left refl s (grew_refl s) g)
 
   pub asking_subtracted : (s : Search) (b : Asking) → b ≡ record a { plain = false } → IsAsking S s a → IsAsking S s b
-  asking_subtracted s b e h = subst (IsAsking S s) (sym e) (record { running = h.running; number = h.number })
+  asking_subtracted s b e h = subst (IsAsking S s) (sym e) (record { running = h.running; number = h.number; read = h.read })
 
   pub asking_back : (s : Search) (b : Asking) → b ≡ record a { plain = false } → IsAsking S s b → IsAsking S s a
-  asking_back s b e h = let d : IsAsking S s (record a { plain = false }) = subst (IsAsking S s) e h in record { running = d.running; number = d.number }
+  asking_back s b e h = let d : IsAsking S s (record a { plain = false }) = subst (IsAsking S s) e h in record { running = d.running; number = d.number; read = d.read }
 
   exclusion_of : (s : Search) (v w : Form) (f : Found) → Gives S a.user.now a.node.now v (Counts S a) (Under S a.user.now a.level) → Gave S s (record a { plain = false }) w f → Gave S s a (Exclusion v w) (opposite f)
   exclusion_of s v w found.Yes base less = λ g. g.1 less

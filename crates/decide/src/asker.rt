@@ -9,6 +9,7 @@ ghost use Rattle.decide.specs.inside.Running.{IsRunning};
 use crate::deciding::is_member;
 use crate::facts::Facts;
 use crate::oracle::Oracle;
+use crate::reads::Reads;
 use crate::search::Search;
 use names::{Node, Object, Refusal};
 use rows::View;
@@ -24,6 +25,7 @@ pub struct Asker<'a> {
     alloc: Global,
     view: &'a View<'a>,
     facts: Facts<'a>,
+    reads: Reads<'a>,
     known: Option<Known>,
 }
 
@@ -38,6 +40,7 @@ impl<'a> Model for Asker<'a> {
     ghost use Rattle.std.specs.Prelude.{◌≡◌, IfSome, None};
     ghost use Rattle.meaning.specs.Snap.{Snap};
     ghost use Rattle.meaning.specs.inside.Codes.{coded_snap};
+    ghost use Rattle.decide.specs.inside.Reading.{AreRead};
     ghost use Rattle.decide.specs.inside.Running.{IsRunning};
 
     ghost Value = { Snap };
@@ -47,7 +50,7 @@ impl<'a> Model for Asker<'a> {
     ghost view = { λ a. a.view.now };
 
     ghost invariant = { λ a.
-        (a.facts ≡ a.view.now) × IfSome a.known (λ k. IsRunning a.view.now k.user k.search None) };
+        (a.facts ≡ a.view.now) × AreRead a.view.now a.reads × IfSome a.known (λ k. IsRunning a.view.now k.user k.search None) };
 }
 
 impl<'a> Asker<'a> {
@@ -59,6 +62,7 @@ impl<'a> Asker<'a> {
             alloc,
             view,
             facts: Facts::of(alloc, view),
+            reads: Reads::none(alloc),
             known: None,
         }
     }
@@ -84,7 +88,8 @@ impl<'a> Asker<'a> {
         let level = self.facts.level_at(place);
         let mut known = self.take_known(user, level)?;
         let root = known.search.reach(node, level, place)?;
-        let answer = is_member(&mut self.facts, oracle, &mut known.search, user, root)?;
+        let (facts, reads) = (&self.facts, &mut self.reads);
+        let answer = is_member(facts, reads, oracle, &mut known.search, user, root)?;
         self.known = Some(known);
         Ok(answer)
     }
@@ -100,7 +105,7 @@ impl<'a> Asker<'a> {
         match self.known.take() {
             Some(known) if known.user == *user && known.search.has_room_for(level) => Ok(known),
             _ => {
-                self.facts = Facts::of(self.alloc, self.view);
+                self.reads = Reads::none(self.alloc);
                 let search = Search::new(self.alloc, level)?;
                 let user = user.again();
                 Ok(Known { user, search })

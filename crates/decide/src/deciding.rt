@@ -12,11 +12,13 @@ ghost use Rattle.decide.specs.inside.Ending.{Turned, progress};
 ghost use Rattle.decide.specs.declared.search.Opened.{Opened};
 ghost use Rattle.decide.specs.inside.Running.{IsRunning};
 ghost use Rattle.decide.specs.inside.Asked.{IsAsking};
+ghost use Rattle.decide.specs.inside.Reading.{AreRead};
 
 use crate::asker::Asker;
 use crate::asking::{Asking, Found};
 use crate::facts::Facts;
 use crate::oracle::Oracle;
+use crate::reads::Reads;
 use crate::rewrites::relation_gives;
 use crate::search::Search;
 use names::{Node, Object, Refusal};
@@ -43,24 +45,26 @@ pub fn check_at<O: Oracle>(
 }
 
 /// Whether the user is a member of the root.
-pub(crate) fn is_member<O: Oracle>(
-    facts: &mut Facts,
+pub(crate) fn is_member<'a, O: Oracle>(
+    facts: &Facts<'a>,
+    reads: &mut Reads<'a>,
     oracle: &mut O,
     search: &mut Search,
     user: &Object,
     root: usize,
 ) -> Result<bool, AllocError>
-    requires tells { O.tells oracle.old facts.old }
+    requires read { AreRead facts.now reads.old }
+    requires tells { O.tells oracle.old facts.now }
     requires root { root < length search.old.opened.items }
-    requires running { IsRunning facts.old user.now search.old None }
+    requires running { IsRunning facts.now user.now search.old None }
     ensures answer { IfOk result (λ b. (n : NodeValue) (k : ℕ) → IsNumberOf search.old root n k
-        → IsAnswer facts.old user.now n b) }
-    ensures facts { facts.new ≡ facts.old }
-    ensures running { OnOk result (IsRunning facts.old user.now search.new None) }
-    ensures tells { OnOk result (O.tells oracle.new facts.old) }
+        → IsAnswer facts.now user.now n b) }
+    ensures read { AreRead facts.now reads.new }
+    ensures running { OnOk result (IsRunning facts.now user.now search.new None) }
+    ensures tells { OnOk result (O.tells oracle.new facts.now) }
 {
     'rounds: loop {
-        match round(facts, oracle, search, user, root)? {
+        match round(facts, reads, oracle, search, user, root)? {
             Some(answer) => return Ok(answer),
             None => {}
         }
@@ -69,24 +73,26 @@ pub(crate) fn is_member<O: Oracle>(
 
 /// Looks at nodes until it is known whether the root has the user, or else until a node more was opened or has the user.
 /// Each turn looks at one node.
-fn round<O: Oracle>(
-    facts: &mut Facts,
+fn round<'a, O: Oracle>(
+    facts: &Facts<'a>,
+    reads: &mut Reads<'a>,
     oracle: &mut O,
     search: &mut Search,
     user: &Object,
     root: usize,
 ) -> Result<Option<bool>, AllocError>
-    requires tells { O.tells oracle.old facts.old }
+    requires read { AreRead facts.now reads.old }
+    requires tells { O.tells oracle.old facts.now }
     requires root { root < length search.old.opened.items }
-    requires running { IsRunning facts.old user.now search.old None }
+    requires running { IsRunning facts.now user.now search.old None }
     ensures answer { IfOk result (λ o. IfSome o (λ b. (n : NodeValue) (k : ℕ) → IsNumberOf search.old root n k
-        → IsAnswer facts.new user.now n b)) }
+        → IsAnswer facts.now user.now n b)) }
     ensures more { IfOk result (λ o. IfNone o (progress search.old < progress search.new)) }
-    ensures facts { facts.new ≡ facts.old }
-    ensures running { OnOk result (IsRunning facts.new user.now search.new None) }
+    ensures read { AreRead facts.now reads.new }
+    ensures running { OnOk result (IsRunning facts.now user.now search.new None) }
     ensures numbers { OnOk result
         ((i k : ℕ) (n : NodeValue) → IsNumberOf search.old i n k → IsNumberOf search.new i n k) }
-    ensures tells { OnOk result (O.tells oracle.new facts.new) }
+    ensures tells { OnOk result (O.tells oracle.new facts.now) }
     ensures small { OnOk result (progress search.old < 2 ^ 65) }
 {
     let opened = search.len();
@@ -97,7 +103,7 @@ fn round<O: Oracle>(
         match search.next() {
             None => return Ok(Some(search.is_sure(root))),
             Some(number) => {
-                let gave = look(facts, oracle, search, user, number)?;
+                let gave = look(facts, reads, oracle, search, user, number)?;
                 if gave || search.len() > opened {
                     return Ok(None);
                 }
@@ -107,23 +113,25 @@ fn round<O: Oracle>(
 }
 
 /// Looks at a node, and says whether it has the user now and had not: the oracle is asked first.
-fn look<O: Oracle>(
-    facts: &mut Facts,
+fn look<'a, O: Oracle>(
+    facts: &Facts<'a>,
+    reads: &mut Reads<'a>,
     oracle: &mut O,
     search: &mut Search,
     user: &Object,
     number: usize,
 ) -> Result<bool, AllocError>
-    requires tells { O.tells oracle.old facts.old }
+    requires read { AreRead facts.now reads.old }
+    requires tells { O.tells oracle.old facts.now }
     requires number { number < length search.old.opened.items }
-    requires running { IsRunning facts.old user.now search.old (Some number) }
+    requires running { IsRunning facts.now user.now search.old (Some number) }
     requires lowest { IsLowest search.old number }
     ensures turned { IfOk result (Turned search.old search.new) }
-    ensures facts { facts.new ≡ facts.old }
-    ensures running { OnOk result (IsRunning facts.new user.now search.new None) }
+    ensures read { AreRead facts.now reads.new }
+    ensures running { OnOk result (IsRunning facts.now user.now search.new None) }
     ensures numbers { OnOk result
         ((i k : ℕ) (n : NodeValue) → IsNumberOf search.old i n k → IsNumberOf search.new i n k) }
-    ensures tells { O.tells oracle.new facts.new }
+    ensures tells { O.tells oracle.new facts.now }
 {
     if search.is_sure(number) {
         return Ok(false);
@@ -137,31 +145,31 @@ fn look<O: Oracle>(
         }
         Some(false) => Ok(false),
         None => {
-            let asking = Asking {
-                number,
-                node: &node,
-                level,
-                user,
-                plain: true,
-            };
-            step(facts, search, &asking)
+            let asking = Asking::of(number, &node, level, user);
+            step(facts, reads, search, &asking)
         }
     }
 }
 
 /// Looks at what the node's rewrite gives, and says whether that is the user.
-fn step(facts: &mut Facts, search: &mut Search, asking: &Asking) -> Result<bool, AllocError>
-    requires asking { IsAsking facts.old search.old asking.now }
+fn step<'a>(
+    facts: &Facts<'a>,
+    reads: &mut Reads<'a>,
+    search: &mut Search,
+    asking: &Asking,
+) -> Result<bool, AllocError>
+    requires read { AreRead facts.now reads.old }
+    requires asking { IsAsking facts.now search.old asking.now }
     requires plain { asking.now.plain ≡ true }
     requires lowest { IsLowest search.old asking.now.number }
     requires unsure { (e : Opened) → Stands search.old asking.now.number e → e.sure ≡ false }
     ensures turned { IfOk result (Turned search.old search.new) }
-    ensures facts { facts.new ≡ facts.old }
-    ensures running { OnOk result (IsRunning facts.new asking.now.user.now search.new None) }
+    ensures read { AreRead facts.now reads.new }
+    ensures running { OnOk result (IsRunning facts.now asking.now.user.now search.new None) }
     ensures numbers { OnOk result
         ((i k : ℕ) (n : NodeValue) → IsNumberOf search.old i n k → IsNumberOf search.new i n k) }
 {
-    match relation_gives(facts, search, asking)? {
+    match relation_gives(facts, reads, search, asking)? {
         Found::Yes => {
             search.give(asking.number)?;
             Ok(true)

@@ -13,6 +13,7 @@ mod law;
 mod numbers;
 mod oracle;
 mod read_tuple;
+mod reads;
 mod rewrites;
 mod search;
 mod waiting;

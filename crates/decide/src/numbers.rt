@@ -1,7 +1,7 @@
 //! Numbers, found by a hash of texts.
 ghost use Rattle.std.specs.Prelude.{◌≡◌, ◌<◌, ◌≤◌, ◌+◌, IfOk, OnOk, length};
 
-use names::{Node, Object};
+use names::{Name, Node, Object};
 use std::alloc::{AllocError, Global};
 
 /// So many slots a table has at first.
@@ -110,9 +110,9 @@ fn put(slots: &mut Vec<Entry>, entry: Entry)
     slots[at] = entry;
 }
 
-/// The key of a node, unless another node has it.
-pub(crate) fn key_of(node: &Node) -> u64 {
-    mixed(key_of_object(&node.object), node.relation.as_str())
+/// The key of the object's node of the relation, unless another node has it.
+pub(crate) fn key_of(object: &Object, relation: &Name) -> u64 {
+    mixed(key_of_object(object), relation.as_str())
 }
 
 /// The key of an object, unless another object has it.

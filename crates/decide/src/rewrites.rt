@@ -9,10 +9,12 @@ ghost use Rattle.config_text.specs.Forms.{form_of, rewrite_forms};
 ghost use Rattle.decide.specs.inside.Asked.{IsAsking, IsCounted, IsLeft, GoesOn};
 ghost use Rattle.decide.specs.inside.Running.{IsRunning};
 ghost use Rattle.decide.specs.inside.Reads.{AreOwn, AreNodesOf, node_with};
+ghost use Rattle.decide.specs.inside.Reading.{AreRead};
 ghost use Rattle.decide.specs.inside.Given.{Gave, BaseGives, HasNode, HasSome, RelationGave, opposite, no_or_later};
 
 use crate::asking::{Asking, Found};
 use crate::facts::{Facts, node_of};
+use crate::reads::{Reads, named_in};
 use crate::search::{Parents, Search};
 use config_text::Rewrite;
 use names::{Name, Node, Object};
@@ -30,20 +32,22 @@ fn place_of(facts: &Facts, search: &Search, node: &Node) -> Option<usize>
     }
 }
 
-/// The number of the node, where it counts. It is opened if it was not.
+/// The number of the object's node of the relation, where it counts. It is opened if it was not.
 fn number_of(
     facts: &Facts,
     search: &mut Search,
     asking: &Asking,
-    node: &Node,
+    object: &Object,
+    relation: &Name,
 ) -> Result<Option<usize>, AllocError>
     requires asking { IsAsking facts.now search.old asking.now }
     ensures goes_on { OnOk result (GoesOn facts.now search.old search.new asking.now) }
-    ensures some { IfOk result (λ o. IfSome o (IsCounted facts.now search.new asking.now node.now)) }
+    ensures some { IfOk result (λ o. IfSome o
+        (IsCounted facts.now search.new asking.now (node_with relation.now object.now))) }
     ensures none { IfOk result (λ o. IfNone o
-        (IsLeft facts.now search.new asking.now node.now → ⊥)) }
+        (IsLeft facts.now search.new asking.now (node_with relation.now object.now) → ⊥)) }
 {
-    let key = match search.seen(node) {
+    let key = match search.seen(object, relation) {
         Ok(number) => {
             if search.level_of(number) >= asking.high() {
                 return Ok(None);
@@ -52,7 +56,8 @@ fn number_of(
         }
         Err(key) => key,
     };
-    let Some(place) = place_of(facts, search, node) else {
+    let node = node_of(object, relation);
+    let Some(place) = place_of(facts, search, &node) else {
         return Ok(None);
     };
     let level = facts.level_at(place);
@@ -63,18 +68,19 @@ fn number_of(
     Ok(Some(number))
 }
 
-/// Whether the node counts and has the user. Where that is not known, the asker waits for it.
+/// Whether the object's node of the relation counts and has the user. Where that is not known, the asker waits for it.
 fn asked(
     facts: &Facts,
     search: &mut Search,
     asking: &Asking,
-    node: &Node,
+    object: &Object,
+    relation: &Name,
 ) -> Result<Found, AllocError>
     requires asking { IsAsking facts.now search.old asking.now }
     ensures goes_on { OnOk result (GoesOn facts.now search.old search.new asking.now) }
-    ensures found { IfOk result (HasNode facts.now search.new asking.now node.now) }
+    ensures found { IfOk result (HasNode facts.now search.new asking.now (node_with relation.now object.now)) }
 {
-    let Some(number) = number_of(facts, search, asking, node)? else {
+    let Some(number) = number_of(facts, search, asking, object, relation)? else {
         return Ok(Found::No);
     };
     if search.is_sure(number) {
@@ -105,7 +111,7 @@ fn some_asked(
 {
     let mut later = false;
     for node in nodes {
-        match asked(facts, search, asking, node)? {
+        match asked(facts, search, asking, &node.object, &node.relation)? {
             Found::Yes => return Ok(Found::Yes),
             Found::No => {}
             Found::Later => later = true,
@@ -136,7 +142,7 @@ fn own_of(
     if let Some(sets) = search.take_own(asking.number) {
         return Ok(Some(sets));
     }
-    let sets = facts.own_of(asking.node, asking.user)?;
+    let sets = facts.own_of(asking.read, asking.node, asking.user)?;
     Ok(sets)
 }
 
@@ -166,8 +172,7 @@ fn computed(
     ensures found { IfOk result
         (Gave facts.now search.new asking.now (Computed relation.now)) }
 {
-    let other = node_of(&asking.node.object, relation);
-    let found = asked(facts, search, asking, &other)?;
+    let found = asked(facts, search, asking, &asking.node.object, relation)?;
     Ok(found)
 }
 
@@ -190,7 +195,7 @@ fn parents_of(
             return Ok(kept.nodes);
         }
     }
-    let nodes = facts.parents_of(asking.node, tupleset, relation)?;
+    let nodes = facts.parents_of(asking.read, asking.node, tupleset, relation)?;
     Ok(nodes)
 }
 
@@ -209,8 +214,7 @@ fn some_of(
 {
     let mut later = false;
     for object in objects {
-        let node = node_of(object, relation);
-        match asked(facts, search, asking, &node)? {
+        match asked(facts, search, asking, object, relation)? {
             Found::Yes => return Ok(Found::Yes),
             Found::No => {}
             Found::Later => later = true,
@@ -232,7 +236,7 @@ fn through(
     ensures found { IfOk result (Gave facts.now search.new asking.now
         (TupleTo tupleset.now relation.now)) }
 {
-    if let Some(objects) = facts.known_objects(&asking.node.object, tupleset) {
+    if let Some(objects) = named_in(asking.read, tupleset) {
         let found = some_of(facts, search, asking, objects, relation)?;
         return Ok(found);
     }
@@ -377,19 +381,29 @@ fn each_gives(
 }
 
 /// Whether the rewrite of the node's own relation gives it the user.
-pub(crate) fn relation_gives(
-    facts: &mut Facts,
+pub(crate) fn relation_gives<'a>(
+    facts: &Facts<'a>,
+    reads: &mut Reads<'a>,
     search: &mut Search,
     asking: &Asking,
 ) -> Result<Found, AllocError>
-    requires asking { IsAsking facts.old search.old asking.now }
-    ensures facts { facts.new ≡ facts.old }
-    ensures goes_on { OnOk result (GoesOn facts.new search.old search.new asking.now) }
-    ensures found { IfOk result (RelationGave facts.new search.new asking.now) }
+    requires read { AreRead facts.now reads.old }
+    requires asking { IsAsking facts.now search.old asking.now }
+    ensures read { AreRead facts.now reads.new }
+    ensures goes_on { OnOk result (GoesOn facts.now search.old search.new asking.now) }
+    ensures found { IfOk result (RelationGave facts.now search.new asking.now) }
 {
     let place = search.place_of(asking.number);
     let relation = &facts.config().relations()[place];
-    facts.read_for(&relation.rewrite, &asking.node.object)?;
-    let found = gives(facts, search, asking, &relation.rewrite)?;
+    let at = reads.read_for(facts, &relation.rewrite, &asking.node.object)?;
+    let reading = Asking {
+        number: asking.number,
+        node: asking.node,
+        level: asking.level,
+        user: asking.user,
+        plain: asking.plain,
+        read: reads.at(at),
+    };
+    let found = gives(facts, search, &reading, &relation.rewrite)?;
     Ok(found)
 }

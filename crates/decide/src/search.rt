@@ -4,18 +4,18 @@ ghost use Rattle.std.proofs.Common.{suc};
 ghost use Rattle.meaning.specs.Config.{IsAt, rel_of};
 ghost use Rattle.meaning.specs.Snap.{Snap};
 ghost use Rattle.config.specs.Places.{StandsAt};
-ghost use Rattle.names.specs.declared.object.Object.{Object};
+ghost use Rattle.names.specs.declared.object.Object.{Object as ObjectValue};
 ghost use Rattle.names.specs.declared.node.Node.{Node as NodeValue};
 ghost use Rattle.decide.specs.declared.search.Opened.{Opened};
 ghost use Rattle.decide.specs.inside.Under.{Under};
 ghost use Rattle.decide.specs.inside.Searches.{Stands, IsStacked, Waits, Grew, IsNodeAt, IsNumberOf, Opens, Pushes, IsThere, Wakes, IsFrame, AreFalling, IsLowest, sures};
 ghost use Rattle.decide.specs.inside.Ending.{IsUnfinished, left};
-ghost use Rattle.decide.specs.inside.Reads.{AreOwn, AreParents};
+ghost use Rattle.decide.specs.inside.Reads.{AreOwn, AreParents, node_with};
 ghost use Rattle.decide.specs.inside.Running.{IsRunning};
 
 use crate::numbers::{KINDS, Numbers, key_of, kind_of};
 use crate::waiting::{Askers, Waiting};
-use names::{Name, Node};
+use names::{Name, Node, Object};
 use std::alloc::{AllocError, Global};
 use std::mem::replace;
 
@@ -85,16 +85,16 @@ impl Search {
         })
     }
 
-    /// The number of a node that was opened, or else a key that is free for it.
-    pub(crate) fn seen(&self, node: &Node) -> Result<usize, u64>
-        ensures { IfOk result (IsNodeAt self.now node.now) }
+    /// The number of the object's node of the relation, where it was opened, or else a key that is free for it.
+    pub(crate) fn seen(&self, object: &Object, relation: &Name) -> Result<usize, u64>
+        ensures { IfOk result (IsNodeAt self.now (node_with relation.now object.now)) }
     {
-        let mut key = key_of(node);
+        let mut key = key_of(object, relation);
         'keys: for _ in 0..self.opened.len() {
             let Some(number) = self.numbers.get(key) else {
                 return Err(key);
             };
-            if self.is_number_of(number, node) {
+            if self.is_number_of(number, object, relation) {
                 return Ok(number);
             }
             key = key.wrapping_add(1);
@@ -102,16 +102,16 @@ impl Search {
         Err(key)
     }
 
-    fn is_number_of(&self, number: usize, node: &Node) -> bool
-        ensures { IsTrue result → IsNodeAt self.now node.now number }
+    fn is_number_of(&self, number: usize, object: &Object, relation: &Name) -> bool
+        ensures { IsTrue result → IsNodeAt self.now (node_with relation.now object.now) number }
     {
-        number < self.opened.len() && self.opened[number].node == *node
+        number < self.opened.len() && is_node(&self.opened[number].node, object, relation)
     }
 
     /// The place of the node's relation, where the node that was opened last for a relation of its kind has the
     /// same one.
     pub(crate) fn likely_place(&self, node: &Node) -> Option<usize>
-        ensures { IfSome result (λ p. (S : Snap) (u : Object) (but : Option ℕ) → IsRunning S u self.now but
+        ensures { IfSome result (λ p. (S : Snap) (u : ObjectValue) (but : Option ℕ) → IsRunning S u self.now but
             → StandsAt S.config (rel_of node.now) p) }
     {
         let number = self.likely[kind_of(node)];
@@ -127,17 +127,18 @@ impl Search {
     /// Opens the node, which is to be looked at, under a key that is free.
     pub(crate) fn open(
         &mut self,
-        node: &Node,
+        node: Node,
         level: usize,
         place: usize,
         key: u64,
     ) -> Result<usize, AllocError>
         requires { level < length self.old.stacks.items }
-        ensures { IfOk result (Opens self.old self.new node.now level place) }
+        ensures { IfOk result (Opens self.old self.new node level place) }
     {
         let number = self.opened.len();
+        let kind = kind_of(&node);
         self.opened.push(Opened {
-            node: node.again(),
+            node,
             level,
             place,
             sure: false,
@@ -149,7 +150,7 @@ impl Search {
         })?;
         self.numbers.insert(key, number)?;
         self.stacks[level].push(number)?;
-        self.likely[kind_of(node)] = number;
+        self.likely[kind] = number;
         Ok(number)
     }
 
@@ -163,12 +164,12 @@ impl Search {
         requires { level < length self.old.stacks.items }
         ensures there { IfOk result (λ i. i < length self.new.opened.items) }
         ensures number { IfOk result (λ i. (k : ℕ) × IsNumberOf self.new i node.now k) }
-        ensures running { OnOk result ((S : Snap) (u : Object) → IsAt S.config node.now level
+        ensures running { OnOk result ((S : Snap) (u : ObjectValue) → IsAt S.config node.now level
             → StandsAt S.config (rel_of node.now) place → IsRunning S u self.old None → IsRunning S u self.new None) }
     {
-        match self.seen(node) {
+        match self.seen(&node.object, &node.relation) {
             Ok(number) => Ok(number),
-            Err(key) => self.open(node, level, place, key),
+            Err(key) => self.open(node.again(), level, place, key),
         }
     }
 
@@ -219,9 +220,9 @@ impl Search {
     pub(crate) fn take_own(&mut self, number: usize) -> Option<Vec<Node>>
         requires { number < length self.old.opened.items }
         ensures grew { Grew self.old self.new }
-        ensures own { (S : Snap) (u : Object) (but : Option ℕ) → IsRunning S u self.old but
+        ensures own { (S : Snap) (u : ObjectValue) (but : Option ℕ) → IsRunning S u self.old but
             → IfSome result (λ v. (e : Opened) → Stands self.old number e → AreOwn S u e.node v.items) }
-        ensures running { (S : Snap) (u : Object) (but : Option ℕ)
+        ensures running { (S : Snap) (u : ObjectValue) (but : Option ℕ)
             → IsRunning S u self.old but → IsRunning S u self.new but }
     {
         self.opened[number].own.take()
@@ -231,7 +232,7 @@ impl Search {
     pub(crate) fn keep_own(&mut self, number: usize, own: Vec<Node>)
         requires { number < length self.old.opened.items }
         ensures grew { Grew self.old self.new }
-        ensures running { (S : Snap) (u : Object) (but : Option ℕ)
+        ensures running { (S : Snap) (u : ObjectValue) (but : Option ℕ)
             → ((e : Opened) → Stands self.old number e → AreOwn S u e.node own.items)
             → IsRunning S u self.old but → IsRunning S u self.new but }
     {
@@ -242,9 +243,9 @@ impl Search {
     pub(crate) fn take_parents(&mut self, number: usize) -> Option<Parents>
         requires { number < length self.old.opened.items }
         ensures grew { Grew self.old self.new }
-        ensures parents { (S : Snap) (u : Object) (but : Option ℕ) → IsRunning S u self.old but
+        ensures parents { (S : Snap) (u : ObjectValue) (but : Option ℕ) → IsRunning S u self.old but
             → IfSome result (λ p. (e : Opened) → Stands self.old number e → AreParents S e.node p) }
-        ensures running { (S : Snap) (u : Object) (but : Option ℕ)
+        ensures running { (S : Snap) (u : ObjectValue) (but : Option ℕ)
             → IsRunning S u self.old but → IsRunning S u self.new but }
     {
         self.opened[number].parents.take()
@@ -254,7 +255,7 @@ impl Search {
     pub(crate) fn keep_parents(&mut self, number: usize, parents: Parents)
         requires { number < length self.old.opened.items }
         ensures grew { Grew self.old self.new }
-        ensures running { (S : Snap) (u : Object) (but : Option ℕ)
+        ensures running { (S : Snap) (u : ObjectValue) (but : Option ℕ)
             → ((e : Opened) → Stands self.old number e → AreParents S e.node parents)
             → IsRunning S u self.old but → IsRunning S u self.new but }
     {
@@ -268,7 +269,7 @@ impl Search {
         ensures grew { OnOk result (Grew self.old self.new) }
         ensures waits { OnOk result ((e : Opened) → Stands self.old number e → e.sure ≡ false
             → Waits self.new e.node asker) }
-        ensures running { OnOk result ((S : Snap) (u : Object) (but : Option ℕ) → asker < length self.old.opened.items
+        ensures running { OnOk result ((S : Snap) (u : ObjectValue) (but : Option ℕ) → asker < length self.old.opened.items
             → IsRunning S u self.old but → IsRunning S u self.new but) }
     {
         if self.opened[number].waiting.items.contains(asker) {
@@ -328,7 +329,7 @@ impl Search {
             → (w < length self.old.opened.items) × IsThere self.old w }
         ensures numbers { OnOk result
             ((i k : ℕ) (n : NodeValue) → IsNumberOf self.old i n k → IsNumberOf self.new i n k) }
-        ensures running { OnOk result ((S : Snap) (u : Object)
+        ensures running { OnOk result ((S : Snap) (u : ObjectValue)
             → ((e : Opened) → Stands self.old number e → Under S u (suc e.level) e.node)
             → IsRunning S u self.old (Some number) → IsRunning S u self.new None) }
         ensures long { OnOk result (length self.new.opened.items ≡ length self.old.opened.items) }
@@ -353,7 +354,7 @@ impl Search {
         requires unfinished { IsUnfinished self.old level }
         ensures numbers { OnOk result
             ((i k : ℕ) (n : NodeValue) → IsNumberOf self.old i n k → IsNumberOf self.new i n k) }
-        ensures running { OnOk result ((S : Snap) (u : Object)
+        ensures running { OnOk result ((S : Snap) (u : ObjectValue)
             → IsRunning S u self.old (Some number) → IsRunning S u self.new None) }
         ensures opened { OnOk result (self.new.opened.items ≡ self.old.opened.items) }
         ensures ends { OnOk result (left self.new ≤ left self.old) }
@@ -393,10 +394,10 @@ impl Search {
     pub(crate) fn next(&mut self) -> Option<usize>
         ensures numbers { (i k : ℕ) (n : NodeValue) → IsNumberOf self.old i n k → IsNumberOf self.new i n k }
         ensures none { IfNone result ((l i : ℕ) → IsStacked self.new l i → ⊥) }
-        ensures same { IfNone result ((S : Snap) (u : Object) → IsRunning S u self.old None → IsRunning S u self.new None) }
-        ensures some { IfSome result (λ n. (S : Snap) (u : Object)
+        ensures same { IfNone result ((S : Snap) (u : ObjectValue) → IsRunning S u self.old None → IsRunning S u self.new None) }
+        ensures some { IfSome result (λ n. (S : Snap) (u : ObjectValue)
             → IsRunning S u self.old None → (n < length self.new.opened.items) × IsRunning S u self.new (Some n)) }
-        ensures lowest { IfSome result (λ n. (S : Snap) (u : Object) → IsRunning S u self.old None → IsLowest self.new n) }
+        ensures lowest { IfSome result (λ n. (S : Snap) (u : ObjectValue) → IsRunning S u self.old None → IsLowest self.new n) }
         ensures opened { self.new.opened.items ≡ self.old.opened.items }
         ensures ends { IfSome result (λ _. left self.new < left self.old) }
     {
@@ -437,6 +438,13 @@ fn empty_stacks(alloc: Global, level: usize) -> Result<Vec<Vec<usize>>, AllocErr
         stacks.push(Vec::new(alloc))?;
     }
     Ok(stacks)
+}
+
+/// Whether it is the object's node of the relation.
+fn is_node(node: &Node, object: &Object, relation: &Name) -> bool
+    ensures { IsTrue result → node.now ≡ node_with relation.now object.now }
+{
+    node.relation == *relation && node.object == *object
 }
 
 /// Whether the nodes have the same relation.

@@ -1,5 +1,5 @@
 //! Who waits for a node.
-ghost use Rattle.std.specs.Prelude.{◌≡◌, ◌<◌, ◌++◌, ◌∷◌, [], ℕ, List, Contains, IfNone, IsTrue, OnOk, length, slice_index};
+ghost use Rattle.std.specs.Prelude.{◌≡◌, ◌<◌, ◌++◌, ◌∷◌, [], ℕ, List, Contains, IfNone, IsTrue, None, OnOk, length, slice_index};
 ghost use Rattle.std.specs.Option.{option_to_list};
 
 use std::alloc::{AllocError, Global};
@@ -11,19 +11,20 @@ pub(crate) struct Waiting {
     pub(crate) items: Askers,
 }
 
-/// Numbers, in the order in which they came. Most often it is one, which takes no memory.
+/// Numbers, in the order in which they came. Most often these are one or two, which take no memory.
 #[derive(Drop)]
 pub(crate) struct Askers {
     first: Option<usize>,
+    second: Option<usize>,
     others: Vec<usize>,
 }
 
 impl Model for Askers {
     ghost Value = { List ℕ };
 
-    ghost view = { λ a. option_to_list a.first ++ a.others.items };
+    ghost view = { λ a. option_to_list a.first ++ option_to_list a.second ++ a.others.items };
 
-    ghost invariant = { λ a. IfNone a.first (a.others.items ≡ []) };
+    ghost invariant = { λ a. IfNone a.first (a.second ≡ None) × IfNone a.second (a.others.items ≡ []) };
 }
 
 impl Askers {
@@ -32,6 +33,7 @@ impl Askers {
     {
         Askers {
             first: None,
+            second: None,
             others: Vec::new(alloc),
         }
     }
@@ -39,18 +41,16 @@ impl Askers {
     pub(crate) fn contains(&self, number: usize) -> bool
         ensures { IsTrue result → Contains self.now number }
     {
-        match self.first {
-            Some(first) => first == number || self.others.contains(&number),
-            None => false,
-        }
+        is_it(self.first, number) || is_it(self.second, number) || self.others.contains(&number)
     }
 
     pub(crate) fn add(&mut self, number: usize) -> Result<(), AllocError>
         ensures { OnOk result (self.new ≡ self.old ++ number ∷ []) }
     {
-        match self.first {
-            Some(_) => self.others.push(number)?,
-            None => self.first = Some(number),
+        match (self.first, self.second) {
+            (None, _) => self.first = Some(number),
+            (_, None) => self.second = Some(number),
+            _ => self.others.push(number)?,
         }
         Ok(())
     }
@@ -58,9 +58,10 @@ impl Askers {
     pub(crate) fn len(&self) -> usize
         ensures { result ≡ length self.now }
     {
-        match self.first {
-            Some(_) => 1 + self.others.len(),
-            None => 0,
+        match (self.first, self.second) {
+            (None, _) => 0,
+            (_, None) => 1,
+            _ => 2 + self.others.len(),
         }
     }
 
@@ -74,9 +75,26 @@ impl Askers {
                 if i == 0 {
                     return first;
                 }
-                self.others[i - 1]
+                match self.second {
+                    Some(second) => {
+                        if i == 1 {
+                            return second;
+                        }
+                        self.others[i - 2]
+                    }
+                    None => unreachable!(),
+                }
             }
             None => unreachable!(),
         }
+    }
+}
+
+fn is_it(asker: Option<usize>, number: usize) -> bool
+    ensures { IsTrue result → Contains (option_to_list asker) number }
+{
+    match asker {
+        Some(asker) => asker == number,
+        None => false,
     }
 }

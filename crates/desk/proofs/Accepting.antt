@@ -75,14 +75,14 @@ module _ {T : Type 0} (g : Ghosts T) (old mid : Posts T) (more : ShowsMore old m
       → (why ≡ Reopen) × (old.failed ≡ true) → IfErr r (λ e. IsRefused g old made judged e mid)
   not_ready made judged r why was is =
       refused_exit (λ e. IsRefused g old made judged e mid) r why was
-      (subst (λ (e : Refusal). IsRefused g old made judged e mid) (sym is.0) (refused_early made judged Reopen (is.1, same.1 ∙ is.1, same.2, same.0)))
+      (subst (λ (e : Refusal). IsRefused g old made judged e mid) (sym is.0) (refused_early made judged Reopen (is.1, same)))
 
   module _ (works : old.failed ≡ false) where
     judged_cause : (judged : Refusal → Type 0) (why : Refusal) → ¬ (judged Reopen) → ¬ (judged StoreFault) → ¬ (judged Memory) → judged why → Refuses g old judged why mid
     judged_cause judged Reopen asks fails wants is = absurd (asks is)
     judged_cause judged StoreFault asks fails wants is = absurd (fails is)
     judged_cause judged Memory asks fails wants is = absurd (wants is)
-    judged_cause judged _ asks fails wants is = (works, same.1 ∙ works, same.2, same.0, is)
+    judged_cause judged _ asks fails wants is = (works, same, is)
 
     -- it was judged, and refused
     pub refused_judged : (made : TableChange → Type 0) (judged : Refusal → Type 0) (why : Refusal) → ¬ (judged Reopen) → ¬ (judged StoreFault) → ¬ (judged Memory) → judged why → IsRefused g old made judged why mid
@@ -145,17 +145,20 @@ module _ {T : Type 0} (g : Ghosts T) (old mid : Posts T) (more : ShowsMore old m
 
     -- too many commits at once
     pub too_many : (commits : ℕ) → MAX_CATCH_UP < commits → IsRefused g old IsNoChange (CatchUpJudged commits) Malformed mid
-    too_many commits many = refused_early IsNoChange (CatchUpJudged commits) Malformed (works, same.1 ∙ works, same.2, same.0, many)
+    too_many commits many = refused_early IsNoChange (CatchUpJudged commits) Malformed (works, same, many)
 
     module _ (new : Posts T) where
       posts_on : (step : Step) → PostsStep mid step new → PostsStep old step new
       posts_on step posts =
+          let is = posts.shows in
           record {
-            posted = posts.posted ∙ ap (λ (steps : List Step). steps ++ step ∷ []) more.posted;
-            book = posts.book ∙ more.book;
-            later = prefix_trans old.shown mid.shown new.shown more.later posts.later;
-            beginning = posts.beginning;
-            judged = posts.judged;
+            shows = record {
+              posted = is.posted ∙ ap (λ (steps : List Step). steps ++ step ∷ []) more.posted;
+              book = is.book ∙ more.book;
+              later = prefix_trans old.shown mid.shown new.shown more.later is.later;
+              beginning = is.beginning;
+              judged = is.judged;
+            };
             faults = posts.faults ∙ same.2;
           }
 
@@ -262,7 +265,7 @@ module _ {T : Type 0} (g : Ghosts T) (old mid : Posts T) (more : ShowsMore old m
       cause_on judged StoreFault memory cause =
           (works, cause.1, cause.2 ∙ ap one_more same.2, subst (λ (t : T). IsOpen (g.device t) → HasFailed (g.device t) (g.device new.tables)) same.0 cause.3, memory)
       cause_on judged Memory memory cause = (works, cause.1, cause.2 ∙ same.2, memory)
-      cause_on judged _ memory cause = absurd cause.4
+      cause_on judged _ memory cause = absurd cause.2
 
       leaves_on : (change : TableChange) → MayLeave g mid change new → MayLeave g old change new
       leaves_on change may =

@@ -10,8 +10,8 @@ use Rattle.names.specs.declared.refusal.Refusal.{Refusal}
 use Rattle.names.specs.declared.refusal.Refusal.TheVariants.{Malformed, UnknownRelation, TypeRefused, TwiceInOneWrite, ForeignZookie, Future, Expired, ConditionFailed, AlreadyThere, NotThere, Full, InUse, Memory, StoreFault, Reopen}
 use Rattle.meaning.specs.Verdict.{or_else, refused_if, at_place, first_from, is_in_range, is_unknown, is_untyped, is_twice, inserts_again, deletes_nothing, is_full, event_of}
 use Rattle.zookie.specs.declared.Zookie.{Zookie}
-use Rattle.rows.specs.Retained.{Retained, newest, newest_of}
-use Rattle.verdict.specs.Verdict.{verdict, condition_cause, are_few, is_foreign, is_future, is_expired, fails, RefusesWrite}
+use Rattle.rows.specs.Retained.{Retained, newest_of}
+use Rattle.verdict.specs.Verdict.{verdict, condition_cause, fails, RefusesWrite}
 use Rattle.shown.specs.Standing.{Standing}
 use Rattle.shown.specs.Raising.{floor_cause, RefusesFloor, RefusesMarking}
 
@@ -39,9 +39,9 @@ module _ (why : Refusal) (machine : is_of_machine why ≡ true) where
 
   no_condition : (r : Retained) (conditions : List (Condition Zookie)) → condition_cause r conditions ≡ Some why → ⊥
   no_condition r conditions =
-      neither _ _ (if_other ForeignZookie (list_any (is_foreign r.number) conditions) refl) (
-      neither _ _ (if_other Future (list_any (is_future (newest r)) conditions) refl) (
-      neither _ _ (if_other Expired (list_any (is_expired r.floor) conditions) refl)
+      neither _ _ (if_other ForeignZookie _ refl) (
+      neither _ _ (if_other Future _ refl) (
+      neither _ _ (if_other Expired _ refl)
       (place_other (λ i. ConditionFailed i) (first_from (fails r) 0 conditions) (λ i. refl))))
 
   no_verdict : (r : Retained) (write : Write Zookie) → verdict r write ≡ Some why → ⊥
@@ -49,7 +49,7 @@ module _ (why : Refusal) (machine : is_of_machine why ≡ true) where
       let n = newest_of r in
       let ops = write.ops in
       neither _ _ (if_other Malformed (not (is_in_range ops)) refl) (
-      neither _ _ (if_other Malformed (not (are_few write.conditions)) refl) (
+      neither _ _ (if_other Malformed _ refl) (
       neither _ _ (if_other UnknownRelation (list_any (is_unknown n.held.config) ops) refl) (
       neither _ _ (if_other TypeRefused (list_any (is_untyped n.held.config) ops) refl) (
       neither _ _ (if_other TwiceInOneWrite (is_twice ops) refl) (

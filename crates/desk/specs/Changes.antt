@@ -60,8 +60,7 @@ pub record IsStored {T : Type 0} (g : Ghosts T) (old new : Posts T) : Type 0 whe
   pub lasts : Lasts (g.device old.tables) (g.device new.tables)
 
 -- the write was accepted, and the commit of its operations is posted and stored, and the receipt tells of it
-pub record WriteAccepted {T : Type 0} (g : Ghosts T)
-    (old : Posts T) (write : Write Zookie) (receipt : ReceiptFacts) (new : Posts T) : Type 0 where
+pub record WriteAccepted {T : Type 0} (g : Ghosts T) (old : Posts T) (write : Write Zookie) (receipt : ReceiptFacts) (new : Posts T) : Type 0 where
   pub works : old.failed ≡ false
   pub accepted : AcceptsWrite (standing old.posted).kept write
   pub events : List Event
@@ -71,8 +70,7 @@ pub record WriteAccepted {T : Type 0} (g : Ghosts T)
   pub tells : Tells receipt new
 
 -- the configuration was accepted, and is posted and stored, and the receipt tells of it
-pub record ConfigAccepted {T : Type 0} (g : Ghosts T)
-    (old : Posts T) (config : Configured) (receipt : ReceiptFacts) (new : Posts T) : Type 0 where
+pub record ConfigAccepted {T : Type 0} (g : Ghosts T) (old : Posts T) (config : Configured) (receipt : ReceiptFacts) (new : Posts T) : Type 0 where
   pub works : old.failed ≡ false
   pub accepted : config_cause (newest_posted old) config ≡ Option.None
   pub posts : PostsStep old (CommitStep (Config config)) new
@@ -162,19 +160,15 @@ IsNoChange change = ⊥
 
 -- What is left may hold one history more than before: that of the posted steps with the change. As long as the tables have
 -- not failed, they hold that of the posted steps.
-pub record MayLeave {T : Type 0}
-    (g : Ghosts T) (old : Posts T) (change : TableChange) (new : Posts T) : Type 0 where
+pub record MayLeave {T : Type 0} (g : Ghosts T) (old : Posts T) (change : TableChange) (new : Posts T) : Type 0 where
   pub follows : CanChange (standing old.posted).kept change
-  pub adds : (rs : List Retained) → g.leaves old.tables rs
-      → g.leaves new.tables (changed (standing old.posted).kept change ∷ rs)
+  pub adds : (rs : List Retained) → g.leaves old.tables rs → g.leaves new.tables (changed (standing old.posted).kept change ∷ rs)
   pub holds : new.failed ≡ false → g.holds new.tables (standing old.posted).kept
 
 -- What is refused leaves the tables alone, or adds the one change that was asked for to what they may leave.
-pub data Touches {T : Type 0}
-    (g : Ghosts T) (old : Posts T) (made : TableChange → Type 0) (new : Posts T) : Type 0 where
+pub data Touches {T : Type 0} (g : Ghosts T) (old : Posts T) (made : TableChange → Type 0) (new : Posts T) : Type 0 where
   leaves_alone : new.tables ≡ old.tables → Touches g old made new
-  adds_one : (change : TableChange)
-      → made change → MayLeave g old change new → Touches g old made new
+  adds_one : (change : TableChange) → made change → MayLeave g old change new → Touches g old made new
 
 -- nothing speaks against the change
 abbrev pub IsUnopposed : (Refusal → Type 0) → Type 0
@@ -183,26 +177,17 @@ IsUnopposed judged = (why : Refusal) → ¬ (judged why)
 -- Why a change was refused, where `judged` says why it would be on the posted steps. After a fault every
 -- change asks to open the tables again. A fault is one only where the device failed meanwhile. Want of memory and a fault
 -- are told only of a change that nothing speaks against: to judge one takes no memory, and asks no tables.
-abbrev pub Refuses : {T : Type 0}
-    → Ghosts T → Posts T → (Refusal → Type 0) → Refusal → Posts T → Type 0
-Refuses g old judged Reopen new =
-    (old.failed ≡ true) × (new.failed ≡ true) × (new.faults ≡ old.faults)
-    × (new.tables ≡ old.tables)
+abbrev pub Refuses : {T : Type 0} → Ghosts T → Posts T → (Refusal → Type 0) → Refusal → Posts T → Type 0
+Refuses g old judged Reopen new = (old.failed ≡ true) × SameTables old new
 Refuses g old judged StoreFault new =
     (old.failed ≡ false) × (new.failed ≡ true) × (new.faults ≡ one_more old.faults)
-    × (IsOpen (g.device old.tables) → HasFailed (g.device old.tables) (g.device new.tables))
-    × IsUnopposed judged
-Refuses g old judged Memory new =
-    (old.failed ≡ false) × (new.failed ≡ false) × (new.faults ≡ old.faults) × IsUnopposed judged
-Refuses g old judged why new =
-    (old.failed ≡ false) × (new.failed ≡ false) × (new.faults ≡ old.faults)
-    × (new.tables ≡ old.tables) × judged why
+    × (IsOpen (g.device old.tables) → HasFailed (g.device old.tables) (g.device new.tables)) × IsUnopposed judged
+Refuses g old judged Memory new = (old.failed ≡ false) × (new.failed ≡ false) × (new.faults ≡ old.faults) × IsUnopposed judged
+Refuses g old judged why new = (old.failed ≡ false) × SameTables old new × judged why
 
 -- Nothing is posted, and this is why. What an earlier refusal may have left beside the posted steps' history is there no more,
 -- unless the tables have failed or were closed.
-pub record IsRefused {T : Type 0}
-    (g : Ghosts T) (old : Posts T) (made : TableChange → Type 0) (judged : Refusal → Type 0)
-    (why : Refusal) (new : Posts T) : Type 0 where
+pub record IsRefused {T : Type 0} (g : Ghosts T) (old : Posts T) (made : TableChange → Type 0) (judged : Refusal → Type 0) (why : Refusal) (new : Posts T) : Type 0 where
   pub shows : ShowsMore old new
   pub cause : Refuses g old judged why new
   pub touches : Touches g old made new

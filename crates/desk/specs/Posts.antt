@@ -75,8 +75,7 @@ FailsToLoad g given back =
 
 -- the tables are as they were
 abbrev pub SameTables : {T : Type 0} → Posts T → Posts T → Type 0
-SameTables old new =
-    (new.tables ≡ old.tables) × (new.failed ≡ old.failed) × (new.faults ≡ old.faults)
+SameTables old new = (new.tables ≡ old.tables) × (new.failed ≡ old.failed) × (new.faults ≡ old.faults)
 
 -- Nothing is posted, and no fewer steps are shown, as a beginning of the posted ones. All of them were judged.
 pub record ShowsMore {T : Type 0} (old new : Posts T) : Type 0 where
@@ -86,12 +85,7 @@ pub record ShowsMore {T : Type 0} (old new : Posts T) : Type 0 where
   pub beginning : IsPrefix new.shown new.posted
   pub judged : WereJudged new.posted new.shown
 
--- The step is posted behind the others, no fewer steps are shown, as a beginning of the posted ones, and the
--- tables did not fail. All of the steps were judged.
+-- The step is posted behind the others, then no fewer steps are shown, and the tables did not fail.
 pub record PostsStep {T : Type 0} (old : Posts T) (step : Step) (new : Posts T) : Type 0 where
-  pub posted : new.posted ≡ old.posted ++ step ∷ []
-  pub book : new.book ≡ old.book
-  pub later : IsPrefix old.shown new.shown
-  pub beginning : IsPrefix new.shown new.posted
-  pub judged : WereJudged new.posted new.shown
+  pub shows : ShowsMore (record old { posted = old.posted ++ step ∷ [] }) new
   pub faults : new.faults ≡ old.faults

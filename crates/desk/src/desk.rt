@@ -33,7 +33,7 @@ use crate::storing::{commit_change, floor_change, store};
 use config::Config;
 use names::limits::MAX_CATCH_UP;
 use names::{Commit, Marking, Part, Refusal, Write};
-use published::{Opened, Publication, Receipt, Session};
+use published::{Naming, Opened, Publication, Receipt, Session};
 use rows::{events_of, refuses_what_no_write_gives};
 use shown::{Question, Refused, Shown, Step, Told};
 use std::alloc::{AllocError, Global};
@@ -55,14 +55,14 @@ pub struct Posted {
 /// The tables, the standing of all posted steps, and what is published of them. A posted step waits as long
 /// as there is no memory to publish it.
 #[derive(Drop)]
-pub struct Desk<T: Tables + Drop, R: Wait + Drop> {
+pub struct Desk<T: Tables + Drop, J: Naming, R: Wait + Drop> {
     alloc: Global,
     tables: LatchedTables<T>,
     own: Shown,
-    publication: Publication<R>,
+    publication: Publication<J, R>,
 }
 
-impl<T: Tables + Drop, R: Wait + Drop> Model for Desk<T, R> {
+impl<T: Tables + Drop, J: Naming, R: Wait + Drop> Model for Desk<T, J, R> {
     ghost use Rattle.desk.specs.Posts.{Posts};
     ghost use Rattle.desk.specs.inside.DeskCodes.{coded_posts};
 
@@ -86,9 +86,15 @@ impl<T: Tables + Drop, R: Wait + Drop> Model for Desk<T, R> {
         IsSound T.Tables d.tables.failed d.tables.tables d.own d.publication };
 }
 
-impl<T: Tables + Drop, R: Wait + Drop> Desk<T, R> {
+impl<T: Tables + Drop, J: Naming, R: Wait + Drop> Desk<T, J, R> {
     /// A desk over tables, which shows what they hold. On a refusal the tables come back.
-    pub fn open(alloc: Global, rt: R, opened: Opened, tables: T) -> Result<Desk<T, R>, (Refusal, T)>
+    pub fn open(
+        alloc: Global,
+        rt: R,
+        opened: Opened,
+        tables: T,
+    ) -> Result<Desk<T, J, R>, (Refusal, T)>
+        requires { opened.book ≡ J.book }
         ensures posted { IfOk result (OpensWith T.Tables tables) }
         ensures shown { IfOk result (λ desk. desk.shown ≡ desk.posted) }
         ensures judged { IfOk result (λ desk. WereJudged desk.posted desk.shown) }
@@ -261,7 +267,7 @@ impl<T: Tables + Drop, R: Wait + Drop> Desk<T, R> {
 
     /// A session that knows what is shown now. It is refused exactly where all have been given out; the place of
     /// one that is dropped is not given out again.
-    pub fn session(&mut self) -> Result<Session, Refusal>
+    pub fn session(&mut self) -> Result<Session<J>, Refusal>
         ensures more { ShowsMore self.old self.new }
         ensures same { SameTables self.old self.new }
         ensures known { IfOk result (λ session. Begins (shown_by self.new) session) }
@@ -275,7 +281,7 @@ impl<T: Tables + Drop, R: Wait + Drop> Desk<T, R> {
     }
 
     /// Lets a session know what is shown now. The receipt names the newest shown revision.
-    pub fn refresh(&mut self, session: &mut Session) -> Receipt
+    pub fn refresh(&mut self, session: &mut Session<J>) -> Receipt
         requires { session.old.book ≡ self.old.book }
         ensures more { ShowsMore self.old self.new }
         ensures same { SameTables self.old self.new }

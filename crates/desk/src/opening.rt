@@ -4,19 +4,20 @@ ghost use Rattle.published.specs.declared.publication.TheConstants.{MAX_SESSIONS
 ghost use Rattle.published.specs.Judged.{WereJudged};
 ghost use Rattle.shown.specs.Standing.{nothing, standing, HasRoom};
 
-use published::{Opened, Publication};
+use published::{Naming, Opened, Publication};
 use shown::{Shown, Step};
 use std::alloc::{AllocError, Global};
 use std::sync::Wait;
 
 /// The state after the first step, and its publication.
-pub(crate) fn publish_first<R: Wait + Drop>(
+pub(crate) fn publish_first<J: Naming, R: Wait + Drop>(
     alloc: Global,
     rt: R,
     opened: Opened,
     first: Step,
-) -> Result<(Shown, Publication<R>), AllocError>
-    requires { HasRoom nothing first }
+) -> Result<(Shown, Publication<J, R>), AllocError>
+    requires named { opened.book ≡ J.book }
+    requires room { HasRoom nothing first }
     ensures own { IfOk result (λ begun. begun.0 ≡ standing (first ∷ [])) }
     ensures book { IfOk result (λ begun. begun.1.book ≡ opened.book) }
     ensures posted { IfOk result (λ begun. begun.1.posted ≡ first ∷ []) }

@@ -4,10 +4,11 @@ ghost use Rattle.std.specs.Prelude.{◌≡◌, true};
 use config::Config;
 use desk::{Desk, Posted};
 use names::{Items, Marking, Node, Object, Op, OpKind, Part, Refusal, State, Tuple, Write};
-use published::{Opened, Receipt, Session, StepPrefix};
+use published::{Naming, Opened, Receipt, Session, StepPrefix};
 use rows::Loaded;
 use shown::{Question, Told};
 use std::alloc::Global;
+use std::marker::Brand;
 use std::process::Abort;
 use std::sync::Wait;
 use std::test::*;
@@ -56,21 +57,24 @@ impl Tables for Broken {
 }
 
 // A desk over the tables.
-fn open<A: Abort, T: Tables + Drop, H: Wait + Drop>(
+fn open<A: Abort, T: Tables + Drop, J: Naming, H: Wait + Drop>(
     rt: &A,
     alloc: Global,
     handle: H,
+    opened: Opened,
     tables: T,
-) -> Desk<T, H> {
-    let Ok(desk) = Desk::open(alloc, handle, Opened::new(), tables) else {
+) -> Desk<T, J, H>
+    requires { opened.book ≡ J.book }
+{
+    let Ok(desk) = Desk::open(alloc, handle, opened, tables) else {
         panic!(rt; "no desk");
     };
     desk
 }
 
-fn configure<T: Tables + Drop, H: Wait + Drop>(
+fn configure<T: Tables + Drop, J: Naming, H: Wait + Drop>(
     alloc: Global,
-    desk: &mut Desk<T, H>,
+    desk: &mut Desk<T, J, H>,
 ) -> Result<Receipt, Refusal>
     ensures { desk.new.book ≡ desk.old.book }
 {
@@ -91,9 +95,9 @@ const OTHER: Zookie = Zookie { store: 9, rev: 0 };
 
 // Before the fault a catch-up of too many commits is malformed, and a floor of another store is foreign; after it every
 // change is refused with 23.
-fn is_closed_by_fault<T: Tables + Drop, H: Wait + Drop>(
+fn is_closed_by_fault<T: Tables + Drop, J: Naming, H: Wait + Drop>(
     alloc: Global,
-    desk: &mut Desk<T, H>,
+    desk: &mut Desk<T, J, H>,
 ) -> bool {
     let many = number_of(desk.catch_up(Part::Hot, 65_537));
     let foreign = number_of(desk.trim(OTHER));
@@ -105,7 +109,7 @@ fn is_closed_by_fault<T: Tables + Drop, H: Wait + Drop>(
     worked && desk.has_failed() && many == 1 && fault == 22 && next == 23 && kept
 }
 
-fn is_at_zero(session: &mut Session) -> bool {
+fn is_at_zero<J: Naming>(session: &mut Session<J>) -> bool {
     match session.state() {
         Ok(state) => state.newest == 0,
         Err(_) => false,
@@ -114,10 +118,10 @@ fn is_at_zero(session: &mut Session) -> bool {
 
 // Sessions go on: of the one that was given before the fault, and of one that is given after it, the newest
 // revision is 0.
-fn faults_close<A: Abort, T: Tables + Drop, H: Wait + Drop>(
+fn faults_close<A: Abort, T: Tables + Drop, J: Naming, H: Wait + Drop>(
     rt: &A,
     alloc: Global,
-    desk: &mut Desk<T, H>,
+    desk: &mut Desk<T, J, H>,
 ) {
     let mut session = desk.session().expect(rt, "a session");
     assert!(rt; is_closed_by_fault(alloc, desk));
@@ -125,17 +129,24 @@ fn faults_close<A: Abort, T: Tables + Drop, H: Wait + Drop>(
     assert!(rt; is_at_zero(&mut session) && is_at_zero(&mut other));
 }
 
-fn closes_once<A: Abort, H: Wait + Drop>(rt: &A, alloc: Global, handle: H) {
+fn closes_once<A: Abort, J: Naming, H: Wait + Drop>(
+    rt: &A,
+    alloc: Global,
+    handle: H,
+    opened: Opened,
+)
+    requires { opened.book ≡ J.book }
+{
     let inner = Listed::new(alloc, 7);
     let tables = Broken { inner, faults: 0 };
-    let mut desk = open(rt, alloc, handle, tables);
+    let mut desk = open::<A, Broken, J, H>(rt, alloc, handle, opened, tables);
     faults_close(rt, alloc, &mut desk);
     assert!(rt; desk.close().faults() == 1);
 }
 
 #[test]
 fn after_a_fault_changes_are_refused(rt: HostRuntime) {
-    closes_once(&rt, rt.alloc(), &rt);
+    closes_once::<_, Brand, _>(&rt, rt.alloc(), &rt, Opened::new());
 }
 
 fn insert_of(alloc: Global, text: &str) -> Result<Write<Zookie>, Refusal> {
@@ -156,7 +167,7 @@ fn has_steps(prefix: &StepPrefix, steps: u64) -> bool {
 }
 
 // Whether ann is a member of group a at revision 2, as the session is answered at the zookie.
-fn finds_ann(session: &mut Session, zookie: Zookie) -> Result<bool, Refusal> {
+fn finds_ann<J: Naming>(session: &mut Session<J>, zookie: Zookie) -> Result<bool, Refusal> {
     let node = Node::parse("group:a#member")?;
     let user = Object::parse("user:ann")?;
     match session.check(Consistency::AtLeast(zookie), node, user) {
@@ -166,10 +177,10 @@ fn finds_ann(session: &mut Session, zookie: Zookie) -> Result<bool, Refusal> {
 }
 
 // The opening, a configuration and a write are three steps.
-fn publishes<A: Abort, T: Tables + Drop, H: Wait + Drop>(
+fn publishes<A: Abort, T: Tables + Drop, J: Naming, H: Wait + Drop>(
     rt: &A,
     alloc: Global,
-    desk: &mut Desk<T, H>,
+    desk: &mut Desk<T, J, H>,
 ) {
     let write = insert_of(alloc, "group:a#member@user:ann").expect(rt, "a write");
     let first = configure(alloc, desk).expect(rt, "a configuration");
@@ -178,26 +189,30 @@ fn publishes<A: Abort, T: Tables + Drop, H: Wait + Drop>(
     assert!(rt; told && second.zookie() == Zookie { store: 7, rev: 2 } && desk.publish());
 }
 
-fn begins_empty<A: Abort, T: Tables + Drop, H: Wait + Drop>(
+fn begins_empty<A: Abort, T: Tables + Drop, J: Naming, H: Wait + Drop>(
     rt: &A,
     alloc: Global,
     handle: H,
+    opened: Opened,
     tables: T,
-) {
-    let mut desk = open(rt, alloc, handle, tables);
+)
+    requires { opened.book ≡ J.book }
+{
+    let mut desk = open::<A, T, J, H>(rt, alloc, handle, opened, tables);
     publishes(rt, alloc, &mut desk);
 }
 
 #[test]
 fn receipts_have_the_list_of_shown_steps(rt: HostRuntime) {
-    begins_empty(&rt, rt.alloc(), &rt, Listed::new(rt.alloc(), 7));
+    let tables = Listed::new(rt.alloc(), 7);
+    begins_empty::<_, _, Brand, _>(&rt, rt.alloc(), &rt, Opened::new(), tables);
 }
 
 // A session that learns the receipt of a write finds what was written.
-fn learns<A: Abort, T: Tables + Drop, H: Wait + Drop>(
+fn learns<A: Abort, T: Tables + Drop, J: Naming, H: Wait + Drop>(
     rt: &A,
     alloc: Global,
-    desk: &mut Desk<T, H>,
+    desk: &mut Desk<T, J, H>,
 ) {
     let write = insert_of(alloc, "group:a#member@user:ann").expect(rt, "a write");
     let mut session = desk.session().expect(rt, "a session");
@@ -220,7 +235,10 @@ fn knows_it(state: &State) -> bool {
 }
 
 // A session that was there before is refreshed once the index has taken one commit.
-fn refreshes<A: Abort, T: Tables + Drop, H: Wait + Drop>(rt: &A, desk: &mut Desk<T, H>) {
+fn refreshes<A: Abort, T: Tables + Drop, J: Naming, H: Wait + Drop>(
+    rt: &A,
+    desk: &mut Desk<T, J, H>,
+) {
     let mut session = desk.session().expect(rt, "a session");
     let taken = desk.catch_up(Part::Index, 1).expect(rt, "a cursor");
     let refreshed = desk.refresh(&mut session);
@@ -228,17 +246,20 @@ fn refreshes<A: Abort, T: Tables + Drop, H: Wait + Drop>(rt: &A, desk: &mut Desk
     assert!(rt; took_one(&taken) && is_told(&refreshed) && knows_it(&state));
 }
 
-fn is_at_two<T: Tables + Drop, H: Wait + Drop>(desk: &Desk<T, H>) -> bool {
+fn is_at_two<T: Tables + Drop, J: Naming, H: Wait + Drop>(desk: &Desk<T, J, H>) -> bool {
     desk.newest() == 2 && desk.number() == 7
 }
 
-fn sessions_learn<A: Abort, T: Tables + Drop, H: Wait + Drop>(
+fn sessions_learn<A: Abort, T: Tables + Drop, J: Naming, H: Wait + Drop>(
     rt: &A,
     alloc: Global,
     handle: H,
+    opened: Opened,
     tables: T,
-) {
-    let mut desk = open(rt, alloc, handle, tables);
+)
+    requires { opened.book ≡ J.book }
+{
+    let mut desk = open::<A, T, J, H>(rt, alloc, handle, opened, tables);
     learns(rt, alloc, &mut desk);
     refreshes(rt, &mut desk);
     assert!(rt; is_at_two(&desk));
@@ -246,12 +267,17 @@ fn sessions_learn<A: Abort, T: Tables + Drop, H: Wait + Drop>(
 
 #[test]
 fn sessions_know_what_they_are_told(rt: HostRuntime) {
-    sessions_learn(&rt, rt.alloc(), &rt, Listed::new(rt.alloc(), 7));
+    let tables = Listed::new(rt.alloc(), 7);
+    sessions_learn::<_, _, Brand, _>(&rt, rt.alloc(), &rt, Opened::new(), tables);
 }
 
 // A node is marked once however often it is asked for, one whose relation is not there is refused with 2, and a mark is taken
 // away.
-fn marks<A: Abort, T: Tables + Drop, H: Wait + Drop>(rt: &A, alloc: Global, desk: &mut Desk<T, H>) {
+fn marks<A: Abort, T: Tables + Drop, J: Naming, H: Wait + Drop>(
+    rt: &A,
+    alloc: Global,
+    desk: &mut Desk<T, J, H>,
+) {
     configure(alloc, desk).expect(rt, "a configuration");
     assert!(rt; marked(rt, desk, "group:a#member") == 1);
     assert!(rt; marked(rt, desk, "group:a#member") == 1);
@@ -263,9 +289,9 @@ fn marks<A: Abort, T: Tables + Drop, H: Wait + Drop>(rt: &A, alloc: Global, desk
 }
 
 // How many nodes are marked once this one is.
-fn marked<A: Abort, T: Tables + Drop, H: Wait + Drop>(
+fn marked<A: Abort, T: Tables + Drop, J: Naming, H: Wait + Drop>(
     rt: &A,
-    desk: &mut Desk<T, H>,
+    desk: &mut Desk<T, J, H>,
     node: &str,
 ) -> u64 {
     let node = Node::parse(node).expect(rt, "a node");
@@ -282,7 +308,10 @@ fn is_rebuilt(rebuilt: &Posted, told: &Told) -> bool {
 }
 
 // The base comes to the newest revision, and the index with it.
-fn rebuilds<A: Abort, T: Tables + Drop, H: Wait + Drop>(rt: &A, desk: &mut Desk<T, H>) {
+fn rebuilds<A: Abort, T: Tables + Drop, J: Naming, H: Wait + Drop>(
+    rt: &A,
+    desk: &mut Desk<T, J, H>,
+) {
     let rebuilt = desk.rebuild().expect(rt, "a base");
     let Ok(told) = desk.ask(&Question::State) else {
         panic!(rt; "no state");
@@ -290,18 +319,22 @@ fn rebuilds<A: Abort, T: Tables + Drop, H: Wait + Drop>(rt: &A, desk: &mut Desk<
     assert!(rt; is_rebuilt(&rebuilt, &told));
 }
 
-fn steps_without_tables<A: Abort, T: Tables + Drop, H: Wait + Drop>(
+fn steps_without_tables<A: Abort, T: Tables + Drop, J: Naming, H: Wait + Drop>(
     rt: &A,
     alloc: Global,
     handle: H,
+    opened: Opened,
     tables: T,
-) {
-    let mut desk = open(rt, alloc, handle, tables);
+)
+    requires { opened.book ≡ J.book }
+{
+    let mut desk = open::<A, T, J, H>(rt, alloc, handle, opened, tables);
     marks(rt, alloc, &mut desk);
     rebuilds(rt, &mut desk);
 }
 
 #[test]
 fn nodes_are_marked_and_the_base_is_made_anew(rt: HostRuntime) {
-    steps_without_tables(&rt, rt.alloc(), &rt, Listed::new(rt.alloc(), 7));
+    let tables = Listed::new(rt.alloc(), 7);
+    steps_without_tables::<_, _, Brand, _>(&rt, rt.alloc(), &rt, Opened::new(), tables);
 }

@@ -100,7 +100,7 @@ module _ {S R W : Type 0} (step : Step S) (remaining : R → Option (List ℕ)) 
     reads = reads_both remaining first.1 r0 r1 g.input p.more g.reads p.reads;
     waited = waited_later first count waits s r0 w0 g r1 p.more p.waited;
     goes = subst (λ (x : List ℕ). Goes step first.0 1 count (g.input ++ p.more) x g.text s) (sym p.holds) (goes_more step first.0 1 count g.input p.more waits g.text s g.goes);
-    wrote = took_kept _ _ _ _ g.wrote p.keeps;
+    wrote = took_kept first.2.taken w0.taken w1.taken g.text g.wrote p.keeps;
     reader_works = p.reader_works;
     writer_works = p.writer_works;
   }

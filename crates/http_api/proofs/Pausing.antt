@@ -40,7 +40,7 @@ pub took_nothing : (a b : Taken) → b ≡ a → Took a b []
 took_nothing a b k = took_kept a a b [] (took_none a) k
 
 pub no_text : (a b : Taken) → b ≡ a → WroteSome a b []
-no_text a b k = record { written = []; missing = []; parts = refl; took = took_nothing a b k }
+no_text a b k = ([], [], refl, took_nothing a b k)
 
 -- an input that stops there, of which nothing is to be written
 pub pause_ends : (input : List ℕ) (a b : Taken) (end : End) → IsPause end → NoRequest input [] end → b ≡ a → EndsSo input a b end

@@ -15,7 +15,7 @@ use Rattle.http_api.specs.inside.Settling.{IsSent, IsGivenUp, IsSettled}
 -- a text was written whole, and then there was a flush
 pub wrote_flushed : {T E : Type 0} (r : Result T E) (a b c : Taken) (text : List ℕ) → Took a b text → c ≡ b → Wrote r a c text
 wrote_flushed (Ok u) a b c text h k = took_kept a b c text h k
-wrote_flushed (Err e) a b c text h k = record { written = text; missing = []; parts = sym (append-nil text); took = took_kept a b c text h k }
+wrote_flushed (Err e) a b c text h k = (text, [], sym (append-nil text), took_kept a b c text h k)
 
 module _ {S W : Type 0} (step : Step S) (s t : S) (number : ℕ) (input rest : List ℕ) (old new : TrackedWriting W) where
   -- a reply was sent

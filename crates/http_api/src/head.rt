@@ -11,7 +11,7 @@ use httparse::Status;
 use httparse::spans::{HeaderSpan, RequestSpans, parse_request};
 
 /// What stands at the front of the bytes.
-pub enum Front {
+pub enum HeadRead {
     /// A head, whose parts lie so.
     Head(RequestSpans),
     /// The beginning of a head.
@@ -21,7 +21,7 @@ pub enum Front {
 }
 
 /// Looks for a head at the front of the bytes.
-pub fn find_head(bytes: &[u8], fields: &mut [HeaderSpan; MAX_FIELDS]) -> Front
+pub fn find_head(bytes: &[u8], fields: &mut [HeaderSpan; MAX_FIELDS]) -> HeadRead
     ensures head { IfHead result (λ spans. (h : RequestHead) × Begins bytes.now h (drop spans.len bytes.now) × IsRequestAt (take max_head bytes.now) fields.new spans h
         × IsRequestWithin (take max_head bytes.now) fields.new spans) }
     ensures unfinished { OnUnfinished result ((length bytes.now < max_head) × HasNoRequest bytes.now × MayGoOn bytes.now) }
@@ -29,19 +29,19 @@ pub fn find_head(bytes: &[u8], fields: &mut [HeaderSpan; MAX_FIELDS]) -> Front
 {
     let short = bytes.len() < MAX_HEAD;
     match parse_request(first_bytes(bytes), fields) {
-        Ok(Status::Complete(head)) => Front::Head(head),
+        Ok(Status::Complete(head)) => HeadRead::Head(head),
         Ok(Status::Partial) => {
             if short {
                 if may_go_on(bytes, fields) {
-                    Front::Unfinished
+                    HeadRead::Unfinished
                 } else {
-                    Front::Hopeless
+                    HeadRead::Hopeless
                 }
             } else {
-                Front::Hopeless
+                HeadRead::Hopeless
             }
         }
-        Err(_) => Front::Hopeless,
+        Err(_) => HeadRead::Hopeless,
     }
 }
 

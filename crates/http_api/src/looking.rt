@@ -9,7 +9,7 @@ ghost use Rattle.http_api.specs.Connection.{NoRequest};
 ghost use Rattle.http_api.specs.inside.Looking.{AsksFor, IfHeading, IfRefused, OnPartial, refusal_text, HasHeading, Waits};
 
 use crate::framing::{Framing, asks_to_close, framing_of};
-use crate::head::{Front, find_head, first_bytes};
+use crate::head::{HeadRead, find_head, first_bytes};
 use crate::limits::MAX_FIELDS;
 use crate::routing::call_of;
 use httparse::spans::{EMPTY_HEADER_SPAN, HeaderSpan, RequestSpans};
@@ -84,8 +84,8 @@ pub fn look(routes: &Router<Call>, bytes: &[u8]) -> Looked
 {
     let mut fields = [EMPTY_HEADER_SPAN; MAX_FIELDS];
     match find_head(bytes, &mut fields) {
-        Front::Head(spans) => what_it_asks(routes, first_bytes(bytes), spans, &fields),
-        Front::Unfinished => Looked::Partial,
-        Front::Hopeless => Looked::Refused(Refused::Malformed),
+        HeadRead::Head(spans) => what_it_asks(routes, first_bytes(bytes), spans, &fields),
+        HeadRead::Unfinished => Looked::Partial,
+        HeadRead::Hopeless => Looked::Refused(Refused::Malformed),
     }
 }

@@ -1,4 +1,8 @@
-pub mod Refreshing
-pub mod Answered
-pub mod Beginning
-pub mod Failing
+pub mod Crossing
+pub mod Doing
+pub mod Kept
+pub mod Shown
+pub mod NeverBack
+pub mod Ahead
+pub mod Told
+pub mod Changed

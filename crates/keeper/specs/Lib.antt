@@ -1,7 +1,6 @@
-pub mod Showing
-pub mod Beginning
+pub mod Deeds
+pub mod Kept
+pub mod Shown
 pub mod Questions
-pub mod Changes
-pub mod calls
-pub mod Rules
-pub mod Failing
+pub mod Fronts
+pub mod Coded

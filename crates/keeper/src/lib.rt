@@ -1,18 +1,14 @@
-//! Calls by bytes: what a desk and a session of it do for each, and what is answered.
+//! A desk under a lock, and one worker of many: it asks a session with no lock, and holds the desk for its changes alone.
 #![tactic(auto)]
 
-mod answer;
-mod answering_desk;
-mod asking;
-mod calls;
-mod changes;
+mod deeds;
+mod front;
 mod law;
+mod lock;
 mod questions;
 
-pub use answer::answer_on;
-pub use answering_desk::Answering;
-pub use asking::is_of_the_future;
-pub use calls::changing::change_on;
-pub use changes::{change_of, is_change, made_reply};
-pub use law::failed_desks_make_no_change;
-pub use questions::{question_of, told_reply};
+pub use deeds::{Deed, KeeperName, Place};
+pub use front::Front;
+pub use law::{what_is_shown_is_stored, what_was_shown_is_not_of_the_future};
+pub use lock::{ChangeAsked, Closed, Keeper, KeptDesk, Opening};
+pub use questions::{Asked, ask_again, ask_from};

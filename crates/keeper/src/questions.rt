@@ -1,101 +1,54 @@
-//! What the body of a call asks, and what a question is answered.
-ghost use Rattle.std.specs.Prelude.{◌≡◌, IfOk, IfErr, option_map};
+//! Questions by bytes, of a session alone: with no lock and no wait, by their type.
 ghost use Rattle.names.specs.Calls.{told};
-ghost use Rattle.zookie.specs.Text.{zookie_text};
-ghost use Rattle.bodies.specs.Replies.{SaysRefusalAt};
-ghost use Rattle.keeper.specs.Questions.{Asks, AsksNothing, SaysTold};
+ghost use Rattle.keeper.specs.Kept.{KnowsMore};
+ghost use Rattle.keeper.specs.Questions.{AgainTold, IsAsked};
 
-use bodies::grouping::{groups, groups_body};
-use bodies::looking::{lookup_body, objects};
-use bodies::pages::watched;
-use bodies::paging::{page, read_body};
-use bodies::refusals::{refusal, refusal_at};
-use bodies::replies::{answer, state};
-use bodies::requests::{check_body, expand_body};
-use bodies::trees::expanded;
-use bodies::watching::watch_body;
+use bodies::refusals::refusal;
+use calls::{is_of_the_future, question_of, told_reply};
 use names::{Call, Refusal, Reply};
-use shown::{Depth, Objects, Question, Refused, Told};
+use published::{Naming, Session};
+use shown::Question;
 use std::alloc::Global;
-use zookie::Zookie;
 
-/// What the body of a call asks. `BadZookie` comes only where all else is of the form; a call that changes something asks
-/// nothing, and is `Malformed`.
-pub fn question_of(alloc: Global, call: Call, body: &[u8]) -> Result<Question, Refusal>
-    ensures ok { IfOk result (Asks call body.now) }
-    ensures err { IfErr result (AsksNothing call body.now) }
+/// What a session makes of a call that asks: a reply, or a question of a revision that it does not know yet.
+#[derive(Drop)]
+pub enum Asked {
+    Told(Reply),
+    NotYet(Question),
+}
+
+/// Reads a question, and asks it. Where it is of a revision that the session does not know yet, it comes back, to be asked again
+/// once the session knows more.
+pub fn ask_from<J: Naming>(
+    alloc: Global,
+    session: &mut Session<J>,
+    call: Call,
+    body: &[u8],
+) -> Asked
+    ensures { IsAsked session.old call body.now result session.new }
 {
-    match call {
-        Call::Check => {
-            let (consistency, node, user) = check_body(alloc, body)?;
-            Ok(Question::Check(consistency, node, user))
+    let question = match question_of(alloc, call, body) {
+        Ok(question) => question,
+        Err(why) => return Asked::Told(refusal(alloc, &why)),
+    };
+    match session.ask(&question) {
+        Some((number, asked)) => {
+            if is_of_the_future(&asked) {
+                return Asked::NotYet(question);
+            }
+            Asked::Told(told_reply(alloc, number, &asked))
         }
-        Call::Expand => {
-            let (consistency, node, nodes) = expand_body(alloc, body)?;
-            Ok(Question::Expand(consistency, node, Depth { nodes }))
-        }
-        Call::Read => {
-            let (consistency, asked) = read_body(alloc, body)?;
-            Ok(Question::Read(consistency, asked))
-        }
-        Call::Lookup => {
-            let (consistency, asked) = lookup_body(alloc, body)?;
-            Ok(Question::Lookup(consistency, asked))
-        }
-        Call::Leopard => {
-            let (consistency, expr, limit) = groups_body(alloc, body)?;
-            Ok(Question::Groups(consistency, expr, limit))
-        }
-        Call::Watch => {
-            let (cursor, namespaces, commits) = watch_body(alloc, body)?;
-            Ok(Question::Watch(cursor, namespaces, commits))
-        }
-        Call::State => Ok(Question::State),
-        _ => Err(Refusal::Malformed),
+        None => Asked::Told(refusal(alloc, &Refusal::Reopen)),
     }
 }
 
-/// What a question is answered by a store with this number. A refusal names the revision that was chosen, if one was.
-pub fn told_reply(alloc: Global, store: u64, asked: &Result<Told, Refused>) -> Reply
-    ensures ok { IfOk asked.now (λ answer. SaysTold store answer (told result)) }
-    ensures err { IfErr asked.now (λ refused.
-        SaysRefusalAt (told result) refused.why (option_map (zookie_text store) refused.at)) }
+/// Asks a question, whatever its answer is.
+pub fn ask_again<J: Naming>(alloc: Global, session: &mut Session<J>, question: &Question) -> Reply
+    ensures told { AgainTold session.old session.new question.now (told result) }
+    ensures later { KnowsMore session.old session.new }
 {
-    match asked {
-        Ok(answer) => answer_reply(alloc, store, answer),
-        Err(refused) => match refused.at {
-            Some(rev) => refusal_at(alloc, &refused.why, &Zookie { store, rev }),
-            None => refusal(alloc, &refused.why),
-        },
-    }
-}
-
-fn answer_reply(alloc: Global, store: u64, asked: &Told) -> Reply
-    ensures { SaysTold store asked.now (told result) }
-{
-    match asked {
-        Told::Checked(found) => {
-            let rev = found.rev;
-            answer(alloc, found.value, &Zookie { store, rev })
-        }
-        Told::Expanded(found) => {
-            let rev = found.rev;
-            expanded(alloc, &found.value, &Zookie { store, rev })
-        }
-        Told::Found(found) => {
-            let rev = found.rev;
-            page(alloc, found.value.as_slice(), &Zookie { store, rev })
-        }
-        Told::Looked(found) => {
-            let rev = found.rev;
-            let Objects { namespace, ids } = &found.value;
-            objects(alloc, namespace, ids.as_slice(), &Zookie { store, rev })
-        }
-        Told::Grouped(found) => {
-            let rev = found.rev;
-            groups(alloc, found.value.as_slice(), &Zookie { store, rev })
-        }
-        Told::Watched(page) => watched(alloc, store, page),
-        Told::Numbers(numbers) => state(alloc, store, numbers),
+    match session.ask(question) {
+        Some((number, asked)) => told_reply(alloc, number, &asked),
+        None => refusal(alloc, &Refusal::Reopen),
     }
 }

@@ -36,18 +36,13 @@ answer_kept step t line text u h =
     answer_by step t _ _ _ _ text u (whole_when_fits MAX_BODY_LEN (body_of line)) two
 
 pub going_none : {S : Type 0} (step : Step S) (s : S) (held : Taken) → Going step s held [] (pending_of []) s held
-going_none step s held = record { paused = record { rest = []; text = []; fed = fed_none step s; wrote = took_none held }; pending_is = refl }
+going_none step s held = record { paused = ([], [], fed_none step s, took_none held); pending_is = refl }
 
 pub going_byte : {S : Type 0} (step : Step S) (s : S) (held : Taken) (input : List ℕ) (line : PendingLine) (t : S) (holds : Taken) (b : ℕ) (line_after : PendingLine)
     → Going step s held input line t holds → b ≢ 10 → line_after ≡ with_byte line b → Going step s held (input ++ b ∷ []) line_after t holds
 going_byte step s held input line t holds b line_after g n e = record {
-  paused = record {
-    rest = g.paused.rest ++ b ∷ [];
-    text = g.paused.text;
-    fed = fed_byte step s input g.paused.rest g.paused.text t b g.paused.fed n;
-    wrote = g.paused.wrote;
-  };
-  pending_is = e ∙ ap (λ k. with_byte k b) g.pending_is ∙ pending_more g.paused.rest b;
+  paused = (g.paused.0 ++ b ∷ [], g.paused.1, fed_byte step s input g.paused.0 g.paused.1 t b g.paused.2 n, g.paused.3);
+  pending_is = e ∙ ap (λ k. with_byte k b) g.pending_is ∙ pending_more g.paused.0 b;
 }
 
 short_from_fed : {S : Type 0} (step : Step S) (s : S) (held : Taken) (input rest text : List ℕ) (t : S) (holds : Taken)
@@ -58,7 +53,7 @@ answered_by : {S E : Type 0} (step : Step S) (r : Result (Unit {0}) E) (s : S) (
     → Took held holds text → Fed step s (input ++ 10 ∷ []) [] (text ++ more) u → Wrote r holds after more
     → MatchResult r (λ _. Going step s held (input ++ 10 ∷ []) (pending_of []) u after) (λ _. CutShort step s held (input ++ 10 ∷ []) u after)
 answered_by step (Ok x) s held input rest text holds after u more a f w =
-    record { paused = record { rest = []; text = text ++ more; fed = f; wrote = took_both held holds after text more a w }; pending_is = refl }
+    record { paused = ([], text ++ more, f, took_both held holds after text more a w); pending_is = refl }
 answered_by step (Err e) s held input rest text holds after u more a f w = short_from_fed step s held _ _ _ u after f (some_after held holds after text more a w)
 
 -- the line ends, and is answered
@@ -67,10 +62,10 @@ pub going_line : {S E : Type 0} (step : Step S) (r : Result (Unit {0}) E) (s : S
     → MatchResult r (λ _. Going step s held (input ++ 10 ∷ []) line_after u after) (λ _. CutShort step s held (input ++ 10 ∷ []) u after)
 going_line step r s held input line t holds after text u line_after g h w e =
     let P : PendingLine → Type 0 = λ k. AnswersPending step t k text u in
-    let a = answer_kept step t g.paused.rest text u (subst P g.pending_is h) in
-    let f = fed_line step s input g.paused.rest g.paused.text t text u g.paused.fed a in
+    let a = answer_kept step t g.paused.0 text u (subst P g.pending_is h) in
+    let f = fed_line step s input g.paused.0 g.paused.1 t text u g.paused.2 a in
     let Q : PendingLine → Type 0 = λ k. MatchResult r (λ _. Going step s held (input ++ 10 ∷ []) k u after) (λ _. CutShort step s held (input ++ 10 ∷ []) u after) in
-    subst Q (sym e) (answered_by step r s held input g.paused.rest g.paused.text holds after u text g.paused.wrote f w)
+    subst Q (sym e) (answered_by step r s held input g.paused.0 g.paused.1 holds after u text g.paused.3 f w)
 
 -- bytes that were not fed change nothing
 pub short_more : {S : Type 0} (step : Step S) (s : S) (held : Taken) (input : List ℕ) (t : S) (holds : Taken) (more : List ℕ)
@@ -106,19 +101,13 @@ going_all step s held input bytes i line t holds h g = let P : List ℕ → Type
 pub cut_from_short : {S : Type 0} (step : Step S) (s : S) (held : Taken) (input : List ℕ) (t : S) (holds : Taken) (reads : List OneRead) → CutShort step s held input t holds → Cut step s held reads input t holds
 cut_from_short step s held input t holds reads c =
     let first : take (length c.lines) (lines_of input) ≡ c.lines = rw (c.split, lines_of_fed c.lines c.more c.whole) (take-append_seam {A = List ℕ} c.lines (lines_of c.more)) in
-    record {
-      count = length c.lines;
-      text = c.text;
-      run = rw first c.run;
-      wrote = c.wrote;
-      whole = inl (c.more, c.split ∙ ap (λ (ls : List (List ℕ)). flat_map ended ls ++ c.more) (sym first));
-    }
+    (length c.lines, c.text, rw first c.run, c.wrote, inl (c.more, c.split ∙ ap (λ (ls : List (List ℕ)). flat_map ended ls ++ c.more) (sym first)))
 
 -- the read before the end gave nothing
 pub cut_from_end : {S : Type 0} (step : Step S) (s : S) (held : Taken) (input : List ℕ) (t : S) (holds : Taken) (before reads : List OneRead) (at : Taken) (gave : List ℕ)
     → reads ≡ with_read before at gave → gave ≡ [] → CutAtEnd step s held input t holds → Cut step s held reads input t holds
 cut_from_end step s held input t holds before reads at gave is none c =
-    record { count = c.count; text = c.text; run = c.run; wrote = c.wrote; whole = inr (before, record { held = at; gave = gave }, is, none) }
+    (c.count, c.text, c.run, c.wrote, inr (before, record { held = at; gave = gave }, is, none))
 
 lines_of_input : {S : Type 0} (step : Step S) (s : S) (input rest text : List ℕ) (t : S) (f : Fed step s input rest text t) → lines_of input ≡ f.lines ++ lines_of rest
 lines_of_input step s input rest text t f = rw f.split (lines_of_fed f.lines rest f.whole)
@@ -128,10 +117,10 @@ pub served_whole : {S : Type 0} (step : Step S) (s : S) (held : Taken) (input : 
     → Going step s held input line t holds → (not line.spaced && length line.word == 0) ≡ true → Served step s held input t holds
 served_whole step s held input line t holds g e =
     let P : PendingLine → Type 0 = λ k. (not k.spaced && length k.word == 0) ≡ true in
-    let none : g.paused.rest ≡ [] = empty_from_pending g.paused.rest (subst P g.pending_is e) in
-    let f = g.paused.fed in
-    let all : lines_of input ≡ f.lines = lines_of_input step s input g.paused.rest g.paused.text t f ∙ ap (λ z. f.lines ++ lines_of z) none ∙ append-nil f.lines in
-    record { text = g.paused.text; run = rw all f.run; wrote = g.paused.wrote }
+    let none : g.paused.0 ≡ [] = empty_from_pending g.paused.0 (subst P g.pending_is e) in
+    let f = g.paused.2 in
+    let all : lines_of input ≡ f.lines = lines_of_input step s input g.paused.0 g.paused.1 t f ∙ ap (λ z. f.lines ++ lines_of z) none ∙ append-nil f.lines in
+    (g.paused.1, rw all f.run, g.paused.3)
 
 last_line : (rest : List ℕ) → HasNoEnd rest → (not (pending_of rest).spaced && length (pending_of rest).word == 0) ≡ false → lines_of rest ≡ rest ∷ []
 last_line [] h e = absurd (true≢false e)
@@ -140,7 +129,7 @@ last_line (x ∷ rest) h e = lines_of_rest x rest h
 ended_by : {S E : Type 0} (step : Step S) (r : Result (Unit {0}) E) (s : S) (held : Taken) (input : List ℕ) (lines : List (List ℕ)) (text : List ℕ) (holds after : Taken) (more : List ℕ) (u : S)
     → lines_of input ≡ lines → Run step s lines (text ++ more) u → Took held holds text → Wrote r holds after more
     → MatchResult r (λ _. Served step s held input u after) (λ _. CutAtEnd step s held input u after)
-ended_by step (Ok x) s held input lines text holds after more u e ran a w = record { text = text ++ more; run = rw e ran; wrote = took_both held holds after text more a w }
+ended_by step (Ok x) s held input lines text holds after more u e ran a w = (text ++ more, rw e ran, took_both held holds after text more a w)
 ended_by step (Err x) s held input lines text holds after more u e ran a w =
     record { count = length lines; text = text ++ more; run = rw (e, take_all (length lines) lines (omega arith)) ran; wrote = some_after held holds after text more a w }
 
@@ -152,12 +141,12 @@ pub served_last : {S E : Type 0} (step : Step S) (r : Result (Unit {0}) E) (s : 
 served_last {S} {E} step r s held input line t holds after text u g e h w =
     let P : PendingLine → Type 0 = λ k. (not k.spaced && length k.word == 0) ≡ false in
     let Q : PendingLine → Type 0 = λ k. AnswersPending step t k text u in
-    let f = g.paused.fed in
-    let one : lines_of g.paused.rest ≡ g.paused.rest ∷ [] = last_line g.paused.rest f.partial (subst P g.pending_is e) in
-    let all : lines_of input ≡ f.lines ++ g.paused.rest ∷ [] = lines_of_input step s input g.paused.rest g.paused.text t f ∙ ap (λ z. f.lines ++ z) one in
-    let a = answer_kept step t g.paused.rest text u (subst Q g.pending_is h) in
-    let ran = run_more step f.lines s g.paused.text t g.paused.rest text u f.run a in
-    ended_by step r s held input (f.lines ++ g.paused.rest ∷ []) g.paused.text holds after text u all ran g.paused.wrote w
+    let f = g.paused.2 in
+    let one : lines_of g.paused.0 ≡ g.paused.0 ∷ [] = last_line g.paused.0 f.partial (subst P g.pending_is e) in
+    let all : lines_of input ≡ f.lines ++ g.paused.0 ∷ [] = lines_of_input step s input g.paused.0 g.paused.1 t f ∙ ap (λ z. f.lines ++ z) one in
+    let a = answer_kept step t g.paused.0 text u (subst Q g.pending_is h) in
+    let ran = run_more step f.lines s g.paused.1 t g.paused.0 text u f.run a in
+    ended_by step r s held input (f.lines ++ g.paused.0 ∷ []) g.paused.1 holds after text u all ran g.paused.3 w
 
 pub consumes_none : (known : Option (List ℕ)) → Consumes known known []
 consumes_none None = tt
@@ -183,31 +172,31 @@ match_at_err P Q (Err x) e h = h
 -- a flush changes nothing, or ends what was served
 pub served_keeps : {S : Type 0} (step : Step S) (s : S) (held : Taken) (input : List ℕ) (t : S) (holds after : Taken)
     → Served step s held input t holds → after ≡ holds → Served step s held input t after
-served_keeps step s held input t holds after v k = record { text = v.text; run = v.run; wrote = took_kept held holds after v.text v.wrote k }
+served_keeps step s held input t holds after v k = (v.0, v.1, took_kept held holds after v.0 v.2 k)
 
 pub going_keeps : {S : Type 0} (step : Step S) (s : S) (held : Taken) (input : List ℕ) (line : PendingLine) (t : S) (holds after : Taken)
     → Going step s held input line t holds → after ≡ holds → Going step s held input line t after
 going_keeps step s held input line t holds after g k = record {
-  paused = record { rest = g.paused.rest; text = g.paused.text; fed = g.paused.fed; wrote = took_kept held holds after g.paused.text g.paused.wrote k };
+  paused = (g.paused.0, g.paused.1, g.paused.2, took_kept held holds after g.paused.1 g.paused.3 k);
   pending_is = g.pending_is;
 }
 
 all_written : (held holds after : Taken) (text : List ℕ) → Took held holds text → after ≡ holds → WroteSome held after text
-all_written held holds after text a k = record { written = text; missing = []; parts = sym (append-nil text); took = took_kept held holds after text a k }
+all_written held holds after text a k = (text, [], sym (append-nil text), took_kept held holds after text a k)
 
 pub cut_from_served : {S : Type 0} (step : Step S) (s : S) (held : Taken) (input : List ℕ) (t : S) (holds after : Taken)
     → Served step s held input t holds → after ≡ holds → CutAtEnd step s held input t after
 cut_from_served step s held input t holds after v k = record {
   count = length (lines_of input);
-  text = v.text;
-  run = rw (take_all (length (lines_of input)) (lines_of input) (omega arith)) v.run;
-  wrote = all_written held holds after v.text v.wrote k;
+  text = v.0;
+  run = rw (take_all (length (lines_of input)) (lines_of input) (omega arith)) v.1;
+  wrote = all_written held holds after v.0 v.2 k;
 }
 
 pub cut_from_going : {S : Type 0} (step : Step S) (s : S) (held : Taken) (input : List ℕ) (line : PendingLine) (t : S) (holds after : Taken) (reads : List OneRead)
     → Going step s held input line t holds → after ≡ holds → Cut step s held reads input t after
 cut_from_going step s held input line t holds after reads g k =
-    cut_from_short step s held input t after reads (short_from_fed step s held input g.paused.rest g.paused.text t after g.paused.fed (all_written held holds after g.paused.text g.paused.wrote k))
+    cut_from_short step s held input t after reads (short_from_fed step s held input g.paused.0 g.paused.1 t after g.paused.2 (all_written held holds after g.paused.1 g.paused.3 k))
 
 pub served_flushed : {S E : Type 0} (step : Step S) (r : Result (Unit {0}) E) (s : S) (held : Taken) (input : List ℕ) (t : S) (holds after : Taken)
     → Served step s held input t holds → after ≡ holds → MatchResult r (λ _. Served step s held input t after) (λ _. CutAtEnd step s held input t after)

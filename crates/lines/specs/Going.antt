@@ -18,7 +18,7 @@ AnswersPending step s line text t = IsAnswer step s (nat_le (length line.body) M
 -- the lines that end in the input were answered, and this is what is pending of the line that it ends in
 pub record Going {S : Type 0} (step : Step S) (s : S) (held : Taken) (input : List ℕ) (line : PendingLine) (t : S) (holds : Taken) : Type 0 where
   pub paused : Paused step s held input t holds
-  pub pending_is : line ≡ pending_of paused.rest
+  pub pending_is : line ≡ pending_of paused.0
 
 -- some first lines that end in the input were answered, and a beginning of the answers written
 pub record CutShort {S : Type 0} (step : Step S) (s : S) (held : Taken) (input : List ℕ) (t : S) (holds : Taken) : Type 0 where

@@ -25,7 +25,7 @@ refusal_is why number name numbered named = ap (λ (n : ℕ). refusal_line n nam
 -- what was written stays where it is handed on
 pub handed_on : {T X : Type 0} (r : Result T X) (a b c : Taken) (xs : List ℕ) → Took a b xs → c ≡ b → Wrote r a c xs
 handed_on (Ok done) a b c xs h k = took_kept a b c xs h k
-handed_on (Err error) a b c xs h k = record { written = xs; missing = []; parts = sym (append-nil xs); took = took_kept a b c xs h k }
+handed_on (Err error) a b c xs h k = (xs, [], sym (append-nil xs), took_kept a b c xs h k)
 
 -- a first part was written, and then the next
 pub after : {T X : Type 0} (r : Result T X) (a b c : Taken) (xs ys : List ℕ) → Took a b xs → Wrote r b c ys → Wrote r a c (xs ++ ys)
@@ -34,4 +34,4 @@ after (Err error) a b c xs ys h k = some_after a b c xs ys h k
 
 -- some of it was, and nothing of the next
 pub some_then : (a b : Taken) (xs ys : List ℕ) → WroteSome a b xs → WroteSome a b (xs ++ ys)
-some_then a b xs ys s = record { written = s.written; missing = s.missing ++ ys; parts = ap (λ (z : List ℕ). z ++ ys) s.parts ∙ append_assoc s.written s.missing ys; took = s.took }
+some_then a b xs ys s = (s.0, s.1 ++ ys, ap (λ (z : List ℕ). z ++ ys) s.2 ∙ append_assoc s.0 s.1 ys, s.3)

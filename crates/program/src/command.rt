@@ -15,12 +15,14 @@ use crate::serving::{Offer, serve_at};
 use crate::telling::tell;
 use command_line::{Fault, Place, Task, read_file, report_of, task_of};
 use names::Refusal;
+use published::Opened;
 use runs::{Left, run, run_in};
 use sqlite::Start;
 use std::alloc::Global;
 use std::env::Args;
 use std::fs;
 use std::io::{Read, Write};
+use std::marker::Brand;
 use std::net::{Net, TcpListener, TcpStream};
 use std::rt::Files;
 use std::sync::Wait;
@@ -81,7 +83,15 @@ fn run_at<P: Start, H: Wait + Drop, R: Read, W: Write>(
     match place {
         Place::Memory { store } => {
             let alloc = rt.alloc();
-            let ended = run(alloc, wait, Listed::new(alloc, *store), reader, writer);
+            let tables = Listed::new(alloc, *store);
+            let ended = run::<Listed, Brand, H, R, W>(
+                alloc,
+                wait,
+                Opened::new(),
+                tables,
+                reader,
+                writer,
+            );
             (ended.0, Err(None))
         }
         Place::New { file, store } => {

@@ -5,17 +5,18 @@ ghost use Rattle.tracked_io.specs.Wrote.{WroteSome, nothing_taken};
 ghost use Rattle.answers.specs.Ends.{is_read_fault, is_write_fault};
 ghost use Rattle.http_api.specs.Routes.{table};
 ghost use Rattle.http_api.specs.Talks.{TalkedAtEachRead};
-ghost use Rattle.keeper.specs.Rules.{DeskStep};
+ghost use Rattle.calls.specs.Rules.{DeskStep};
 ghost use Rattle.server.specs.Sides.{unread, TalkedOver};
 ghost use Rattle.runs.specs.Connections.{StaysServing};
 ghost use Rattle.program.specs.Listening.{Announced, IsOwnAddress, IsPortFor, IsStartFault, NotAnnounced, listening_line};
 
 use answers::End;
+use calls::Answering;
 use command_line::Fault;
 use http_api::routes;
-use keeper::Answering;
 use matchit::Router;
 use names::{Call, Refusal};
+use published::Naming;
 use runs::talk;
 use server::{Arrivals, Patience, Peer, Sides, sides_of, take_leave};
 use std::alloc::{AllocError, Global};
@@ -112,10 +113,10 @@ pub(crate) fn listen<N: Net<Listener = TcpListener, Stream = TcpStream>, W: Writ
 
 // Serves one connection from a desk, that is read from this reader and written to this writer, and gives back its two sides.
 // Where there is no memory for the buffer of what is written, there are none.
-fn talk_over<T: Tables + Drop, H: Wait + Drop, R: Read + Drop, W: Write + Drop>(
+fn talk_over<T: Tables + Drop, J: Naming, H: Wait + Drop, R: Read + Drop, W: Write + Drop>(
     alloc: Global,
     routes: &Router<Call>,
-    answering: &mut Answering<T, H>,
+    answering: &mut Answering<T, J, H>,
     reader: R,
     writer: W,
 ) -> (End, Option<Sides<R, W>>)
@@ -144,10 +145,10 @@ fn talk_over<T: Tables + Drop, H: Wait + Drop, R: Read + Drop, W: Write + Drop>(
 }
 
 // Serves one connection, as patiently as it may.
-fn serve_stream<T: Tables + Drop, H: Wait + Drop, P: Patience>(
+fn serve_stream<T: Tables + Drop, J: Naming, H: Wait + Drop, P: Patience>(
     alloc: Global,
     routes: &Router<Call>,
-    answering: &mut Answering<T, H>,
+    answering: &mut Answering<T, J, H>,
     stream: &TcpStream,
     patience: &P,
 ) -> End
@@ -160,11 +161,11 @@ fn serve_stream<T: Tables + Drop, H: Wait + Drop, P: Patience>(
 }
 
 // Serves the next connection, as patiently as it may. Where none can be had there is a pause.
-fn serve_next<T: Tables + Drop, H: Wait + Drop>(
+fn serve_next<T: Tables + Drop, J: Naming, H: Wait + Drop>(
     rt: &HostRuntime,
     arrivals: &Arrivals<'_, HostRuntime>,
     routes: &Router<Call>,
-    answering: &mut Answering<T, H>,
+    answering: &mut Answering<T, J, H>,
 )
     requires { routes.now ≡ table }
     ensures { StaysServing T.Tables answering.old answering.new }
@@ -179,11 +180,11 @@ fn serve_next<T: Tables + Drop, H: Wait + Drop>(
 
 // Serves one connection after another. However one of them ends, the next is served. One of which nothing comes is given up
 // once another waits.
-fn serve_each<'a, T: Tables + Drop, H: Wait + Drop>(
+fn serve_each<'a, T: Tables + Drop, J: Naming, H: Wait + Drop>(
     rt: &'a HostRuntime,
     listener: &'a TcpListener,
     routes: &Router<Call>,
-    answering: &mut Answering<T, H>,
+    answering: &mut Answering<T, J, H>,
 )
     requires { routes.now ≡ table }
     ensures { StaysServing T.Tables answering.old answering.new }
@@ -198,13 +199,14 @@ fn serve_each<'a, T: Tables + Drop, H: Wait + Drop>(
 pub fn serve<
     N: Net<Listener = TcpListener, Stream = TcpStream>,
     T: Tables + Drop,
+    J: Naming,
     H: Wait + Drop,
     W: Write,
 >(
     rt: &HostRuntime,
     net: &N,
     port: u16,
-    answering: &mut Answering<T, H>,
+    answering: &mut Answering<T, J, H>,
     writer: &mut TrackedWriter<W>,
 ) -> Result<(), Fault>
     requires unbroken_writer { writer.old.failed ≡ false }

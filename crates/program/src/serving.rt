@@ -6,13 +6,15 @@ use crate::host::Host;
 use crate::listening::{see_port, serve};
 use crate::place::{is_number, is_there};
 use crate::sharing::{share, share_over};
+use calls::Answering;
 use command_line::{Fault, Place};
-use keeper::Answering;
 use names::Refusal;
+use published::Naming;
 use runs::{find_blank, open_in, tables_in};
 use sqlite::Start;
 use std::fs;
 use std::io::Write;
+use std::marker::Brand;
 use std::net::{Net, TcpListener, TcpStream};
 use std::sync::Wait;
 use std::thread::Threads;
@@ -55,6 +57,7 @@ fn see_new<P: Start, N: Net<Listener = TcpListener, Stream = TcpStream>>(
 
 // Serves connections from a store in memory.
 fn serve_listed<
+    J: Naming,
     H: Wait + Drop + Send,
     N: Net<Listener = TcpListener, Stream = TcpStream> + Threads + Wait + Clock + Sync,
     W: Write,
@@ -64,6 +67,7 @@ fn serve_listed<
     offer: Offer,
     writer: &mut TrackedWriter<W>,
 ) -> Result<(), Fault>
+    requires named { host.opened.book ≡ J.book }
     requires unbroken_writer { writer.old.failed ≡ false }
     ensures ok { OnOk result (Announced offer.port writer.old writer.new) }
     ensures whole { OnOk result ((writer.new.failed ≡ false) × (writer.new.flushed ≡ true)) }
@@ -74,7 +78,7 @@ fn serve_listed<
     if offer.workers != 1 {
         return share(host, tables, offer, writer);
     }
-    match Answering::open(host.rt.alloc(), host.wait, tables) {
+    match Answering::<Listed, J, H>::open(host.rt.alloc(), host.wait, host.opened, tables) {
         Ok(mut answering) => {
             match serve(host.rt, host.net, offer.port, &mut answering, writer) {
                 Ok(()) => Ok(()),
@@ -88,25 +92,27 @@ fn serve_listed<
 // Serves connections from the store in a file, one after the other, from a desk of its own. `start` says what the file holds.
 fn serve_alone_in<
     P: Start,
+    J: Naming,
     H: Wait + Drop,
     N: Net<Listener = TcpListener, Stream = TcpStream>,
     W: Write,
 >(
     host: Host<'_, H, N>,
-    file: &str,
+    file: &String,
     store: Option<u64>,
     port: u16,
     start: P,
     writer: &mut TrackedWriter<W>,
 ) -> Result<(), Fault>
     requires number { IfSome store (λ number. (1 ≤ number) × (number < 2 ^ 63)) }
+    requires named { host.opened.book ≡ J.book }
     requires unbroken_writer { writer.old.failed ≡ false }
     ensures ok { OnOk result (Announced port writer.old writer.new) }
     ensures whole { OnOk result ((writer.new.failed ≡ false) × (writer.new.flushed ≡ true)) }
     ensures line { IfErr result (λ fault. fault ≢ Fault.CommandLine) }
     ensures failed { IfErr result (λ fault. NotAnnounced port fault writer.old writer.new) }
 {
-    match open_in(host.rt, host.wait, file, store, start) {
+    match open_in::<P, J, H>(host.rt, host.wait, host.opened, file.as_str(), store, start) {
         Ok(mut answering) => serve(host.rt, host.net, port, &mut answering, writer),
         Err((fault, _)) => Err(fault),
     }
@@ -120,7 +126,7 @@ fn serve_in<
     W: Write,
 >(
     host: Host<'_, H, N>,
-    file: &str,
+    file: &String,
     store: Option<u64>,
     offer: Offer,
     start: P,
@@ -134,12 +140,14 @@ fn serve_in<
     ensures failed { IfErr result (λ fault. StoppedServing offer.port fault writer.old writer.new) }
 {
     if offer.workers == 1 {
-        return match serve_alone_in(host, file, store, offer.port, start, writer) {
+        return match serve_alone_in::<P, Brand, H, N, W>(
+            host, file, store, offer.port, start, writer,
+        ) {
             Ok(()) => Ok(()),
             Err(fault) => Err(fault),
         };
     }
-    match tables_in(host.rt, file, store, start) {
+    match tables_in(host.rt, file.as_str(), store, start) {
         Ok(tables) => share_over(host, tables, offer, writer),
         Err((fault, _)) => Err(fault),
     }
@@ -165,14 +173,14 @@ pub(crate) fn serve_at<
     ensures failed { IfErr result (λ fault. StoppedServing offer.port fault writer.old writer.new) }
 {
     match place {
-        Place::Memory { store } => serve_listed(host, *store, offer, writer),
+        Place::Memory { store } => { serve_listed::<Brand, H, N, W>(host, *store, offer, writer) }
         Place::New { file, store } => {
             let start = see_new(host.rt, host.net, file.as_str(), *store, offer.port, start)?;
-            serve_in(host, file.as_str(), Some(*store), offer, start, writer)
+            serve_in(host, file, Some(*store), offer, start, writer)
         }
         Place::There { file } => {
             is_there(fs::open(host.rt, file.as_str()))?;
-            serve_in(host, file.as_str(), None, offer, start, writer)
+            serve_in(host, file, None, offer, start, writer)
         }
     }
 }

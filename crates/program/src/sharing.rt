@@ -7,7 +7,7 @@ use crate::host::Host;
 use crate::listening::listen;
 use crate::serving::Offer;
 use command_line::Fault;
-use front::{Keeper, KeeperName, Opening};
+use keeper::{Keeper, KeeperName, Opening};
 use names::Refusal;
 use server::{Gate, run};
 use sqlite::Alter;

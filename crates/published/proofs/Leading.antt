@@ -4,11 +4,9 @@ use Rattle.std.proofs.lemmas.List.Elements.{All-tail}
 use Rattle.std.proofs.Common.{◌≡◌, ◌↔◌, ◌<◌, ◌≤◌, ◌+◌, ◌-◌, All, ℕ, Bool, false, IsTrue, length, length-append, arith, List, [], ◌∷◌, ◌++◌, fold, refl, ap, sym, ◌∙◌, subst, Option, Some, None, option_to_list}
 use Rattle.logbook.specs.Pages.{Book}
 use Rattle.shown.specs.declared.step.Step.{Step}
-use Rattle.published.specs.declared.copy.ShownCopy.{ShownCopy}
-use Rattle.published.specs.declared.post.Post.{Post}
 use Rattle.published.specs.Known.{Known, next_of, Begins}
 use Rattle.published.specs.Judged.{AreJudged}
-use Rattle.published.specs.Copies.{absorbed, Stands, Chain}
+use Rattle.published.specs.Copies.{Copy, Posted, absorbed, Stands, Chain}
 use Rattle.published.specs.Writing.{Writing}
 use Rattle.published.specs.Invariant.{Leads}
 use Rattle.published.specs.Publishing.{ShowsMoreOf}
@@ -16,27 +14,27 @@ use Rattle.published.proofs.Prefixes.{prefix_trans}
 use Rattle.published.proofs.Judging.{judged_between}
 use Rattle.published.proofs.Chains.{chain_stands, chain_done, chain_goes_on, chain_begins, chain_moves, chain_length}
 
-module _ (b : Book) (front : Known) (p q : Writing) (stuck : Option Post) (leads : Leads b front p stuck) where
+module _ (b : Book) (front : Known) (p q : Writing Copy Posted) (stuck : Option Posted) (leads : Leads b front p stuck) where
   -- all that waited at the writer was published
   pub ok_leads : AreJudged front.steps → q.published ≡ fold absorbed p.published p.waiting → q.waiting ≡ [] → q.told ≡ Some q.published.prefix → Leads b front q stuck
   ok_leads judged is none told =
       let rest : Chain (fold absorbed p.published p.waiting).prefix (option_to_list stuck) front = chain_done (option_to_list stuck) front p.published p.waiting leads.chain in
-      let here : Chain q.published.prefix (option_to_list stuck) front = subst (λ (c : ShownCopy). Chain c.prefix (option_to_list stuck) front) (sym is) rest in
+      let here : Chain q.published.prefix (option_to_list stuck) front = subst (λ (c : Copy). Chain c.prefix (option_to_list stuck) front) (sym is) rest in
       record {
         of_book = leads.of_book;
-        chain = subst (λ (w : List Post). Chain q.published.prefix (w ++ option_to_list stuck) front) (sym none) here;
+        chain = subst (λ (w : List Posted). Chain q.published.prefix (w ++ option_to_list stuck) front) (sym none) here;
         told = told;
         stands = subst Stands (sym is) (chain_stands (option_to_list stuck) front p.published p.waiting leads.chain judged leads.stands);
       }
 
   pub ok_later : q.published ≡ fold absorbed p.published p.waiting → Begins p.published.prefix q.published.prefix
-  ok_later is = subst (λ (c : ShownCopy). Begins p.published.prefix c.prefix) (sym is) (chain_goes_on (option_to_list stuck) front p.published p.waiting leads.chain)
+  ok_later is = subst (λ (c : Copy). Begins p.published.prefix c.prefix) (sym is) (chain_goes_on (option_to_list stuck) front p.published p.waiting leads.chain)
 
   -- where nothing waits, the published list is the front
   pub all_shown : p.waiting ≡ [] → stuck ≡ None → p.published.prefix ≡ front
   all_shown none free =
-      let a : Chain p.published.prefix ([] ++ option_to_list stuck) front = subst (λ (w : List Post). Chain p.published.prefix (w ++ option_to_list stuck) front) none leads.chain in
-      subst (λ (s : Option Post). Chain p.published.prefix ([] ++ option_to_list s) front) free a
+      let a : Chain p.published.prefix ([] ++ option_to_list stuck) front = subst (λ (w : List Posted). Chain p.published.prefix (w ++ option_to_list stuck) front) none leads.chain in
+      subst (λ (s : Option Posted). Chain p.published.prefix ([] ++ option_to_list s) front) free a
 
   -- the published list begins the front
   pub shown_begins : Begins p.published.prefix front
@@ -47,24 +45,24 @@ module _ (b : Book) (front : Known) (p q : Writing) (stuck : Option Post) (leads
   shown_book = shown_begins.0 ∙ leads.of_book
 
 -- the next post is made
-pub made : (b : Book) (front front' : Known) (p q : Writing) (stuck stuck' : Option Post) (post : Post) → Leads b front p stuck
+pub made : (b : Book) (front front' : Known) (p q : Writing Copy Posted) (stuck stuck' : Option Posted) (post : Posted) → Leads b front p stuck
     → q.waiting ++ option_to_list stuck' ≡ p.waiting ++ option_to_list stuck → (q.published ≡ p.published) × (q.told ≡ p.told) → stuck' ≡ None
     → (post.after ≡ front') × (front' ≡ next_of front post.step) → Leads b front' q (Some post)
 made b front front' p q stuck stuck' post leads order same none some =
     record {
       of_book = ap (λ (k : Known). k.book) some.1 ∙ leads.of_book;
       chain = subst (λ (k : Known). Chain q.published.prefix (q.waiting ++ post ∷ []) k) some.0
-          (chain_moves p.published.prefix q.published.prefix p.waiting q.waiting stuck stuck' front post leads.chain (ap (λ (c : ShownCopy). c.prefix) same.0) order none (some.0 ∙ some.1));
-      told = same.1 ∙ leads.told ∙ ap (λ (c : ShownCopy). Some c.prefix) (sym same.0);
+          (chain_moves p.published.prefix q.published.prefix p.waiting q.waiting stuck stuck' front post leads.chain (ap (λ (c : Copy). c.prefix) same.0) order none (some.0 ∙ some.1));
+      told = same.1 ∙ leads.told ∙ ap (λ (c : Copy). Some c.prefix) (sym same.0);
       stands = subst Stands (sym same.0) leads.stands;
     }
 
 -- the posts at the front lead somewhere on the way
-chain_part : (k : Known) (posts more : List Post) (end : Known) → Chain k (posts ++ more) end → (m : Known) × Chain k posts m × Chain m more end
+chain_part : (k : Known) (posts more : List Posted) (end : Known) → Chain k (posts ++ more) end → (m : Known) × Chain k posts m × Chain m more end
 chain_part k [] more end chain = (k, refl, chain)
 chain_part k (p ∷ posts) more end chain = let rest = chain_part p.after posts more end chain.1 in (rest.0, (chain.0, rest.1), rest.2)
 
-module _ (b : Book) (entered : Known) (p : Writing) (stuck : Option Post) (leads : Leads b entered p stuck) where
+module _ (b : Book) (entered : Known) (p : Writing Copy Posted) (stuck : Option Posted) (leads : Leads b entered p stuck) where
   -- what was entered was judged, as all that was posted
   pub entered_judged : (backlog : List Step) → AreJudged (entered.steps ++ backlog) → AreJudged entered.steps
   entered_judged backlog judged =
@@ -82,7 +80,7 @@ module _ (b : Book) (entered : Known) (p : Writing) (stuck : Option Post) (leads
       )
 
 -- a publication as its callers see it
-pub shows_more : (b : Book) (n room room' : ℕ) (front front' : Known) (backlog backlog' : List Step) (p q : Writing) (stuck' : Option Post)
+pub shows_more : (b : Book) (n room room' : ℕ) (front front' : Known) (backlog backlog' : List Step) (p q : Writing Copy Posted) (stuck' : Option Posted)
     → Leads b front' q stuck' → AreJudged (front.steps ++ backlog) → front'.steps ++ backlog' ≡ front.steps ++ backlog → Begins p.published.prefix q.published.prefix → room ≤ room'
     → ShowsMoreOf (record { book = b; posted = front.steps ++ backlog; shown = p.published.prefix.steps; seats = n; room = room })
     (record { book = b; posted = front'.steps ++ backlog'; shown = q.published.prefix.steps; seats = n; room = room' })
@@ -97,7 +95,7 @@ shows_more b n room room' front front' backlog backlog' p q stuck' leads judged 
       room = more;
     }
 
-module _ (b : Book) (entered : Known) (p : Writing) (stuck : Option Post) (backlog : List Step) (leads : Leads b entered p stuck) where
+module _ (b : Book) (entered : Known) (p : Writing Copy Posted) (stuck : Option Posted) (backlog : List Step) (leads : Leads b entered p stuck) where
   -- where all is shown, nothing waits
   pub none_waits : p.published.prefix.steps ≡ entered.steps ++ backlog → (length p.waiting ≡ 0) × (length (option_to_list stuck) ≡ 0) × (length backlog ≡ 0)
   none_waits all =
@@ -106,7 +104,7 @@ module _ (b : Book) (entered : Known) (p : Writing) (stuck : Option Post) (backl
       let parts : length (p.waiting ++ option_to_list stuck) ≡ length p.waiting + length (option_to_list stuck) = length-append p.waiting (option_to_list stuck) in
       (omega (arith, long, same, parts), omega (arith, long, same, parts), omega (arith, long, same, parts))
 
-  is_none : (s : Option Post) → length (option_to_list s) ≡ 0 → s ≡ None
+  is_none : (s : Option Posted) → length (option_to_list s) ≡ 0 → s ≡ None
   is_none None e = refl
   is_none (Some post) e = absurd (omega (arith, e))
 
@@ -127,10 +125,10 @@ module _ (b : Book) (entered : Known) (p : Writing) (stuck : Option Post) (backl
   not_all_shown some all = omega (arith, some, (none_waits all).0)
 
   -- so it is where the publication stayed as it was
-  pub not_shown_where_left : (q : Writing) (w : Bool) → q ≡ p → IsTrue w → (IsTrue w ↔ (0 < length p.waiting)) → IsTrue false ↔ (q.published.prefix.steps ≡ entered.steps ++ backlog)
+  pub not_shown_where_left : (q : Writing Copy Posted) (w : Bool) → q ≡ p → IsTrue w → (IsTrue w ↔ (0 < length p.waiting)) → IsTrue false ↔ (q.published.prefix.steps ≡ entered.steps ++ backlog)
   not_shown_where_left q w same waits is = (
     λ yes. absurd (cc yes),
-    λ all. absurd (not_all_shown (is.0 waits) (subst (λ (x : Writing). x.published.prefix.steps ≡ entered.steps ++ backlog) same all)),
+    λ all. absurd (not_all_shown (is.0 waits) (subst (λ (x : Writing Copy Posted). x.published.prefix.steps ≡ entered.steps ++ backlog) same all)),
   )
 
 -- nothing is left where the test says so

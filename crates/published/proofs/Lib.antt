@@ -6,7 +6,7 @@ pub mod Judging
 pub mod Rising
 pub mod Rules
 pub mod Chains
+pub mod Following
 pub mod Leading
-pub mod Postable
 pub mod Opening
 pub mod Remembering

@@ -5,11 +5,9 @@ use lib.ListN.{get_elem?}
 use Rattle.logbook.specs.Pages.{Book}
 use Rattle.shown.specs.declared.step.Step.{Step}
 use Rattle.shown.specs.Standing.{nothing, after_step, HasRoom}
-use Rattle.published.specs.declared.copy.ShownCopy.{ShownCopy}
 use Rattle.published.specs.Known.{Known, start_of, next_of}
 use Rattle.published.specs.Judged.{AreJudged}
-use Rattle.published.specs.Copies.{Stands, Chain, KnowsNoMore, Keeps}
-use Rattle.published.specs.Writing.{Writing}
+use Rattle.published.specs.Copies.{Copy, Stands, Chain, KnowsNoMore, Keeps}
 
 -- the writer knows nothing yet
 abbrev fresh : List (Option Known)
@@ -19,17 +17,15 @@ fresh_knows : (l : Known) (seat : ℕ) (v : Option Known) → get_elem? fresh se
 fresh_knows l zero v is = let none : None ≡ v = cc is in subst (λ (w : Option Known). KnowsNoMore w l) none tt
 fresh_knows l (suc seat) v is = absurd (cc is)
 
-pub keeps_first : (x : ShownCopy) → Stands x → Keeps x (None ∷ [])
+pub keeps_first : (x : Copy) → Stands x → Keeps x (None ∷ [])
 keeps_first x stands = (stands, fresh_knows x.prefix)
 
 module _ (b : Book) (start k : Known) (first : Step) (empty : start ≡ start_of b) (one : k ≡ next_of start first) where
-  first_alone : k.steps ≡ first ∷ []
+  pub first_alone : k.steps ≡ first ∷ []
   first_alone = ap (λ (m : Known). m.steps) one ∙ ap (λ (m : Known). m.steps ++ first ∷ []) empty
+
+  pub first_book : k.book ≡ b
+  first_book = ap (λ (m : Known). m.book) one ∙ ap (λ (m : Known). m.book) empty
 
   pub first_judged : HasRoom nothing first → AreJudged k.steps
   first_judged room = subst AreJudged (sym first_alone) (room, tt)
-
-  pub first_leads : HasRoom nothing first → (w : Writing) (x : ShownCopy) → w ≡ record { published = x; waiting = []; told = None } → x ≡ record { shown = after_step nothing first; prefix = k }
-      → (m : Known) × Chain w.published.prefix w.waiting m × AreJudged m.steps
-  first_leads room w x waits is =
-      (k, subst (λ (v : Writing). Chain v.published.prefix v.waiting k) (sym waits) (ap (λ (c : ShownCopy). c.prefix) is), first_judged room)

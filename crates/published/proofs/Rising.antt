@@ -16,6 +16,7 @@ use Rattle.shown.specs.Standing.{Standing, nothing, after_step, standing, HasRoo
 use Rattle.published.specs.Posts.{IsLater}
 use Rattle.published.specs.Judged.{AreLater, AreJudged}
 use Rattle.published.specs.Rising.{Rises}
+use Rattle.published.proofs.Judging.{later_rest}
 
 -- ---- one step
 
@@ -77,11 +78,6 @@ later_rise : (s : Standing) (steps : List Step) → AreLater s steps → Rises s
 later_rise s [] are = same_rises s.kept
 later_rise s (step ∷ steps) are =
     rises_on s.kept (after_step s step).kept (fold after_step (after_step s step) steps).kept (step_rises s step are.0 are.1) (later_rise (after_step s step) steps are.2)
-
--- what follows the first of the steps
-later_rest : (s : Standing) (steps more : List Step) → AreLater s (steps ++ more) → AreLater (fold after_step s steps) more
-later_rest s [] more are = are
-later_rest s (x ∷ steps) more are = later_rest (after_step s x) steps more are.2
 
 rise_after : (first : Step) (steps more : List Step) → AreJudged ((first ∷ steps) ++ more) → Rises (standing (first ∷ steps)).kept (standing ((first ∷ steps) ++ more)).kept
 rise_after first steps more are =

@@ -4,9 +4,9 @@ use mathlib.Core.Option.{some}
 use lib.ListN.{get_elem?}
 use Rattle.left_right.specs.Register.{Admits, TurnsAt, Turns, Forks, Merges}
 use Rattle.atomic_table.proofs.Lists.{at_set, at_snoc}
-use Rattle.published.specs.declared.copy.ShownCopy.{ShownCopy}
 use Rattle.published.specs.Known.{Known, Begins}
-use Rattle.published.specs.Copies.{Stands, KnowsNoMore, Keeps, Sees}
+use Rattle.published.specs.Copies.{Copy, Stands, KnowsNoMore, Keeps, Sees}
+use Rattle.published.specs.Writing.{KeepsRule}
 use Rattle.published.proofs.Prefixes.{prefix_self, prefix_trans}
 
 pub begins_self : (k : Known) → Begins k k
@@ -35,7 +35,7 @@ pub admits : Admits Keeps None
 admits x views h = (h.0, all_snoc views x.prefix None h.1 tt)
 
 -- the list of the copy goes on, or stays
-pub turns : (seat : ℕ) (v : Option Known) (x y : ShownCopy) → (Stands x → Stands y) → Begins x.prefix y.prefix → TurnsAt Keeps seat v x y Sees
+pub turns : (seat : ℕ) (v : Option Known) (x y : Copy) → (Stands x → Stands y) → Begins x.prefix y.prefix → TurnsAt Keeps seat v x y Sees
 turns seat v x y stands on views h at =
     let later : All views y.prefix = λ j u e. knows_on u x.prefix y.prefix (h.1 j u e) on in
     let now : Stands y = stands h.0 in
@@ -53,3 +53,6 @@ merges seat v other w x views h at apart there =
     let theirs : KnowsNoMore w x.prefix =
     ⊎_elim (λ (t : (other ≡ seat) × (w ≡ w)). absurd (apart t.0)) (λ (t : (other ≢ seat) × (get_elem? views other ≡ some w)). h.1 other w t.1) (at_set views seat other w w there) in
     (h.0, all_set (set views seat w) x.prefix other None (all_set views x.prefix seat w h.1 theirs) tt)
+
+pub keeps_rule : (told : Option Known) → KeepsRule Keeps None told
+keeps_rule told = record { admits = admits; forks = λ seat. forks seat told; merges = λ seat other. merges seat None other told }

@@ -32,9 +32,9 @@ impl Rule<Step, u64> for Grows {
 }
 
 /// Callers trade nothing.
-pub struct Nothing;
+pub struct GainsNothing;
 
-impl Gain<Step, u64> for Nothing {
+impl Gain<Step, u64> for GainsNothing {
     ghost use base.Fml.{ftrue};
 
     ghost after = { λ names about answer. ftrue };
@@ -189,9 +189,13 @@ impl StepPrefix {
             return None;
         }
         let mut seen = self.seen.again();
-        let mut offer: Offer<Step, u64, Grows, Nothing> = seen.plain::<Nothing, Step, Add>(step);
+        let mut offer: Offer<Step, u64, Grows, GainsNothing> = seen.plain::<
+            GainsNothing,
+            Step,
+            Add,
+        >(step);
         let mut pen = seen.no_pen();
-        let found = book.head.compare_exchange::<Add, Nothing>(
+        let found = book.head.compare_exchange::<Add, GainsNothing>(
             self.count,
             self.count + 1,
             &mut seen,

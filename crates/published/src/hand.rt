@@ -1,33 +1,33 @@
 //! How posted steps get to the writer.
-ghost use Rattle.std.specs.Prelude.{◌≡◌, ◌↔◌, ◌<◌, ◌≤◌, ◌++◌, [], length, true, None, IsTrue, IfSome, IfNone, All, option_to_list};
+ghost use Rattle.std.specs.Prelude.{◌≡◌, ◌↔◌, ◌<◌, ◌≤◌, ◌++◌, [], length, true, None, Some, IsTrue, IfSome, IfNone, OnErr, OnOk, fold, option_to_list};
 ghost use Rattle.std.specs.VecDeque.{deque_len, deque_capacity};
-ghost use Rattle.published.specs.Known.{Begins, next_of};
-ghost use Rattle.published.specs.Posts.{IsPostable};
+ghost use Rattle.published.specs.Copies.{Chain, absorbed};
+ghost use Rattle.published.specs.Known.{Begins, Known, next_of};
 ghost use Rattle.published.specs.Judged.{AreJudged};
 ghost use Rattle.published.specs.Invariant.{Leads};
 
-use crate::book::{Book, StepPrefix};
-use crate::post::{Post, touches_in};
-use crate::publisher::Publisher;
+use crate::book::{Book, Naming, StepPrefix};
+use crate::post::Post;
+use crate::rule::{CopyPublisher, Seeing};
+use core::mem::replace_with;
 use shown::Step;
-use std::alloc::Global;
+use std::alloc::AllocError;
 use std::collections::VecDeque;
 use std::sync::Wait;
 
 /// Publishes what waits, in order, as far as there is memory, and says whether nothing waits any more.
-pub(crate) fn publish_all<R: Wait + Drop>(
-    alloc: Global,
+pub(crate) fn publish_all<J: Naming, R: Wait>(
+    rt: &R,
     book: &Book,
     entered: &mut StepPrefix,
     backlog: &mut VecDeque<Step>,
-    publisher: &mut Publisher<R>,
-    stuck: &mut Option<Post>,
+    publisher: &mut CopyPublisher<J>,
+    stuck: &mut Option<Post<J>>,
 ) -> bool
+    requires book { book.now ≡ J.book }
     requires leads { Leads book.now entered.old publisher.old stuck.old }
     requires judged { AreJudged (entered.old.steps ++ backlog.old.items) }
-    requires postable { All IsPostable backlog.old.items }
     ensures leads { Leads book.now entered.new publisher.new stuck.new }
-    ensures postable { All IsPostable backlog.new.items }
     ensures posted { entered.new.steps ++ backlog.new.items ≡ entered.old.steps ++ backlog.old.items }
     ensures fewer { deque_len backlog.new ≤ deque_len backlog.old }
     ensures capacity { deque_capacity backlog.new ≡ deque_capacity backlog.old }
@@ -35,36 +35,63 @@ pub(crate) fn publish_all<R: Wait + Drop>(
     ensures all { IsTrue result
         ↔ (publisher.new.published.prefix.steps ≡ entered.new.steps ++ backlog.new.items) }
 {
-    hand_over(alloc, book, entered, backlog, publisher, stuck);
+    hand_over(book, entered, backlog, publisher, stuck);
     if !publisher.is_waiting() {
         return is_done(stuck, backlog);
     }
-    match publisher.publish() {
+    match publish(publisher, rt) {
         Ok(()) => is_done(stuck, backlog),
         Err(_) => false,
     }
 }
 
+/// Shows all posts that wait at the publisher, or none for want of memory.
+pub(crate) fn publish<J: Naming, R: Wait>(
+    publisher: &mut CopyPublisher<J>,
+    rt: &R,
+) -> Result<(), AllocError>
+    requires { (end : Known) × Chain publisher.old.published.prefix publisher.old.waiting end × AreJudged end.steps }
+    ensures ok { OnOk result (
+        (publisher.new.published ≡ fold absorbed publisher.old.published publisher.old.waiting)
+        × (publisher.new.waiting ≡ []) × (publisher.new.told ≡ Some publisher.new.published.prefix)) }
+    ensures err { OnErr result (publisher.new ≡ publisher.old) }
+{
+    replace_with(publisher, rt, show)
+}
+
+// The same, as a function of the publisher.
+fn show<J: Naming, R: Wait>(
+    publisher: CopyPublisher<J>,
+    rt: &R,
+) -> (CopyPublisher<J>, Result<(), AllocError>)
+    requires { (end : Known) × Chain publisher.published.prefix publisher.waiting end × AreJudged end.steps }
+    ensures ok { OnOk result.1 (
+        (result.0.published ≡ fold absorbed publisher.published publisher.waiting)
+        × (result.0.waiting ≡ []) × (result.0.told ≡ Some result.0.published.prefix)) }
+    ensures err { OnErr result.1 (result.0 ≡ publisher) }
+{
+    publisher.publish::<Seeing, R>(rt)
+}
+
 // Hands the backlog to the writer, in order, as far as there is memory.
-fn hand_over<R: Wait + Drop>(
-    alloc: Global,
+fn hand_over<J: Naming>(
     book: &Book,
     entered: &mut StepPrefix,
     backlog: &mut VecDeque<Step>,
-    publisher: &mut Publisher<R>,
-    stuck: &mut Option<Post>,
+    publisher: &mut CopyPublisher<J>,
+    stuck: &mut Option<Post<J>>,
 )
+    requires book { book.now ≡ J.book }
     requires leads { Leads book.now entered.old publisher.old stuck.old }
-    requires postable { All IsPostable backlog.old.items }
+    requires judged { AreJudged (entered.old.steps ++ backlog.old.items) }
     ensures leads { Leads book.now entered.new publisher.new stuck.new }
-    ensures postable { All IsPostable backlog.new.items }
     ensures posted { entered.new.steps ++ backlog.new.items ≡ entered.old.steps ++ backlog.old.items }
     ensures fewer { deque_len backlog.new ≤ deque_len backlog.old }
     ensures capacity { deque_capacity backlog.new ≡ deque_capacity backlog.old }
     ensures same { publisher.new.published ≡ publisher.old.published }
 {
     while retry(publisher, stuck) {
-        let Some(post) = enter_next(alloc, book, entered, backlog) else {
+        let Some(post) = enter_next(book, entered, backlog) else {
             break;
         };
         *stuck = Some(post);
@@ -72,7 +99,7 @@ fn hand_over<R: Wait + Drop>(
 }
 
 // Hands over the post that found no memory before, if there is one, and says whether none is left.
-fn retry<R: Wait + Drop>(publisher: &mut Publisher<R>, stuck: &mut Option<Post>) -> bool
+fn retry<J: Naming>(publisher: &mut CopyPublisher<J>, stuck: &mut Option<Post<J>>) -> bool
     ensures order { publisher.new.waiting ++ option_to_list stuck.new
         ≡ publisher.old.waiting ++ option_to_list stuck.old }
     ensures same { (publisher.new.published ≡ publisher.old.published)
@@ -92,17 +119,17 @@ fn retry<R: Wait + Drop>(publisher: &mut Publisher<R>, stuck: &mut Option<Post>)
 }
 
 // Enters the next step of the backlog in the book.
-fn enter_next(
-    alloc: Global,
+fn enter_next<J: Naming>(
     book: &Book,
     entered: &mut StepPrefix,
     backlog: &mut VecDeque<Step>,
-) -> Option<Post>
+) -> Option<Post<J>>
+    requires named { book.now ≡ J.book }
     requires book { entered.old.book ≡ book.now }
-    requires postable { All IsPostable backlog.old.items }
+    requires entered { AreJudged entered.old.steps }
+    requires judged { AreJudged (entered.old.steps ++ backlog.old.items) }
     ensures some { IfSome result (λ post.
         (post.after ≡ entered.new) × (entered.new ≡ next_of entered.old post.step)) }
-    ensures postable { All IsPostable backlog.new.items }
     ensures book { entered.new.book ≡ entered.old.book }
     ensures posted { entered.new.steps ++ backlog.new.items ≡ entered.old.steps ++ backlog.old.items }
     ensures capacity { deque_capacity backlog.new ≡ deque_capacity backlog.old }
@@ -111,16 +138,13 @@ fn enter_next(
     ensures none { IfNone result (entered.new ≡ entered.old) }
 {
     let next = backlog.front()?;
-    let Ok(ops) = touches_in(alloc, next) else {
-        return None;
-    };
     let after = entered.add_step(book, next)?;
     let step = backlog.pop_front()?;
     *entered = after.again();
-    Some(Post { step, ops, after })
+    Some(Post::new(step, after))
 }
 
-fn is_done(stuck: &Option<Post>, backlog: &VecDeque<Step>) -> bool
+fn is_done<J: Naming>(stuck: &Option<Post<J>>, backlog: &VecDeque<Step>) -> bool
     ensures { IsTrue result ↔ ((stuck.now ≡ None) × (backlog.now.items ≡ [])) }
 {
     match stuck {

@@ -1,79 +1,75 @@
 //! Steps on their way to the copies.
-ghost use Rattle.std.specs.Prelude.{◌≡◌, map, true, IsTrue, IfOk};
-ghost use Rattle.rows.specs.Follows.{touch_of, touch_kind};
-ghost use Rattle.shown.specs.Standing.{HasRoom};
-ghost use Rattle.published.specs.Posts.{IsLater, is_postable, touches_in};
+ghost use Rattle.std.specs.Prelude.{◌≡◌, IsTrue};
+ghost use Rattle.published.specs.Judged.{AreJudged};
+ghost use Rattle.published.specs.Known.{Known, next_of};
 
-use crate::book::StepPrefix;
-use names::{Event, EventKind, Items, Op, OpKind};
-use shown::{Shown, Step};
-use std::alloc::{AllocError, Global};
-use tuple_keys::KeptEvents;
+use crate::book::{Naming, StepPrefix};
+use shown::Step;
+use std::marker::{Model, PhantomData};
 
-/// A step, the operations that give its events, and the prefix that it ends.
+/// A step, and the list of the book that `J` names which it ends. All steps of that were judged: a copy that has the others need
+/// not judge it again. Contracts see it as the step and the list.
 #[derive(Drop)]
-pub struct Post {
-    pub step: Step,
-    pub ops: Items<Op>,
-    pub after: StepPrefix,
-    pub ghost postable: { is_postable step ≡ true },
-    pub ghost touches: { ops ≡ touches_in step },
+pub struct Post<J: Naming> {
+    step: Step,
+    after: StepPrefix,
+    of: PhantomData<J>,
 }
 
-/// Whether the step can follow. It was judged before it was posted: a copy cannot know by its type which
-/// steps it has, and judges again.
-pub(crate) fn can_follow(shown: &Shown, post: &Post) -> bool
-    ensures room { IsTrue result → HasRoom shown.now post.now.step }
-    ensures later { IsTrue result → IsLater post.now.step }
-{
-    match &post.step {
-        Step::Open(_) => false,
-        Step::Commit(commit) => match commit.config() {
-            Some(config) => shown.judge_config(config).is_ok(),
-            None => shown.judge(post.ops.as_slice()).is_ok(),
-        },
-        Step::Take(_, _) => true,
-        Step::Trim(floor) => shown.can_raise(*floor),
-        Step::Marking(marking) => shown.judge_marking(marking).is_ok(),
-        Step::Rebase(rev) => shown.judge_base(*rev).is_ok(),
+impl<J: Naming> Model for Post<J> {
+    ghost use Rattle.std.specs.Prelude.{◌≡◌};
+    ghost use Rattle.published.specs.Copies.{Posted};
+    ghost use Rattle.published.specs.Judged.{AreJudged};
+    ghost use Rattle.published.specs.Known.{Known, next_of};
+    ghost use Rattle.published.specs.inside.WritingCodes.{coded_posted};
+
+    ghost Value = { Posted };
+
+    ghost coded = { coded_posted };
+
+    ghost view = { λ p. record { step = p.step; after = p.after } };
+
+    ghost invariant = { λ p. (p.after.book ≡ J.book) × AreJudged p.after.steps
+        × ((before : Known) × (p.after ≡ next_of before p.step)) };
+}
+
+impl<J: Naming> Post<J> {
+    /// The step by which one list becomes another.
+    pub(crate) fn new(step: Step, after: StepPrefix) -> Post<J>
+        requires book { after.book ≡ J.book }
+        requires judged { AreJudged after.steps }
+        requires ends { (before : Known) × (after ≡ next_of before step) }
+        ensures { result ≡ record { step = step; after = after } }
+    {
+        Post {
+            step,
+            after,
+            of: PhantomData,
+        }
     }
-}
 
-/// The operations that give the step's events and ask least.
-pub(crate) fn touches_in(alloc: Global, step: &Step) -> Result<Items<Op>, AllocError>
-    ensures { IfOk result (λ ops. ops ≡ touches_in step.now) }
-{
-    let Step::Commit(commit) = step else {
-        return Ok(Items::of(Vec::new(alloc)));
-    };
-    match commit.events() {
-        Some(events) => touches_of(alloc, events),
-        None => Ok(Items::of(Vec::new(alloc))),
+    /// The step.
+    pub(crate) fn step(&self) -> &Step
+        ensures { result.now ≡ self.now.step }
+    {
+        &self.step
     }
-}
 
-fn touches_of(alloc: Global, events: &KeptEvents) -> Result<Items<Op>, AllocError>
-    ensures { IfOk result (λ ops. ops ≡ map touch_of events.now) }
-{
-    let events = events.events(alloc)?;
-    let ops: Vec<Op> = events.into_iter().map(touch_of).collect(alloc)?;
-    Ok(Items::of(ops))
-}
-
-fn touch_of(event: Event) -> Op
-    ensures { result ≡ touch_of event }
-{
-    Op {
-        kind: touch_kind(event.kind),
-        tuple: event.tuple,
+    /// The list that it ends.
+    pub(crate) fn after(&self) -> &StepPrefix
+        ensures same { result.now ≡ self.now.after }
+        ensures book { result.now.book ≡ J.book }
+        ensures judged { AreJudged result.now.steps }
+    {
+        &self.after
     }
-}
 
-fn touch_kind(kind: EventKind) -> OpKind
-    ensures { result ≡ touch_kind kind }
-{
-    match kind {
-        EventKind::Put => OpKind::Touch,
-        EventKind::Del => OpKind::Delete,
+    /// Whether it is the next step after these. It compares two lengths: there is one list of the book.
+    pub(crate) fn is_next_of(&self, steps: &StepPrefix) -> bool
+        requires { steps.now.book ≡ J.book }
+        ensures next { IsTrue result → self.now.after ≡ next_of steps.now self.now.step }
+        ensures judged { AreJudged self.now.after.steps }
+    {
+        steps.begins(&self.after) && steps.len() + 1 == self.after.len()
     }
 }

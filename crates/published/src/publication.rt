@@ -8,13 +8,13 @@ ghost use Rattle.published.specs.Posts.{IsLater};
 ghost use Rattle.published.specs.Judged.{AreJudged, WereJudged};
 ghost use Rattle.published.specs.Publishing.{ShowsMoreOf, IsSameBut, shown_by};
 
-use crate::book::{Book, Opened, StepPrefix};
+use crate::book::{Book, Naming, Opened, StepPrefix};
 use crate::copy::ShownCopy;
-use crate::hand::publish_all;
+use crate::hand::{publish, publish_all};
 use crate::post::Post;
-use crate::publisher::Publisher;
 use crate::receipt::ShownSteps;
 use crate::remembered::Remembered;
+use crate::rule::CopyPublisher;
 use crate::session::Session;
 use names::Refusal;
 use shown::{Shown, Step};
@@ -26,20 +26,19 @@ use std::sync::Wait;
 /// How many sessions a store gives out.
 pub const MAX_SESSIONS: usize = 32;
 
-/// The posted steps, those that are shown, and the sessions that were not given out. Any number of posted
-/// steps may wait to be shown, each in memory that was taken before it was posted.
-#[derive(Drop)]
-pub struct Publication<R: Wait + Drop> {
-    alloc: Global,
-    publisher: Publisher<R>,
+/// The posted steps, those that are shown, and the sessions that were not given out, of the book that `J` names. Any number of
+/// posted steps may wait to be shown, each in memory that was taken before it was posted.
+pub struct Publication<J: Naming, R: Wait + Drop> {
+    publisher: CopyPublisher<J>,
+    rt: R,
     book: Book,
     entered: StepPrefix,
     backlog: VecDeque<Step>,
-    stuck: Option<Post>,
-    sessions: Vec<Session>,
+    stuck: Option<Post<J>>,
+    sessions: Vec<Session<J>>,
 }
 
-impl<R: Wait + Drop> Model for Publication<R> {
+impl<J: Naming, R: Wait + Drop> Model for Publication<J, R> {
     ghost use Rattle.std.specs.Prelude.{◌++◌, ◌-◌, vec_len};
     ghost use Rattle.std.specs.VecDeque.{deque_len, deque_capacity};
     ghost use Rattle.published.specs.Publishing.{Publishing};
@@ -60,18 +59,19 @@ impl<R: Wait + Drop> Model for Publication<R> {
     } };
 
     ghost invariant = { λ p.
-        IsSound p.book p.entered p.backlog.items p.publisher p.stuck p.sessions.items };
+        IsSound J.book p.book p.entered p.backlog.items p.publisher p.stuck p.sessions.items };
 }
 
-impl<R: Wait + Drop> Publication<R> {
+impl<J: Naming, R: Wait + Drop> Publication<J, R> {
     /// A publication that shows the first step.
     pub fn open(
         alloc: Global,
         rt: R,
         opened: Opened,
         first: Step,
-    ) -> Result<Publication<R>, AllocError>
-        requires { HasRoom nothing first }
+    ) -> Result<Publication<J, R>, AllocError>
+        requires named { opened.book ≡ J.book }
+        requires room { HasRoom nothing first }
         ensures book { IfOk result (λ p. p.book ≡ opened.book) }
         ensures posted { IfOk result (λ p. p.posted ≡ first ∷ []) }
         ensures shown { IfOk result (λ p. p.shown ≡ p.posted) }
@@ -84,18 +84,22 @@ impl<R: Wait + Drop> Publication<R> {
         };
         let one = ShownCopy::after_first(alloc, &first, &entered)?;
         let other = ShownCopy::after_first(alloc, &first, &entered)?;
-        let mut publisher = Publisher::new(alloc, rt, one, other, MAX_SESSIONS)?;
-        publisher.publish()?;
-        let sessions = make_sessions(alloc, &mut publisher, &entered)?;
-        Ok(Publication {
-            alloc,
-            publisher,
-            book,
-            entered,
-            backlog: VecDeque::new(alloc),
-            stuck: None,
-            sessions,
-        })
+        let mut publisher = CopyPublisher::<J>::new(alloc, one, other, MAX_SESSIONS)?;
+        match begin(alloc, &rt, &mut publisher, &entered) {
+            Ok(sessions) => Ok(Publication {
+                publisher,
+                rt,
+                book,
+                entered,
+                backlog: VecDeque::new(alloc),
+                stuck: None,
+                sessions,
+            }),
+            Err(e) => {
+                publisher.end(&rt);
+                Err(e)
+            }
+        }
     }
 
     /// Makes room for one step more to wait, where there is none.
@@ -128,7 +132,7 @@ impl<R: Wait + Drop> Publication<R> {
         ensures all { IsTrue result ↔ (self.new.shown ≡ self.new.posted) }
     {
         publish_all(
-            self.alloc,
+            &self.rt,
             &self.book,
             &mut self.entered,
             &mut self.backlog,
@@ -142,14 +146,14 @@ impl<R: Wait + Drop> Publication<R> {
         ensures steps { result ≡ shown_by self.now }
         ensures judged { AreJudged self.now.shown }
     {
-        ShownSteps::of(self.publisher.published().prefix.again())
+        ShownSteps::of(self.publisher.published().prefix().again())
     }
 
     /// The state that is shown, for whoever holds the publication. Sessions ask it with no lock.
     pub fn shown(&self) -> &Shown
         ensures { result.now ≡ standing self.now.shown }
     {
-        &self.publisher.published().shown
+        self.publisher.published().shown()
     }
 
     /// The newest shown revision.
@@ -160,7 +164,7 @@ impl<R: Wait + Drop> Publication<R> {
     }
 
     /// A session that knows what is shown now. It is refused exactly where all were given out.
-    pub fn session(&mut self) -> Result<Session, Refusal>
+    pub fn session(&mut self) -> Result<Session<J>, Refusal>
         ensures known { IfOk result (λ session. Begins (shown_by self.new) session) }
         ensures judged { IfOk result (λ session. AreJudged session.steps) }
         ensures seats { IfOk result (λ _. self.new.seats + 1 ≡ self.old.seats) }
@@ -179,11 +183,46 @@ impl<R: Wait + Drop> Publication<R> {
     }
 }
 
-fn make_sessions<R: Wait + Drop>(
+impl<J: Naming, R: Wait + Drop> Drop for Publication<J, R> {
+    fn drop(self) {
+        let Self {
+            publisher,
+            rt,
+            book: _book,
+            entered: _entered,
+            backlog: _backlog,
+            stuck: _stuck,
+            sessions: _sessions,
+        } = self;
+        publisher.end(&rt);
+    }
+}
+
+// Publishes two copies that were made of the first step, and makes the sessions.
+fn begin<J: Naming, R: Wait>(
     alloc: Global,
-    publisher: &mut Publisher<R>,
+    rt: &R,
+    publisher: &mut CopyPublisher<J>,
     entered: &StepPrefix,
-) -> Result<Vec<Session>, AllocError>
+) -> Result<Vec<Session<J>>, AllocError>
+    requires first { publisher.old.published.prefix ≡ entered.now }
+    requires waiting { publisher.old.waiting ≡ [] }
+    requires judged { AreJudged entered.now.steps }
+    ensures same { OnOk result (publisher.new.published ≡ publisher.old.published) }
+    ensures waiting { OnOk result (publisher.new.waiting ≡ []) }
+    ensures told { OnOk result (publisher.new.told ≡ Some publisher.new.published.prefix) }
+    ensures sessions { IfOk result (λ v.
+        (vec_len v ≡ 32) × All (λ s. s.book ≡ entered.now.book) v.items) }
+{
+    publish(publisher, rt)?;
+    make_sessions(alloc, publisher, entered)
+}
+
+fn make_sessions<J: Naming>(
+    alloc: Global,
+    publisher: &mut CopyPublisher<J>,
+    entered: &StepPrefix,
+) -> Result<Vec<Session<J>>, AllocError>
     requires told { publisher.old.told ≡ Some entered.now }
     requires judged { AreJudged entered.now.steps }
     ensures same { OnOk result (publisher.new ≡ publisher.old) }

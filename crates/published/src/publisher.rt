@@ -1,33 +1,35 @@
-//! The writer of the two copies, with the handle that it waits by.
-ghost use Rattle.std.specs.Prelude.{◌≡◌, ◌↔◌, ◌<◌, ◌^◌, length, IsTrue, [], ◌∷◌, ◌++◌, IfOk, OnOk, OnErr, MatchResult, Some, None, drop, fold};
+//! The writer of two copies.
+ghost use Rattle.std.specs.Prelude.{◌≡◌, ◌↔◌, ◌<◌, ◌^◌, ℕ, length, IsTrue, [], ◌∷◌, ◌++◌, IfOk, OnOk, OnErr, MatchResult, drop, fold};
+ghost use Rattle.left_right.specs.Register.{TurnsAt};
 ghost use Rattle.left_right.specs.Sides.{view as seen_by};
-ghost use Rattle.published.specs.Known.{Known};
-ghost use Rattle.published.specs.Judged.{AreJudged};
-ghost use Rattle.published.specs.Copies.{Stands, Chain, absorbed};
+ghost use Rattle.published.specs.Writing.{Writing, KeepsRule};
 
-use crate::copy::ShownCopy;
-use crate::post::Post;
-use crate::rule::{CopyReader, CopyWriter, Seeing, Told};
-use core::mem::replace_with;
+use crate::book::StepPrefix;
+use crate::rule::TellsAll;
+use crossbeam_utils::rule::{Outcome, Protocol};
+use left_right::Absorb;
+use left_right::reader::Reader;
+use left_right::writer::Writer;
 use std::alloc::{AllocError, Global};
 use std::marker::Model;
 use std::sync::Wait;
 
-/// Contracts see it as the published copy, the posts that wait, and what the writer's place knows.
-pub struct Publisher<R: Wait + Drop> {
-    writer: CopyWriter,
-    rt: R,
+/// A writer of copies that take posts, under a rule. Whoever has it ends it by [`end`](Publisher::end). Contracts see it as the
+/// published copy, the posts that wait, and what the writer's place knows.
+pub struct Publisher<C: Absorb<O> + Drop, O: Drop, P: Protocol<C, Option<StepPrefix>>> {
+    writer: Writer<C, O, Option<StepPrefix>, P>,
 }
 
-impl<R: Wait + Drop> Model for Publisher<R> {
+impl<C: Absorb<O> + Drop, O: Drop, P: Protocol<C, Option<StepPrefix>>> Model
+    for Publisher<C, O, P> {
     ghost use Rattle.std.specs.Prelude.{drop};
     ghost use Rattle.left_right.specs.Sides.{view as seen_by};
     ghost use Rattle.published.specs.Writing.{Writing};
     ghost use Rattle.published.specs.inside.WritingCodes.{coded_writing};
 
-    ghost Value = { Writing };
+    ghost Value = { Writing C O };
 
-    ghost coded = { coded_writing };
+    ghost coded = { coded_writing C.code O.code };
 
     ghost view = { λ p. record {
       published = p.writer.desk.shown.value;
@@ -36,27 +38,26 @@ impl<R: Wait + Drop> Model for Publisher<R> {
     } };
 }
 
-impl<R: Wait + Drop> Publisher<R> {
+impl<C: Absorb<O> + Drop, O: Drop, P: Protocol<C, Option<StepPrefix>>> Publisher<C, O, P> {
     /// A publisher of two copies that are alike, with room for so many readers.
     pub fn new(
         alloc: Global,
-        rt: R,
-        first: ShownCopy,
-        second: ShownCopy,
+        first: C,
+        second: C,
         readers: usize,
-    ) -> Result<Publisher<R>, AllocError>
+    ) -> Result<Publisher<C, O, P>, AllocError>
         requires readers { (0 < readers) × (readers < 2 ^ 32) }
-        requires alike { first ≡ second }
-        requires stands { Stands first }
+        requires alike { C.state first ≡ C.state second }
+        requires rule { P.holds first (P.first ∷ []) }
         ensures { IfOk result (λ p.
-            p ≡ record { published = first; waiting = []; told = None }) }
+            p ≡ record { published = first; waiting = []; told = P.first }) }
     {
-        let writer = CopyWriter::new(alloc, first, second, readers)?;
-        Ok(Publisher { writer, rt })
+        let writer = Writer::new(alloc, first, second, readers)?;
+        Ok(Publisher { writer })
     }
 
     /// The copy that is read.
-    pub fn published(&self) -> &ShownCopy
+    pub fn published(&self) -> &C
         ensures { result.now ≡ self.now.published }
     {
         self.writer.published()
@@ -70,7 +71,7 @@ impl<R: Wait + Drop> Publisher<R> {
     }
 
     /// Takes one post. It comes back for want of memory.
-    pub fn append(&mut self, post: Post) -> Result<(), Post>
+    pub fn append(&mut self, post: O) -> Result<(), O>
         ensures same { (self.new.published ≡ self.old.published) × (self.new.told ≡ self.old.told) }
         ensures waiting { MatchResult result
             (λ _. self.new.waiting ≡ self.old.waiting ++ post ∷ [])
@@ -81,49 +82,36 @@ impl<R: Wait + Drop> Publisher<R> {
 
     /// Shows readers all posts that wait, and waits for those that read the other copy. For want of memory it
     /// shows none.
-    pub fn publish(&mut self) -> Result<(), AllocError>
-        requires { (end : Known) × Chain self.old.published.prefix self.old.waiting end
-            × AreJudged end.steps }
-        ensures ok { OnOk result (
-            (self.new.published ≡ fold absorbed self.old.published self.old.waiting)
-            × (self.new.waiting ≡ []) × (self.new.told ≡ Some self.new.published.prefix)) }
-        ensures err { OnErr result (self.new ≡ self.old) }
+    pub fn publish<M: Outcome<C, Option<StepPrefix>>, R: Wait>(
+        self,
+        rt: &R,
+    ) -> (Publisher<C, O, P>, Result<(), AllocError>)
+        requires { (next : C) → C.state next ≡ fold C.applied (C.state self.published) self.waiting
+            → (seat : ℕ) → TurnsAt P.holds seat self.told self.published next M.then }
+        ensures state { OnOk result.1 (C.state result.0.published ≡ fold C.applied (C.state self.published) self.waiting) }
+        ensures waiting { OnOk result.1 (result.0.waiting ≡ []) }
+        ensures turned { OnOk result.1 (M.then self.told self.published result.0.published result.0.told) }
+        ensures err { OnErr result.1 (result.0 ≡ self) }
     {
-        replace_with(&mut self.writer, &self.rt, show)
+        let Publisher { writer } = self;
+        let (writer, shown) = writer.publish_as::<M, R>(rt);
+        (Publisher { writer }, shown)
     }
 
     /// A new reader, which knows what the writer's place knows.
-    pub fn reader(&mut self) -> Result<CopyReader, AllocError>
+    pub fn reader(&mut self) -> Result<Reader<C, Option<StepPrefix>, P>, AllocError>
+        requires { KeepsRule P.holds P.first self.old.told }
         ensures same { self.new ≡ self.old }
         ensures told { IfOk result (λ r. seen_by r.place ≡ self.old.told) }
     {
         let mut reader = self.writer.factory().reader()?;
-        reader.learn::<Told>(self.writer.tell::<Told>());
+        reader.learn::<TellsAll>(self.writer.tell::<TellsAll>());
         Ok(reader)
     }
-}
 
-// The publication, as a function of the writer.
-fn show<R: Wait>(writer: CopyWriter, rt: &R) -> (CopyWriter, Result<(), AllocError>)
-    requires { (end : Known)
-        × Chain writer.desk.shown.value.prefix (drop writer.behind writer.log.items) end
-        × AreJudged end.steps }
-    ensures ok { OnOk result.1 (
-        (result.0.desk.shown.value
-        ≡ fold absorbed writer.desk.shown.value (drop writer.behind writer.log.items))
-        × (drop result.0.behind result.0.log.items ≡ [])
-        × (seen_by result.0.desk.place ≡ Some result.0.desk.shown.value.prefix)) }
-    ensures err { OnErr result.1 (
-        (result.0.desk.shown.value ≡ writer.desk.shown.value)
-        × (drop result.0.behind result.0.log.items ≡ drop writer.behind writer.log.items)
-        × (seen_by result.0.desk.place ≡ seen_by writer.desk.place)) }
-{
-    writer.publish_as::<Seeing, R>(rt)
-}
-
-impl<R: Wait + Drop> Drop for Publisher<R> {
-    fn drop(self) {
-        let Self { writer, rt } = self;
-        drop(writer.take(&rt));
+    /// Waits for the readers. They read nothing from then on.
+    pub fn end<R: Wait>(self, rt: &R) {
+        let Publisher { writer } = self;
+        drop(writer.take(rt));
     }
 }

@@ -13,7 +13,7 @@ use std::alloc::{AllocError, Global};
 use std::marker::Model;
 
 /// What one copy tells: an answer, the number of its store, and the steps that it stands for.
-pub type Seen<A> = (A, u64, StepPrefix);
+pub type Look<A> = (A, u64, StepPrefix);
 
 /// The steps that a session knows, all of which were judged, and answers of its checks, which are right of what these steps
 /// retain. Contracts see it as the steps, with the name of their book.

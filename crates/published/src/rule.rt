@@ -1,16 +1,16 @@
 //! The rule over the published copy.
-use crate::book::StepPrefix;
+use crate::book::{Naming, StepPrefix};
 use crate::copy::ShownCopy;
 use crate::post::Post;
+use crate::publisher::Publisher;
 use atomic_table::{Join, Split};
 use crossbeam_utils::rule::{Outcome, Protocol};
 use left_right::reader::Reader;
-use left_right::writer::Writer;
 
 /// A view is a prefix that its owner knows, or none yet.
 pub struct Published;
 
-impl Protocol<ShownCopy, Option<StepPrefix>> for Published {
+impl<J: Naming> Protocol<ShownCopy<J>, Option<StepPrefix>> for Published {
     ghost use Rattle.std.specs.Prelude.{None};
     ghost use Rattle.published.specs.Copies.{Keeps};
 
@@ -22,22 +22,22 @@ impl Protocol<ShownCopy, Option<StepPrefix>> for Published {
 /// What both steps tell: a publication, and an entry.
 pub struct Seeing;
 
-impl Outcome<ShownCopy, Option<StepPrefix>> for Seeing {
+impl<J: Naming> Outcome<ShownCopy<J>, Option<StepPrefix>> for Seeing {
     ghost use Rattle.published.specs.Copies.{Sees};
 
     ghost then = { Sees };
 }
 
 /// The writer tells all that it knows.
-pub struct Told;
+pub struct TellsAll;
 
-impl Split<Option<StepPrefix>> for Told {
+impl Split<Option<StepPrefix>> for TellsAll {
     ghost left = { λ v. v };
 
     ghost right = { λ v. v };
 }
 
-impl Join<Option<StepPrefix>> for Told {
+impl Join<Option<StepPrefix>> for TellsAll {
     ghost use Rattle.std.specs.Prelude.{None};
 
     ghost both = { λ v w. w };
@@ -45,6 +45,6 @@ impl Join<Option<StepPrefix>> for Told {
     ghost spent = { None };
 }
 
-pub type CopyReader = Reader<ShownCopy, Option<StepPrefix>, Published>;
+pub type CopyReader<J> = Reader<ShownCopy<J>, Option<StepPrefix>, Published>;
 
-pub type CopyWriter = Writer<ShownCopy, Post, Option<StepPrefix>, Published>;
+pub type CopyPublisher<J> = Publisher<ShownCopy<J>, Post<J>, Published>;

@@ -15,9 +15,9 @@ ghost use Rattle.published.specs.Known.{Known, Begins};
 ghost use Rattle.published.specs.Judged.{AreJudged};
 ghost use Rattle.published.specs.Answering.{IsRefusedIn, IsWatchRefusedIn};
 
-use crate::book::StepPrefix;
+use crate::book::{Naming, StepPrefix};
 use crate::receipt::Receipt;
-use crate::remembered::{Remembered, Seen};
+use crate::remembered::{Look, Remembered};
 use crate::rule::{CopyReader, Seeing};
 use core::mem::replace_with;
 use expand::Tree;
@@ -30,18 +30,18 @@ use std::marker::Model;
 use watch::{Namespaces, Page};
 use zookie::{Consistency, Zookie};
 
-/// A reader of the published state, and the steps that it knows. Contracts see it as those steps, with the
+/// A reader of the published state of the book that `J` names, and the steps that it knows. Contracts see it as those steps, with the
 /// name of their book. What it is asked is answered by the standing of steps that begin with all it knew, and
 /// from then on it knows these. All that it knows was judged before it was posted. It outlives the publication,
 /// and answers nothing from then on. It keeps up to 1,024 answers of its checks, and asks them at its next checks: what is
 /// answered is the same.
 #[derive(Drop)]
-pub struct Session {
-    reader: CopyReader,
+pub struct Session<J: Naming> {
+    reader: CopyReader<J>,
     known: Remembered,
 }
 
-impl Model for Session {
+impl<J: Naming> Model for Session<J> {
     ghost use Rattle.std.specs.Prelude.{◌≡◌, Some};
     ghost use Rattle.left_right.specs.Sides.{view as seen_by};
     ghost use Rattle.published.specs.Known.{Known};
@@ -59,8 +59,8 @@ impl Model for Session {
         × AreJudged s.known.steps };
 }
 
-impl Session {
-    pub(crate) fn new(reader: CopyReader, known: Remembered) -> Session
+impl<J: Naming> Session<J> {
+    pub(crate) fn new(reader: CopyReader<J>, known: Remembered) -> Session<J>
         requires seen { (k : Known) × (view reader.place ≡ Some k) × (k.book ≡ known.book) }
         requires judged { AreJudged known.steps }
         ensures { result ≡ known }
@@ -80,7 +80,7 @@ impl Session {
         ensures judged { AreJudged self.new.steps }
         ensures later { Begins self.old self.new }
     {
-        let asking = Asking {
+        let asking = Inquiry {
             known: &self.known,
             question,
         };
@@ -261,7 +261,7 @@ impl Session {
 
 // A question, and what the session that asks it remembers.
 #[derive(Drop)]
-struct Asking<'a> {
+struct Inquiry<'a> {
     known: &'a Remembered,
     question: &'a Question,
 }
@@ -277,7 +277,10 @@ fn no_publication() -> Refused
 }
 
 // Where the copy does not begin with what the session knows, it is not asked.
-fn look(reader: CopyReader, asking: Asking<'_>) -> (CopyReader, Option<Seen<Result<Told, Refused>>>)
+fn look<J: Naming>(
+    reader: CopyReader<J>,
+    asking: Inquiry<'_>,
+) -> (CopyReader<J>, Option<Look<Result<Told, Refused>>>)
     requires book { (k : Known) × (view reader.place ≡ Some k) × (k.book ≡ asking.known.now.book) }
     ensures book { (k : Known) × (view result.0.place ≡ Some k) × (k.book ≡ asking.entry.known.now.book) }
     ensures later { IfSome result.1 (λ seen. Begins asking.entry.known.now seen.2) }
@@ -291,12 +294,12 @@ fn look(reader: CopyReader, asking: Asking<'_>) -> (CopyReader, Option<Seen<Resu
     match reader.enter_as::<Seeing>() {
         Ok(reading) => {
             let copy = reading.get();
-            let Some(kept) = asking.known.answers_for(&copy.prefix) else {
+            let Some(kept) = asking.known.answers_for(copy.prefix()) else {
                 return (reading.leave(), None);
             };
-            let answer = copy.shown.answer_knowing(kept, asking.question);
-            let number = copy.shown.number();
-            let prefix = copy.prefix.again();
+            let answer = copy.shown().answer_knowing(kept, asking.question);
+            let number = copy.shown().number();
+            let prefix = copy.prefix().again();
             (reading.leave(), Some((answer, number, prefix)))
         }
         Err(reader) => (reader, None),

@@ -7,7 +7,7 @@ ghost use Rattle.published.specs.Posts.{IsLater};
 
 use config::Config;
 use names::{Items, Op, OpKind, Refusal, Tuple};
-use published::{Opened, Publication};
+use published::{Naming, Opened, Publication};
 use rows::{events_of, refuses_what_no_write_gives};
 use shown::{Shown, Step};
 use std::alloc::Global;
@@ -18,39 +18,34 @@ use tuple_keys::KeptCommit;
 
 /// The history, and the publication of all that was done to it.
 #[derive(Drop)]
-pub struct Desk<R: Wait + Drop> {
+pub struct Desk<J: Naming, R: Wait + Drop> {
     pub own: Shown,
-    pub publication: Publication<R>,
+    pub publication: Publication<J, R>,
     pub ghost agrees: { own ≡ standing publication.posted },
 }
 
-/// What a test makes of a desk over a store that holds nothing. The desk is gone afterwards.
-pub(crate) fn on_desk<A: Abort, R: Wait + Drop, T, F: FnOnce(&mut Desk<R>) -> T>(
+/// A desk over a store that holds nothing.
+pub(crate) fn open<A: Abort, J: Naming, R: Wait + Drop>(
     rt: &A,
     handle: R,
     alloc: Global,
-    test: F,
-) -> T
-    requires { F.IsAlwaysCallable test }
+    opened: Opened,
+) -> Desk<J, R>
+    requires { opened.book ≡ J.book }
 {
-    let mut desk = open(rt, handle, alloc);
-    test(&mut desk)
-}
-
-fn open<A: Abort, R: Wait + Drop>(rt: &A, handle: R, alloc: Global) -> Desk<R> {
     let loaded = Listed::new(alloc, 7).load(alloc).expect(rt, "tables");
     let first = Step::Open(loaded);
     let mut own = Shown::new(alloc);
     own.apply(&first).expect(rt, "a history");
-    let opened = Publication::open(alloc, handle, Opened::new(), first);
-    let publication = opened.expect(rt, "a publication");
+    let publication = Publication::open(alloc, handle, opened, first);
+    let publication = publication.expect(rt, "a publication");
     Desk { own, publication }
 }
 
 /// Posts a configuration.
-pub(crate) fn configure<R: Wait + Drop>(
+pub(crate) fn configure<J: Naming, R: Wait + Drop>(
     alloc: Global,
-    desk: &mut Desk<R>,
+    desk: &mut Desk<J, R>,
     text: &str,
 ) -> Result<(), Refusal>
     ensures { desk.new.publication.book ≡ desk.old.publication.book }
@@ -62,9 +57,9 @@ pub(crate) fn configure<R: Wait + Drop>(
 }
 
 /// Posts that a tuple is inserted.
-pub(crate) fn insert<R: Wait + Drop>(
+pub(crate) fn insert<J: Naming, R: Wait + Drop>(
     alloc: Global,
-    desk: &mut Desk<R>,
+    desk: &mut Desk<J, R>,
     text: &str,
 ) -> Result<(), Refusal>
     ensures { desk.new.publication.book ≡ desk.old.publication.book }
@@ -89,7 +84,7 @@ fn judge(own: &Shown, ops: &Items<Op>) -> Result<(), Refusal>
     own.judge(ops.as_slice())
 }
 
-fn post<R: Wait + Drop>(desk: &mut Desk<R>, step: Step) -> Result<(), Refusal>
+fn post<J: Naming, R: Wait + Drop>(desk: &mut Desk<J, R>, step: Step) -> Result<(), Refusal>
     requires later { IsLater step }
     requires follows { HasRoom desk.old.own step }
     ensures { desk.new.publication.book ≡ desk.old.publication.book }

@@ -1,14 +1,16 @@
 //! Trees, pages, objects and groups that a session answers: the program asks for the same beside the number of the store.
+ghost use Rattle.std.specs.Prelude.{◌≡◌};
 
-use crate::desk::{Desk, configure, insert, on_desk};
+use crate::desk::{Desk, configure, insert, open};
 use expand::Tree;
 use leopard::Expr;
 use lookup::Lookup;
 use names::{EventKind, Name, Node, Object, Refusal, RelationName, Tuple};
-use published::Session;
+use published::{Naming, Opened, Session};
 use rows::Tupleset;
 use shown::{Depth, Objects};
 use std::alloc::Global;
+use std::marker::Brand;
 use std::process::Abort;
 use std::sync::Wait;
 use std::test::*;
@@ -21,7 +23,11 @@ const INDEXED: &str =
 const ANN: &str = "group:a#member@user:ann";
 
 // A session of a desk where Ann is a member of the group at revision 2, which is shown.
-fn filled<A: Abort, R: Wait + Drop>(rt: &A, alloc: Global, desk: &mut Desk<R>) -> Session {
+fn filled<A: Abort, J: Naming, R: Wait + Drop>(
+    rt: &A,
+    alloc: Global,
+    desk: &mut Desk<J, R>,
+) -> Session<J> {
     configure(alloc, desk, INDEXED).expect(rt, "a configuration");
     insert(alloc, desk, ANN).expect(rt, "a tuple");
     desk.publication.publish();
@@ -45,7 +51,7 @@ fn opens_to(tree: &Tree, node: &Node, user: &Object) -> bool {
     }
 }
 
-fn has_tree(session: &mut Session) -> Result<bool, Refusal> {
+fn has_tree<J: Naming>(session: &mut Session<J>) -> Result<bool, Refusal> {
     let node = Node::parse("group:a#member")?;
     let user = Object::parse("user:ann")?;
     let asked = Node::parse("group:a#member")?;
@@ -62,7 +68,7 @@ fn is_tuple(found: &[Tuple], wanted: &Tuple) -> bool {
     }
 }
 
-fn has_page(session: &mut Session) -> Result<bool, Refusal> {
+fn has_page<J: Naming>(session: &mut Session<J>) -> Result<bool, Refusal> {
     let tuple = Tuple::parse(ANN)?;
     let asked = Tupleset {
         namespace: Name::parse("group")?,
@@ -85,7 +91,7 @@ fn is_object(found: &Objects, wanted: &str) -> bool {
     }
 }
 
-fn has_objects(session: &mut Session) -> Result<bool, Refusal> {
+fn has_objects<J: Naming>(session: &mut Session<J>) -> Result<bool, Refusal> {
     let relation = RelationName {
         namespace: Name::parse("group")?,
         relation: Name::parse("member")?,
@@ -109,7 +115,7 @@ fn is_group(found: &[Node], wanted: &Node) -> bool {
     }
 }
 
-fn has_groups(session: &mut Session) -> Result<bool, Refusal> {
+fn has_groups<J: Naming>(session: &mut Session<J>) -> Result<bool, Refusal> {
     let node = Node::parse("group:a#member")?;
     let asked = Expr::Member2Group(Object::parse("user:ann")?);
     match session.groups(Consistency::Latest, asked, 9) {
@@ -125,15 +131,18 @@ fn is_put(events: &[WatchedEvent], tuple: &Tuple) -> bool {
     }
 }
 
-fn has_events(session: &mut Session) -> Result<bool, Refusal> {
+fn has_events<J: Naming>(session: &mut Session<J>) -> Result<bool, Refusal> {
     let tuple = Tuple::parse(ANN)?;
     let cursor = Zookie { store: 7, rev: 1 };
     let page = session.watch(cursor, Namespaces::All, 9)?;
     Ok(page.heartbeat == 2 && is_put(page.events.as_slice(), &tuple))
 }
 
-fn answers<A: Abort, R: Wait + Drop>(rt: &A, alloc: Global, desk: &mut Desk<R>) {
-    let mut session = filled(rt, alloc, desk);
+fn answers<A: Abort, J: Naming, R: Wait + Drop>(rt: &A, handle: R, alloc: Global, opened: Opened)
+    requires { opened.book ≡ J.book }
+{
+    let mut desk = open::<A, J, R>(rt, handle, alloc, opened);
+    let mut session = filled(rt, alloc, &mut desk);
     assert!(rt; has_tree(&mut session).expect(rt, "a tree"));
     assert!(rt; has_page(&mut session).expect(rt, "a page"));
     assert!(rt; has_objects(&mut session).expect(rt, "objects"));
@@ -143,6 +152,5 @@ fn answers<A: Abort, R: Wait + Drop>(rt: &A, alloc: Global, desk: &mut Desk<R>) 
 
 #[test]
 fn a_session_answers_each_question(rt: HostRuntime) {
-    let alloc = rt.alloc();
-    on_desk(&rt, &rt, alloc, |desk| answers(&rt, alloc, desk));
+    answers::<_, Brand, _>(&rt, &rt, rt.alloc(), Opened::new());
 }

@@ -1,10 +1,11 @@
 //! What sessions answer.
 ghost use Rattle.std.specs.Prelude.{◌≡◌};
 
-use crate::desk::{Desk, configure, insert, on_desk};
+use crate::desk::{Desk, configure, insert, open};
 use names::{Node, Object, Refusal};
-use published::{MAX_SESSIONS, Receipt, Session};
+use published::{MAX_SESSIONS, Naming, Opened, Receipt, Session};
 use std::alloc::Global;
+use std::marker::Brand;
 use std::process::Abort;
 use std::sync::Wait;
 use std::test::*;
@@ -16,7 +17,7 @@ const ANN: &str = "group:a#member@user:ann";
 
 // Whether Ann is a member of the group at the session's newest revision: 0 for no, 1 for yes, or 100 and the
 // number of the refusal.
-fn asked(session: &mut Session) -> u8
+fn asked<J: Naming>(session: &mut Session<J>) -> u8
     ensures { session.new.book ≡ session.old.book }
 {
     let Ok(node) = Node::parse("group:a#member") else {
@@ -32,7 +33,7 @@ fn asked(session: &mut Session) -> u8
 }
 
 // The newest revision that the session knows, or the number of the refusal and 1,000.
-fn newest_of(session: &mut Session) -> u64
+fn newest_of<J: Naming>(session: &mut Session<J>) -> u64
     ensures { session.new.book ≡ session.old.book }
 {
     match session.state() {
@@ -49,7 +50,10 @@ fn number_of<T: Drop>(answer: Result<T, Refusal>) -> u8 {
     }
 }
 
-fn runs_out<A: Abort, R: Wait + Drop>(rt: &A, desk: &mut Desk<R>) {
+fn runs_out<A: Abort, J: Naming, R: Wait + Drop>(rt: &A, handle: R, alloc: Global, opened: Opened)
+    requires { opened.book ≡ J.book }
+{
+    let mut desk = open::<A, J, R>(rt, handle, alloc, opened);
     for _ in 0..MAX_SESSIONS {
         assert!(rt; number_of(desk.publication.session()) == 0);
     }
@@ -59,15 +63,15 @@ fn runs_out<A: Abort, R: Wait + Drop>(rt: &A, desk: &mut Desk<R>) {
 #[test]
 fn there_are_32_sessions(rt: HostRuntime) {
     assert!(rt; MAX_SESSIONS == 32);
-    on_desk(&rt, &rt, rt.alloc(), |desk| runs_out(&rt, desk));
+    runs_out::<_, Brand, _>(&rt, &rt, rt.alloc(), Opened::new());
 }
 
 // The relation is there to the session no earlier than it is shown.
-fn waits_for_configuration<A: Abort, R: Wait + Drop>(
+fn waits_for_configuration<A: Abort, J: Naming, R: Wait + Drop>(
     rt: &A,
     alloc: Global,
-    desk: &mut Desk<R>,
-    session: &mut Session,
+    desk: &mut Desk<J, R>,
+    session: &mut Session<J>,
 ) {
     assert!(rt; asked(session) == 102);
     configure(alloc, desk, GROUPS).expect(rt, "a configuration");
@@ -77,11 +81,11 @@ fn waits_for_configuration<A: Abort, R: Wait + Drop>(
 }
 
 // Ann is a member to the session no earlier than her tuple is shown.
-fn waits_for_tuples<A: Abort, R: Wait + Drop>(
+fn waits_for_tuples<A: Abort, J: Naming, R: Wait + Drop>(
     rt: &A,
     alloc: Global,
-    desk: &mut Desk<R>,
-    session: &mut Session,
+    desk: &mut Desk<J, R>,
+    session: &mut Session<J>,
 ) {
     insert(alloc, desk, ANN).expect(rt, "a tuple");
     insert(alloc, desk, "group:a#member@user:bob").expect(rt, "a tuple");
@@ -92,26 +96,32 @@ fn waits_for_tuples<A: Abort, R: Wait + Drop>(
     assert!(rt; asked(session) == 1);
 }
 
-fn waits<A: Abort, R: Wait + Drop>(rt: &A, alloc: Global, desk: &mut Desk<R>) {
+fn waits<A: Abort, J: Naming, R: Wait + Drop>(rt: &A, handle: R, alloc: Global, opened: Opened)
+    requires { opened.book ≡ J.book }
+{
+    let mut desk = open::<A, J, R>(rt, handle, alloc, opened);
     let mut session = desk.publication.session().expect(rt, "a session");
-    waits_for_configuration(rt, alloc, desk, &mut session);
-    waits_for_tuples(rt, alloc, desk, &mut session);
+    waits_for_configuration(rt, alloc, &mut desk, &mut session);
+    waits_for_tuples(rt, alloc, &mut desk, &mut session);
 }
 
 #[test]
 fn posted_steps_wait_until_they_are_published(rt: HostRuntime) {
-    let alloc = rt.alloc();
-    on_desk(&rt, &rt, alloc, |desk| waits(&rt, alloc, desk));
+    waits::<_, Brand, _>(&rt, &rt, rt.alloc(), Opened::new());
 }
 
 /// Two sessions of one publication.
-struct Pair {
-    one: Session,
-    two: Session,
+struct Pair<J: Naming> {
+    one: Session<J>,
+    two: Session<J>,
 }
 
 // The receipt of Ann's tuple.
-fn receipt_of<A: Abort, R: Wait + Drop>(rt: &A, alloc: Global, desk: &mut Desk<R>) -> Receipt
+fn receipt_of<A: Abort, J: Naming, R: Wait + Drop>(
+    rt: &A,
+    alloc: Global,
+    desk: &mut Desk<J, R>,
+) -> Receipt
     ensures { result.published.book ≡ desk.old.publication.book }
 {
     configure(alloc, desk, GROUPS).expect(rt, "a configuration");
@@ -122,7 +132,12 @@ fn receipt_of<A: Abort, R: Wait + Drop>(rt: &A, alloc: Global, desk: &mut Desk<R
 }
 
 // Both learn one receipt, and answer by it.
-fn both_learn<A: Abort>(rt: &A, receipt: &Receipt, one: &mut Session, two: &mut Session)
+fn both_learn<A: Abort, J: Naming>(
+    rt: &A,
+    receipt: &Receipt,
+    one: &mut Session<J>,
+    two: &mut Session<J>,
+)
     requires one { one.old.book ≡ receipt.now.published.book }
     requires two { two.old.book ≡ receipt.now.published.book }
 {
@@ -135,7 +150,11 @@ fn both_learn<A: Abort>(rt: &A, receipt: &Receipt, one: &mut Session, two: &mut 
     assert!(rt; asked(two) == 1);
 }
 
-fn learns<A: Abort, R: Wait + Drop>(rt: &A, alloc: Global, desk: &mut Desk<R>) -> Pair {
+fn learns<A: Abort, J: Naming, R: Wait + Drop>(
+    rt: &A,
+    alloc: Global,
+    desk: &mut Desk<J, R>,
+) -> Pair<J> {
     let mut one = desk.publication.session().expect(rt, "a session");
     let mut two = desk.publication.session().expect(rt, "a session");
     let receipt = receipt_of(rt, alloc, desk);
@@ -144,21 +163,28 @@ fn learns<A: Abort, R: Wait + Drop>(rt: &A, alloc: Global, desk: &mut Desk<R>) -
 }
 
 // Neither answers, since the publication is gone.
-fn answers_no_more<A: Abort>(rt: &A, one: &mut Session, two: &mut Session) {
+fn answers_no_more<A: Abort, J: Naming>(rt: &A, one: &mut Session<J>, two: &mut Session<J>) {
     assert!(rt; asked(one) == 123);
     assert!(rt; newest_of(two) == 1_023);
 }
 
+// They learn it, and answer nothing once the desk is gone.
+fn outlives<A: Abort, J: Naming, R: Wait + Drop>(rt: &A, handle: R, alloc: Global, opened: Opened)
+    requires { opened.book ≡ J.book }
+{
+    let mut desk = open::<A, J, R>(rt, handle, alloc, opened);
+    let Pair { mut one, mut two } = learns(rt, alloc, &mut desk);
+    drop(desk);
+    answers_no_more(rt, &mut one, &mut two);
+}
+
 #[test]
 fn a_receipt_is_learnt_by_two(rt: HostRuntime) {
-    let alloc = rt.alloc();
-    let pair = on_desk(&rt, &rt, alloc, |desk| learns(&rt, alloc, desk));
-    let Pair { mut one, mut two } = pair;
-    answers_no_more(&rt, &mut one, &mut two);
+    outlives::<_, Brand, _>(&rt, &rt, rt.alloc(), Opened::new());
 }
 
 // What the session answers of Ann, and at which revision.
-fn answered(session: &mut Session, at: Consistency) -> Result<(u64, bool), Refusal> {
+fn answered<J: Naming>(session: &mut Session<J>, at: Consistency) -> Result<(u64, bool), Refusal> {
     let node = Node::parse("group:a#member")?;
     let user = Object::parse("user:ann")?;
     match session.check(at, node, user) {
@@ -168,17 +194,23 @@ fn answered(session: &mut Session, at: Consistency) -> Result<(u64, bool), Refus
 }
 
 // The session answers so, asked twice.
-fn answers<A: Abort>(rt: &A, session: &mut Session, at: Consistency, rev: u64, value: bool) {
+fn answers<A: Abort, J: Naming>(
+    rt: &A,
+    session: &mut Session<J>,
+    at: Consistency,
+    rev: u64,
+    value: bool,
+) {
     assert!(rt; answered(session, at).expect(rt, "an answer") == (rev, value));
     assert!(rt; answered(session, at).expect(rt, "an answer") == (rev, value));
 }
 
 // The session is asked before a commit that changes the answer, after it, and then at the revision before.
-fn asks_again<A: Abort, R: Wait + Drop>(
+fn asks_again<A: Abort, J: Naming, R: Wait + Drop>(
     rt: &A,
     alloc: Global,
-    desk: &mut Desk<R>,
-    session: &mut Session,
+    desk: &mut Desk<J, R>,
+    session: &mut Session<J>,
 ) {
     answers(rt, session, Consistency::Latest, 1, false);
     insert(alloc, desk, ANN).expect(rt, "a tuple");
@@ -188,15 +220,17 @@ fn asks_again<A: Abort, R: Wait + Drop>(
     answers(rt, session, before, 1, false);
 }
 
-fn repeats<A: Abort, R: Wait + Drop>(rt: &A, alloc: Global, desk: &mut Desk<R>) {
-    configure(alloc, desk, GROUPS).expect(rt, "a configuration");
+fn repeats<A: Abort, J: Naming, R: Wait + Drop>(rt: &A, handle: R, alloc: Global, opened: Opened)
+    requires { opened.book ≡ J.book }
+{
+    let mut desk = open::<A, J, R>(rt, handle, alloc, opened);
+    configure(alloc, &mut desk, GROUPS).expect(rt, "a configuration");
     desk.publication.publish();
     let mut session = desk.publication.session().expect(rt, "a session");
-    asks_again(rt, alloc, desk, &mut session);
+    asks_again(rt, alloc, &mut desk, &mut session);
 }
 
 #[test]
 fn a_repeated_check_is_answered_at_its_revision(rt: HostRuntime) {
-    let alloc = rt.alloc();
-    on_desk(&rt, &rt, alloc, |desk| repeats(&rt, alloc, desk));
+    repeats::<_, Brand, _>(&rt, &rt, rt.alloc(), Opened::new());
 }

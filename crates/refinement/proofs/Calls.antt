@@ -23,11 +23,11 @@ use Rattle.desk.specs.declared.change.Change.{Change}
 use Rattle.desk.specs.declared.change.Change.TheVariants.{Write, Config, Trim, CatchUp, Mark, Rebuild}
 use Rattle.desk.specs.declared.change.Made.{Made}
 use Rattle.desk.specs.declared.change.Made.TheVariants.{Commit, Floor, Cursor, Marked, Base}
-use Rattle.keeper.specs.Beginning.{Began}
-use Rattle.keeper.specs.Changes.{is_change}
-use Rattle.keeper.specs.Rules.{DeskStep}
-use Rattle.keeper.specs.calls.Ask.{AskStep, asks_nothing, is_told, is_refused}
-use Rattle.keeper.specs.calls.Change.{ChangeStep, changes_nothing, is_made, is_not_made}
+use Rattle.calls.specs.Beginning.{Began}
+use Rattle.calls.specs.Changes.{is_change}
+use Rattle.calls.specs.Rules.{DeskStep}
+use Rattle.calls.specs.steps.Ask.{AskStep, asks_nothing, is_told, is_refused}
+use Rattle.calls.specs.steps.Change.{ChangeStep, changes_nothing, is_made, is_not_made}
 use Rattle.refinement.specs.Events.{state_after, state_of, IsRunTo}
 use Rattle.refinement.proofs.Leading.{on, stays, publishes}
 use Rattle.refinement.proofs.Posting.{judged_last, Fits, posts}
@@ -43,11 +43,11 @@ module _ {T : Type 0} (g : Ghosts T) (old : Posts T) (are : AreJudged old.posted
 
   posts_one : (step : Step) → Fits step → PostsStep old step new → IsRunTo (state_of old) (state_of new)
   posts_one step fits is =
-      let room = judged_last old.posted step are (subst AreJudged is.posted is.judged.posted_were) in
+      let room = judged_last old.posted step are (subst AreJudged is.shows.posted is.shows.judged.posted_were) in
       let mid : State = state_after new.posted old.shown in
       on (state_of old) mid (state_of new)
-      (subst (λ (posted : List Step). IsRunTo (state_of old) (state_after posted old.shown)) (sym is.posted) (posts old.posted old.shown are step fits room))
-      (publishes new.posted old.shown new.shown is.later is.beginning)
+      (subst (λ (posted : List Step). IsRunTo (state_of old) (state_after posted old.shown)) (sym is.shows.posted) (posts old.posted old.shown are step fits room))
+      (publishes new.posted old.shown new.shown is.shows.later is.shows.beginning)
 
   trims : (rev : ℕ) → IsTrimmed g old rev new → IsRunTo (state_of old) (state_of new)
   trims rev (trim_raises above is stored) = posts_one (TrimStep rev) tt is

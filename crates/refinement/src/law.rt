@@ -18,8 +18,8 @@ ghost use Rattle.desk.specs.Posts.{Posts, ShowsMore};
 ghost use Rattle.desk.specs.Made.{IsMade};
 ghost use Rattle.desk.specs.declared.change.Change.{Change};
 ghost use Rattle.desk.specs.declared.change.Made.{Made};
-ghost use Rattle.keeper.specs.Beginning.{Began};
-ghost use Rattle.keeper.specs.Rules.{DeskStep};
+ghost use Rattle.calls.specs.Beginning.{Began};
+ghost use Rattle.calls.specs.Rules.{DeskStep};
 ghost use Rattle.refinement.specs.Events.{state_after, state_of, Lead, IsRunTo, AnswersOnEntry};
 
 use tables::Tables;

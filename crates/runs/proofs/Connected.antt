@@ -18,7 +18,7 @@ use Rattle.store.specs.History.{KeepsHistory, LeavesHistory}
 use Rattle.store.specs.StoreParts.{connection}
 use Rattle.store.specs.declared.store.Store.{Store}
 use Rattle.runs.specs.Files.{HoldsOneOf}
-use Rattle.keeper.specs.Beginning.{Began, kept_by}
+use Rattle.calls.specs.Beginning.{Began, kept_by}
 use Rattle.runs.specs.Runs.{Ended}
 use Rattle.runs.specs.Over.{over, BeginsIn, EndedOver, OpenedOver, GoesOn}
 use Rattle.runs.proofs.Requests.{ready}

@@ -6,11 +6,11 @@ use Rattle.tables.specs.declared.tables.Tables.{Ghosts}
 use Rattle.tables.proofs.Lasting.{lasts_self, lasts_trans, clean_before}
 use Rattle.desk.specs.TableChanges.{TableChange, changed, CanChange}
 use Rattle.desk.specs.Posts.{Posts, Agrees, ComesBack}
-use Rattle.keeper.specs.Rules.{DeskStep}
+use Rattle.calls.specs.Rules.{DeskStep}
 use Rattle.lines.specs.Text.{lines_of}
 use Rattle.lines.specs.Machine.{Run}
 use Rattle.tracked_io.specs.Tracking.{TrackedReading, TrackedWriting}
-use Rattle.keeper.specs.Beginning.{Began, kept_by}
+use Rattle.calls.specs.Beginning.{Began, kept_by}
 use Rattle.runs.specs.Runs.{Ended, ServedBy, PausedBy, CutBy, IsAskedIn}
 use Rattle.runs.specs.inside.Leaving.{HasLeft, Answered}
 use Rattle.runs.proofs.Leaving.{Weaker, holds_first, after_run}
@@ -58,15 +58,15 @@ module _ {T : Type 0} (g : Ghosts T) (weaker : Weaker g) (tables : T) (first las
 
   module _ {R W : Type 0} (old new : TrackedReading R × TrackedWriting W) (input : List ℕ) where
     pub ended_served : ServedBy g old input new first last → Ended g tables input (ServedBy g old input new) left
-    ended_served v = ended input _ (ran input (lines_of input) v.served.text (λ c is. is) v.served.run) v
+    ended_served v = ended input _ (ran input (lines_of input) v.served.0 (λ c is. is) v.served.1) v
 
     pub ended_paused : PausedBy g old input new first last → Ended g tables input (PausedBy g old input new) left
     ended_paused v =
-        let fed = v.paused.fed in
-        ended input _ (ran input fed.lines v.paused.text (asked_fed (DeskStep g) first input v.paused.rest v.paused.text last fed) fed.run) v
+        let fed = v.paused.2 in
+        ended input _ (ran input fed.lines v.paused.1 (asked_fed (DeskStep g) first input v.paused.0 v.paused.1 last fed) fed.run) v
 
     pub ended_cut : CutBy g old input new first last → Ended g tables input (CutBy g old input new) left
-    ended_cut v = ended input _ (ran input (take v.cut.count (lines_of input)) v.cut.text (asked_first v.cut.count (lines_of input)) v.cut.run) v
+    ended_cut v = ended input _ (ran input (take v.cut.0 (lines_of input)) v.cut.1 (asked_first v.cut.0 (lines_of input)) v.cut.2) v
 
 -- nothing was done, and the tables are given back
 pub comes_back : {T : Type 0} (g : Ghosts T) (tables : T) (first last : Posts T) (left : T) → ComesBack g tables first.tables → last ≡ first → left ≡ last.tables → ComesBack g tables left

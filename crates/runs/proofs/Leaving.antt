@@ -10,9 +10,6 @@ use Rattle.names.specs.declared.call.Call.{Call}
 use Rattle.names.specs.declared.call.Call.TheVariants as call
 use Rattle.names.specs.declared.refusal.Refusal.{Refusal}
 use Rattle.names.specs.declared.refusal.Refusal.TheVariants.{Memory, StoreFault, Reopen}
-use Rattle.names.specs.declared.write.Write.{Write}
-use Rattle.zookie.specs.declared.Zookie.{Zookie}
-use Rattle.bodies.specs.Writing.{AsksWrite}
 use Rattle.names.specs.declared.part.Part.{Part}
 use Rattle.names.specs.declared.part.Part.TheVariants.{Index, Hot}
 use Rattle.rows.specs.Retained.{Retained, newest}
@@ -26,21 +23,21 @@ use Rattle.shown.specs.Standing.{Standing, standing, nothing, after_step, after_
 use Rattle.std.proofs.lemmas.List.Sums.{fold-append}
 use Rattle.desk.specs.TableChanges.{TableChange, Adds, Raises, changed, CanChange}
 use Rattle.desk.specs.Posts.{Posts}
-use Rattle.desk.specs.Changes.{IsStored, IsTrimmed, trim_raises, trim_stays, IsCommitOfWrite, IsRaiseTo, IsRefused, Touches, leaves_alone, adds_one, Refuses}
+use Rattle.desk.specs.Changes.{IsStored, IsTrimmed, trim_raises, trim_stays, IsRefused, Touches, leaves_alone, adds_one, Refuses}
 use Rattle.desk.specs.Made.{IsMade, MayStore, SpeaksAgainst}
 use Rattle.desk.specs.declared.change.Change.{Change}
 use Rattle.desk.specs.declared.change.Change.TheVariants as of_change
 use Rattle.desk.specs.declared.change.Made.{Made}
 use Rattle.desk.specs.declared.change.Made.TheVariants.{Commit, Floor, Cursor, Marked, Base}
-use Rattle.keeper.specs.Changes.{is_change, AsksChange as AsksFor}
-use Rattle.keeper.specs.Rules.{DeskStep}
-use Rattle.keeper.specs.Showing.{OnlyShows}
-use Rattle.keeper.specs.calls.Ask.{AskStep, asks_nothing, is_told, is_refused}
-use Rattle.keeper.specs.calls.Change.{ChangeStep, changes_nothing, is_made, is_not_made}
+use Rattle.calls.specs.Changes.{is_change}
+use Rattle.calls.specs.Rules.{DeskStep}
+use Rattle.calls.specs.Showing.{OnlyShows}
+use Rattle.calls.specs.steps.Ask.{AskStep, asks_nothing, is_told, is_refused}
+use Rattle.calls.specs.steps.Change.{ChangeStep, changes_nothing, is_made, is_not_made}
 use Rattle.lines.specs.Text.{word_of, body_of}
 use Rattle.lines.specs.Machine.{IsAnswer, Run}
-use Rattle.keeper.specs.Beginning.{Began, kept_by}
-use Rattle.runs.specs.Runs.{AsksChange, IsAskedIn}
+use Rattle.calls.specs.Beginning.{Began, kept_by}
+use Rattle.runs.specs.Runs.{Stores, AsksStored, IsAskedIn}
 use Rattle.runs.specs.inside.Leaving.{HasLeft}
 use Rattle.tables.proofs.Lasting.{lasts_trans}
 
@@ -53,20 +50,15 @@ swap a b rs x (inl is) = inr (inl is)
 swap a b rs x (inr (inl is)) = inl is
 swap a b rs x (inr (inr more)) = inr (inr more)
 
--- the commit of the write is what its body asks for
-write_asks : (body : List ℕ) (write : Write Zookie) (r : Retained) (c : TableChange) → AsksWrite body write → IsCommitOfWrite r write c → AsksChange call.Write body c
-write_asks body write r (Adds commit) asks made = (write, asks, made.1)
-write_asks body write r (Raises floor) asks made = absurd made
-
--- what may be stored for a change is what the body that asks for it asks for
-stores_asked : {T : Type 0} (old : Posts T) (k : Call) (body : List ℕ) (change : Change) (c : TableChange) → AsksFor k body change → MayStore old change c → AsksChange k body c
-stores_asked old call.Write body (of_change.Write write) c asks stores = write_asks body write (kept_by old) c asks stores
-stores_asked old call.Config body (of_change.Config config) c asks stores = (config, asks, stores)
-stores_asked old call.Trim body (of_change.Trim zookie) c asks stores = (zookie, asks, stores.1)
-stores_asked old call.CatchUp body (of_change.CatchUp part commits) c asks stores = absurd stores
-stores_asked old call.Hot body (of_change.Mark marking) c asks stores = absurd stores
-stores_asked old call.Rebuild body of_change.Rebuild c asks stores = absurd stores
-stores_asked old _ body _ c asks stores = absurd asks
+-- what may be stored for a change is what it stores
+stores_asked : {T : Type 0} (old : Posts T) (change : Change) (stored : TableChange) → MayStore old change stored → Stores change stored
+stores_asked old (of_change.Write write) (Adds commit) may = may.1
+stores_asked old (of_change.Write write) (Raises floor) may = absurd may
+stores_asked old (of_change.Config config) stored may = may
+stores_asked old (of_change.Trim zookie) stored may = may.1
+stores_asked old (of_change.CatchUp part commits) stored may = absurd may
+stores_asked old (of_change.Mark marking) stored may = absurd may
+stores_asked old of_change.Rebuild stored may = absurd may
 
 kept_by_take : (s : Standing) (part : Part) (n : ℕ) → (after_take s part n).kept ≡ s.kept
 kept_by_take s Index n = refl
@@ -123,7 +115,7 @@ module _ {T : Type 0} (g : Ghosts T) (weaker : Weaker g) (P : TableChange → Ty
 
   -- tables that have not failed had not before
   worked : (old new : Posts T) (judged : Refusal → Type 0) (why : Refusal) → Refuses g old judged why new → new.failed ≡ false → old.failed ≡ false
-  worked old new judged Reopen cause works = absurd (true≢false (sym cause.1 ∙ works))
+  worked old new judged Reopen cause works = absurd (true≢false (sym (cause.1.1 ∙ cause.0) ∙ works))
   worked old new judged StoreFault cause works = absurd (true≢false (sym cause.1 ∙ works))
   worked old new judged Memory cause works = cause.0
   worked old new judged _ cause works = cause.0
@@ -146,34 +138,34 @@ module _ {T : Type 0} (g : Ghosts T) (weaker : Weaker g) (P : TableChange → Ty
   after_made old new (of_change.Config config) Commit receipt is h = stored old new is.stored h
   after_made old new (of_change.Trim zookie) (Floor rev) receipt is h = trimmed old new zookie.rev is.done h
   after_made old new (of_change.CatchUp part commits) (Cursor rev) receipt is h =
-      same_tables old new is.tables (λ _. is.works) (ap (λ (steps : List Step). (standing steps).kept) is.posts.posted ∙ (ap (λ (s : Standing). s.kept) (fold-append after_step nothing old.posted (Take part commits ∷ [])) ∙ kept_by_take (standing old.posted) part commits)) h
+      same_tables old new is.tables (λ _. is.works) (ap (λ (steps : List Step). (standing steps).kept) is.posts.shows.posted ∙ (ap (λ (s : Standing). s.kept) (fold-append after_step nothing old.posted (Take part commits ∷ [])) ∙ kept_by_take (standing old.posted) part commits)) h
   after_made old new (of_change.Mark marking) (Marked count) receipt is h =
-      same_tables old new is.tables (λ _. is.works) (ap (λ (steps : List Step). (standing steps).kept) is.posts.posted ∙ ap (λ (s : Standing). s.kept) (fold-append after_step nothing old.posted (Marking marking ∷ []))) h
+      same_tables old new is.tables (λ _. is.works) (ap (λ (steps : List Step). (standing steps).kept) is.posts.shows.posted ∙ ap (λ (s : Standing). s.kept) (fold-append after_step nothing old.posted (Marking marking ∷ []))) h
   after_made old new of_change.Rebuild (Base rev) receipt is h =
-      same_tables old new is.tables (λ _. is.works) (ap (λ (steps : List Step). (standing steps).kept) is.posts.posted ∙ ap (λ (s : Standing). s.kept) (fold-append after_step nothing old.posted (Rebase (newest (kept_by old)) ∷ []))) h
+      same_tables old new is.tables (λ _. is.works) (ap (λ (steps : List Step). (standing steps).kept) is.posts.shows.posted ∙ ap (λ (s : Standing). s.kept) (fold-append after_step nothing old.posted (Rebase (newest (kept_by old)) ∷ []))) h
   after_made old new _ _ receipt is h = absurd is
 
-  after_change : (old : Posts T) (k : Call) (body : List ℕ) (told : Option (ℕ × List ℕ)) (new : Posts T) → ((c : TableChange) → AsksChange k body c → P c)
+  after_change : (old : Posts T) (k : Call) (body : List ℕ) (told : Option (ℕ × List ℕ)) (new : Posts T) → ((c : TableChange) → AsksStored k body c → P c)
       → ChangeStep g old k body told new → HasLeft g P start old → HasLeft g P start new
   after_change old k body told new asked (changes_nothing why cause says same) h = same_desk old new same h
   after_change old k body told new asked (is_made change made receipt asks is says seats) h = after_made old new change made receipt is h
   after_change old k body told new asked (is_not_made change why asks is says seats) h =
-      refused old new (MayStore old change) (SpeaksAgainst old change) why (λ c stores. asked c (stores_asked old k body change c asks stores)) is h
+      refused old new (MayStore old change) (SpeaksAgainst old change) why (λ c may. asked c (change, asks, stores_asked old change c may)) is h
 
-  after_either : (changing : Bool) (old : Posts T) (k : Call) (body : List ℕ) (told : Option (ℕ × List ℕ)) (new : Posts T) → ((c : TableChange) → AsksChange k body c → P c)
+  after_either : (changing : Bool) (old : Posts T) (k : Call) (body : List ℕ) (told : Option (ℕ × List ℕ)) (new : Posts T) → ((c : TableChange) → AsksStored k body c → P c)
       → MatchBool changing (ChangeStep g old k body told new) (AskStep old k body told new) → HasLeft g P start old → HasLeft g P start new
   after_either true old k body told new asked s h = after_change old k body told new asked s h
   after_either false old k body told new asked s h = after_question old k body told new s h
 
-  pub after_step_of : (old : Posts T) (k : Call) (body : List ℕ) (told : Option (ℕ × List ℕ)) (new : Posts T) → ((c : TableChange) → AsksChange k body c → P c)
+  pub after_step_of : (old : Posts T) (k : Call) (body : List ℕ) (told : Option (ℕ × List ℕ)) (new : Posts T) → ((c : TableChange) → AsksStored k body c → P c)
       → DeskStep g old k body told new → HasLeft g P start old → HasLeft g P start new
   after_step_of old k body told new asked s h = after_either (is_change k) old k body told new asked s h
 
-  after_answer : (old : Posts T) (fits : Bool) (k : Option Call) (body text : List ℕ) (new : Posts T) → ((it : Call) → k ≡ Some it → (c : TableChange) → AsksChange it body c → P c)
+  after_answer : (old : Posts T) (fits : Bool) (k : Option Call) (body text : List ℕ) (new : Posts T) → ((it : Call) → k ≡ Some it → (c : TableChange) → AsksStored it body c → P c)
       → IsAnswer (DeskStep g) old fits k body text new → HasLeft g P start old → HasLeft g P start new
   after_answer old false k body text new asked s h = same_desk old new s.1 h
   after_answer old true None body text new asked s h = same_desk old new s.1 h
-  after_answer old true (Some it) body text new asked s h = after_step_of old it body s.reply new (asked it refl) s.may h
+  after_answer old true (Some it) body text new asked s h = after_step_of old it body s.0 new (asked it refl) s.1 h
 
   -- the tables of a desk that answered lines leave a commit more only where one of them asked for it
   pub after_run : (lines : List (List ℕ)) (old : Posts T) (text : List ℕ) (new : Posts T) → ((c : TableChange) → IsAskedIn lines c → P c)

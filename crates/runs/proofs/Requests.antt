@@ -8,13 +8,13 @@ use Rattle.tables.specs.declared.tables.Tables.{Ghosts}
 use Rattle.tables.proofs.Lasting.{lasts_self}
 use Rattle.desk.specs.TableChanges.{TableChange, CanChange}
 use Rattle.desk.specs.Posts.{Posts}
-use Rattle.keeper.specs.Rules.{DeskStep}
+use Rattle.calls.specs.Rules.{DeskStep}
 use Rattle.answers.specs.declared.end.End.{End}
 use Rattle.answers.specs.declared.end.End.TheVariants.{Closed, Asked, Broken, ReadFault, WriteFault, Memory}
 use Rattle.answers.specs.Machine.{Step}
 use Rattle.http_api.specs.Connection.{Next, stop, go_on, after, HasRequest, Turn, no_request, unknown, answered, no_memory, Goes, Text}
 use Rattle.http_api.specs.Talks.{Talked, TalkedSoFar, TalkCut}
-use Rattle.keeper.specs.Beginning.{Began, kept_by}
+use Rattle.calls.specs.Beginning.{Began, kept_by}
 use Rattle.runs.specs.Connections.{IsRequestedIn, IsRequestedInOne, HasServed, Serves, IsServing, StaysServing}
 use Rattle.runs.specs.inside.Leaving.{HasLeft}
 use Rattle.runs.proofs.Leaving.{Weaker, holds_first, same_desk, after_step_of}

@@ -7,21 +7,21 @@ use Rattle.tables.specs.Device.{Lasts}
 use Rattle.tables.specs.declared.tables.Tables.{Ghosts}
 use Rattle.desk.specs.TableChanges.{TableChange, changed, CanChange}
 use Rattle.desk.specs.Posts.{Posts}
-use Rattle.keeper.specs.Rules.{DeskStep}
+use Rattle.calls.specs.Rules.{DeskStep}
 use Rattle.answers.specs.declared.end.End.{End}
 use Rattle.answers.specs.Machine.{Step}
 use Rattle.http_api.specs.Routes.{route_of}
 use Rattle.http_api.specs.Connection.{HasRequest, Next, Text}
 use Rattle.http_api.specs.Talks.{Talked, TalkedSoFar, TalkCut}
 use Rattle.tracked_io.specs.Tracking.{TrackedWriting}
-use Rattle.keeper.specs.Beginning.{kept_by}
-use Rattle.runs.specs.Runs.{AsksChange}
+use Rattle.calls.specs.Beginning.{kept_by}
+use Rattle.runs.specs.Runs.{AsksStored}
 
 -- ---- what was asked for
 
 -- the request asks for the change
 abbrev pub RequestAsks : RequestHead → List ℕ → TableChange → Type 0
-RequestAsks head body change = (call : Call) × (route_of head.method head.target ≡ Some call) × AsksChange call body change
+RequestAsks head body change = (call : Call) × (route_of head.method head.target ≡ Some call) × AsksStored call body change
 
 -- one of so many requests, from the front of the input on, asks for the change
 abbrev pub IsAmongRequests : ℕ → List ℕ → TableChange → Type 0

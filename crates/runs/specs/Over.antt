@@ -29,7 +29,7 @@ use Rattle.store.specs.History.{TreesHold, KeepsHistory, LeavesHistory, KeptBefo
 use Rattle.store.specs.StoreParts.{connection, faults}
 use Rattle.store.specs.declared.store.Store.{Store}
 use Rattle.runs.specs.Files.{ImageHolds, ImageShows, HoldsBase, AreTheirs, Remains, IsUnopened, IsRefusedFor}
-use Rattle.keeper.specs.Beginning.{kept_by}
+use Rattle.calls.specs.Beginning.{kept_by}
 use Rattle.runs.specs.Runs.{IsOpened, IsAskedIn}
 use Rattle.runs.specs.Connections.{HasServed}
 

@@ -3,14 +3,7 @@ use Rattle.std.specs.Prelude.{ℕ, ◌≡◌, ◌⊎◌, Bool, true, false, List
 use Rattle.std.specs.List.{All}
 use Rattle.names.specs.Calls.{call_of}
 use Rattle.names.specs.declared.call.Call.{Call}
-use Rattle.names.specs.declared.call.Call.TheVariants as call
-use Rattle.names.specs.declared.commit.Commit.TheVariants.{Config}
-use Rattle.names.specs.declared.write.Write.{Write}
-use Rattle.meaning.specs.Config.{Configured}
-use Rattle.config.specs.Causes.{Accepts}
-use Rattle.bodies.specs.Writing.{AsksWrite}
-use Rattle.bodies.specs.Trimming.{AsksTrim}
-use Rattle.zookie.specs.declared.Zookie.{Zookie}
+use Rattle.names.specs.declared.commit.Commit.TheVariants.{Config as ConfigCommit}
 use Rattle.rows.specs.Retained.{Retained}
 use Rattle.rows.specs.Loads.{retained_of}
 use Rattle.rows.specs.declared.loaded.Loaded.{Loaded}
@@ -20,8 +13,11 @@ use Rattle.shown.specs.declared.step.Step.TheVariants.{Open}
 use Rattle.desk.specs.TableChanges.{TableChange, Adds, Raises}
 use Rattle.desk.specs.Posts.{Posts, Agrees}
 use Rattle.desk.specs.Changes.{IsCommitOf}
-use Rattle.keeper.specs.Beginning.{kept_by}
-use Rattle.keeper.specs.Rules.{DeskStep}
+use Rattle.desk.specs.declared.change.Change.{Change}
+use Rattle.desk.specs.declared.change.Change.TheVariants.{Write, Config, Trim}
+use Rattle.calls.specs.Beginning.{kept_by}
+use Rattle.calls.specs.Changes.{AsksChange}
+use Rattle.calls.specs.Rules.{DeskStep}
 use Rattle.lines.specs.Text.{lines_of, word_of, body_of}
 use Rattle.lines.specs.Served.{Served, Paused, Cut, PausedAtEachRead}
 use Rattle.tracked_io.specs.Tracking.{TrackedReading, TrackedWriting}
@@ -36,32 +32,25 @@ pub record IsOpened {T : Type 0} (loaded : Loaded) (desk : Posts T) : Type 0 whe
 
 -- ---- what was asked for
 
--- the body of a `write`, a `config` or a `trim` asks for the change
-abbrev pub AsksInWrite : List ℕ → TableChange → Type 0
-AsksInWrite body (Adds commit) = (write : Write Zookie) × AsksWrite body write × IsCommitOf write.ops commit
-AsksInWrite body (Raises floor) = ⊥
+-- what is stored for the change, if it is made
+abbrev pub Stores : Change → TableChange → Type 0
+Stores (Write write) (Adds commit) = IsCommitOf write.ops commit
+Stores (Config config) stored = stored ≡ Adds (ConfigCommit config)
+Stores (Trim floor) stored = stored ≡ Raises floor.rev
+Stores change stored = ⊥
 
-abbrev pub AsksInConfig : List ℕ → TableChange → Type 0
-AsksInConfig body change = (config : Configured) × Accepts body config × (change ≡ Adds (Config config))
+-- the call with this body asks for a change for which this is stored
+abbrev pub AsksStored : Call → List ℕ → TableChange → Type 0
+AsksStored call body stored = (change : Change) × AsksChange call body change × Stores change stored
 
-abbrev pub AsksInTrim : List ℕ → TableChange → Type 0
-AsksInTrim body change = (floor : Zookie) × AsksTrim body floor × (change ≡ Raises floor.rev)
-
--- the call with this body asks for the change
-abbrev pub AsksChange : Call → List ℕ → TableChange → Type 0
-AsksChange call.Write body change = AsksInWrite body change
-AsksChange call.Config body change = AsksInConfig body change
-AsksChange call.Trim body change = AsksInTrim body change
-AsksChange _ body change = ⊥
-
--- the line asks for the change
+-- the line asks for this to be stored
 abbrev pub LineAsks : List ℕ → TableChange → Type 0
-LineAsks line change = (call : Call) × (call_of (word_of line) ≡ Some call) × AsksChange call (body_of line) change
+LineAsks line stored = (call : Call) × (call_of (word_of line) ≡ Some call) × AsksStored call (body_of line) stored
 
--- one of the lines asks for the change
+-- one of the lines does
 abbrev pub IsAskedIn : List (List ℕ) → TableChange → Type 0
-IsAskedIn [] change = ⊥
-IsAskedIn (line ∷ lines) change = LineAsks line change ⊎ IsAskedIn lines change
+IsAskedIn [] stored = ⊥
+IsAskedIn (line ∷ lines) stored = LineAsks line stored ⊎ IsAskedIn lines stored
 
 -- ---- what was written
 

@@ -17,9 +17,10 @@ ghost use Rattle.runs.specs.Over.{over, BeginsIn, EndedOver, OpenedOver, TablesO
 
 use crate::files::{Left, find};
 use crate::over::{fault_of, open_over, run_over, start as tables_over};
+use calls::Answering;
 use command_line::Fault;
-use keeper::Answering;
 use names::Refusal;
+use published::{Naming, Opened};
 use sqlite::{Connection, Error, ErrorCode, FileFrom, FileStore, Leftover, Start};
 use sqlite_tables::is_blank;
 use std::io::{Read, Write};
@@ -88,13 +89,15 @@ pub fn run_in<P: Start, H: Wait + Drop, R: Read, W: Write>(
 
 /// Opens a desk on the store in the files at a path, of which `start` says what they hold. With a number the tables
 /// of a new store are made. A refusal comes with what is left of them.
-pub fn open_in<P: Start, H: Wait + Drop>(
+pub fn open_in<P: Start, J: Naming, H: Wait + Drop>(
     rt: &HostRuntime,
     wait: H,
+    opened: Opened,
     path: &str,
     store: Option<u64>,
     start: P,
-) -> Result<Answering<Store<FileStore<FileFrom<P>>>, H>, (Fault, Left<P>)>
+) -> Result<Answering<Store<FileStore<FileFrom<P>>>, J, H>, (Fault, Left<P>)>
+    requires named { opened.book ≡ J.book }
     requires number { IfSome store (λ number. (1 ≤ number) × (number < 2 ^ 63)) }
     ensures ok { IfOk result (λ answering. OpenedOver over_files (BeginsIn (image_at P.Start) store) answering) }
     ensures refused { IfErr result (λ e. (why : Refusal) × (e.0 ≡ Refused why)) }
@@ -112,7 +115,7 @@ pub fn open_in<P: Start, H: Wait + Drop>(
     ensures back { IfErr result (λ e. IfOk e.1 (λ conn. Lasts sound_device (device_below over_files conn))) }
 {
     match connect(rt, path, start) {
-        Ok(conn) => match open_over(rt.alloc(), wait, conn, store) {
+        Ok(conn) => match open_over(rt.alloc(), wait, opened, conn, store) {
             Ok(answering) => Ok(answering),
             Err((fault, conn)) => Err((fault, Ok(conn))),
         },

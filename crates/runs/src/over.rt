@@ -12,12 +12,14 @@ ghost use Rattle.runs.specs.inside.Starting.{StartsFrom, FailsToStart};
 ghost use Rattle.runs.specs.Over.{over, Begins, EndedOver, OpenedOver, LeavesRefused, CannotBegin, IsDeserved};
 
 use crate::running::run;
+use calls::Answering;
 use command_line::Fault;
-use keeper::Answering;
 use names::Refusal;
+use published::{Naming, Opened};
 use sqlite::{Alter, Connection};
 use std::alloc::Global;
 use std::io::{Read, Write};
+use std::marker::Brand;
 use std::sync::Wait;
 use store::Store;
 use tables::TablesError;
@@ -73,7 +75,8 @@ pub fn run_over<S: Alter + Drop, H: Wait + Drop, R: Read, W: Write>(
 {
     match start(alloc, conn, store) {
         Ok(tables) => {
-            let ended = run(alloc, rt, tables, reader, writer);
+            let opened = Opened::new();
+            let ended = run::<Store<S>, Brand, H, R, W>(alloc, rt, opened, tables, reader, writer);
             (ended.0, ended.1.into_connection())
         }
         Err((why, conn)) => (Err(fault_of(why)), conn),
@@ -82,12 +85,14 @@ pub fn run_over<S: Alter + Drop, H: Wait + Drop, R: Read, W: Write>(
 
 /// Opens a desk on the store over a connection, to answer as [`run_over`] does. Where it cannot be opened it gives the
 /// connection back.
-pub fn open_over<S: Alter + Drop, H: Wait + Drop>(
+pub fn open_over<S: Alter + Drop, J: Naming, H: Wait + Drop>(
     alloc: Global,
     rt: H,
+    opened: Opened,
     conn: Connection<S>,
     store: Option<u64>,
-) -> Result<Answering<Store<S>, H>, (Fault, Connection<S>)>
+) -> Result<Answering<Store<S>, J, H>, (Fault, Connection<S>)>
+    requires named { opened.book ≡ J.book }
     requires idle { (conn.in_transaction ≡ false) × (conn.step_limit ≡ None) }
     requires number { IfSome store (λ number. (1 ≤ number) × (number < 2 ^ 63)) }
     ensures ok { IfOk result (λ answering. OpenedOver S.Store (Begins S.Store conn store) answering) }
@@ -103,7 +108,7 @@ pub fn open_over<S: Alter + Drop, H: Wait + Drop>(
     ensures back { IfErr result (λ e. Lasts (device_below S.Store conn) (device_below S.Store e.1)) }
 {
     match start(alloc, conn, store) {
-        Ok(tables) => match Answering::open(alloc, rt, tables) {
+        Ok(tables) => match Answering::open(alloc, rt, opened, tables) {
             Ok(answering) => Ok(answering),
             Err((why, tables)) => Err((Fault::Refused(why), tables.into_connection())),
         },

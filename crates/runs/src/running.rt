@@ -10,10 +10,11 @@ ghost use Rattle.runs.specs.inside.Leaving.{Answered};
 ghost use Rattle.runs.specs.Runs.{ServedBy, PausedBy, CutBy, Ended, is_read_fault, is_write_fault};
 
 use answers::End;
+use calls::Answering;
 use command_line::Fault;
-use keeper::Answering;
 use lines::lines;
 use names::Refusal;
+use published::{Naming, Opened};
 use std::alloc::Global;
 use std::io::{Read, Write};
 use std::sync::Wait;
@@ -21,13 +22,15 @@ use tables::Tables;
 use tracked_io::{TrackedReader, TrackedWriter};
 
 /// Answers lines from the store that these tables keep, and gives the tables back.
-pub fn run<T: Tables + Drop, H: Wait + Drop, R: Read, W: Write>(
+pub fn run<T: Tables + Drop, J: Naming, H: Wait + Drop, R: Read, W: Write>(
     alloc: Global,
     rt: H,
+    opened: Opened,
     tables: T,
     reader: &mut TrackedReader<R>,
     writer: &mut TrackedWriter<W>,
 ) -> (Result<(), Fault>, T)
+    requires named { opened.book ≡ J.book }
     requires unbroken { (reader.old.failed ≡ false) × (writer.old.failed ≡ false) }
 
     // All that was there was read, each line answered, and the answers handed on. Here and below none was held back: at
@@ -60,7 +63,7 @@ pub fn run<T: Tables + Drop, H: Wait + Drop, R: Read, W: Write>(
     ensures cause { IfErr result.0 IsRunFault }
     ensures lasts { Lasts (T.device tables) (T.device result.1) }
 {
-    match Answering::open(alloc, rt, tables) {
+    match Answering::<T, J, H>::open(alloc, rt, opened, tables) {
         Ok(mut answering) => {
             let ended = serve(alloc, &mut answering, reader, writer);
             (ended, answering.close())
@@ -70,9 +73,9 @@ pub fn run<T: Tables + Drop, H: Wait + Drop, R: Read, W: Write>(
 }
 
 // Answers lines from a desk.
-fn serve<T: Tables + Drop, H: Wait + Drop, R: Read, W: Write>(
+fn serve<T: Tables + Drop, J: Naming, H: Wait + Drop, R: Read, W: Write>(
     alloc: Global,
-    answering: &mut Answering<T, H>,
+    answering: &mut Answering<T, J, H>,
     reader: &mut TrackedReader<R>,
     writer: &mut TrackedWriter<W>,
 ) -> Result<(), Fault>

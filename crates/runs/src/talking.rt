@@ -1,17 +1,18 @@
 //! A desk that serves a connection over HTTP.
 ghost use Rattle.std.specs.Prelude.{ℕ, ◌≡◌, ◌⊎◌, List, true, false};
 ghost use Rattle.tracked_io.specs.Tracking.{Reads, ReadsAll};
-ghost use Rattle.keeper.specs.Rules.{DeskStep};
+ghost use Rattle.calls.specs.Rules.{DeskStep};
 ghost use Rattle.answers.specs.Ends.{is_read_fault, is_write_fault};
 ghost use Rattle.http_api.specs.Routes.{table};
 ghost use Rattle.http_api.specs.Talks.{TalkedAtEachRead};
 ghost use Rattle.runs.specs.Connections.{Serves, TalkedBy, TalkedSoFarBy, TalkCutBy, StaysServing};
 
 use answers::End;
+use calls::Answering;
 use http_api::serve_by;
-use keeper::Answering;
 use matchit::Router;
 use names::Call;
+use published::Naming;
 use std::alloc::Global;
 use std::io::{Read, Write};
 use std::sync::Wait;
@@ -22,10 +23,10 @@ use tracked_io::{TrackedReader, TrackedWriter};
 /// connection goes on from where it leaves the desk.
 ///
 /// The routes are those that [`routes`](http_api::routes) made. However it ends, the desk can serve another.
-pub fn talk<T: Tables + Drop, H: Wait + Drop, R: Read, W: Write>(
+pub fn talk<T: Tables + Drop, J: Naming, H: Wait + Drop, R: Read, W: Write>(
     alloc: Global,
     routes: &Router<Call>,
-    answering: &mut Answering<T, H>,
+    answering: &mut Answering<T, J, H>,
     reader: &mut TrackedReader<R>,
     writer: &mut TrackedWriter<W>,
 ) -> End

@@ -6,9 +6,9 @@ use Rattle.answers.specs.declared.end.End.{End}
 use Rattle.answers.specs.declared.end.End.TheVariants.{Closed, Asked, Broken, ReadFault, WriteFault, Memory}
 use Rattle.answers.specs.Machine.{Step}
 use Rattle.http_api.specs.Connection.{Next, go_on, Turn, no_request, unknown, answered, no_memory, Goes}
-use Rattle.front.specs.Fronts.{FrontState}
-use Rattle.front.specs.Kept.{NeverGoesBack}
-use Rattle.front.proofs.NeverBack.{never_back_self, never_back_on}
+use Rattle.keeper.specs.Fronts.{FrontState}
+use Rattle.keeper.specs.Kept.{NeverGoesBack}
+use Rattle.keeper.proofs.NeverBack.{never_back_self, never_back_on}
 use Rattle.server.specs.Attending.{HasText, Attended, OneByOne}
 
 stays : (s t : FrontState) → t ≡ s → NeverGoesBack s.known t.known

@@ -8,31 +8,31 @@ use Rattle.crossbeam_channel.proofs.channel.Sender.TheSendSync as Sender
 use Rattle.crossbeam_channel.proofs.channel.Receiver.TheSendSync as Receiver
 use Rattle.one_history.proofs.log.Log.TheSendSync as Log
 use Rattle.one_history.proofs.opening.History.TheSendSync as History
-use Rattle.front.proofs.Crossing.{crosses_published, Session-send}
-use Rattle.front.proofs.deeds.Place.TheSendSync as Place
+use Rattle.keeper.proofs.Crossing.{crosses_published, Session-send}
+use Rattle.keeper.proofs.deeds.Place.TheSendSync as Place
 use Rattle.desk.specs.contracts.desk.Desk as Desk
-use Rattle.front.specs.contracts.lock.KeptDesk as KeptDesk
-use Rattle.front.specs.contracts.lock.Keeper as Keeper
-use Rattle.front.specs.contracts.front.Front as Front
+use Rattle.keeper.specs.contracts.lock.KeptDesk as KeptDesk
+use Rattle.keeper.specs.contracts.lock.Keeper as Keeper
+use Rattle.keeper.specs.contracts.front.Front as Front
 use Rattle.server.specs.contracts.locked.Locked as Locked
 use Rattle.server.specs.contracts.counted.Counted as Counted
 use Rattle.server.specs.contracts.waking.Waking as Waking
 use Rattle.server.specs.contracts.indexer.Indexer as Indexer
 
-Desk-inside-send : (T H : RattleType) (g : _) → IsSend T → IsSend H → IsSend (Desk.TheInside.the_row T H g)
-Desk-inside-send T H g t h =
-    let D = Desk.TheInside.the_type T H g in
+Desk-inside-send : (T J H : RattleType) (g n : _) → IsSend T → IsSend J → IsSync J → IsSend H → IsSend (Desk.TheInside.the_row T J H g n)
+Desk-inside-send T J H g n t s y h =
+    let D = Desk.TheInside.the_type T J H g n in
     recorded_send _ _ D.to D.to_one (struct_send (S.shape D)
     ((search (crosses, sendable) depth 20), ((search (crosses, sendable) depth 40), ((search (crosses_published, crosses, sendable) depth 40), ((search (crosses_published, crosses, sendable) depth 40), tt)))))
 
-Desk-send : (T H : RattleType) (g : _) → IsSend T → IsSend H → IsSend (Desk.the_row T H g)
-Desk-send T H g t h = search (Desk-inside-send, sendable) depth 10
+Desk-send : (T J H : RattleType) (g n : _) → IsSend T → IsSend J → IsSync J → IsSend H → IsSend (Desk.the_row T J H g n)
+Desk-send T J H g n t s y h = search (Desk-inside-send, sendable) depth 10
 
-KeptDesk-inside-send : (T J H : RattleType) (g : _) (j k l : _) → IsSend T → IsSend J → IsSend H → IsSend (KeptDesk.TheInside.the_row T J H g j k l)
-KeptDesk-inside-send T J H g j k l t s h = search (Desk-send, Log.the_send, crosses, sendable) depth 40
+KeptDesk-inside-send : (T J H : RattleType) (g : _) (j k l : _) → IsSend T → IsSend J → IsSync J → IsSend H → IsSend (KeptDesk.TheInside.the_row T J H g j k l)
+KeptDesk-inside-send T J H g j k l t s y h = search (Desk-send, Log.the_send, crosses, sendable) depth 40
 
-pub KeptDesk-send : (T J H : RattleType) (g : _) (j k l : _) → IsSend T → IsSend J → IsSend H → IsSend (KeptDesk.the_row T J H g j k l)
-KeptDesk-send T J H g j k l t s h = search (KeptDesk-inside-send, sendable) depth 10
+pub KeptDesk-send : (T J H : RattleType) (g : _) (j k l : _) → IsSend T → IsSend J → IsSync J → IsSend H → IsSend (KeptDesk.the_row T J H g j k l)
+KeptDesk-send T J H g j k l t s y h = search (KeptDesk-inside-send, sendable) depth 10
 
 pub Keeper-sync : (T J H : RattleType) (g : _) (j k l : _) → IsSend T → IsSend J → IsSync J → IsSend H → IsSync (Keeper.the_row T J H g j k l)
 Keeper-sync T J H g j k l t s y h =
@@ -62,7 +62,10 @@ Waking-send lives A R a s =
     let W = Waking.the_type lives A R in
     recorded_send _ _ W.to W.to_one (struct_send (S.shape W) (a, (shr_send _ _ _ s, ((search (Sender.the_send, crosses, sendable) depth 40 fits 30000), tt))))
 
+Indexer-inside-send : (lives : NamedLft) (T J H : RattleType) (g : _) (j k l : _) → IsSend T → IsSend J → IsSync J → IsSend H → IsSend (Indexer.TheInside.the_row lives T J H g j k l)
+Indexer-inside-send lives T J H g j k l t s y h =
+    let I = Indexer.TheInside.the_type lives T J H g j k l in
+    recorded_send _ _ I.to I.to_one (struct_send (S.shape I) (shr_send _ _ _ (Keeper-sync T J H _ _ _ _ t s y h), ((Session-send J _ s y), ((search (Place.the_send, crosses, sendable) depth 40), ((search (Receiver.the_send, crosses, sendable) depth 40 fits 30000), tt)))))
+
 pub Indexer-send : (lives : NamedLft) (T J H : RattleType) (g : _) (j k l : _) → IsSend T → IsSend J → IsSync J → IsSend H → IsSend (Indexer.the_row lives T J H g j k l)
-Indexer-send lives T J H g j k l t s y h =
-    let I = Indexer.the_type lives T J H g j k l in
-    recorded_send _ _ I.to I.to_one (struct_send (S.shape I) (shr_send _ _ _ (Keeper-sync T J H _ _ _ _ t s y h), (Session-send, ((search (Place.the_send, crosses, sendable) depth 40), ((search (Receiver.the_send, crosses, sendable) depth 40 fits 30000), tt)))))
+Indexer-send lives T J H g j k l t s y h = view_send _ _ _ _ _ (Indexer-inside-send lives T J H g j k l t s y h)

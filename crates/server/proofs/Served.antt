@@ -11,9 +11,9 @@ use Rattle.answers.specs.Machine.{Step}
 use Rattle.http_api.specs.Connection.{Next, go_on, Turn, no_request, unknown, answered, no_memory, Goes}
 use Rattle.one_history.specs.History.{Hand}
 use Rattle.one_history.specs.declared.entry.Entry.{Entry}
-use Rattle.front.specs.declared.deeds.Deed.{Deed}
-use Rattle.front.specs.Deeds.{StandsIn, AllStandIn}
-use Rattle.front.specs.Fronts.{FrontState, FrontStep, IsSeated}
+use Rattle.keeper.specs.declared.deeds.Deed.{Deed}
+use Rattle.keeper.specs.Deeds.{StandsIn, AllStandIn}
+use Rattle.keeper.specs.Fronts.{FrontState, FrontStep, IsSeated}
 use Rattle.server.specs.Attending.{HasText, Attended, OneByOne, Pairs, ServedUntil}
 use Rattle.server.specs.Served.{AllSeated, WorkerServed}
 

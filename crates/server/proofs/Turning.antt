@@ -14,10 +14,10 @@ use Rattle.published.proofs.Prefixes.{prefix_trans}
 use Rattle.desk.specs.Posts.{Posts, ShowsMore, SameTables, PostsStep}
 use Rattle.desk.specs.Changes.{CatchUpAccepted, TellsShown, CatchUpJudged, IsNoChange}
 use Rattle.desk.proofs.Standings.{standing_next}
-use Rattle.keeper.proofs.Refreshing.{still_refused}
+use Rattle.calls.proofs.Refreshing.{still_refused}
 use Rattle.server.specs.declared.turn.TheConstants.{TURN_COMMITS}
 use Rattle.one_history.specs.History.{Hand}
-use Rattle.front.specs.declared.deeds.Deed.{Deed}
+use Rattle.keeper.specs.declared.deeds.Deed.{Deed}
 use Rattle.server.specs.Turning.{TakesOneTurn, TurnByTurn}
 use Rattle.server.specs.Turns.{TakesTurn, TurnRefused, index_refused, hot_refused}
 
@@ -30,11 +30,13 @@ taken_still old mid new part commits cursor first then taken more same tells =
       works = taken.works;
       few = taken.few;
       posts = record {
-        posted = more.posted ∙ taken.posts.posted;
-        book = more.book ∙ taken.posts.book;
-        later = prefix_trans old.shown mid.shown new.shown taken.posts.later more.later;
-        beginning = more.beginning;
-        judged = more.judged;
+        shows = record {
+          posted = more.posted ∙ taken.posts.shows.posted;
+          book = more.book ∙ taken.posts.shows.book;
+          later = prefix_trans old.shown mid.shown new.shown taken.posts.shows.later more.later;
+          beginning = more.beginning;
+          judged = more.judged;
+        };
         faults = same.2 ∙ taken.posts.faults;
       };
       tables = same.0 ∙ taken.tables;
@@ -61,7 +63,7 @@ turn_refused_still g old mid new why (hot_refused between index told taken refus
 -- ---- where the cursors are
 
 taken_stands : {T : Type 0} (old new : Posts T) (part : Part) (commits : ℕ) → PostsStep old (Take part commits) new → standing new.posted ≡ after_take (standing old.posted) part commits
-taken_stands old new part commits posts = ap standing posts.posted ∙ standing_next old.posted (Take part commits)
+taken_stands old new part commits posts = ap standing posts.shows.posted ∙ standing_next old.posted (Take part commits)
 
 module _ {T : Type 0} (old : Posts T) (index hot : ℕ) (receipt : ReceiptFacts) (new : Posts T) (turn : TakesTurn old index hot receipt new) where
   between_stands : standing turn.between.posted ≡ after_take (standing old.posted) Index TURN_COMMITS

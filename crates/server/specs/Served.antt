@@ -6,10 +6,10 @@ use Rattle.desk.specs.Posts.{Posts}
 use Rattle.answers.specs.declared.end.End.{End}
 use Rattle.one_history.specs.History.{Hand}
 use Rattle.one_history.specs.declared.entry.Entry.{Entry}
-use Rattle.front.specs.declared.deeds.Deed.{Deed}
-use Rattle.front.specs.Deeds.{IsLeft, StandsIn}
-use Rattle.front.specs.Fronts.{FrontState, FrontStep, IsSeated}
-use Rattle.front.specs.Kept.{IsKept}
+use Rattle.keeper.specs.declared.deeds.Deed.{Deed}
+use Rattle.keeper.specs.Deeds.{IsLeft, StandsIn}
+use Rattle.keeper.specs.Fronts.{FrontState, FrontStep, IsSeated}
+use Rattle.keeper.specs.Kept.{IsKept}
 use Rattle.server.specs.Attending.{Attended, OneByOne}
 use Rattle.server.specs.Turning.{TurnByTurn}
 

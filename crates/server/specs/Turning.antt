@@ -8,10 +8,10 @@ use Rattle.published.specs.Receipts.{ReceiptFacts}
 use Rattle.desk.specs.Posts.{Posts}
 use Rattle.desk.specs.Changes.{CatchUpAccepted, CatchUpJudged, IsNoChange, IsRefused}
 use Rattle.one_history.specs.History.{Hand}
-use Rattle.front.specs.declared.deeds.Deed.{Deed}
-use Rattle.front.specs.declared.deeds.Deed.TheVariants.{CaughtUp, Refreshed}
-use Rattle.front.specs.Deeds.{IsDoneTo}
-use Rattle.front.specs.Kept.{IsKept}
+use Rattle.keeper.specs.declared.deeds.Deed.{Deed}
+use Rattle.keeper.specs.declared.deeds.Deed.TheVariants.{CaughtUp, Refreshed}
+use Rattle.keeper.specs.Deeds.{IsDoneTo}
+use Rattle.keeper.specs.Kept.{IsKept}
 use Rattle.server.specs.declared.turn.TheConstants.{TURN_COMMITS}
 
 -- The index took the commits of a turn, and the hot table was then to take its own, from the desk that the index had left; or the

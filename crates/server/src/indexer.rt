@@ -2,27 +2,42 @@
 ghost use Rattle.std.specs.Prelude.{◌≡◌, ◌⊎◌, ◌↔◌, IsTrue, IfOk, IfErr, false};
 ghost use Rattle.names.specs.declared.refusal.Refusal.TheVariants.{NoSeat};
 ghost use Rattle.published.specs.Known.{Begins};
-ghost use Rattle.front.specs.Fronts.{IsSeated};
+ghost use Rattle.keeper.specs.Fronts.{IsSeated};
 ghost use Rattle.server.specs.Turning.{TakesOneTurn};
 ghost use Rattle.server.specs.Turns.{IsBehind};
 
 use crate::pool::Follows;
 use crate::turn::{Turn, take_turn};
 use crossbeam_channel::{Receiver, TryRecvError};
-use front::{Keeper, KeeperName, Place};
+use keeper::{Keeper, KeeperName, Place};
 use names::{Refusal, State};
 use published::Session;
+use std::marker::Model;
 use std::sync::Wait;
 use tables::Tables;
 
-/// A keeper, a session and a place of its own, and what wakes it.
+/// A keeper, a session and a place of its own, and what wakes it. Contracts see it as a front: what the session knows, and what
+/// it knows of the deeds under the lock.
 #[derive(Drop)]
 pub(crate) struct Indexer<'k, T: Tables + Drop, J: KeeperName<T>, H: Wait + Drop> {
     keeper: &'k Keeper<T, J, H>,
-    session: Session,
+    session: Session<J>,
     place: Place<'k, J>,
     woken: Receiver<()>,
-    ghost of_book: { session.book ≡ J.book },
+}
+
+impl<'k, T: Tables + Drop, J: KeeperName<T>, H: Wait + Drop> Model for Indexer<'k, T, J, H> {
+    ghost use Rattle.std.specs.Prelude.{◌≡◌};
+    ghost use Rattle.keeper.specs.Fronts.{FrontState};
+    ghost use Rattle.keeper.specs.Coded.{coded_front};
+
+    ghost Value = { FrontState };
+
+    ghost coded = { coded_front };
+
+    ghost view = { λ i. record { known = i.session; hand = i.place } };
+
+    ghost invariant = { λ i. i.session.book ≡ J.book };
 }
 
 impl<'k, T: Tables + Drop, J: KeeperName<T>, H: Wait + Drop> Indexer<'k, T, J, H> {
@@ -32,7 +47,7 @@ impl<'k, T: Tables + Drop, J: KeeperName<T>, H: Wait + Drop> Indexer<'k, T, J, H
         keeper: &'k Keeper<T, J, H>,
         woken: Receiver<()>,
     ) -> Result<Indexer<'k, T, J, H>, Refusal>
-        ensures seated { IfOk result (λ it. IsSeated T.Tables J.book J.starts (record { known = it.session; hand = it.place })) }
+        ensures seated { IfOk result (λ it. IsSeated T.Tables J.book J.starts it) }
         ensures err { IfErr result (λ why. why ≡ NoSeat) }
     {
         let (session, place) = keeper.session(rt)?;
@@ -46,7 +61,7 @@ impl<'k, T: Tables + Drop, J: KeeperName<T>, H: Wait + Drop> Indexer<'k, T, J, H
 
     /// Gives its place back.
     pub(crate) fn leave(self) -> Place<'k, J>
-        ensures { result ≡ self.entry.place }
+        ensures { result ≡ self.entry.hand }
     {
         let Indexer { place, .. } = self;
         place
@@ -54,8 +69,8 @@ impl<'k, T: Tables + Drop, J: KeeperName<T>, H: Wait + Drop> Indexer<'k, T, J, H
 
     // Takes a turn if a part is behind what is shown. Whether more may be left to take.
     fn takes_turn<R: Wait>(&mut self, rt: &R) -> bool
-        ensures known { Begins self.old.session self.new.session }
-        ensures turn { (self.new.place ≡ self.old.place) ⊎ TakesOneTurn T.Tables J.book J.starts self.old.place self.new.place }
+        ensures known { Begins self.old.known self.new.known }
+        ensures turn { (self.new.hand ≡ self.old.hand) ⊎ TakesOneTurn T.Tables J.book J.starts self.old.hand self.new.hand }
     {
         match self.session.state() {
             Ok(state) if is_behind(&state) => {}
@@ -77,8 +92,8 @@ impl<'k, T: Tables + Drop, J: KeeperName<T>, H: Wait + Drop> Follows for Indexer
     ghost use Rattle.server.specs.Turning.{TurnByTurn};
 
     // Its session knows all that it knew, and its place took turns, one after another.
-    ghost followed = { λ s t. Begins s.session t.session
-        × ((turns : ℕ) × TurnByTurn T.Tables J.book J.starts s.place turns t.place) };
+    ghost followed = { λ s t. Begins s.known t.known
+        × ((turns : ℕ) × TurnByTurn T.Tables J.book J.starts s.hand turns t.hand) };
 
     fn follow<R: Wait>(&mut self, rt: &R) {
         for _ in rt.forever() {

@@ -1,11 +1,11 @@
 //! The law of a worker's connections.
 ghost use Rattle.std.specs.Prelude.{List};
 ghost use Rattle.answers.specs.declared.end.End.{End};
-ghost use Rattle.front.specs.Kept.{NeverGoesBack};
-ghost use Rattle.front.specs.Fronts.{FrontState, FrontStep};
+ghost use Rattle.keeper.specs.Kept.{NeverGoesBack};
+ghost use Rattle.keeper.specs.Fronts.{FrontState, FrontStep};
 ghost use Rattle.server.specs.Attending.{Attended, OneByOne};
 
-use front::KeeperName;
+use keeper::KeeperName;
 use tables::Tables;
 
 /// The law that no connection takes a front back on what its session knew, however it ends, nor do any number of them, one

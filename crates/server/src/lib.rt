@@ -1,7 +1,7 @@
 //! Connections over TCP, served by many workers: an acceptor puts them into a queue, and each worker takes one after
 //! another and answers its calls by a machine of its own. Beside them the indexer follows what they change.
 //!
-//! What a connection says is `http_api`'s, what a call is answered is `front`'s. No proof says of threads that they get on.
+//! What a connection says is `http_api`'s, what a call is answered is `keeper`'s. No proof says of threads that they get on.
 #![tactic(auto)]
 
 mod counted;

@@ -2,7 +2,7 @@
 ghost use Rattle.std.specs.Prelude.{◌≡◌};
 
 use answers::Answers;
-use front::{Front, KeeperName, Place};
+use keeper::{Front, KeeperName, Place};
 use names::{Call, Reply};
 use std::marker::Model;
 use std::sync::Wait;
@@ -17,8 +17,8 @@ pub struct Locked<'k, T: Tables + Drop, J: KeeperName<T>, R: Wait + Drop, W: Wai
 
 impl<'k, T: Tables + Drop, J: KeeperName<T>, R: Wait + Drop, W: Wait> Model
     for Locked<'k, T, J, R, W> {
-    ghost use Rattle.front.specs.Fronts.{FrontState};
-    ghost use Rattle.front.specs.Coded.{coded_front};
+    ghost use Rattle.keeper.specs.Fronts.{FrontState};
+    ghost use Rattle.keeper.specs.Coded.{coded_front};
 
     ghost Value = { FrontState };
 
@@ -46,7 +46,7 @@ impl<'k, T: Tables + Drop, J: KeeperName<T>, R: Wait + Drop, W: Wait> Locked<'k,
 
 impl<'k, T: Tables + Drop, J: KeeperName<T>, R: Wait + Drop, W: Wait> Answers
     for Locked<'k, T, J, R, W> {
-    ghost use Rattle.front.specs.Fronts.{FrontStep};
+    ghost use Rattle.keeper.specs.Fronts.{FrontStep};
 
     ghost step = { λ s call body told t. FrontStep T.Tables J.book J.starts s call body told t };
 

@@ -1,7 +1,7 @@
 //! A server over a keeper.
 ghost use Rattle.std.specs.Prelude.{◌≡◌, ◌⊎◌, IfOk, IfErr, vec_len};
 ghost use Rattle.names.specs.declared.refusal.Refusal.TheVariants.{Memory, NoSeat};
-ghost use Rattle.front.specs.Fronts.{IsSeated};
+ghost use Rattle.keeper.specs.Fronts.{IsSeated};
 ghost use Rattle.server.specs.Served.{AllSeated, AllServed};
 
 use crate::counted::Counted;
@@ -12,8 +12,8 @@ use crate::pool::{Entrance, serve_and_follow};
 use crate::waking::Waking;
 use crate::worker::{Machine, Worker};
 use crossbeam_channel::{Receiver, Sender};
-use front::{Front, Keeper, KeeperName};
 use http_api::routes;
+use keeper::{Front, Keeper, KeeperName};
 use names::Refusal;
 use std::alloc::Global;
 use std::net::{TcpListener, TcpStream};
@@ -94,7 +94,7 @@ fn serve_seated<
     indexer: Indexer<'k, T, J, H>,
     machines: Vec<Worker<'k, Machine<'k, T, J, H, R, G>>>,
 ) -> Result<(), Refusal>
-    requires indexer { IsSeated T.Tables J.book J.starts (record { known = indexer.session; hand = indexer.place }) }
+    requires indexer { IsSeated T.Tables J.book J.starts indexer }
     requires machines { AllSeated T.Tables J.book J.starts (λ w. w.answers.answers.answers) machines.items }
     ensures served { IfOk result (λ _. AllServed T.Tables J.book J.starts (vec_len machines.entry)) }
     ensures err { IfErr result (λ why. (why ≡ NoSeat) ⊎ (why ≡ Memory)) }

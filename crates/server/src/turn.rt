@@ -4,11 +4,11 @@ ghost use Rattle.shown.specs.Standing.{standing, cursor_after};
 ghost use Rattle.published.specs.Known.{Begins};
 ghost use Rattle.published.specs.Receipts.{ReceiptFacts};
 ghost use Rattle.desk.specs.Posts.{shown_by};
-ghost use Rattle.front.specs.Kept.{KnowsMore};
+ghost use Rattle.keeper.specs.Kept.{KnowsMore};
 ghost use Rattle.server.specs.Turning.{PartsDone, TurnDone};
 ghost use Rattle.server.specs.Turns.{TakesTurn, TurnRefused};
 
-use front::{KeeperName, KeptDesk, Place};
+use keeper::{KeeperName, KeptDesk, Place};
 use names::{Part, Refusal};
 use published::{Receipt, Session};
 use std::sync::Wait;
@@ -31,7 +31,7 @@ pub fn take_turn<T: Tables + Drop, J: KeeperName<T>, R: Wait + Drop, W: Wait>(
     rt: &W,
     desk: &mut KeptDesk<T, J, R>,
     place: &mut Place<'_, J>,
-    session: &mut Session,
+    session: &mut Session<J>,
 ) -> Result<Turn, Refusal>
     requires { session.old.book ≡ J.book }
     ensures ok { IfOk result (λ turn.

@@ -3,8 +3,8 @@ ghost use Rattle.std.specs.Prelude.{◌≡◌};
 ghost use Rattle.names.specs.Calls.{told};
 
 use answers::Answers;
+use calls::is_change;
 use crossbeam_channel::Sender;
-use keeper::is_change;
 use names::{Call, Reply};
 use std::sync::Wait;
 

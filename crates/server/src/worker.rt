@@ -9,7 +9,7 @@ use crate::stream::serve_stream;
 use crate::waiting::Patience;
 use crate::waking::Waking;
 use answers::{Answers, End};
-use front::{KeeperName, Place};
+use keeper::{KeeperName, Place};
 use matchit::Router;
 use names::Call;
 use std::alloc::Global;

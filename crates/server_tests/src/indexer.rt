@@ -3,7 +3,7 @@ ghost use Rattle.std.specs.Prelude.{◌≡◌};
 ghost use Rattle.desk.specs.Posts.{Posts};
 
 use crate::gate::listen;
-use front::{Keeper, KeeperName, Opening};
+use keeper::{Keeper, KeeperName, Opening};
 use server::{Gate, run};
 use std::alloc::Global;
 use std::io::{Read, Write};

@@ -12,11 +12,11 @@ use denote.Text.{Str}
 use Rattle.std.specs.Prelude.{ℕ, List}
 use Rattle.std.specs.contracts.sync.atomic.AtomicBool as AtomicBool
 use Rattle.std.proofs.Crossing.{crosses, send}
-use Rattle.front.proofs.Crossing.{Session-send}
-use Rattle.sessions.specs.contracts.asking.Asker as Asker
+use Rattle.keeper.proofs.Crossing.{Session-send}
+use Rattle.sessions.specs.contracts.asking.Client as Client
 
-pub Asker-send : IsSend Asker.the_row
-Asker-send = declared_send Asker.the_type (send, (Session-send, ((search sendable), tt)))
+pub Client-send : (J : RattleType) (n : _) → IsSend J → IsSync J → IsSend (Client.the_row J n)
+Client-send J n s y = declared_send (Client.the_type J n) (send, ((Session-send J n s y), ((search sendable), tt)))
 
 pub Str-send : (ℓ : Lifetime) (κ : Lft) → IsSend (Str ℓ κ)
 Str-send ℓ κ = search sendable

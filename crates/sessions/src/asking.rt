@@ -2,11 +2,11 @@
 ghost use Rattle.std.specs.Prelude.{◌≡◌};
 ghost use Rattle.desk.specs.Posts.{Posts};
 
-use front::{Front, Keeper, KeeperName, Opening};
-use keeper::question_of;
+use calls::question_of;
+use keeper::{Front, Keeper, KeeperName, Opening};
 use names::{Call, Refusal, Reply};
-use published::Session;
-use shown::{Question, Told as Answered};
+use published::{Naming, Session};
+use shown::{Question, Told};
 use std::alloc::{AllocError, Global};
 use std::sync::Wait;
 use std::sync::atomic::{AtomicBool, Ordering};
@@ -19,7 +19,7 @@ const WRITES: u32 = 1_000_000;
 
 /// How many sessions ask how many questions each, and whether a writer commits all the while.
 #[derive(Clone, Copy)]
-pub(crate) struct Asked {
+pub(crate) struct Trial {
     pub sessions: u32,
     pub questions: u32,
     pub beside_a_writer: bool,
@@ -47,7 +47,7 @@ pub(crate) struct Writes {
 
 /// What came of it all.
 #[derive(Drop)]
-pub(crate) struct Told {
+pub(crate) struct Report {
     pub tuples: u64,
     pub count: Count,
     pub writes: Writes,
@@ -55,9 +55,9 @@ pub(crate) struct Told {
 
 /// A session, and the place of its first question in the list that it goes through again and again.
 #[derive(Drop)]
-struct Asker {
+struct Client<J: Naming> {
     alloc: Global,
-    session: Session,
+    session: Session<J>,
     first: usize,
 }
 
@@ -91,13 +91,18 @@ fn questions_of(alloc: Global, lines: &str) -> Result<Vec<Question>, Refusal> {
 }
 
 // Goes through the list, so many questions long.
-fn ask(session: &mut Session, list: &[Question], first: usize, questions: u32) -> Count {
+fn ask<J: Naming>(
+    session: &mut Session<J>,
+    list: &[Question],
+    first: usize,
+    questions: u32,
+) -> Count {
     let mut count = Count::none();
     let mut last = 0;
     let asked = list.iter().cycle().skip(first).take(questions as usize);
     for question in asked {
         match session.ask(question) {
-            Some((_, Ok(Answered::Checked(answer)))) => {
+            Some((_, Ok(Told::Checked(answer)))) => {
                 count.went_back |= answer.rev < last;
                 last = answer.rev;
                 count.yes = count.yes.saturating_add(u64::from(answer.value));
@@ -110,8 +115,13 @@ fn ask(session: &mut Session, list: &[Question], first: usize, questions: u32) -
 }
 
 // A session has its own questions: they are read before it is timed.
-fn ask_timed<W: Clock + CpuClock>(rt: &W, asker: Asker, lines: &str, questions: u32) -> Count {
-    let Asker {
+fn ask_timed<J: Naming, W: Clock + CpuClock>(
+    rt: &W,
+    asker: Client<J>,
+    lines: &str,
+    questions: u32,
+) -> Count {
+    let Client {
         alloc,
         mut session,
         first,
@@ -144,9 +154,9 @@ fn sum_of(counts: &[Count]) -> Count {
 }
 
 // Each session asks in a thread of its own.
-fn ask_all<W: Threads + Clock + CpuClock + Sync>(
+fn ask_all<J: Naming + Send + Sync, W: Threads + Clock + CpuClock + Sync>(
     rt: &W,
-    askers: Vec<Asker>,
+    askers: Vec<Client<J>>,
     lines: &str,
     questions: u32,
     done: &AtomicBool,
@@ -223,12 +233,12 @@ fn askers_of<T: Tables + Drop, J: KeeperName<T>, H: Wait + Drop, W: Wait>(
     alloc: Global,
     keeper: &Keeper<T, J, H>,
     sessions: u32,
-) -> Result<Vec<Asker>, Refusal> {
+) -> Result<Vec<Client<J>>, Refusal> {
     let mut askers = Vec::new(alloc);
     for number in 0..sessions {
         let (session, _) = keeper.session(rt)?;
         let first = number as usize * 1_000;
-        askers.push(Asker {
+        askers.push(Client {
             alloc,
             session,
             first,
@@ -239,7 +249,7 @@ fn askers_of<T: Tables + Drop, J: KeeperName<T>, H: Wait + Drop, W: Wait>(
 
 fn ask_beside<
     T: Tables + Drop,
-    J: KeeperName<T>,
+    J: KeeperName<T> + Send + Sync,
     H: Wait + Drop,
     W: Threads + Wait + Clock + CpuClock + Sync,
 >(
@@ -247,8 +257,8 @@ fn ask_beside<
     alloc: Global,
     keeper: &Keeper<T, J, H>,
     lines: &str,
-    asked: Asked,
-) -> Result<Told, Refusal> {
+    asked: Trial,
+) -> Result<Report, Refusal> {
     let mut front = Front::new(alloc, rt, keeper)?;
     take(rt, &mut front, lines)?;
     let (mut session, _) = keeper.session(rt)?;
@@ -261,7 +271,7 @@ fn ask_beside<
         || ask_all(rt, askers, lines, questions, &done),
         || write_until(rt, alloc, &mut front, &done),
     );
-    Ok(Told {
+    Ok(Report {
         tuples,
         count: sum_of(counts?.as_slice()),
         writes: writes?,
@@ -272,7 +282,7 @@ fn ask_beside<
 /// book is passed no `&str`.
 pub(crate) fn run<
     T: Tables + Drop,
-    J: KeeperName<T>,
+    J: KeeperName<T> + Send + Sync,
     H: Wait + Drop,
     W: Threads + Wait + Clock + CpuClock + Sync,
 >(
@@ -282,8 +292,8 @@ pub(crate) fn run<
     opening: Opening,
     tables: T,
     lines: String,
-    asked: Asked,
-) -> Result<Told, Refusal>
+    asked: Trial,
+) -> Result<Report, Refusal>
     requires book { opening.opened.book ≡ J.book }
     requires history { opening.history ≡ J.table }
     requires starts { (desk : Posts T) → J.starts desk }

@@ -6,8 +6,8 @@
 
 mod asking;
 
-use asking::{Asked, Count, Told, run};
-use front::Opening;
+use asking::{Count, Report, Trial, run};
+use keeper::Opening;
 use names::Refusal;
 use std::io;
 use std::marker::Brand;
@@ -41,7 +41,7 @@ fn start<H: Wait + Drop, W: Threads + Wait + Clock + CpuClock + Sync>(
             numbers.push(number)?;
         }
     }
-    let asked = Asked {
+    let asked = Trial {
         sessions: numbers.first().copied().unwrap_or(2).min(16),
         questions: numbers.get(1).copied().unwrap_or(1_000),
         beside_a_writer,
@@ -69,8 +69,8 @@ fn words_of(rt: &HostRuntime) -> Result<Vec<String>, Refusal> {
     }
 }
 
-fn tell(rt: &HostRuntime, asked: Asked, told: &Told, time: bool) -> io::Result<()> {
-    let Asked {
+fn tell(rt: &HostRuntime, asked: Trial, told: &Report, time: bool) -> io::Result<()> {
+    let Trial {
         sessions,
         questions,
         ..

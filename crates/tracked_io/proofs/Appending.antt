@@ -12,13 +12,13 @@ pub record SoFar (old new : Taken) (bytes rest : List ℕ) : Type 0 where
   pub took : Took old new written
 
 pub took_none : (at : Taken) → Took at at []
-took_none at = record { bytes = sym (append-nil at.bytes); first = refl }
+took_none at = ap (λ bytes. record at { bytes = bytes }) (sym (append-nil at.bytes))
 
 pub took_both : (a b c : Taken) (xs ys : List ℕ) → Took a b xs → Took b c ys → Took a c (xs ++ ys)
-took_both a b c xs ys h k = record { bytes = k.bytes ∙ ap (λ z. z ++ ys) h.bytes ∙ append_assoc a.bytes xs ys; first = k.first ∙ h.first }
+took_both a b c xs ys h k = k ∙ ap (λ (t : Taken). record t { bytes = t.bytes ++ ys }) h ∙ ap (λ bytes. record a { bytes = bytes }) (append_assoc a.bytes xs ys)
 
 pub took_kept : (a b c : Taken) (xs : List ℕ) → Took a b xs → c ≡ b → Took a c xs
-took_kept a b c xs h e = record { bytes = ap (λ (t : Taken). t.bytes) e ∙ h.bytes; first = ap (λ (t : Taken). t.first) e ∙ h.first }
+took_kept a b c xs h e = e ∙ h
 
 pub so_far_none : (at : Taken) (bytes : List ℕ) → SoFar at at bytes bytes
 so_far_none at bytes = record { written = []; parts = refl; took = took_none at }
@@ -35,28 +35,23 @@ so_far_more a b c bytes rest n f h =
     rw (take_all (length rest - n) (drop n rest) (omega (arith, length-drop {A = ℕ}))) (so_far_drop a b c bytes rest n f h)
 
 pub some_from_so_far : (a b c : Taken) (bytes rest : List ℕ) → SoFar a b bytes rest → c ≡ b → WroteSome a c bytes
-some_from_so_far a b c bytes rest f k = record { written = f.written; missing = rest; parts = f.parts; took = took_kept a b c f.written f.took k }
+some_from_so_far a b c bytes rest f k = (f.written, rest, f.parts, took_kept a b c f.written f.took k)
 
 pub all_from_so_far : (a b : Taken) (bytes rest : List ℕ) → SoFar a b bytes rest → rest ≡ [] → Took a b bytes
 all_from_so_far a b bytes rest f e = let same : f.written ≡ bytes = sym (f.parts ∙ ap (λ z. f.written ++ z) e ∙ append-nil f.written) in rw same at f.took
 
 -- a part was written whole, and then some of the next
 pub some_after : (a b c : Taken) (xs ys : List ℕ) → Took a b xs → WroteSome b c ys → WroteSome a c (xs ++ ys)
-some_after a b c xs ys h s = record {
-  written = xs ++ s.written;
-  missing = s.missing;
-  parts = ap (λ z. xs ++ z) s.parts ∙ sym (append_assoc xs s.written s.missing);
-  took = took_both a b c xs s.written h s.took;
-}
+some_after a b c xs ys h s = (
+  xs ++ s.0,
+  s.1,
+  ap (λ z. xs ++ z) s.2 ∙ sym (append_assoc xs s.0 s.1),
+  took_both a b c xs s.0 h s.3,
+)
 
 -- some of a part was written, and nothing of the next
 pub some_before : (a b : Taken) (xs ys : List ℕ) → WroteSome a b xs → WroteSome a b (xs ++ ys)
-some_before a b xs ys s = record {
-  written = s.written;
-  missing = s.missing ++ ys;
-  parts = ap (λ z. z ++ ys) s.parts ∙ append_assoc s.written s.missing ys;
-  took = s.took;
-}
+some_before a b xs ys s = (s.0, s.1 ++ ys, ap (λ z. z ++ ys) s.2 ∙ append_assoc s.0 s.1 ys, s.3)
 
 -- the next part was written
 pub so_far_part : (a b c : Taken) (bytes part rest : List ℕ) → SoFar a b bytes (part ++ rest) → Took b c part → SoFar a c bytes rest

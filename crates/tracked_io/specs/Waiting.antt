@@ -1,5 +1,6 @@
 -- The reads of a reader, each with what had been handed on when it began to wait.
 use Rattle.std.specs.Prelude.{ℕ, ◌≡◌, ◌++◌, List, [], ◌∷◌, take, Result, Ok, Err}
+use Rattle.std.specs.List.{flat_map}
 use Rattle.tracked_io.specs.Wrote.{Taken}
 
 -- one read: what the writer that it was lent had taken, all of it handed on, and the bytes that it gave, none where it failed
@@ -17,8 +18,7 @@ given_by (Err e) buf = []
 
 -- all that these reads gave
 abbrev pub given : List OneRead → List ℕ
-given [] = []
-given (read ∷ reads) = read.gave ++ given reads
+given reads = flat_map (λ read. read.gave) reads
 
 -- the reads that came after the first ones gave these bytes
 abbrev pub Gave : List OneRead → List OneRead → List ℕ → Type 0

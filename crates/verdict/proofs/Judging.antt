@@ -13,8 +13,8 @@ use Rattle.rows.specs.Retained.{Retained, newest, newest_of}
 use Rattle.rows.specs.Follows.{IsAccepted}
 use Rattle.rows.specs.Judging.{WriteRefused}
 use Rattle.verdict.specs.declared.limits.TheConstants.{MAX_CONDITIONS}
-use Rattle.verdict.specs.Verdict.{verdict, condition_cause, are_few, is_foreign, is_future, is_expired, fails, RefusesWrite}
-use Rattle.verdict.specs.inside.Before.{comes_after, comes_before}
+use Rattle.verdict.specs.Verdict.{verdict, condition_cause, fails, RefusesWrite}
+use Rattle.verdict.specs.inside.Before.{comes_after, comes_before, are_few, is_foreign, is_future, is_expired}
 
 -- the causes of operations, and those of a write that has conditions
 abbrev of_ops : Bool → Bool → Bool → Bool → Option Refusal → Option Refusal

@@ -13,23 +13,10 @@ use Rattle.zookie.specs.declared.Zookie.{Zookie}
 use Rattle.rows.specs.Retained.{Retained, newest, newest_of, is_touched_after}
 use Rattle.verdict.specs.declared.limits.TheConstants.{MAX_CONDITIONS}
 
--- the condition's zookie is another store's
-abbrev pub is_foreign : ℕ → Condition Zookie → Bool
-is_foreign number (Exists t) = false
-is_foreign number (Absent t) = false
-is_foreign number (Unchanged t z) = not (nat_eq z.store number)
-
--- it is above the newest revision
-abbrev pub is_future : ℕ → Condition Zookie → Bool
-is_future newest (Exists t) = false
-is_future newest (Absent t) = false
-is_future newest (Unchanged t z) = nat_lt newest z.rev
-
--- it is below the floor
-abbrev pub is_expired : ℕ → Condition Zookie → Bool
-is_expired floor (Exists t) = false
-is_expired floor (Absent t) = false
-is_expired floor (Unchanged t z) = nat_lt z.rev floor
+-- the condition has a zookie, which passes the test
+abbrev pub has_zookie : (Zookie → Bool) → Condition Zookie → Bool
+has_zookie test (Unchanged t z) = test z
+has_zookie test condition = false
 
 -- The condition does not hold at the newest revision: its tuple is not there, is there, or some commit after the zookie's
 -- revision has an event on it.
@@ -38,32 +25,27 @@ fails r (Exists t) = not (set.contains (newest_of r).held.tuples t)
 fails r (Absent t) = set.contains (newest_of r).held.tuples t
 fails r (Unchanged t z) = is_touched_after r t z.rev
 
--- why the conditions are refused, or nothing
+-- why the conditions are refused, or nothing: a zookie is another store's, above the newest revision, or below the floor
 abbrev pub condition_cause : Retained → List (Condition Zookie) → Option Refusal
 condition_cause r conditions =
-    or_else (refused_if ForeignZookie (list_any (is_foreign r.number) conditions)) (
-    or_else (refused_if Future (list_any (is_future (newest r)) conditions)) (
-    or_else (refused_if Expired (list_any (is_expired r.floor) conditions)) (
+    or_else (refused_if ForeignZookie (list_any (has_zookie (λ z. not (nat_eq z.store r.number))) conditions)) (
+    or_else (refused_if Future (list_any (has_zookie (λ z. nat_lt (newest r) z.rev)) conditions)) (
+    or_else (refused_if Expired (list_any (has_zookie (λ z. nat_lt z.rev r.floor)) conditions)) (
     at_place (λ i. ConditionFailed i) (first_from (fails r) 0 conditions))))
-
--- there are at most 64 conditions
-abbrev pub are_few : List (Condition Zookie) → Bool
-are_few conditions = nat_le (length conditions) MAX_CONDITIONS
 
 -- why the write is refused, or nothing
 abbrev pub verdict : Retained → Write Zookie → Option Refusal
 verdict r write =
     let n = newest_of r in
-    let ops = write.ops in
-    or_else (refused_if Malformed (not (is_in_range ops))) (
-    or_else (refused_if Malformed (not (are_few write.conditions))) (
-    or_else (refused_if UnknownRelation (list_any (is_unknown n.held.config) ops)) (
-    or_else (refused_if TypeRefused (list_any (is_untyped n.held.config) ops)) (
-    or_else (refused_if TwiceInOneWrite (is_twice ops)) (
+    or_else (refused_if Malformed (not (is_in_range write.ops))) (
+    or_else (refused_if Malformed (not (nat_le (length write.conditions) MAX_CONDITIONS))) (
+    or_else (refused_if UnknownRelation (list_any (is_unknown n.held.config) write.ops)) (
+    or_else (refused_if TypeRefused (list_any (is_untyped n.held.config) write.ops)) (
+    or_else (refused_if TwiceInOneWrite (is_twice write.ops)) (
     or_else (condition_cause r write.conditions) (
-    or_else (at_place (λ i. AlreadyThere i) (first_from (inserts_again n.held.tuples) 0 ops)) (
-    or_else (at_place (λ i. NotThere i) (first_from (deletes_nothing n.held.tuples) 0 ops)) (
-    refused_if Full (is_full n (map event_of ops))))))))))
+    or_else (at_place (λ i. AlreadyThere i) (first_from (inserts_again n.held.tuples) 0 write.ops)) (
+    or_else (at_place (λ i. NotThere i) (first_from (deletes_nothing n.held.tuples) 0 write.ops)) (
+    refused_if Full (is_full n (map event_of write.ops))))))))))
 
 -- nothing speaks against the write
 abbrev pub AcceptsWrite : Retained → Write Zookie → Type 0

@@ -3,7 +3,8 @@ ghost use Rattle.std.specs.Prelude.{◌≡◌, None, Some, false, IfErr, OnOk};
 ghost use Rattle.std.specs.List.{list_any};
 ghost use Rattle.meaning.specs.Verdict.{first_from};
 ghost use Rattle.rows.specs.Retained.{newest};
-ghost use Rattle.verdict.specs.Verdict.{condition_cause, is_foreign, is_future, is_expired, fails};
+ghost use Rattle.verdict.specs.Verdict.{condition_cause, fails};
+ghost use Rattle.verdict.specs.inside.Before.{is_foreign, is_future, is_expired};
 
 use names::{Condition, Refusal};
 use rows::Rows;

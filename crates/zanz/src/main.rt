@@ -12,11 +12,7 @@ use tracked_io::{TrackedReader, TrackedWriter};
 
 fn main(rt: HostRuntime) -> ExitCode {
     let ended = program(
-        Host {
-            rt: &rt,
-            wait: &rt,
-            net: &rt,
-        },
+        Host::new(&rt, &rt, &rt),
         env::args(&rt),
         Unknown,
         &mut TrackedReader::new(rt.reader()),

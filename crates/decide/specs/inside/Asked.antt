@@ -7,6 +7,7 @@ use Rattle.names.specs.declared.node.Node.{Node}
 use Rattle.decide.specs.declared.asking.Asking.{Asking}
 use Rattle.decide.specs.declared.search.Search.{Search}
 use Rattle.decide.specs.inside.Under.{Under}
+use Rattle.decide.specs.inside.Reading.{IsReadOf}
 use Rattle.decide.specs.inside.Searches.{Waits, Grew, IsNumberOf}
 use Rattle.decide.specs.inside.Running.{IsRunning}
 
@@ -30,6 +31,7 @@ IsCounted S s a m i = (k : ℕ) × IsNumberOf s i m k × IsAt S.config m k × (k
 pub record IsAsking (S : Snap) (s : Search) (a : Asking) : Type 0 where
   pub running : IsRunning S a.user.now s (Some a.number)
   pub number : IsNumberOf s a.number a.node.now a.level
+  pub read : IsReadOf S a.node.now.object a.read
 
 -- the asker goes on, in a search that grew
 pub record GoesOn (S : Snap) (s t : Search) (a : Asking) : Type 0 where

@@ -1,12 +1,13 @@
 -- What was read of a view.
-use Rattle.std.specs.Prelude.{◌≡◌, ◌<◌, ◌↔◌, ℕ, List, Contains, IfSome, filter, length, slice_index_or}
+use Rattle.std.specs.Prelude.{◌≡◌, ◌<◌, ◌↔◌, ℕ, List, Contains, Option, IfSome, filter, length, slice_index_or}
+use Rattle.std.specs.Borrow.{Bor}
 use Rattle.names.specs.declared.object.Object.{Object}
 use Rattle.meaning.specs.TupleSet as set
 use Rattle.meaning.specs.Snap.{Snap}
 use Rattle.meaning.specs.Membership.{HasOne}
 use Rattle.tuple_keys.specs.Named.{is_at}
-use Rattle.decide.specs.declared.facts.Read.{Read}
-use Rattle.decide.specs.declared.facts.Reads.{Reads}
+use Rattle.decide.specs.declared.reads.Read.{Read}
+use Rattle.decide.specs.declared.reads.Reads.{Reads}
 use Rattle.decide.specs.inside.Reads.{node_with}
 
 -- the objects that the object's tuples of the tupleset name
@@ -24,3 +25,7 @@ AreRead S reads = (r : Read) → Contains reads.read.items r → IsRead S r
 -- what was read of the object stands at the place
 abbrev pub IsReadAt : Reads → Object → ℕ → Type 0
 IsReadAt reads o i = (i < length reads.read.items) × ((r : Read) → (slice_index_or reads.read.items i r).object ≡ o)
+
+-- what was read is of the object, if anything was read
+abbrev pub IsReadOf : Snap → Object → Option (Bor Read) → Type 0
+IsReadOf S o read = IfSome read (λ r. IsRead S r.now × (r.now.object ≡ o))

@@ -5,20 +5,20 @@ use Rattle.httparse.specs.Spans.{header_bytes}
 use Rattle.httparse.specs.declared.spans.HeaderSpan.{HeaderSpan}
 use Rattle.httparse.specs.declared.spans.RequestSpans.{RequestSpans}
 use Rattle.http_api.specs.Heads.{CanBeHead}
-use Rattle.http_api.specs.declared.head.Front.{Front}
-use Rattle.http_api.specs.declared.head.Front.TheVariants.{Head, Unfinished, Hopeless}
+use Rattle.http_api.specs.declared.head.HeadRead.{HeadRead}
+use Rattle.http_api.specs.declared.head.HeadRead.TheVariants.{Head, Unfinished, Hopeless}
 
-abbrev pub IfHead : Front → (RequestSpans → Type 0) → Type 0
+abbrev pub IfHead : HeadRead → (RequestSpans → Type 0) → Type 0
 IfHead (Head spans) P = P spans
 IfHead Unfinished P = ⊤
 IfHead Hopeless P = ⊤
 
-abbrev pub OnUnfinished : Front → Type 0 → Type 0
+abbrev pub OnUnfinished : HeadRead → Type 0 → Type 0
 OnUnfinished (Head spans) P = ⊤
 OnUnfinished Unfinished P = P
 OnUnfinished Hopeless P = ⊤
 
-abbrev pub OnHopeless : Front → Type 0 → Type 0
+abbrev pub OnHopeless : HeadRead → Type 0 → Type 0
 OnHopeless (Head spans) P = ⊤
 OnHopeless Unfinished P = ⊤
 OnHopeless Hopeless P = P

@@ -5,9 +5,9 @@ use Rattle.tables.specs.Device.{Device, Lasts}
 use Rattle.tables.specs.declared.tables.Tables.{Ghosts}
 use Rattle.desk.specs.TableChanges.{TableChange, changed, CanChange}
 use Rattle.desk.specs.Posts.{Posts}
-use Rattle.keeper.specs.Rules.{DeskStep}
+use Rattle.calls.specs.Rules.{DeskStep}
 use Rattle.lines.specs.Machine.{Run}
-use Rattle.keeper.specs.Beginning.{kept_by}
+use Rattle.calls.specs.Beginning.{kept_by}
 
 -- The tables hold the history of the posted steps as long as they have not failed; what is left holds it, perhaps with one change
 -- more of which P is true; and the device has gone on.

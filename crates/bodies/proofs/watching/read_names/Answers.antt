@@ -1,13 +1,14 @@
 use Rattle.std.proofs.Common.{sym}
 use Rattle.names.proofs.Readings.{read_part}
-use Rattle.bodies.proofs.Naming.{name_more, name_refused}
+use Rattle.bodies.specs.Watching.{AsksName}
+use Rattle.bodies.proofs.Values.{read_more, read_refused}
 use Rattle.bodies.proofs.watching.read_names.Goals as goal
 
 pub returns-in_err-name-clause-err : goal.returns-in_err-name-clause-err
 returns-in_err-name-clause-err c =
     rw (sym c.deref-item-items.ensures.value) (read_part c.from_residual.result c.in_err-name.field-0.0 c.from_residual.ensures.1
-    (λ refused. name_refused _ _ c.item-item.result c.loop-item-test.true c.item-item.is refused) c.in_err-name.ensures.err)
+    (λ refused. read_refused AsksName _ _ c.item-item.result c.loop-item-test.true c.item-item.is refused) c.in_err-name.ensures.err)
 
 pub loop-item-preserved : goal.loop-item-preserved
 loop-item-preserved c =
-    name_more _ _ c.item-item.result _ _ c.in_ok-name.name c.loop-item-test.true c.item-item.is c.in_ok-push.ensures.items c.loop-item.invariant c.in_ok-name.ensures.ok
+    read_more AsksName _ _ c.item-item.result c.loop-item-test.true c.item-item.is _ _ c.in_ok-name.name c.in_ok-push.ensures.items c.loop-item.invariant c.in_ok-name.ensures.ok

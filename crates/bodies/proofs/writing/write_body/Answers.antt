@@ -1,5 +1,5 @@
 use Rattle.bodies.specs.Writing.{WriteBodyCause}
-use Rattle.bodies.proofs.Checking.{exit}
+use Rattle.bodies.proofs.Causes.{exit}
 use Rattle.bodies.proofs.AskedWrites.{write_unasked}
 use Rattle.bodies.proofs.writing.write_body.Goals as goal
 

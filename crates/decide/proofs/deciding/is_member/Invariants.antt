@@ -1,7 +1,8 @@
-use Rattle.std.proofs.Common.{◌≡◌, ◌<◌, ◌^◌, ◌-◌, ℕ, length, None}
+use Rattle.std.proofs.Common.{◌<◌, ◌^◌, ◌-◌, ℕ, length, None}
 use Rattle.names.specs.declared.node.Node.{Node}
 use Rattle.decide.specs.inside.Searches.{IsNumberOf}
 use Rattle.decide.specs.inside.Running.{IsRunning}
+use Rattle.decide.specs.inside.Reading.{AreRead}
 use Rattle.decide.specs.inside.Ending.{progress}
 use Rattle.decide.proofs.deciding.is_member.Given as goal
 
@@ -11,7 +12,7 @@ invariant-rounds g l =
     × (l.root < length l.search.opened.items)
     × ((k : ℕ) (n : Node) → IsNumberOf l.fn.search l.root n k → IsNumberOf l.search l.root n k)
     × g.O.Oracle.tells l.oracle l.facts
-    × (l.facts ≡ l.fn.facts)
+    × AreRead l.facts l.reads
 
 -- how many nodes can still be opened, or be given the user
 abbrev pub decreases-rounds : goal.decreases-rounds

@@ -1,5 +1,9 @@
-use Rattle.std.proofs.Common.{Some, sym, ◌∙◌}
+use Rattle.std.proofs.Common.{◌≡◌, Some, false, sym, subst, ◌∙◌}
 use Rattle.std.proofs.lemmas.Bool.{false≢true}
+use Rattle.decide.specs.declared.asking.Asking.{Asking}
+use Rattle.decide.specs.declared.search.Opened.{Opened}
+use Rattle.decide.specs.inside.Asked.{IsAsking}
+use Rattle.decide.specs.inside.Searches.{Stands}
 use Rattle.decide.proofs.Turns.{waiting_all_there, member_given, no_member_stuck, number_here}
 use Rattle.decide.proofs.Elements.{holds_some}
 use Rattle.decide.proofs.SearchLemmas.{grew_refl}
@@ -22,13 +26,16 @@ returns-in-Some-false-clause-running g c =
     (λ m. false≢true (sym c.in-Some-false.field-0-test ∙ (c.in-Some-false.ensures.right c.args.facts.now c.requires.tells).1 m))
 
 pub step-requires-clause-asking : goal.step-requires-clause-asking
-step-requires-clause-asking g c = record {
+step-requires-clause-asking g c = subst (IsAsking c.args.facts.now c.args.search.now) (sym c.of-asking.ensures) (record {
   running = c.requires.running;
   number = number_here c.args.facts.now c.args.user.now c.args.search.now c.args.number c.level_of-level.result c.node_of-node.result c.requires.number c.node_of-node.ensures c.level_of-level.ensures;
-}
+  read = tt;
+})
 
 pub step-requires-clause-unsure : goal.step-requires-clause-unsure
-step-requires-clause-unsure g c e at = c.is_sure.ensures e at ∙ c.if-is_sure.false
+step-requires-clause-unsure g c =
+    subst (λ (a : Asking). (e : Opened) → Stands c.args.search.now a.number e → e.sure ≡ false) (sym c.of-asking.ensures)
+    (λ e at. c.is_sure.ensures e at ∙ c.if-is_sure.false)
 
 pub returns-then-is_sure-clause-turned : goal.returns-then-is_sure-clause-turned
 returns-then-is_sure-clause-turned g c = turned_none c.args.search.now

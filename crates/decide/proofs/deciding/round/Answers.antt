@@ -13,7 +13,7 @@ is_sure-requires g c = omega (arith, c.requires.root, c.turns.invariant.long)
 
 pub returns-then-is_sure-clause-answer : goal.returns-then-is_sure-clause-answer
 returns-then-is_sure-clause-answer g c n k number = (
-  λ t. root_sure c.turns.facts c.args.user.now c.turns.search c.args.root k n c.is_sure.result c.if-is_sure.true c.turns.invariant.running (c.turns.invariant.numbers c.args.root k n number) c.is_sure.ensures,
+  λ t. root_sure c.args.facts.now c.args.user.now c.turns.search c.args.root k n c.is_sure.result c.if-is_sure.true c.turns.invariant.running (c.turns.invariant.numbers c.args.root k n number) c.is_sure.ensures,
   λ m. refl,
 )
 
@@ -22,8 +22,8 @@ is_sure-requires-in-None g c = omega (arith, c.requires.root, c.turns.invariant.
 
 pub returns-in-None-clause-answer : goal.returns-in-None-clause-answer
 returns-in-None-clause-answer g c n k number =
-    root_answer c.turns.facts c.args.user.now c.next.new.self c.args.root k n c.is_sure-in-None.result
-    (c.in-None.ensures.same c.turns.facts c.args.user.now c.turns.invariant.running)
+    root_answer c.args.facts.now c.args.user.now c.next.new.self c.args.root k n c.is_sure-in-None.result
+    (c.in-None.ensures.same c.args.facts.now c.args.user.now c.turns.invariant.running)
     (c.in-None.ensures.numbers c.args.root k n (c.turns.invariant.numbers c.args.root k n number))
     c.in-None.ensures.none
     c.is_sure-in-None.ensures
@@ -32,13 +32,13 @@ pub returns-in-None-clause-numbers : goal.returns-in-None-clause-numbers
 returns-in-None-clause-numbers g c i k n number = c.in-None.ensures.numbers i k n (c.turns.invariant.numbers i k n number)
 
 pub look-requires-clause-number : goal.look-requires-clause-number
-look-requires-clause-number g c = (c.in-Some.ensures.some c.turns.facts c.args.user.now c.turns.invariant.running).0
+look-requires-clause-number g c = (c.in-Some.ensures.some c.args.facts.now c.args.user.now c.turns.invariant.running).0
 
 pub look-requires-clause-running : goal.look-requires-clause-running
-look-requires-clause-running g c = (c.in-Some.ensures.some c.turns.facts c.args.user.now c.turns.invariant.running).1
+look-requires-clause-running g c = (c.in-Some.ensures.some c.args.facts.now c.args.user.now c.turns.invariant.running).1
 
 pub look-requires-clause-lowest : goal.look-requires-clause-lowest
-look-requires-clause-lowest g c = c.in-Some.ensures.lowest c.turns.facts c.args.user.now c.turns.invariant.running
+look-requires-clause-lowest g c = c.in-Some.ensures.lowest c.args.facts.now c.args.user.now c.turns.invariant.running
 
 pub returns-then-gave-clause-numbers : goal.returns-then-gave-clause-numbers
 returns-then-gave-clause-numbers g c i k n number = c.in_ok-gave-in-Some.ensures.numbers i k n (c.in-Some.ensures.numbers i k n (c.turns.invariant.numbers i k n number))
@@ -57,10 +57,10 @@ turns-preserved g c =
       running = c.in_ok-gave-in-Some.ensures.running;
       numbers = λ i k n number. c.in_ok-gave-in-Some.ensures.numbers i k n (c.in-Some.ensures.numbers i k n (c.turns.invariant.numbers i k n number));
       tells = c.in_ok-gave-in-Some.ensures.tells;
-      facts = c.in_ok-gave-in-Some.ensures.facts ∙ c.turns.invariant.facts;
+      read = c.in_ok-gave-in-Some.ensures.read;
       long = on.long ∙ same ∙ long;
       known = on.known ∙ known_of c.turns.search s c.in-Some.ensures.opened ∙ c.turns.invariant.known;
     }
 
 pub returns-in-None-clause-running : goal.returns-in-None-clause-running
-returns-in-None-clause-running g c = c.in-None.ensures.same c.turns.facts c.args.user.now c.turns.invariant.running
+returns-in-None-clause-running g c = c.in-None.ensures.same c.args.facts.now c.args.user.now c.turns.invariant.running

@@ -6,13 +6,13 @@ use Rattle.decide.proofs.Turning.{turned_no, turned_put, turned_given, still_low
 use Rattle.decide.proofs.deciding.step.Goals as goal
 
 pub give-requires-clause-there : goal.give-requires-clause-there
-give-requires-clause-there c = waiting_all_there c.relation_gives.new.facts c.args.asking.now.user.now c.relation_gives.new.search (Some c.args.asking.now.number) c.in_ok-relation_gives.ensures.goes_on.asking.running
+give-requires-clause-there c = waiting_all_there c.args.facts.now c.args.asking.now.user.now c.relation_gives.new.search (Some c.args.asking.now.number) c.in_ok-relation_gives.ensures.goes_on.asking.running
 
 pub returns-in_ok-give-in-Yes-clause-running : goal.returns-in_ok-give-in-Yes-clause-running
 returns-in_ok-give-in-Yes-clause-running c =
-    c.in_ok-give-in-Yes.ensures.running c.relation_gives.new.facts c.args.asking.now.user.now
-    (relation_given c.relation_gives.new.facts c.relation_gives.new.search c.args.asking.now c.in_ok-relation_gives.ensures.goes_on.asking c.requires.plain
-    (subst (RelationGave c.relation_gives.new.facts c.relation_gives.new.search c.args.asking.now) c.in-Yes.is c.in_ok-relation_gives.ensures.found))
+    c.in_ok-give-in-Yes.ensures.running c.args.facts.now c.args.asking.now.user.now
+    (relation_given c.args.facts.now c.relation_gives.new.search c.args.asking.now c.in_ok-relation_gives.ensures.goes_on.asking c.requires.plain
+    (subst (RelationGave c.args.facts.now c.relation_gives.new.search c.args.asking.now) c.in-Yes.is c.in_ok-relation_gives.ensures.found))
     c.in_ok-relation_gives.ensures.goes_on.asking.running
 
 pub returns-in_ok-give-in-Yes-clause-numbers : goal.returns-in_ok-give-in-Yes-clause-numbers
@@ -20,8 +20,8 @@ returns-in_ok-give-in-Yes-clause-numbers c = λ i k n x. c.in_ok-give-in-Yes.ens
 
 pub returns-in-No-clause-running : goal.returns-in-No-clause-running
 returns-in-No-clause-running c =
-    relation_stuck c.relation_gives.new.facts c.relation_gives.new.search c.args.asking.now c.in_ok-relation_gives.ensures.goes_on.asking c.requires.plain
-    (subst (RelationGave c.relation_gives.new.facts c.relation_gives.new.search c.args.asking.now) c.in-No.is c.in_ok-relation_gives.ensures.found)
+    relation_stuck c.args.facts.now c.relation_gives.new.search c.args.asking.now c.in_ok-relation_gives.ensures.goes_on.asking c.requires.plain
+    (subst (RelationGave c.args.facts.now c.relation_gives.new.search c.args.asking.now) c.in-No.is c.in_ok-relation_gives.ensures.found)
 
 pub returns-in-No-clause-numbers : goal.returns-in-No-clause-numbers
 returns-in-No-clause-numbers c = λ i k n x. grew_number c.args.search.now c.relation_gives.new.search i n k c.in_ok-relation_gives.ensures.goes_on.grew x
@@ -39,7 +39,7 @@ put_back-requires-clause-lowest c =
 
 pub put_back-requires-clause-unfinished : goal.put_back-requires-clause-unfinished
 put_back-requires-clause-unfinished c =
-    subst (RelationGave c.relation_gives.new.facts c.relation_gives.new.search c.args.asking.now) c.in-Later.is c.in_ok-relation_gives.ensures.found
+    subst (RelationGave c.args.facts.now c.relation_gives.new.search c.args.asking.now) c.in-Later.is c.in_ok-relation_gives.ensures.found
 
 pub returns-in_ok-give-in-Yes-clause-turned : goal.returns-in_ok-give-in-Yes-clause-turned
 returns-in_ok-give-in-Yes-clause-turned c =
@@ -56,4 +56,4 @@ returns-in_ok-put_back-in-Later-clause-turned c =
 
 pub returns-in_ok-put_back-in-Later-clause-running : goal.returns-in_ok-put_back-in-Later-clause-running
 returns-in_ok-put_back-in-Later-clause-running c =
-    c.in_ok-put_back-in-Later.ensures.running c.relation_gives.new.facts c.args.asking.now.user.now c.in_ok-relation_gives.ensures.goes_on.asking.running
+    c.in_ok-put_back-in-Later.ensures.running c.args.facts.now c.args.asking.now.user.now c.in_ok-relation_gives.ensures.goes_on.asking.running

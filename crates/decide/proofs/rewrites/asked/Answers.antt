@@ -1,6 +1,7 @@
 use Rattle.std.proofs.Common.{◌∙◌, subst}
 use Rattle.std.specs.Prelude.{Some, IfSome}
 use Rattle.decide.specs.inside.Asked.{IsCounted}
+use Rattle.decide.specs.inside.Reads.{node_with}
 use Rattle.decide.proofs.Found.{goes_on, counted_sure, counted_waits, counted_settled, counted_unfinished}
 use Rattle.decide.proofs.SearchLemmas.{grew_trans}
 use Rattle.decide.proofs.rewrites.asked.Goals as goal
@@ -10,8 +11,8 @@ returns-then-is_sure-clause-found c =
     let view = c.args.facts.now in
     let a = c.args.asking.now in
     let t = c.number_of.new.search in
-    let counted : IsCounted view t a c.args.node.now c.in-Some.number = subst (λ o. IfSome o (IsCounted view t a c.args.node.now)) c.in-Some.is c.in_ok-number.ensures.some in
-    counted_sure view a t c.args.node.now c.in-Some.number (Some a.number) c.in_ok-number.ensures.goes_on.asking.running counted (λ e st. c.is_sure.ensures e st ∙ c.if-is_sure.true)
+    let counted : IsCounted view t a (node_with c.args.relation.now c.args.object.now) c.in-Some.number = subst (λ o. IfSome o (IsCounted view t a (node_with c.args.relation.now c.args.object.now))) c.in-Some.is c.in_ok-number.ensures.some in
+    counted_sure view a t (node_with c.args.relation.now c.args.object.now) c.in-Some.number (Some a.number) c.in_ok-number.ensures.goes_on.asking.running counted (λ e st. c.is_sure.ensures e st ∙ c.if-is_sure.true)
 
 pub returns-then-asking-clause-goes_on : goal.returns-then-asking-clause-goes_on
 returns-then-asking-clause-goes_on c =
@@ -27,8 +28,8 @@ returns-then-asking-clause-found c =
     let view = c.args.facts.now in
     let a = c.args.asking.now in
     let t = c.number_of.new.search in
-    let counted : IsCounted view t a c.args.node.now c.in-Some.number = subst (λ o. IfSome o (IsCounted view t a c.args.node.now)) c.in-Some.is c.in_ok-number.ensures.some in
-    counted_waits view a t c.args.node.now c.in-Some.number c.wait.new.self c.if-asking.true counted
+    let counted : IsCounted view t a (node_with c.args.relation.now c.args.object.now) c.in-Some.number = subst (λ o. IfSome o (IsCounted view t a (node_with c.args.relation.now c.args.object.now))) c.in-Some.is c.in_ok-number.ensures.some in
+    counted_waits view a t (node_with c.args.relation.now c.args.object.now) c.in-Some.number c.wait.new.self c.if-asking.true counted
     (λ e st. c.is_sure.ensures e st ∙ c.if-is_sure.false)
     c.in_ok-wait.ensures.waits
 
@@ -37,8 +38,8 @@ returns-then-is_settled-clause-found c =
     let view = c.args.facts.now in
     let a = c.args.asking.now in
     let t = c.number_of.new.search in
-    let counted : IsCounted view t a c.args.node.now c.in-Some.number = subst (λ o. IfSome o (IsCounted view t a c.args.node.now)) c.in-Some.is c.in_ok-number.ensures.some in
-    counted_settled view a t c.args.node.now c.in-Some.number c.level_of-level.result c.in_ok-number.ensures.goes_on.asking
+    let counted : IsCounted view t a (node_with c.args.relation.now c.args.object.now) c.in-Some.number = subst (λ o. IfSome o (IsCounted view t a (node_with c.args.relation.now c.args.object.now))) c.in-Some.is c.in_ok-number.ensures.some in
+    counted_settled view a t (node_with c.args.relation.now c.args.object.now) c.in-Some.number c.level_of-level.result c.in_ok-number.ensures.goes_on.asking
     c.if-asking.false counted c.level_of-level.ensures
     (λ e st. c.is_sure.ensures e st ∙ c.if-is_sure.false)
     (c.is_settled.ensures.yes c.if-is_settled.true)
@@ -57,5 +58,5 @@ returns-clause-found c =
     let view = c.args.facts.now in
     let a = c.args.asking.now in
     let t = c.number_of.new.search in
-    let counted : IsCounted view t a c.args.node.now c.in-Some.number = subst (λ o. IfSome o (IsCounted view t a c.args.node.now)) c.in-Some.is c.in_ok-number.ensures.some in
-    counted_unfinished view t c.wait-2.new.self a c.args.node.now c.in-Some.number c.level_of-level.result c.if-asking.false counted c.level_of-level.ensures (c.is_settled.ensures.no c.if-is_settled.false) c.in_ok-wait-2.ensures.grew
+    let counted : IsCounted view t a (node_with c.args.relation.now c.args.object.now) c.in-Some.number = subst (λ o. IfSome o (IsCounted view t a (node_with c.args.relation.now c.args.object.now))) c.in-Some.is c.in_ok-number.ensures.some in
+    counted_unfinished view t c.wait-2.new.self a (node_with c.args.relation.now c.args.object.now) c.in-Some.number c.level_of-level.result c.if-asking.false counted c.level_of-level.ensures (c.is_settled.ensures.no c.if-is_settled.false) c.in_ok-wait-2.ensures.grew

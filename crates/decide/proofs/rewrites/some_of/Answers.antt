@@ -1,4 +1,4 @@
-use Rattle.std.proofs.Common.{◌∙◌, map, sym, subst, arith}
+use Rattle.std.proofs.Common.{◌∙◌, map, sym, subst, refl, arith}
 use Rattle.decide.specs.inside.Given.{HasNode, HasSome}
 use Rattle.decide.proofs.SearchLemmas.{grew_refl, grew_trans}
 use Rattle.std.proofs.lemmas.Bool.{false≢true}
@@ -17,9 +17,9 @@ returns-in-Yes-clause-goes_on c = goes_more c.args.facts.now c.args.asking.now c
 
 pub returns-in-Yes-clause-found : goal.returns-in-Yes-clause-found
 returns-in-Yes-clause-found c = (
-  c.node_of-node.result,
-  node_named c.args.relation.now c.args.objects.now c.loop-object.object-index c.object-item.result c.node_of-node.result c.loop-object-test.true c.object-item.is c.node_of-node.ensures,
-  subst (HasNode c.args.facts.now c.asked.new.search c.args.asking.now c.node_of-node.result) c.in-Yes.is c.in_ok-asked.ensures.found,
+  (node_with c.args.relation.now c.object-item.result),
+  node_named c.args.relation.now c.args.objects.now c.loop-object.object-index c.object-item.result (node_with c.args.relation.now c.object-item.result) c.loop-object-test.true c.object-item.is refl,
+  subst (HasNode c.args.facts.now c.asked.new.search c.args.asking.now (node_with c.args.relation.now c.object-item.result)) c.in-Yes.is c.in_ok-asked.ensures.found,
 )
 
 pub loop-object-preserved : goal.loop-object-preserved
@@ -27,14 +27,14 @@ loop-object-preserved c = (
   c.in_ok-asked.ensures.goes_on.asking,
   grew_trans c.args.search.now c.loop-object.search c.asked.new.search c.loop-object.invariant.1 c.in_ok-asked.ensures.goes_on.grew,
   elim c.match-branch-2.branch [
-    | in-No w ↦ λ e. none_more c.args.facts.now c.args.asking.now c.loop-object.search c.asked.new.search (map (node_with c.args.relation.now) c.args.objects.now) c.loop-object.object-index c.node_of-node.result
-        c.in_ok-asked.ensures.goes_on.grew (c.loop-object.invariant.2 (sym w.later-is ∙ e)) (node_within c.args.relation.now c.args.objects.now c.loop-object.object-index c.object-item.result c.node_of-node.result c.loop-object-test.true c.object-item.is c.node_of-node.ensures) (node_there c.args.relation.now c.args.objects.now c.loop-object.object-index c.object-item.result c.node_of-node.result c.loop-object-test.true c.object-item.is c.node_of-node.ensures)
-        (subst (HasNode c.args.facts.now c.asked.new.search c.args.asking.now c.node_of-node.result) w.in-No.is c.in_ok-asked.ensures.found)
+    | in-No w ↦ λ e. none_more c.args.facts.now c.args.asking.now c.loop-object.search c.asked.new.search (map (node_with c.args.relation.now) c.args.objects.now) c.loop-object.object-index (node_with c.args.relation.now c.object-item.result)
+        c.in_ok-asked.ensures.goes_on.grew (c.loop-object.invariant.2 (sym w.later-is ∙ e)) (node_within c.args.relation.now c.args.objects.now c.loop-object.object-index c.object-item.result (node_with c.args.relation.now c.object-item.result) c.loop-object-test.true c.object-item.is refl) (node_there c.args.relation.now c.args.objects.now c.loop-object.object-index c.object-item.result (node_with c.args.relation.now c.object-item.result) c.loop-object-test.true c.object-item.is refl)
+        (subst (HasNode c.args.facts.now c.asked.new.search c.args.asking.now (node_with c.args.relation.now c.object-item.result)) w.in-No.is c.in_ok-asked.ensures.found)
     | in-Later w ↦ λ e. cc
   ],
   elim c.match-branch-2.branch [
     | in-No w ↦ λ e. unfinished_grows c.loop-object.search c.asked.new.search c.args.asking.now.level c.in_ok-asked.ensures.goes_on.grew (c.loop-object.invariant.3 (sym w.later-is ∙ e))
-    | in-Later w ↦ λ e. subst (HasNode c.args.facts.now c.asked.new.search c.args.asking.now c.node_of-node.result) w.in-Later.is c.in_ok-asked.ensures.found
+    | in-Later w ↦ λ e. subst (HasNode c.args.facts.now c.asked.new.search c.args.asking.now (node_with c.args.relation.now c.object-item.result)) w.in-Later.is c.in_ok-asked.ensures.found
   ],
 )
 

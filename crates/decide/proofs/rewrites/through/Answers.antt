@@ -9,5 +9,5 @@ returns-in-Some-clause-found c =
     let n = c.args.asking.now.node.now in
     let nodes = map (node_with c.args.relation.now) c.in-Some.objects.now in
     through_gave c.args.facts.now c.args.asking.now c.some_of.new.search c.args.tupleset.now c.args.relation.now nodes c.in_ok-found.found
-    (nodes_are c.args.facts.now n (node_with c.args.tupleset.now n.object) c.args.tupleset.now c.args.relation.now c.in-Some.objects.now nodes refl c.in-Some.ensures refl)
+    (nodes_are c.args.facts.now n (node_with c.args.tupleset.now n.object) c.args.tupleset.now c.args.relation.now c.in-Some.objects.now nodes refl (c.in-Some.ensures c.args.facts.now n.object c.requires.asking.read) refl)
     c.in_ok-found.ensures.found

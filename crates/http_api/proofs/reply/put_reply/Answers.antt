@@ -1,5 +1,7 @@
+use Rattle.std.specs.Prelude.{◌++◌, length}
 use Rattle.std.proofs.lemmas.Result.{err_from_is_err_and}
 use Rattle.tracked_io.proofs.Appending.{some_before, some_after, wrote_after}
+use Rattle.http_api.specs.Replies.{start_text, middle_text}
 use Rattle.http_api.proofs.reply.put_reply.Goals as goal
 
 pub returns-in_err-put_start-clause-wrote : goal.returns-in_err-put_start-clause-wrote
@@ -14,4 +16,7 @@ returns-in_err-put_middle-clause-wrote g c =
 
 pub returns-clause-wrote : goal.returns-clause-wrote
 returns-clause-wrote g c =
-    wrote_after _ _ _ _ _ _ c.in_ok-put_start.ensures.wrote (wrote_after _ _ _ _ _ _ c.in_ok-put_middle.ensures.wrote c.put.ensures.wrote)
+    let first = start_text c.args.status in
+    let middle = middle_text (length c.args.body.now) c.args.closed in
+    wrote_after _ c.args.writer.now.taken c.put_start.new.writer.taken c.put.new.writer.taken first (middle ++ c.args.body.now) c.in_ok-put_start.ensures.wrote
+    (wrote_after _ c.put_start.new.writer.taken c.put_middle.new.writer.taken c.put.new.writer.taken middle c.args.body.now c.in_ok-put_middle.ensures.wrote c.put.ensures.wrote)

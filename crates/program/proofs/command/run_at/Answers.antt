@@ -7,22 +7,22 @@ use Rattle.program.proofs.command.run_at.Goals as goal
 
 pub returns-in-Memory-clause-ok : goal.returns-in-Memory-clause-ok
 returns-in-Memory-clause-ok g c = ok_of c.run-ended.result.0 (λ a is h.
-    ran_in_memory (image_at g.P.Start) g.R.Read.remaining c.args.reader.now c.run-ended.new.reader c.args.writer.now c.run-ended.new.writer all_lines c.args.place.now c.in-Memory.store c.new.result c.run-ended.result.1 c.in-Memory.is c.new.ensures h)
+    ran_in_memory (image_at g.P.Start) g.R.Read.remaining c.args.reader.now c.run-ended.new.reader c.args.writer.now c.run-ended.new.writer all_lines c.args.place.now c.in-Memory.store c.new-tables.result c.run-ended.result.1 c.in-Memory.is c.new-tables.ensures h)
     c.run-ended.ensures.ok
 
 pub returns-in-Memory-clause-cannot_read : goal.returns-in-Memory-clause-cannot_read
 returns-in-Memory-clause-cannot_read g c = err_of c.run-ended.result.0 (λ e is h unread.
-    ran_in_memory (image_at g.P.Start) g.R.Read.remaining c.args.reader.now c.run-ended.new.reader c.args.writer.now c.run-ended.new.writer whole_lines c.args.place.now c.in-Memory.store c.new.result c.run-ended.result.1 c.in-Memory.is c.new.ensures (h unread))
+    ran_in_memory (image_at g.P.Start) g.R.Read.remaining c.args.reader.now c.run-ended.new.reader c.args.writer.now c.run-ended.new.writer whole_lines c.args.place.now c.in-Memory.store c.new-tables.result c.run-ended.result.1 c.in-Memory.is c.new-tables.ensures (h unread))
     c.run-ended.ensures.cannot_read
 
 pub returns-in-Memory-clause-cannot_write : goal.returns-in-Memory-clause-cannot_write
 returns-in-Memory-clause-cannot_write g c = err_of c.run-ended.result.0 (λ e is h unwritten.
-    ran_in_memory (image_at g.P.Start) g.R.Read.remaining c.args.reader.now c.run-ended.new.reader c.args.writer.now c.run-ended.new.writer first_lines c.args.place.now c.in-Memory.store c.new.result c.run-ended.result.1 c.in-Memory.is c.new.ensures (h unwritten))
+    ran_in_memory (image_at g.P.Start) g.R.Read.remaining c.args.reader.now c.run-ended.new.reader c.args.writer.now c.run-ended.new.writer first_lines c.args.place.now c.in-Memory.store c.new-tables.result c.run-ended.result.1 c.in-Memory.is c.new-tables.ensures (h unwritten))
     c.run-ended.ensures.cannot_write
 
 pub returns-in-Memory-clause-refused : goal.returns-in-Memory-clause-refused
 returns-in-Memory-clause-refused g c = err_both c.run-ended.result.0 (λ e is h caused why refused. let k = h why refused in
-    (k.0, k.1, refused_in_memory (image_at g.P.Start) c.args.place.now e c.in-Memory.store c.new.result c.run-ended.result.1 c.in-Memory.is (λ fault. caused fault (λ clean. refl))))
+    (k.0, k.1, refused_in_memory (image_at g.P.Start) c.args.place.now e c.in-Memory.store c.new-tables.result c.run-ended.result.1 c.in-Memory.is (λ fault. caused fault (λ clean. refl))))
     c.run-ended.ensures.refused c.run-ended.ensures.caused
 
 pub returns-then-not-is_number-clause-refused : goal.returns-then-not-is_number-clause-refused

@@ -1,7 +1,7 @@
 use denote.Exit.{no}
 use denote.Param.Send.{IsSend, arg_send, param_send, sendable}
 use Rattle.std.proofs.Crossing.{crosses}
-use Rattle.front.proofs.Crossing.{Config-send, KeptCommit-send}
+use Rattle.keeper.proofs.Crossing.{Config-send, KeptCommit-send}
 use Rattle.versions.proofs.version_map.VersionMap.TheSendSync as VersionMap
 use Rattle.tables.specs.contracts.listed.Listed as Listed
 use Rattle.program.proofs.serving.serve_listed.Goals as goal

@@ -8,7 +8,7 @@ returns-in-Closed-clause-ok g c =
     (h.0, h.1, record { served = h.2; each_read = c.lines.ensures.each_read })
 
 pub returns-in-Closed-clause-answered : goal.returns-in-Closed-clause-answered
-returns-in-Closed-clause-answered g c = let h = c.lines.ensures.closed c.in-Closed.is in (lines_of h.0, h.2.text, h.2.run)
+returns-in-Closed-clause-answered g c = let h = c.lines.ensures.closed c.in-Closed.is in (lines_of h.0, h.2.0, h.2.1)
 
 pub returns-in-ReadFault-clause-cannot_read : goal.returns-in-ReadFault-clause-cannot_read
 returns-in-ReadFault-clause-cannot_read g c e =
@@ -16,7 +16,7 @@ returns-in-ReadFault-clause-cannot_read g c e =
     (h.0, h.1, record { paused = h.2; each_read = c.lines.ensures.each_read })
 
 pub returns-in-ReadFault-clause-answered : goal.returns-in-ReadFault-clause-answered
-returns-in-ReadFault-clause-answered g c = let h = c.lines.ensures.read_fault c.in-ReadFault.is in (h.2.fed.lines, h.2.text, h.2.fed.run)
+returns-in-ReadFault-clause-answered g c = let h = c.lines.ensures.read_fault c.in-ReadFault.is in (h.2.2.lines, h.2.1, h.2.2.run)
 
 pub returns-in-WriteFault-clause-cannot_write : goal.returns-in-WriteFault-clause-cannot_write
 returns-in-WriteFault-clause-cannot_write g c e =
@@ -26,7 +26,7 @@ returns-in-WriteFault-clause-cannot_write g c e =
 pub returns-in-WriteFault-clause-answered : goal.returns-in-WriteFault-clause-answered
 returns-in-WriteFault-clause-answered g c =
     let h = c.lines.ensures.write_fault c.in-WriteFault.is in
-    (take h.2.count (lines_of h.0), h.2.text, h.2.run)
+    (take h.2.0 (lines_of h.0), h.2.1, h.2.2)
 
 pub returns-in-Memory-clause-answered : goal.returns-in-Memory-clause-answered
 returns-in-Memory-clause-answered g c = let h = c.lines.ensures.memory c.in-Memory.is in ([], [], (refl, h.2))

@@ -1,4 +1,4 @@
-use Rattle.front.specs.Fronts.{FrontStep}
+use Rattle.keeper.specs.Fronts.{FrontStep}
 use Rattle.server.proofs.NeverBack.{attended_stays, each_stays}
 use Rattle.server.proofs.law.connections_never_go_back.Goals as goal
 

@@ -3,7 +3,7 @@ use Rattle.std.specs.Prelude.{◌⊎◌, IfOk, vec_len}
 use Rattle.names.specs.declared.refusal.Refusal.{Refusal}
 use Rattle.names.specs.declared.refusal.Refusal.TheVariants.{Memory, NoSeat}
 use Rattle.desk.proofs.Accepting.{refused_exit}
-use Rattle.front.specs.Fronts.{IsSeated}
+use Rattle.keeper.specs.Fronts.{IsSeated}
 use Rattle.server.specs.Served.{AllSeated, AllServed}
 use Rattle.server.proofs.Served.{seated_on}
 use Rattle.server.proofs.serving.run.Goals as goal

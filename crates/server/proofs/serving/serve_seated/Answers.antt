@@ -5,11 +5,11 @@ use denote.Param.{param}
 use mir.Syntax.{named}
 use Rattle.desk.specs.Posts.{Posts}
 use Rattle.one_history.specs.History.{Hand}
-use Rattle.front.specs.declared.deeds.Deed.{Deed}
-use Rattle.front.specs.Deeds.{AllStandIn}
-use Rattle.front.specs.Fronts.{FrontStep}
-use Rattle.front.specs.Kept.{IsKept}
-use Rattle.front.proofs.deeds.Place.TheSendSync as Place
+use Rattle.keeper.specs.declared.deeds.Deed.{Deed}
+use Rattle.keeper.specs.Deeds.{AllStandIn}
+use Rattle.keeper.specs.Fronts.{FrontStep}
+use Rattle.keeper.specs.Kept.{IsKept}
+use Rattle.keeper.proofs.deeds.Place.TheSendSync as Place
 use Rattle.server.proofs.Crossing.{Worker-send}
 use Rattle.server.proofs.Sending.{Locked-send, Counted-send, Waking-send, Indexer-send}
 use Rattle.server.proofs.Served.{all_served, attended_along}
@@ -25,7 +25,7 @@ serve_and_follow-requires-send-S g c κs within =
 pub serve_and_follow-requires-send-F : goal.serve_and_follow-requires-send-F
 serve_and_follow-requires-send-F g c κs within =
     let b = c.type_bounds in
-    param_send 1 _ (arg_send _ no _ (Indexer-send _ (param 1 g.row.T) (param 2 g.row.J) (param 3 g.row.H) _ _ _ _ b.send-T b.send-J b.sync-J b.send-H))
+    param_send 1 _ (arg_send _ no _ (Indexer-send (record { mir = named 2; lft = _ }) (param 1 g.row.T) (param 2 g.row.J) (param 3 g.row.H) _ _ _ _ b.send-T b.send-J b.sync-J b.send-H))
 
 pub serve_and_follow-requires-send-L : goal.serve_and_follow-requires-send-L
 serve_and_follow-requires-send-L g c κs within =
@@ -50,11 +50,11 @@ returns-in_ok-push-in-Some-clause-served g c =
       served = all.0;
       number = all.1 ∙ sym c.args.machines.ok.0;
       followed = record {
-        began = record { known = c.args.indexer.session; hand = c.args.indexer.place };
+        began = c.args.indexer;
         seated = c.requires.indexer;
         turns = turned.0;
         ended = c.leave.result;
-        followed = subst (λ (h : Hand Deed). TurnByTurn g.T.Tables book starts c.args.indexer.place turned.0 h) (sym c.leave.ensures) turned.1;
+        followed = subst (λ (h : Hand Deed). TurnByTurn g.T.Tables book starts c.args.indexer.hand turned.0 h) (sym c.leave.ensures) turned.1;
         stands = all.2;
       };
     }

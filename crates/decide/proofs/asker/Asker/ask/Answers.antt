@@ -6,6 +6,7 @@ use Rattle.meaning.proofs.KnownRelations.{has_known, not_known}
 use Rattle.config.specs.Places.{StandsAt}
 use Rattle.decide.specs.Answers.{IsAnswer}
 use Rattle.decide.specs.inside.Running.{IsRunning}
+use Rattle.decide.specs.inside.Reading.{AreRead}
 use Rattle.decide.proofs.Relations.{has_there}
 use Rattle.decide.proofs.asker.Asker.ask.Goals as goal
 
@@ -40,8 +41,10 @@ returns-clause-known g c =
 
 pub invariant_of-self-2 : goal.invariant_of-self-2
 invariant_of-self-2 g c =
-    let view = c.self-2.inside.view.now in (
-      c.is_member.ensures.facts ∙ c.self-2.invariant.0,
+    let view = c.self-2.inside.view.now in
+    let facts = c.self-2.invariant.0 in (
+      facts,
+      subst (λ (S : Snap). AreRead S c.is_member.new.reads) facts c.in_ok-answer.ensures.read,
       subst (λ (u : Object). IsRunning view u c.is_member.new.search None) (sym c.in_ok-known.ensures.of_user)
-          (subst (λ (S : Snap). IsRunning S c.args.user.now c.is_member.new.search None) c.self-2.invariant.0 c.in_ok-answer.ensures.running),
+          (subst (λ (S : Snap). IsRunning S c.args.user.now c.is_member.new.search None) facts c.in_ok-answer.ensures.running),
     )

@@ -13,7 +13,7 @@ returns-in-Some-clause-running c =
     let known = c.in-Some.known in
     let user : known.user ≡ c.args.user.now = same_object known.user c.args.user.now (sym c.eq.ensures ∙ c.if-eq.true) in
     let kept : IsRunning c.self.inside.view.now known.user known.search None =
-    subst (λ (o : Option Known). IfSome o (λ k. IsRunning c.self.inside.view.now k.user k.search None)) (sym c.in-Some.ensures.value) c.self.invariant.1 in
+    subst (λ (o : Option Known). IfSome o (λ k. IsRunning c.self.inside.view.now k.user k.search None)) (sym c.in-Some.ensures.value) c.self.invariant.2 in
     subst (λ (S : Snap). IsRunning S c.args.user.now known.search None) c.self.view_is
     (subst (λ (u : Object). IsRunning c.self.inside.view.now u known.search None) user kept)
 

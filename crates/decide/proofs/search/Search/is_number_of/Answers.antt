@@ -1,10 +1,5 @@
-use Rattle.std.proofs.Common.{sym, arith, ◌∙◌}
-use Rattle.decide.proofs.Nodes.{same_node}
+use Rattle.std.proofs.Common.{sym, arith}
 use Rattle.decide.proofs.search.Search.is_number_of.Goals as goal
 
 pub returns-then-number-len : goal.returns-then-number-len
-returns-then-number-len c = λ yes. (
-  c.index.result.now,
-  (omega (arith, c.if-number-len.true), sym c.index.ensures),
-  same_node c.index.result.now.node c.args.node.now (sym c.eq.ensures ∙ yes),
-)
+returns-then-number-len c = λ yes. (c.index.result.now, (omega (arith, c.if-number-len.true), sym c.index.ensures), c.is_node.ensures yes)

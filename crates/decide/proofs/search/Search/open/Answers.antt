@@ -4,9 +4,9 @@ use Rattle.decide.proofs.search.Search.open.Goals as goal
 -- src/search.rt:80:5
 pub returns : goal.returns
 returns c = (
-  record { node = c.again.result; level = c.args.level; place = c.args.place; sure = false; waiting = record { items = c.none.result }; own = None; parents = None },
+  record { node = c.args.node; level = c.args.level; place = c.args.place; sure = false; waiting = record { items = c.none.result }; own = None; parents = None },
   c.in_ok-push.ensures.items,
-  c.again.ensures,
+  refl,
   refl,
   refl,
   refl,

@@ -5,7 +5,7 @@ use Rattle.rows.specs.Follows.{IsNext}
 use Rattle.shown.specs.declared.step.Step.TheVariants.{Commit as CommitStep}
 use Rattle.shown.specs.Standing.{Standing, after_step, standing}
 use Rattle.desk.specs.TableChanges.{Adds, CanChange}
-use Rattle.desk.specs.Posts.{Posts}
+use Rattle.desk.specs.Posts.{ShowsMore, Posts}
 use Rattle.desk.specs.Changes.{IsRefused}
 use Rattle.desk.specs.inside.Latching.{AgreeWith}
 use Rattle.desk.specs.inside.Changing.{plain}
@@ -56,11 +56,11 @@ returns-clause-posts g c =
     let step : c.in_ok-step.step ≡ CommitStep c.args.commit = c.in_ok-step.ensures.step ∙ c.commit_change-change.ensures.step ∙ ap CommitStep c.in_ok-kept.ensures in
     let room = c.reserve.ensures.same in
     let more = c.publish-shown.ensures.more in
-    record {
+    let shows : ShowsMore (record c.args.self.now { posted = c.args.self.now.posted ++ CommitStep c.args.commit ∷ [] }) c.publish-shown.new.self = record {
       posted = more.posted ∙ c.post.ensures.posted ∙ ap (λ l. l ++ c.in_ok-step.step ∷ []) (room.1 ∙ ap (λ d. d.posted) c.self.view_is) ∙ ap (λ s. c.args.self.now.posted ++ s ∷ []) step;
       book = more.book ∙ c.post.ensures.same.0 ∙ room.0 ∙ ap (λ d. d.book) c.self.view_is;
       later = subst (λ l. IsPrefix l c.publish-shown.new.self.shown) (c.post.ensures.same.1 ∙ room.2 ∙ ap (λ d. d.shown) c.self.view_is) more.later;
       beginning = more.beginning;
       judged = more.judged;
-      faults = c.publish-shown.ensures.same.2 ∙ c.in_ok-step.ensures.quiet ∙ ap (λ d. d.faults) c.self.view_is;
-    }
+    } in
+    record { shows = shows; faults = c.publish-shown.ensures.same.2 ∙ c.in_ok-step.ensures.quiet ∙ ap (λ d. d.faults) c.self.view_is }

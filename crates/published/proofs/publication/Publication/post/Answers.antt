@@ -1,5 +1,3 @@
-use Rattle.shown.specs.Standing.{standing}
-use Rattle.published.proofs.Postable.{all_postable}
 use Rattle.published.proofs.Judging.{judged_post}
 use Rattle.published.proofs.publication.Publication.post.Goals as goal
 
@@ -8,9 +6,9 @@ invariant_of-self g c =
     let i = c.self.inside in
     let follows = rw (← c.self.view_is) at c.requires.follows in
     record {
+      of_name = c.self.invariant.of_name;
       leads = c.self.invariant.leads;
       judged = judged_post i.entered.steps i.backlog.items _ c.args.step c.self.invariant.judged follows c.requires.later c.push_back_reserved.ensures.items;
-      postable = all_postable (standing c.args.self.now.posted) c.args.step i.backlog.items _ c.requires.follows c.requires.later c.self.invariant.postable c.push_back_reserved.ensures.items;
       seated = c.self.invariant.seated;
     }
 

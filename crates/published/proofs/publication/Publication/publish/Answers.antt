@@ -13,8 +13,8 @@ pub invariant_of-self : goal.invariant_of-self
 invariant_of-self g c =
     let h = c.publish_all.ensures in
     record {
+      of_name = c.self.invariant.of_name;
       leads = h.leads;
       judged = subst AreJudged (sym h.posted) c.self.invariant.judged;
-      postable = h.postable;
       seated = c.self.invariant.seated;
     }

@@ -1,6 +1,6 @@
 use Rattle.std.proofs.Common.{ap, ◌∙◌}
-use Rattle.published.specs.declared.copy.ShownCopy.{ShownCopy}
+use Rattle.published.specs.Copies.{Copy}
 use Rattle.published.proofs.publication.Publication.shown.Goals as goal
 
 pub returns : goal.returns
-returns g c = rw (← c.self.view_is) (ap (λ (x : ShownCopy). x.shown) c.published.ensures ∙ c.self.invariant.leads.stands.0)
+returns g c = rw (← c.self.view_is) (c.shown.ensures ∙ ap (λ (x : Copy). x.shown) c.published.ensures ∙ c.self.invariant.leads.stands.0)

@@ -6,8 +6,8 @@ pub returns-then-not-goes_on : goal.returns-then-not-goes_on
 returns-then-not-goes_on g c =
     let before = c.loop.invariant in
     let turned = c.takes_turn.ensures in (
-      begins_trans c.args.self.now.session c.loop.self.session c.takes_turn.new.self.session before.2 turned.known,
-      turns_on g.T.Tables g.J.Naming.book g.J.KeeperName.starts c.args.self.now.place c.loop.self.place c.takes_turn.new.self.place before.3 turned.turn,
+      begins_trans c.args.self.now.known c.loop.self.known c.takes_turn.new.self.known before.2 turned.known,
+      turns_on g.T.Tables g.J.Naming.book g.J.KeeperName.starts c.args.self.now.hand c.loop.self.hand c.takes_turn.new.self.hand before.3 turned.turn,
     )
 
 pub loop-preserved : goal.loop-preserved
@@ -16,6 +16,6 @@ loop-preserved g c =
     let turned = c.takes_turn.ensures in (
       tt,
       tt,
-      begins_trans c.args.self.now.session c.loop.self.session c.takes_turn.new.self.session before.2 turned.known,
-      turns_on g.T.Tables g.J.Naming.book g.J.KeeperName.starts c.args.self.now.place c.loop.self.place c.takes_turn.new.self.place before.3 turned.turn,
+      begins_trans c.args.self.now.known c.loop.self.known c.takes_turn.new.self.known before.2 turned.known,
+      turns_on g.T.Tables g.J.Naming.book g.J.KeeperName.starts c.args.self.now.hand c.loop.self.hand c.takes_turn.new.self.hand before.3 turned.turn,
     )

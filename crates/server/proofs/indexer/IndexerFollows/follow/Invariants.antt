@@ -5,5 +5,5 @@ use Rattle.server.proofs.indexer.IndexerFollows.follow.Given as goal
 
 abbrev pub invariant-loop : goal.invariant-loop
 invariant-loop g l =
-    (goal.iterator-loop g).can_next l.iterator' × (goal.iterator-loop g).is_finite l.iterator' × Begins l.initial.self.session l.self.session
-    × ((turns : ℕ) × TurnByTurn g.T.Tables g.J.Naming.book g.J.KeeperName.starts l.initial.self.place turns l.self.place)
+    (goal.iterator-loop g).can_next l.iterator' × (goal.iterator-loop g).is_finite l.iterator' × Begins l.initial.self.known l.self.known
+    × ((turns : ℕ) × TurnByTurn g.T.Tables g.J.Naming.book g.J.KeeperName.starts l.initial.self.hand turns l.self.hand)

@@ -1,0 +1,4 @@
+pub mod Refreshing
+pub mod Answered
+pub mod Beginning
+pub mod Failing

@@ -1,4 +1,0 @@
-use Rattle.front.proofs.deeds.Place.note_answered.Goals as goal
-
-pub returns : goal.returns
-returns g c = c.note.ensures _ c.requires.what

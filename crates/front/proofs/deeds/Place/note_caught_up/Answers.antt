@@ -1,4 +1,0 @@
-use Rattle.front.proofs.deeds.Place.note_caught_up.Goals as goal
-
-pub returns : goal.returns
-returns g c = c.note.ensures _ c.requires.what

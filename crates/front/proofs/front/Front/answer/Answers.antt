@@ -1,5 +1,0 @@
-use Rattle.front.proofs.Changed.{step_of}
-use Rattle.front.proofs.front.Front.answer.Goals as goal
-
-pub returns : goal.returns
-returns g c = step_of g.T.Tables g.J.Naming.book g.J.KeeperName.starts c.args.self.now c.args.call c.args.body.now _ c.tell.new.self c.see.ensures c.tell.ensures

@@ -1,6 +1,0 @@
-use Rattle.std.proofs.Common.{ap}
-use Rattle.front.specs.Fronts.{FrontState}
-use Rattle.front.proofs.front.Front.leave.Goals as goal
-
-pub returns : goal.returns
-returns g c = ap (λ (s : FrontState). s.hand) c.self.view_is

@@ -1,6 +1,0 @@
-use Rattle.std.proofs.Common.{[], ◌∷◌}
-use Rattle.front.specs.declared.deeds.Deed.TheVariants.{CaughtUp}
-use Rattle.front.proofs.lock.KeptDesk.catch_up.Given as goal
-
-abbrev pub ghosts-note_caught_up : goal.ghosts-note_caught_up
-ghosts-note_caught_up g a = record { by = a.self.now.by; what = CaughtUp a.part a.commits ∷ [] }

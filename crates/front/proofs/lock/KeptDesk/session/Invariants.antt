@@ -1,6 +1,0 @@
-use Rattle.std.proofs.Common.{[], ◌∷◌}
-use Rattle.front.specs.declared.deeds.Deed.TheVariants.{Seated}
-use Rattle.front.proofs.lock.KeptDesk.session.Given as goal
-
-abbrev pub ghosts-note : goal.ghosts-note
-ghosts-note g a = record { by = a.self.now.by; what = Seated ∷ [] }

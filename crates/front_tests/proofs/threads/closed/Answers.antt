@@ -1,8 +1,0 @@
-use denote.Exit.{no}
-use denote.Param.Send.{arg_send, mut_send, param_send}
-use Rattle.front.proofs.Crossing.{Session-send}
-use Rattle.front_tests.proofs.Crossing.{one_send}
-use Rattle.front_tests.proofs.threads.closed.Goals as goal
-
-pub join-stays-requires-send-F : goal.join-stays-requires-send-F
-join-stays-requires-send-F g c κs within = param_send 1 _ (arg_send _ no _ (one_send _ _ (mut_send _ _ _ Session-send)))

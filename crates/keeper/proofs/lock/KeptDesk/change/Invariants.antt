@@ -1,0 +1,6 @@
+use Rattle.std.proofs.Common.{[], ◌∷◌}
+use Rattle.keeper.specs.declared.deeds.Deed.TheVariants.{Changed}
+use Rattle.keeper.proofs.lock.KeptDesk.change.Given as goal
+
+abbrev pub ghosts-note : goal.ghosts-note
+ghosts-note g a = record { by = a.self.now.by; what = Changed ∷ [] }

@@ -1,0 +1,6 @@
+use Rattle.std.proofs.Common.{[], ◌∷◌}
+use Rattle.keeper.specs.declared.deeds.Deed.TheVariants.{Seated}
+use Rattle.keeper.proofs.lock.KeptDesk.session.Given as goal
+
+abbrev pub ghosts-note : goal.ghosts-note
+ghosts-note g a = record { by = a.self.now.by; what = Seated ∷ [] }
