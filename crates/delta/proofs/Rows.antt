@@ -75,7 +75,7 @@ module _ (rev : ℕ) (old new : Rows) (i at : ℕ) (before : at < rev) where
   led_before (x ∷ es) more each which = ap (λ l. cond (nat_lt at x.rev && nat_eq i x.group) x.led l) (led_before es more each which)
 
   pub noted_before : (es es' : List Earlier) → IsNoted rev old new es es' → led_at es' new i at ≡ led_at es old i at
-  noted_before es es' n = ap (λ xs. led_at xs new i at) n.noted ∙ led_before es n.more n.each (n.others i)
+  noted_before es es' n = ap (λ xs. led_at xs new i at) n.noted ∙ led_before es n.more (λ e c. let k = n.each e c in (k.0, k.1)) (n.others i)
 
 abbrev rev_of : Earlier → ℕ
 rev_of e = e.rev

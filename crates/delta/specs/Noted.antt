@@ -1,5 +1,6 @@
--- What a group led to before a commit, where the commit touched it.
-use Rattle.std.specs.Prelude.{ℕ, ◌≡◌, ◌≤◌, ◌&&◌, ◌⊎◌, ◌++◌, cond, List, [], ◌∷◌, Option, Contains, nat_eq, nat_lt}
+-- What a group led to before a commit that changed it.
+use Rattle.std.specs.Prelude.{ℕ, ◌≡◌, ◌≤◌, ◌&&◌, ◌⊎◌, ◌++◌, cond, List, [], ◌∷◌, Option, Contains, map, nat_eq, nat_lt}
+use Rattle.std.specs.List.{IsDistinct}
 use Rattle.std.specs.List.Sorted.{IsNonDecreasingBy}
 use Rattle.std.specs.Option.{option_map}
 use Rattle.region.specs.Tables.{Rows, row_of}
@@ -19,9 +20,10 @@ pub record AreUpTo (cursor : ℕ) (es : List Earlier) : Type 0 where
   pub order : IsNonDecreasingBy (λ (e : Earlier). e.rev) es
   pub up_to : (e : Earlier) → Contains es e → e.rev ≤ cursor
 
--- of some groups it was noted at the end, with a revision, what they led to before; the others lead to what they led to
+-- What a commit notes stands at the end, with its revision: of each group of which another closure is kept than before, once, the one before, if any, and of no other.
 pub record IsNoted (rev : ℕ) (old new : Rows) (es es' : List Earlier) : Type 0 where
   pub more : List Earlier
   pub noted : es' ≡ es ++ more
-  pub each : (e : Earlier) → Contains more e → (e.rev ≡ rev) × (e.led ≡ led_in old e.group)
+  pub once : IsDistinct nat_eq (map (λ (e : Earlier). e.group) more)
+  pub each : (e : Earlier) → Contains more e → (e.rev ≡ rev) × (e.led ≡ led_in old e.group) × ¬ (led_in new e.group ≡ e.led)
   pub others : (i : ℕ) → ((e : Earlier) × Contains more e × (e.group ≡ i)) ⊎ (led_in new i ≡ led_in old i)

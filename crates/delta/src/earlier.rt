@@ -1,18 +1,17 @@
 //! What groups led to before a commit.
-ghost use Rattle.std.specs.Prelude.{◌≡◌, ◌<◌, ◌++◌, ◌∷◌, [], ℕ, List, IfOk, OnOk, length};
+ghost use Rattle.std.specs.Prelude.{◌≡◌, ◌<◌, ◌≤◌, ◌++◌, ◌∷◌, [], ℕ, List, IfOk, OnOk, filter, length, vec_len};
 ghost use Rattle.std.specs.List.{AllWithin};
 ghost use Rattle.std.specs.List.Sorted.{IsNonDecreasingBy};
 ghost use Rattle.std.specs.Option.{option_map};
 ghost use Rattle.region.specs.Tables.{Rows};
 ghost use Rattle.delta.specs.Noted.{led_in, led_at};
-ghost use Rattle.delta.specs.inside.Noting.{AreNotedOf};
+ghost use Rattle.delta.specs.inside.Noting.{AreNotedOf, leads_elsewhere};
 
 use idsets::IdSet;
 use region::Sets;
 use std::alloc::{AllocError, Global};
 
-/// What a group led to before a commit with this revision, by its number; nothing is noted of a group of which nothing
-/// was kept.
+/// What a group led to before a commit with this revision, by its number: none where nothing was kept of it.
 #[derive(Drop)]
 pub struct Earlier {
     pub rev: u64,
@@ -81,5 +80,23 @@ fn copy_of(ids: Option<&IdSet>) -> Result<Option<IdSet>, AllocError>
     match ids {
         Some(ids) => Ok(Some(ids.again()?)),
         None => Ok(None),
+    }
+}
+
+/// Of what is noted leaves that of which the group leads elsewhere now.
+pub(crate) fn leave_changed(list: &mut Vec<Earlier>, sets: &Sets)
+    ensures items { list.new.items ≡ filter (leads_elsewhere sets.now.rows) list.old.items }
+    ensures len { vec_len list.new ≤ vec_len list.old }
+{
+    list.retain(|e| leads_elsewhere(sets, e));
+}
+
+fn leads_elsewhere(sets: &Sets, e: &Earlier) -> bool
+    ensures { result ≡ leads_elsewhere sets.now.rows e.now }
+{
+    match (sets.members(e.group), &e.led) {
+        (None, None) => false,
+        (Some(now), Some(before)) => now.as_slice() != before.as_slice(),
+        _ => true,
     }
 }

@@ -19,7 +19,7 @@ use std::alloc::{AllocError, Global};
 /// Which groups each group leads to (GROUP2GROUP of Zanzibar, section 3.2.4), at each revision from a base to a cursor,
 /// under one configuration. Kept are that configuration and, for the cursor, the groups from which a tuple leads to
 /// another and those to which these lead, with their closures; from the others computed usersets alone lead on. For
-/// earlier revisions is kept what a commit replaced: of each group that it touched what it led to before. No tuple is kept.
+/// earlier revisions is kept what a commit replaced: of each group whose closure it changed the one before. No tuple is kept.
 #[derive(Drop)]
 pub struct Layer {
     pub(crate) config: Config,
@@ -40,6 +40,7 @@ impl Layer {
     ghost use Rattle.leopard.specs.Groups.{IsGroup, GroupToGroup};
     ghost use Rattle.leopard.specs.Finding.{IsNamedBy};
     ghost use Rattle.delta.specs.Layers.{IsLayerOf, IsNext, KeepsAt, WasAskedFew};
+    ghost use Rattle.delta.specs.Noted.{IsNoted};
 
     /// The layer of one revision, whose view this is: base and cursor are that revision, and nothing is noted. All
     /// tuples are gone over, and each group from which a tuple leads on, or to which one leads, is asked for once.
@@ -102,6 +103,7 @@ impl Layer {
         ensures asked { IfOk result (λ asked. (snaps : ℕ → Snap) → IsLayerOf self.old snaps
             → IsNext snaps self.old.cursor events.now view.now
             → WasAskedFew self.new (snaps self.old.cursor) view.now events.now asked.items) }
+        ensures noted { OnOk result (IsNoted self.new.cursor self.old.sets.rows self.new.sets.rows self.old.earlier.items self.new.earlier.items) }
         ensures base { self.new.base ≡ self.old.base }
         ensures cursor { OnOk result (self.new.cursor ≡ self.old.cursor + 1) }
         ensures err { OnErr result ((snaps : ℕ → Snap) → IsLayerOf self.old snaps → IsLayerOf self.new snaps) }

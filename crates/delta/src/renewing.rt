@@ -1,5 +1,6 @@
 //! What is kept is refreshed, and what it was is noted.
 ghost use Rattle.std.specs.Prelude.{◌≡◌, ◌||◌, ◌⊎◌, ℕ, [], true, false, IfOk, OnOk, OnErr};
+ghost use Rattle.std.specs.List.Sorted.{IsStrictlyIncreasing};
 ghost use Rattle.least_sets.specs.World.{has};
 ghost use Rattle.least_sets.specs.Groups.{groups};
 ghost use Rattle.region.specs.Tables.{arcs_or_none, kept, row_of};
@@ -8,7 +9,7 @@ ghost use Rattle.region.specs.Refreshed.{IsRefreshed};
 ghost use Rattle.delta.specs.Noted.{IsNoted};
 ghost use Rattle.delta.specs.Telling.{IsMore, MayTell};
 
-use crate::earlier::{Earlier, noted};
+use crate::earlier::{Earlier, leave_changed, noted};
 use crate::recalling::{Gathering, gathered};
 use idsets::{IdSet, Ids};
 use names::Node;
@@ -17,8 +18,8 @@ use rows::View;
 use std::alloc::{AllocError, Global};
 
 /// Refreshes what is kept by what the view tells of the changed groups and of new ones, notes with a revision what was kept
-/// before of what was touched, and says who was asked, in order. For want of memory what is kept and noted is what it was,
-/// and more nodes may have numbers. What takes memory comes before what is kept changes.
+/// before of what leads elsewhere then, and says who was asked, in order. For want of memory what is kept and noted is what it
+/// was, and more nodes may have numbers. What takes memory comes before what is kept changes.
 pub(crate) fn renew(
     alloc: Global,
     view: &View,
@@ -43,20 +44,17 @@ pub(crate) fn renew(
     let Gathering { region, asked } = gathered(alloc, view, nodes, sets, roots, turned, changed)?;
     let touched = touched_in(&asked, &region.dropped)?;
     let mut before = noted(alloc, rev, sets, touched.as_slice())?;
-    let count = earlier.len();
+    earlier.reserve(before.len())?;
+    fill(alloc, sets, &region)?;
+    leave_changed(&mut before, sets);
     earlier.append(&mut before)?;
-    match fill(alloc, sets, &region) {
-        Ok(()) => Ok(asked),
-        Err(e) => {
-            earlier.truncate(count);
-            Err(e)
-        }
-    }
+    Ok(asked)
 }
 
 // The nodes of two lists, each once.
 fn touched_in(asked: &Vec<u64>, dropped: &[u64]) -> Result<IdSet, AllocError>
-    ensures { IfOk result (λ ids. (i : ℕ) → has ids i ≡ (has asked.now.items i || has dropped.now i)) }
+    ensures all { IfOk result (λ ids. (i : ℕ) → has ids i ≡ (has asked.now.items i || has dropped.now i)) }
+    ensures ascending { IfOk result (λ ids. IsStrictlyIncreasing ids) }
 {
     let mut both = asked.clone()?;
     both.extend_from_slice(dropped)?;

@@ -1,5 +1,5 @@
 -- What is told of revisions after each change.
-use Rattle.std.proofs.Common.{ℕ, ◌≡◌, ◌<◌, ◌≤◌, ◌+◌, ◌&&◌, true, List, [], length, sym, ◌∙◌, ap, subst, arith, ⊎_elim}
+use Rattle.std.proofs.Common.{ℕ, ◌≡◌, ◌<◌, ◌≤◌, ◌+◌, ◌&&◌, true, List, [], length, sym, ◌∙◌, ap, subst, arith, ⊎_elim, inl, inr}
 use Rattle.std.specs.Prelude.{◌↔◌, Contains, Option, Some, None, is_some, Result, Ok, Err, IfOk, IfNone, OnErr}
 use Rattle.std.specs.List.{slice_get}
 use Rattle.std.specs.Ordering.{nat_cmp}
@@ -24,7 +24,7 @@ use Rattle.leopard.specs.Finding.{IsNamedBy}
 use Rattle.leopard.specs.Groups.{IsGroup, MemberToGroup}
 use Rattle.direct.specs.Named.{IsDirect}
 use Rattle.direct.specs.Before.{set_in, set_at, AreUpTo}
-use Rattle.direct.specs.Revisions.{sets_at, NamesAt, Tells, IsDirectOf, IsNext, NotesFew}
+use Rattle.direct.specs.Revisions.{sets_at, NamesAt, Tells, IsDirectOf, IsNext, NotesChanged}
 use Rattle.direct.specs.inside.Keeping.{IsMore, HasNumbers, AreKept, AreRight, names_by, tuple_of}
 use Rattle.direct.specs.inside.Listing.{AreNamed}
 use Rattle.direct.specs.inside.Renewing.{set_or, IsNumberOf, IsNoted}
@@ -189,10 +189,11 @@ direct_next a b mid events renewed config base cursor users groups more up_to up
 }
 
 -- what was noted of whom
-pub noted_few : (a b : Direct) (mid : Memberships) (events : List Event) (renewed : BTreeMap ℕ (List ℕ)) → b.config ≡ a.config → b.kept.users ≡ mid.users
-    → IsNoted b.cursor renewed a.earlier.items b.earlier.items
-    → ((user : ℕ) → is_some (get nat_cmp renewed user) ≡ true → (e : Event) × Contains events e × IsNumberOf a.config mid e user) → NotesFew a b events
-noted_few a b mid events renewed config users noted of = record {
+pub noted_changed : (a b : Direct) (mid : Memberships) (events : List Event) (renewed : BTreeMap ℕ (List ℕ)) → b.config ≡ a.config → b.kept.users ≡ mid.users
+    → ((user : ℕ) → set_in mid.sets.items user ≡ set_in a.kept.sets.items user)
+    → IsNoted b.cursor renewed mid.sets.items b.kept.sets.items a.earlier.items b.earlier.items
+    → ((user : ℕ) → is_some (get nat_cmp renewed user) ≡ true → (e : Event) × Contains events e × IsNumberOf a.config mid e user) → NotesChanged a b events
+noted_changed a b mid events renewed config users same noted of = record {
   more = noted.more;
   noted = noted.noted;
   once = noted.once;
@@ -200,6 +201,8 @@ noted_few a b mid events renewed config users noted of = record {
       let one = noted.each e c in
       let (event, among, is) = of e.user one.1 in
       (one.0, (event, among, subst (λ (k : Configured). IsDirect k event.tuple) (sym config) is.0, subst (λ (xs : List Object). slice_get xs e.user ≡ Some event.tuple.subject.object) (sym users) is.1));
+  was = λ e c. let one = noted.was e c in (one.0 ∙ same e.user, one.1);
+  others = λ user. ⊎_elim (λ one. inl one) (λ is. inr (is ∙ same user)) (noted.others user);
 }
 
 -- ---- what is answered

@@ -1,5 +1,5 @@
 -- What is kept and told of the direct groups of users at the revisions from a base to a cursor (Zanzibar, section 3.2.4).
-use Rattle.std.specs.Prelude.{ℕ, ◌+◌, ◌≡◌, ◌≤◌, ◌↔◌, ◌++◌, List, Some, Contains, map, nat_eq}
+use Rattle.std.specs.Prelude.{ℕ, ◌+◌, ◌≡◌, ◌≤◌, ◌⊎◌, ◌↔◌, ◌++◌, List, Some, Contains, map, nat_eq}
 use Rattle.std.specs.List.{slice_get, IsDistinct}
 use Rattle.names.specs.declared.object.Object.{Object}
 use Rattle.names.specs.declared.node.Node.{Node}
@@ -9,7 +9,7 @@ use Rattle.meaning.specs.Snap.{Snap}
 use Rattle.meaning.specs.History.{after_commit}
 use Rattle.leopard.specs.Groups.{MemberToGroup}
 use Rattle.direct.specs.Named.{IsDirect, Names, AreWithin}
-use Rattle.direct.specs.Before.{set_at}
+use Rattle.direct.specs.Before.{set_in, set_at}
 use Rattle.direct.specs.declared.direct.Direct.{Direct}
 use Rattle.direct.specs.declared.noted.EarlierGroups.{EarlierGroups}
 
@@ -40,9 +40,11 @@ IsNext snaps rev events = snaps (rev + 1) ≡ after_commit (snaps rev) (Tuples e
 abbrev pub IsNamed : Direct → List Event → ℕ → Type 0
 IsNamed direct events user = (e : Event) × Contains events e × IsDirect direct.config e.tuple × (slice_get direct.kept.users user ≡ Some e.tuple.subject.object)
 
--- What a commit notes stands at the end, with its revision, of each user once, and of none that no event names.
-pub record NotesFew (old new : Direct) (events : List Event) : Type 0 where
+-- What a commit notes stands at the end, with its revision: of each user whose groups it changes, once, those from before. An event names each of them.
+pub record NotesChanged (old new : Direct) (events : List Event) : Type 0 where
   pub more : List EarlierGroups
   pub noted : new.earlier.items ≡ old.earlier.items ++ more
   pub once : IsDistinct nat_eq (map (λ (e : EarlierGroups). e.user) more)
   pub named : (e : EarlierGroups) → Contains more e → (e.rev ≡ new.cursor) × IsNamed new events e.user
+  pub was : (e : EarlierGroups) → Contains more e → (e.groups ≡ set_in old.kept.sets.items e.user) × ¬ (set_in new.kept.sets.items e.user ≡ e.groups)
+  pub others : (user : ℕ) → ((e : EarlierGroups) × Contains more e × (e.user ≡ user)) ⊎ (set_in new.kept.sets.items user ≡ set_in old.kept.sets.items user)

@@ -13,7 +13,7 @@ use std::alloc::{AllocError, Global};
 
 /// Which groups name each user by a tuple of their own (MEMBER2GROUP of Zanzibar, section 3.2.4), at each revision from a
 /// base to a cursor, under one configuration. Kept is what they are at the cursor, and for earlier revisions what a
-/// commit replaced: of each user that it named the groups before. No tuple is kept.
+/// commit replaced: of each user whose groups it changed those before. No tuple is kept.
 #[derive(Drop)]
 pub struct Direct {
     pub(crate) config: Config,
@@ -30,7 +30,7 @@ impl Direct {
     ghost use Rattle.meaning.specs.Snap.{Snap};
     ghost use Rattle.leopard.specs.Finding.{IsNamedBy};
     ghost use Rattle.leopard.specs.Groups.{MemberToGroup};
-    ghost use Rattle.direct.specs.Revisions.{IsDirectOf, IsNext, NotesFew};
+    ghost use Rattle.direct.specs.Revisions.{IsDirectOf, IsNext, NotesChanged};
 
     /// The direct groups of one revision, whose view this is: base and cursor are that revision, and nothing is noted. All
     /// tuples are gone over once.
@@ -71,7 +71,7 @@ impl Direct {
         requires { self.old.cursor < 2 ^ 64 - 1 }
         ensures direct { OnOk result ((snaps : ℕ → Snap) → IsDirectOf self.old snaps
             → IsNext snaps self.old.cursor events.now → IsDirectOf self.new snaps) }
-        ensures noted { OnOk result (NotesFew self.old self.new events.now) }
+        ensures noted { OnOk result (NotesChanged self.old self.new events.now) }
         ensures base { self.new.base ≡ self.old.base }
         ensures cursor { OnOk result (self.new.cursor ≡ self.old.cursor + 1) }
         ensures err { OnErr result ((snaps : ℕ → Snap) → IsDirectOf self.old snaps → IsDirectOf self.new snaps) }

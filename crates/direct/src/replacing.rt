@@ -1,5 +1,5 @@
 //! What a commit makes of the sets of the users that it names.
-ghost use Rattle.std.specs.Prelude.{◌≡◌, ◌<◌, ◌≤◌, ◌+◌, ◌++◌, ◌∷◌, ◌&&◌, ◌⊎◌, [], ℕ, true, cond, is_some, length, nat_eq, slice_set, vec_len, vec_capacity, Contains, IfOk, OnOk};
+ghost use Rattle.std.specs.Prelude.{◌≡◌, ◌<◌, ◌≤◌, ◌+◌, ◌++◌, ◌∷◌, ◌&&◌, ◌⊎◌, ◌↔◌, [], ℕ, IsTrue, true, cond, is_some, length, nat_eq, slice_set, vec_len, vec_capacity, Contains, IfOk, OnOk};
 ghost use Rattle.std.specs.Ordering.{nat_cmp};
 ghost use Rattle.std.specs.BTreeMap.{get, btree_map_len};
 ghost use Rattle.names.specs.declared.commit.Event.{Event as EventValue};
@@ -114,7 +114,8 @@ fn change(set: &mut IdSet, id: u64, kind: EventKind) -> Result<(), AllocError>
     }
 }
 
-/// Puts the renewed sets in the place of those that are kept, and notes these with a revision. It takes no memory.
+/// Puts the renewed sets in the place of those that are kept, where they differ, and notes these with a revision. It takes
+/// no memory.
 pub(crate) fn replace_all(
     rev: u64,
     mut renewed: BTreeMap<u64, IdSet>,
@@ -127,12 +128,21 @@ pub(crate) fn replace_all(
     ensures length { length sets.new.items ≡ length sets.old.items }
     ensures sets { (user : ℕ) → set_in sets.new.items user ≡ set_or renewed sets.old.items user }
     ensures up_to { AreUpTo rev earlier.new.items }
-    ensures noted { IsNoted rev renewed earlier.old.items earlier.new.items }
+    ensures noted { IsNoted rev renewed sets.old.items sets.new.items earlier.old.items earlier.new.items }
     ensures before { (user at : ℕ) → at < rev → set_at earlier.new.items sets.new.items user at ≡ set_at earlier.old.items sets.old.items user at }
 {
     while let Some((user, groups)) = renewed.pop_first() {
-        replace_one(rev, user, groups, sets, earlier);
+        if !are_same(&groups, &sets[user as usize]) {
+            replace_one(rev, user, groups, sets, earlier);
+        }
     }
+}
+
+/// Whether two sets have the same ids.
+fn are_same(one: &IdSet, other: &IdSet) -> bool
+    ensures { IsTrue result ↔ (one.now ≡ other.now) }
+{
+    one.as_slice() == other.as_slice()
 }
 
 fn replace_one(

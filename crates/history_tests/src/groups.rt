@@ -4,8 +4,8 @@ use crate::histories::fill;
 use by_subject::ViewBySubject;
 use idsets::{IdSet, Ids};
 use leopard::{
-    Built, Expr, Found, answers_are_one, first_named, found_of, groups_at,
-    indexes_mean_what_their_snapshots_do,
+    Built, Expr, Found, Input, answers_are_one, first_named, found_of, groups_at,
+    indexes_mean_what_their_snapshots_do, there_is_one_build,
 };
 use names::{Node, Object, Refusal};
 use rows::{Rows, View};
@@ -131,7 +131,8 @@ fn are_answered(alloc: Global, asked: &Asked<'_>) -> Result<bool, Refusal> {
 
 fn chains_have_an_index(alloc: Global, rows: &mut Rows) -> Result<bool, Refusal> {
     fill(alloc, rows, &[CONFIG, CHAIN])?;
-    let built = Built::of(alloc, &rows.at(rows.newest()), rows.newest())?;
+    let input = Input::copy(alloc, &rows.at(rows.newest()))?;
+    let built = Built::of(alloc, input, rows.newest())?;
     are_answered(
         alloc,
         &Asked {
@@ -149,6 +150,7 @@ fn chains_are_answered(alloc: Global) -> Result<bool, Refusal> {
 #[test]
 fn an_index_answers_as_the_tuples_do(rt: HostRuntime) -> Result<(), Fail> {
     answers_are_one();
+    there_is_one_build();
     indexes_mean_what_their_snapshots_do();
     assert!(rt; chains_are_answered(rt.alloc())?);
     Ok(())
@@ -184,7 +186,8 @@ fn cycles_end(alloc: Global, asked: &Asked<'_>) -> Result<bool, Refusal> {
 
 fn cycles_have_an_index(alloc: Global, rows: &mut Rows) -> Result<bool, Refusal> {
     fill(alloc, rows, &[GUESTS, CYCLE])?;
-    let built = Built::of(alloc, &rows.at(rows.newest()), rows.newest())?;
+    let input = Input::copy(alloc, &rows.at(rows.newest()))?;
+    let built = Built::of(alloc, input, rows.newest())?;
     cycles_end(
         alloc,
         &Asked {
@@ -224,7 +227,8 @@ fn causes_come_in_order(alloc: Global, built: &Built) -> Result<bool, Refusal> {
 
 fn refuses(alloc: Global, rows: &mut Rows) -> Result<bool, Refusal> {
     fill(alloc, rows, &[CONFIG, CHAIN])?;
-    let built = Built::of(alloc, &rows.at(rows.newest()), rows.newest())?;
+    let input = Input::copy(alloc, &rows.at(rows.newest()))?;
+    let built = Built::of(alloc, input, rows.newest())?;
     Ok(causes_come_in_order(alloc, &built)? && built.rev() == rows.newest())
 }
 

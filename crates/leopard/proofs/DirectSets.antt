@@ -1,75 +1,25 @@
 -- The direct groups of each user, as they are gathered.
-use Rattle.std.proofs.Common.{◌≡◌, ℕ, zero, suc, ◌+◌, ◌<◌, ◌≤◌, List, [], ◌∷◌, ◌++◌, length, get_or, Bool, true, false, cond, refl, ap, ap₂, sym, subst, ◌∙◌, inl, inr, ⊎_elim, arith, length-append, length-set}
-use Rattle.std.specs.Prelude.{◌↔◌, ◌⊎◌, ◌||◌, Option, Some, None, is_some, nat_lt, nat_eq, slice_index_or, slice_set}
+use Rattle.std.proofs.Common.{◌≡◌, ℕ, zero, suc, ◌<◌, ◌≤◌, List, [], ◌∷◌, map, length, get_or, Bool, true, false, refl, ap, ap₂, sym, subst, ◌∙◌, inl, inr, ⊎_elim, arith}
+use Rattle.std.specs.Prelude.{◌↔◌, ◌⊎◌, ◌&&◌, ◌||◌, not, Option, Some, None, Any, Contains, is_some, nat_eq, slice_index_or, slice_set}
 use Rattle.std.specs.List.{slice_get}
-use Rattle.std.proofs.lemmas.Bool.{false≢true, cases_lt, ltb-true, lt-ltb, eqb-true, eq-eqb, or_cases}
-use Rattle.std.proofs.lemmas.List.{get_or_default, get_or_append_left, get_or_push, get_or-set_same, get_or-set_other}
-use Rattle.std.proofs.lemmas.Option.{none-some, same_Some, slice_get_within}
+use Rattle.std.specs.List.Sorted.{IsStrictlyIncreasing}
+use Rattle.std.proofs.lemmas.Bool.{and_parts, false≢true, cases_lt, eqb-true, eq-eqb, or_cases}
+use Rattle.std.proofs.lemmas.List.{get_or-set_same, get_or-set_other}
+use Rattle.std.proofs.lemmas.Option.{same_Some}
 use Rattle.names.specs.declared.object.Object.{Object}
 use Rattle.names.specs.declared.node.Node.{Node}
 use Rattle.names.specs.declared.subject.Subject.{Subject}
 use Rattle.names.specs.declared.tuple.Tuple.{Tuple}
+use Rattle.meaning.specs.TupleSet as set
 use Rattle.meaning.specs.Config.{Configured, rel_of}
+use Rattle.meaning.specs.Snap.{Snap, one}
 use Rattle.config.specs.Valid.{is_indexed}
 use Rattle.idsets.specs.Naming.{AreDistinct}
 use Rattle.idsets.specs.Sets.{has}
-use Rattle.idsets.proofs.Numbering.{front_get}
-use Rattle.leopard.specs.inside.Building.{HasId, Tells}
-
-push_cases : {A : Type 0} (xs : List A) (x : A) (i : ℕ) (y : A) → slice_get (xs ++ x ∷ []) i ≡ Some y → (slice_get xs i ≡ Some y) ⊎ (i ≡ length xs)
-push_cases [] x zero y h = inr refl
-push_cases [] x (suc i) y h = absurd (none-some y h)
-push_cases (z ∷ zs) x zero y h = inl h
-push_cases (z ∷ zs) x (suc i) y h = ⊎_elim inl (λ e. inr (ap suc e)) (push_cases zs x i y h)
-
--- the set of a user that was not there has nothing
-past_none : (sets : List (List ℕ)) (at id : ℕ) → length sets ≤ at → has (get_or sets at []) id ≡ true → ⊥
-past_none [] at id le h = false≢true h
-past_none (s ∷ sets) zero id le h = absurd (omega (arith, le))
-past_none (s ∷ sets) (suc at) id le h = past_none sets at id (omega (arith, le)) h
-
-module _ (users : List Object) (sets : List (List ℕ)) (even : length sets ≡ length users) (user : Object) where
-  -- room for one user more
-  room_new : (u : Object) (id : ℕ) → HasId (users ++ user ∷ []) (sets ++ [] ∷ []) u id ↔ HasId users sets u id
-  room_new u id = (
-    λ (at, there, h). ⊎_elim
-        (λ old.
-        let lt : at < length sets = omega (arith, even, slice_get_within users at u old) in
-        (at, old, subst (λ s. has s id ≡ true) (get_or_append_left sets ([] ∷ []) [] at lt) h))
-        (λ last. absurd (false≢true (subst (λ s. has s id ≡ true) (get_or_push sets [] [] at (even ∙ sym last)) h)))
-        (push_cases users user at u there),
-    λ (at, there, h).
-        let lt : at < length sets = omega (arith, even, slice_get_within users at u there) in
-        (at, front_get users (user ∷ []) at u there, subst (λ s. has s id ≡ true) (sym (get_or_append_left sets ([] ∷ []) [] at lt)) h),
-  )
-
-  -- the sets after the user was seen, and where there was no room for it, room was made
-  pub room_for : (users1 : List Object) (sets1 : List (List ℕ)) (at : ℕ) → slice_get users1 at ≡ Some user → users1 ≡ cond (nat_lt at (length users)) users (users ++ user ∷ [])
-      → ((at ≡ length sets) × (sets1 ≡ sets ++ [] ∷ [])) ⊎ ((at ≡ length sets → ⊥) × (sets1 ≡ sets))
-      → (length sets1 ≡ length users1) × ((u : Object) (id : ℕ) → HasId users1 sets1 u id ↔ HasId users sets u id)
-  room_for users1 sets1 at there put made =
-      elim (nat_lt at (length users)) as (λ b. nat_lt at (length users) ≡ b → users1 ≡ cond b users (users ++ user ∷ []) → (length sets1 ≡ length users1) × ((u : Object) (id : ℕ) → HasId users1 sets1 u id ↔ HasId users sets u id)) [
-        | true ↦ λ lt old. ⊎_elim
-            (λ (e, is). absurd (omega (arith, e, even, ltb-true at (length users) lt)))
-            (λ (apart, is). (
-              ap length is ∙ even ∙ ap length (sym old),
-              λ u id. subst (λ us. HasId us sets1 u id ↔ HasId users sets u id) (sym old) (subst (λ ss. HasId users ss u id ↔ HasId users sets u id) (sym is) (λ h. h, λ h. h)),
-            ))
-            made
-        | false ↦ λ lt more. ⊎_elim
-            (λ (e, is). (
-              ap length is ∙ length-append sets ([] ∷ []) ∙ ap (λ k. k + 1) even ∙ sym (length-append users (user ∷ [])) ∙ ap length (sym more),
-              λ u id. subst (λ us. HasId us sets1 u id ↔ HasId users sets u id) (sym more) (subst (λ ss. HasId (users ++ user ∷ []) ss u id ↔ HasId users sets u id) (sym is) (room_new u id)),
-            ))
-            (λ (apart, is). absurd (apart (last_place (subst (λ us. slice_get us at ≡ Some user) more there) lt)))
-            made
-      ] refl put
-    where
-      last_place : slice_get (users ++ user ∷ []) at ≡ Some user → nat_lt at (length users) ≡ false → at ≡ length sets
-      last_place h past = ⊎_elim
-          (λ old. absurd (false≢true (sym past ∙ lt-ltb at (length users) (slice_get_within users at user old))))
-          (λ e. e ∙ sym even)
-          (push_cases users user at user h)
+use Rattle.leopard.specs.Groups.{MemberToGroup}
+use Rattle.leopard.specs.Build.{AreSetsOf}
+use Rattle.leopard.specs.inside.Building.{HasId, Tells, NamesOne, AreAscending}
+use Rattle.leopard.proofs.Gather.{any_contains}
 
 -- a group more in the user's set
 pub put_id : (users : List Object) (sets sets2 : List (List ℕ)) (at : ℕ) (user : Object) (group : ℕ) (new : List ℕ) → slice_get users at ≡ Some user → at < length sets → sets2 ≡ slice_set sets at new
@@ -118,23 +68,6 @@ put_id users sets sets2 at user group new there lt is put u id = (
         let e : k ≡ at = omega (arith, l, m) in
         subst (λ j. has (get_or (slice_set sets at new) j []) id ≡ true) (sym e) (kept_here (subst (λ j. has (get_or sets j []) id ≡ true) e h))
 
--- a user was seen, and a group put into its set
-pub added_user : (users users1 : List Object) (sets sets1 : List (List ℕ)) (user : Object) (at group : ℕ) (old new : List ℕ) → length sets ≡ length users → slice_get users1 at ≡ Some user
-    → users1 ≡ cond (nat_lt at (length users)) users (users ++ user ∷ []) → ((at ≡ length sets) × (sets1 ≡ sets ++ [] ∷ [])) ⊎ ((at ≡ length sets → ⊥) × (sets1 ≡ sets))
-    → old ≡ get_or sets1 at old → ((other : ℕ) → has new other ≡ (nat_eq other group || has old other))
-    → (length (slice_set sets1 at new) ≡ length users1) × ((u : Object) (id : ℕ) → HasId users1 (slice_set sets1 at new) u id ↔ (HasId users sets u id ⊎ ((u ≡ user) × (id ≡ group))))
-added_user users users1 sets sets1 user at group old new even there put made is adds =
-    let room = room_for users sets even user users1 sets1 at there put made in
-    let lt : at < length sets1 = omega (arith, room.0, slice_get_within users1 at user there) in
-    let same : old ≡ get_or sets1 at [] = is ∙ get_or_default sets1 at old [] lt in (
-      length-set sets1 at new ∙ room.0,
-      λ u id.
-          let more = put_id users1 sets1 (slice_set sets1 at new) at user group new there lt refl (λ other. adds other ∙ ap (λ l. nat_eq other group || has l other) same) u id in (
-            λ h. ⊎_elim (λ k. inl ((room.1 u id).0 k)) inr (more.0 h),
-            λ h. more.1 (⊎_elim (λ k. inl ((room.1 u id).1 k)) inr h),
-          ),
-    )
-
 none_of : {A : Type 0} (o : Option A) → is_some o ≡ false → o ≡ None
 none_of None e = refl
 none_of (Some x) e = absurd (false≢true (sym e))
@@ -157,6 +90,87 @@ module _ (config : Configured) (names : List Node) (t : Tuple) (u : Object) (id 
   pub tells_unnumbered : ((k : ℕ) → slice_get names k ≡ Some t.node → ⊥) → Tells config names u id t → ⊥
   tells_unnumbered missing (i, is, there) = missing id there
 
--- no user was seen yet
-pub no_user : (users : List Object) (sets : List (List ℕ)) (u : Object) (id : ℕ) → users ≡ [] → HasId users sets u id → ⊥
-no_user users sets u id none (at, there, h) = none-some u (subst (λ (us : List Object). slice_get us at ≡ Some u) none there)
+-- ---- sets that have nothing yet, and sets in order
+
+pub no_id : (users : List Object) (sets : List (List ℕ)) (u : Object) (id : ℕ) → ((at : ℕ) → slice_index_or sets at [] ≡ []) → HasId users sets u id → ⊥
+no_id users sets u id empty (at, there, h) = false≢true (subst (λ s. has s id ≡ true) (empty at) h)
+
+pub each_empty : (users : List Object) (sets : List (List ℕ)) → sets ≡ map (λ _. []) users → (at : ℕ) → slice_index_or sets at [] ≡ []
+each_empty users sets is at = ap (λ ss. get_or ss at []) is ∙ none users at
+  where
+    none : (us : List Object) (k : ℕ) → get_or {A = List ℕ} (map (λ _. []) us) k [] ≡ []
+    none [] k = refl
+    none (u ∷ us) zero = refl
+    none (u ∷ us) (suc k) = none us k
+
+pub none_ascends : IsStrictlyIncreasing []
+none_ascends k lt = absurd (omega (arith, lt))
+
+pub put_ascends : (sets sets2 : List (List ℕ)) (at : ℕ) (set : List ℕ) → AreAscending sets → at < length sets → sets2 ≡ slice_set sets at set → IsStrictlyIncreasing set → AreAscending sets2
+put_ascends sets sets2 at set all lt is more k = subst (λ ss. IsStrictlyIncreasing (get_or ss k [])) (sym is) (which (cases_lt k at) (cases_lt at k))
+  where
+    which : (k < at) ⊎ (at ≤ k) → (at < k) ⊎ (k ≤ at) → IsStrictlyIncreasing (get_or (slice_set sets at set) k [])
+    which (inl l) q = subst IsStrictlyIncreasing (sym (get_or-set_other sets at k set [] (λ e. absurd (omega (arith, l, e))))) (all k)
+    which (inr l) (inl m) = subst IsStrictlyIncreasing (sym (get_or-set_other sets at k set [] (λ e. absurd (omega (arith, m, e))))) (all k)
+    which (inr l) (inr m) =
+        let e : at ≡ k = omega (arith, l, m) in
+        subst (λ j. IsStrictlyIncreasing (get_or (slice_set sets at set) j [])) e (subst IsStrictlyIncreasing (sym (get_or-set_same sets at set [] lt)) more)
+
+-- ---- whom a tuple names
+
+-- a tuple of a group names a user where its subject has no relation
+pub user_test : (indexed single related : Bool) → indexed ≡ true → related ≡ not single → single ≡ (indexed && not related)
+user_test indexed single related e f = sym (ap₂ (λ a b. a && not b) e f ∙ back single)
+  where
+    back : (b : Bool) → (true && not (not b)) ≡ b
+    back true = refl
+    back false = refl
+
+not_is : (b : Bool) → not b ≡ true → b ≡ false
+not_is true e = sym e
+not_is false e = refl
+
+module _ (config : Configured) (t : Tuple) (answer : Bool) (is : answer ≡ (is_indexed config (rel_of t.node) && not (is_some t.subject.relation))) where
+  pub names_one : answer ≡ true → (is_indexed config (rel_of t.node) ≡ true) × (is_some t.subject.relation ≡ false)
+  names_one e =
+      let parts = and_parts (is_indexed config (rel_of t.node)) (not (is_some t.subject.relation)) (sym is ∙ e) in
+      (parts.0, not_is (is_some t.subject.relation) parts.1)
+
+  pub names_nobody : answer ≡ false → (u : Object) → NamesOne config u t → ⊥
+  names_nobody e u (group, subject) = false≢true (sym e ∙ is ∙ ap₂ (λ a b. a && b) group (ap (λ (s : Subject). not (is_some s.relation)) subject))
+
+  -- the user that it names, if it does
+  pub names_this : answer ≡ true → (u : Object) → NamesOne config u t ↔ (u ≡ t.subject.object)
+  names_this e u =
+      let (group, single) = names_one e in (
+        λ (g, subject). sym (ap (λ (s : Subject). s.object) subject),
+        λ same. (group, ap₂ (λ (o : Object) (r : Option (List ℕ)). record { object = o; relation = r }) (sym same) (none_of t.subject.relation single)),
+      )
+
+-- ---- what a build has of users
+
+module _ (S : Snap) (groups : List Node) (users : List Object) (named : (u : Object) → Contains users u ↔ Any (NamesOne S.config u) (set.items S.tuples)) where
+  pub users_named : (u : Object) → Contains users u ↔ ((n : Node) × MemberToGroup S u n)
+  users_named u = (
+    λ c.
+        let (k, t, lt, e, (group, subject)) = (named u).0 c in
+        (t.node, (group, subst (Contains (set.items S.tuples)) (ap (λ (s : Subject). record { node = t.node; subject = s }) subject) (k, lt, e))),
+    λ (n, (group, h)). (named u).1 (any_contains (NamesOne S.config u) (set.items S.tuples) (record { node = n; subject = one u }) h (group, refl)),
+  )
+
+  pub direct_sets : (sets : List (List ℕ)) → AreDistinct users → length sets ≡ length users → AreAscending sets
+      → ((u : Object) (id : ℕ) → HasId users sets u id ↔ Any (Tells S.config groups u id) (set.items S.tuples)) → AreSetsOf groups (MemberToGroup S) users sets
+  direct_sets sets distinct even ascending told = record {
+    even = even;
+    each = λ at u there. record {
+      ascending = ascending at;
+      ids = λ id. (
+        λ h.
+            let (k, t, lt, e, (group, subject, at_id)) = (told u id).0 (at, there, h) in
+            (t.node, at_id, (group, subst (Contains (set.items S.tuples)) (ap (λ (s : Subject). record { node = t.node; subject = s }) subject) (k, lt, e))),
+        λ (n, is, (group, h)).
+            let (k, there2, in_set) = (told u id).1 (any_contains (Tells S.config groups u id) (set.items S.tuples) (record { node = n; subject = one u }) h (group, refl, is)) in
+            subst (λ j. has (slice_index_or sets j []) id ≡ true) (distinct k at u there2 there) in_set,
+      );
+    };
+  }

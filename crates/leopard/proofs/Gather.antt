@@ -64,3 +64,7 @@ left_at xs k x lt is =
 
 pub left_none : {A : Type 0} (xs : List A) (k : ℕ) → length xs ≡ k → drop k xs ≡ []
 left_none xs k is = subst (λ n. drop n xs ≡ []) is (drop-length xs)
+
+-- the item at a place is among them
+pub item_there : {A : Type 0} (xs : List A) (k : ℕ) (x : A) → k < length xs → x ≡ get_or xs k x → Contains xs x
+item_there xs k x lt is = (k, lt, sym is)

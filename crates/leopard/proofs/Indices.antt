@@ -1,6 +1,6 @@
 -- What an index says, and what its snapshot does.
-use Rattle.std.proofs.Common.{◌≡◌, ℕ, List, get_or, Bool, true, false, true≢false, refl, ap, ap₂, sym, subst, ◌∙◌, inl, inr, ⊎_elim}
-use Rattle.std.specs.Prelude.{◌↔◌, ◌||◌, not, Any, Contains, Some}
+use Rattle.std.proofs.Common.{◌≡◌, ℕ, get_or, Bool, true, false, true≢false, refl, ap, sym, subst, ◌∙◌, inl, inr, ⊎_elim}
+use Rattle.std.specs.Prelude.{◌↔◌, ◌||◌, not, Contains, Some}
 use Rattle.std.specs.List.{slice_get}
 use Rattle.std.proofs.lemmas.List.{get_or_default}
 use Rattle.std.proofs.lemmas.Option.{same_Some}
@@ -21,15 +21,14 @@ use Rattle.config.specs.inside.Graph.{nowhere}
 use Rattle.config.proofs.Distinct.{names_apart}
 use Rattle.rows.specs.Retained.{AreAdmitted}
 use Rattle.graphs.specs.Groups.{IsGroupArc, GroupWalk, here, on}
-use Rattle.idsets.specs.Naming.{AreDistinct}
 use Rattle.leopard.specs.Groups.{IsGroup, MemberToGroup, Means, SomeMeans, EachMeans}
 use Rattle.leopard.specs.Query.{Query, Queries, Member2Group, Group2Group, Union, Intersection, Exclusion, none, more}
 use Rattle.leopard.specs.Causes.{names_unindexed, some_name_unindexed}
 use Rattle.leopard.specs.Index.{Index, Keeps, bare, LeadsTo, NamesUser, IsIndexOf, MeansBy, SomeMeansBy, EachMeansBy}
-use Rattle.leopard.specs.inside.Asking.{AreAll}
-use Rattle.leopard.specs.inside.Building.{Owns, AreClosures, HasId, Tells}
+use Rattle.leopard.specs.Build.{IsListed, IsBuiltOf}
 use Rattle.leopard.proofs.Bare.{no_set}
-use Rattle.leopard.proofs.Numbers.{get_contains, contains_get}
+use Rattle.leopard.proofs.Ordered.{get_contains, contains_get}
+use Rattle.leopard.proofs.Rounds.{listed_first}
 use Rattle.leopard.proofs.Gather.{any_contains}
 use Rattle.leopard.proofs.Meeting.{walk_indexed}
 
@@ -66,79 +65,70 @@ bare_walk S c same g n (on {g = m} w a) = on (bare_walk S c same g m w) (bare_ar
 
 -- ---- the index of a snapshot
 
-module _ (S : Snap) (x : Index) (same : x.config ≡ S.config) (closures : AreClosures S x.groups x.closures) (tuples : List Tuple) (are : tuples ≡ set.items S.tuples) (owners : List Node)
-    (own : AreAll (λ n. Any (Owns x.config n) tuples) owners) (all : AreAll (λ n. Any (λ g. GroupWalk S g n) owners) x.groups) where
-  walks_listed : (g n : Node) → Contains owners g → GroupWalk S g n → Contains x.groups n
-  walks_listed g n c w = (all n).1 (any_contains (λ h. GroupWalk S h n) owners g c w)
+-- the tuple by which a group has the other
+abbrev arc_tuple : Node → Node → Tuple
+arc_tuple n m = record { node = n; subject = set_of m }
 
-  -- a group with a tuple has a closure, and all of it is kept
-  owner_of : (g : Node) (t : Tuple) → Contains tuples t → g ≡ t.node → IsGroup S.config g → Contains owners g
-  owner_of g t c is group = (own g).1 (any_contains (Owns x.config g) tuples t c
-      (subst (λ (h : Node). IsGroup x.config h) is (subst (λ (k : Configured). IsGroup k g) (sym same) group), is))
+-- the one by which it has a user
+abbrev user_tuple : Node → Object → Tuple
+user_tuple n u = record { node = n; subject = one u }
 
-  kept_of : (g n : Node) (at : ℕ) → slice_get x.groups at ≡ Some g → Contains x.groups n → GroupWalk S g n → Keeps x.groups x.closures at n
-  kept_of g n at there c w =
-      let (id, is) = contains_get x.groups n c in
-      (id, is, (closures at g there id).1 (n, is, w))
+-- a group with a tuple is listed
+pub owner_listed : (S : Snap) (g : Node) (t : Tuple) → Contains (set.items S.tuples) t → t.node ≡ g → IsGroup S.config g → IsListed S g
+owner_listed S g t c is group = listed_first S g (any_contains (λ (q : Tuple). IsGroup S.config q.node × (g ≡ q.node)) (set.items S.tuples) t c (subst (IsGroup S.config) (sym is) group, sym is))
 
-  -- from a group that is listed, walks lead to listed ones
-  listed_on : (g n : Node) → Contains x.groups g → GroupWalk S g n → Contains x.groups n
-  listed_on g n c w =
-      let (k, o, lt, e, v) = (all g).0 c in
-      walks_listed o n (k, lt, e) (joined S o g n v w)
+module _ (S : Snap) (rev : ℕ) (x : Index) (b : IsBuiltOf S rev x) where
+  -- what a listed group leads to is kept
+  kept_of : (g n : Node) (at : ℕ) → slice_get x.groups at ≡ Some g → GroupWalk S g n → Keeps x.groups x.closures at n
+  kept_of g n at there w =
+      let (o, own, walk) = (b.groups g).0 (get_contains x.groups at g there) in
+      let (id, is) = contains_get x.groups n ((b.groups n).1 (o, own, joined S o g n walk w)) in
+      (id, is, ((b.closures.each at g there).ids id).1 (n, is, w))
+
+  kept_is : (h n : Node) (at : ℕ) → slice_get x.groups at ≡ Some h → Keeps x.groups x.closures at n → GroupWalk S h n
+  kept_is h n at there (id, is, in_set) =
+      let (m, m_is, m_walk) = ((b.closures.each at h there).ids id).0 in_set in
+      subst (GroupWalk S h) (same_Some m n (sym m_is ∙ is)) m_walk
+
+  leads_sound : (g n : Node) → LeadsTo x g n → GroupWalk S g n
+  leads_sound g n (h, w, kept) =
+      let walk = bare_walk S x.config b.config g h w in
+      ⊎_elim
+      (λ e. subst (GroupWalk S g) e walk)
+      (λ (at, there, keeps). joined S g h n walk (kept_is h n at there keeps))
+      kept
 
   module _ (v : valid.IsValid S.config) (rv : reads.IsValid S) where
-    leads_sound : (g n : Node) → LeadsTo x g n → GroupWalk S g n
-    leads_sound g n (h, w, kept) =
-        let walk = bare_walk S x.config same g h w in
-        ⊎_elim
-        (λ e. subst (GroupWalk S g) e walk)
-        (λ (at, there, (id, is, in_set)).
-        let (m, m_is, m_walk) = (closures at h there id).0 in_set in
-        joined S g h n walk (subst (GroupWalk S h) (same_Some m n (sym m_is ∙ is)) m_walk))
-        kept
-
     leads_on : (g m n : Node) → IsGroup S.config g → GroupWalk S g m → LeadsTo x g m → IsGroupArc S m n → LeadsTo x g n
-    leads_on g m n group walk (h, w, inr (at, there, kept)) a =
-        let (id, is, in_set) = kept in
-        let (k, k_is, k_walk) = (closures at h there id).0 in_set in
-        let to_m : GroupWalk S h m = subst (GroupWalk S h) (same_Some k m (sym k_is ∙ is)) k_walk in
-        (h, w, inr (at, there, kept_of h n at there (listed_on h n (get_contains x.groups at h there) (on to_m a)) (on to_m a)))
+    leads_on g m n group walk (h, w, inr (at, there, keeps)) a =
+        (h, w, inr (at, there, kept_of h n at there (on (kept_is h m at there keeps) a)))
     leads_on g m n group walk (h, w, inl e) (inr (d, r, defines, computes, is)) =
-        (n, on (subst (GroupWalk (bare x.config) g) e w) (inr (d, r, subst (λ (k : Configured). Defines k (rel_of m) d) (sym same) defines, computes, is)), inl refl)
+        (n, on (subst (GroupWalk (bare x.config) g) e w) (inr (d, r, subst (λ (k : Configured). Defines k (rel_of m) d) (sym b.config) defines, computes, is)), inl refl)
     leads_on g m n group walk (h, w, inl e) (inl s) =
-        let there = owner_of m (record { node = m; subject = set_of n }) (subst (λ (ts : List Tuple). Contains ts (record { node = m; subject = set_of n })) (sym are) s) refl (walk_indexed S v rv g m group walk) in
-        let (at, is) = contains_get x.groups m (walks_listed m m there here) in
-        (m, subst (GroupWalk (bare x.config) g) e w, inr (at, is, kept_of m n at is (walks_listed m n there (on here (inl s))) (on here (inl s))))
+        let (at, is) = contains_get x.groups m ((b.groups m).1 (owner_listed S m (arc_tuple m n) s refl (walk_indexed S v rv g m group walk))) in
+        (m, subst (GroupWalk (bare x.config) g) e w, inr (at, is, kept_of m n at is (on here (inl s))))
 
     leads_complete : (g n : Node) → IsGroup S.config g → GroupWalk S g n → LeadsTo x g n
     leads_complete g n group here = (g, here, inl refl)
     leads_complete g n group (on {g = m} w a) = leads_on g m n group w (leads_complete g m group w) a
 
-    module _ (distinct : AreDistinct x.groups) (direct : (u : Object) (id : ℕ) → HasId x.users x.direct u id ↔ Any (Tells x.config x.groups u id) tuples) where
-      named_by : (u : Object) (n : Node) → NamesUser x u n ↔ MemberToGroup S u n
-      named_by u n = (
-        λ (at, there, (id, is, in_set)).
-            let (k, t, lt, e, (group, subject, named)) = (direct u id).0 (at, there, in_set) in
-            let node : t.node ≡ n = same_Some t.node n (sym named ∙ is) in
-            let tuple : t ≡ record { node = n; subject = one u } = ap₂ (λ a b. record { node = a; subject = b }) node subject in (
-              subst (λ (k : Configured). IsGroup k n) same (subst (λ (h : Node). IsGroup x.config h) node group),
-              subst (λ (ts : List Tuple). Contains ts (record { node = n; subject = one u })) are (subst (Contains tuples) tuple (k, lt, e)),
-            ),
-        λ (group, h).
-            let t : Tuple = record { node = n; subject = one u } in
-            let c : Contains tuples t = subst (λ (ts : List Tuple). Contains ts t) (sym are) h in
-            let (id, is) = contains_get x.groups n (walks_listed n n (owner_of n t c refl group) here) in
-            let (at, there, in_set) = (direct u id).1 (any_contains (Tells x.config x.groups u id) tuples t c (subst (λ (k : Configured). IsGroup k n) (sym same) group, refl, is)) in
-            (at, there, (id, is, in_set)),
-      )
+    named_by : (u : Object) (n : Node) → NamesUser x u n ↔ MemberToGroup S u n
+    named_by u n = (
+      λ (at, there, (id, is, in_set)).
+          let (m, m_is, member) = ((b.direct.each at u there).ids id).0 in_set in
+          subst (MemberToGroup S u) (same_Some m n (sym m_is ∙ is)) member,
+      λ (group, h).
+          let (at, there) = contains_get x.users u ((b.users u).1 (n, (group, h))) in
+          let (id, is) = contains_get x.groups n ((b.groups n).1 (owner_listed S n (user_tuple n u) h refl group)) in
+          (at, there, (id, is, ((b.direct.each at u there).ids id).1 (n, is, (group, h)))),
+    )
 
-      pub is_index : IsIndexOf S x
-      is_index = record {
-        config = same;
-        closures = λ g n group. (leads_sound g n, leads_complete g n group);
-        direct = named_by;
-      }
+    pub is_index : IsIndexOf S x
+    is_index = record {
+      config = b.config;
+      closures = λ g n group. (leads_sound g n, leads_complete g n group);
+      direct = named_by;
+    }
 
 -- ---- expressions
 

@@ -57,3 +57,7 @@ kept_as New Old M G step same = (
   λ n. let (o, m) = step.0 n in (o, same.0 m),
   λ (o, g). step.1 (o, same.1 g),
 )
+
+-- what gives nothing adds nothing
+pub none_added : (Old G : Type 0) → (G → ⊥) → Old ↔ (Old ⊎ G)
+none_added Old G nothing = (inl, λ h. ⊎_elim (λ o. o) (λ g. absurd (nothing g)) h)

@@ -1,5 +1,7 @@
 pub mod Arcs
+pub mod Assembling
 pub mod Bare
+pub mod Closures
 pub mod Computing
 pub mod DirectSets
 pub mod Expressions
@@ -8,10 +10,16 @@ pub mod First
 pub mod Gather
 pub mod Indexed
 pub mod Indices
+pub mod Inputs
 pub mod Leftover
+pub mod Making
 pub mod Meeting
 pub mod Named
 pub mod Nodes
 pub mod Numbers
+pub mod OneBuild
+pub mod Ordered
 pub mod Pages
+pub mod Pieces
+pub mod Rounds
 pub mod Walking

@@ -77,7 +77,7 @@ unfolding IsStrictlySortedBy
 sorted_keys [] h = tt
 sorted_keys (e ∷ es) h = (below_keys e.0 es (both_left (below_all tuple_cmp e.0 es) (is_sorted tuple_cmp es) h), sorted_keys es (both_right (below_all tuple_cmp e.0 es) (is_sorted tuple_cmp es) h))
 
-sorted_items : (s : Tuples) → IsStrictlySortedBy tuple_cmp (set.items s)
+pub sorted_items : (s : Tuples) → IsStrictlySortedBy tuple_cmp (set.items s)
 sorted_items s = sorted_keys (finite.entries s) (finite.entries_sorted s)
 
 -- ---- what comes after one of them

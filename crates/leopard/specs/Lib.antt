@@ -1,6 +1,8 @@
 pub mod Query
 pub mod Groups
+pub mod Input
 pub mod Index
+pub mod Build
 pub mod Answers
 pub mod Causes
 pub mod Exprs

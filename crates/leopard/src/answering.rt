@@ -11,6 +11,7 @@ ghost use Rattle.leopard.specs.inside.Asking.{Gains};
 use crate::built::Built;
 use crate::found::{Found, nothing};
 use crate::sets::{first_of, put};
+use crate::sorted::Sorted;
 use crate::source::GroupSets;
 use crate::walk::reached;
 use idsets::{IdSet, Ids, union};
@@ -72,7 +73,7 @@ fn closure_of(alloc: Global, built: &Built, group: &Node) -> Result<Found, Alloc
     ensures { IfOk result (λ f. AreFound built.now.groups (LeadsTo built.now group.now) f.ids f.others.keys) }
 {
     built.groups.len();
-    let nodes = reached(alloc, &built.config, group)?;
+    let nodes = reached(alloc, built.config(), group)?;
     let mut found = nothing(alloc);
     for node in nodes {
         found = with_kept(alloc, built, found, node)?;
@@ -111,6 +112,22 @@ fn put_named(nodes: &mut BTreeSet<Node>, names: &Ids<Node>, ids: &[u64]) -> Resu
     Ok(())
 }
 
+/// The same, where a group's id is its place.
+fn put_listed(
+    nodes: &mut BTreeSet<Node>,
+    groups: &Sorted<Node>,
+    ids: &[u64],
+) -> Result<(), AllocError>
+    ensures { OnOk result (Gains (λ n. Any (λ id. slice_get groups.now id ≡ Some n) ids.now) nodes.old.keys nodes.new.keys) }
+{
+    for id in ids {
+        if let Some(node) = groups.name(*id) {
+            put(nodes, node.clone()?)?;
+        }
+    }
+    Ok(())
+}
+
 /// The first so many of what was found, in the order of nodes. As many names are copied at most, and those of the groups
 /// that have no id.
 pub(crate) fn answer_of(
@@ -125,7 +142,7 @@ pub(crate) fn answer_of(
     let mut nodes = others;
     let ids = ids.as_slice();
     let count = limit.min(ids.len());
-    put_named(&mut nodes, &built.groups, &ids[..count])?;
+    put_listed(&mut nodes, &built.groups, &ids[..count])?;
     first_of(alloc, nodes, limit)
 }
 

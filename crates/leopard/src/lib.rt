@@ -6,16 +6,20 @@ mod answering;
 mod asking;
 mod building;
 mod built;
+mod closing;
 mod computed;
 mod direct;
 mod evaluating;
 mod expr;
 mod found;
+mod input;
 mod law;
 pub mod limits;
 mod members;
+mod parts;
 mod refusing;
 mod sets;
+mod sorted;
 mod source;
 mod walk;
 
@@ -25,6 +29,10 @@ pub use built::Built;
 pub use evaluating::found_of;
 pub use expr::Expr;
 pub use found::Found;
-pub use law::{answers_are_one, closures_meet_where_members, indexes_mean_what_their_snapshots_do};
+pub use input::Input;
+pub use law::{
+    answers_are_one, closures_meet_where_members, indexes_mean_what_their_snapshots_do,
+    there_is_one_build,
+};
 pub use refusing::{is_group, refusal_of};
 pub use source::GroupSets;

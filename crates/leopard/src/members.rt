@@ -1,77 +1,110 @@
 //! The direct groups of each user, as an index keeps them.
-ghost use Rattle.std.specs.Prelude.{◌≡◌, ℕ, ◌↔◌, ◌⊎◌, Any, IfOk, OnOk, length};
+
+ghost use Rattle.std.specs.Prelude.{◌≡◌, ℕ, ◌<◌, ◌↔◌, ◌⊎◌, ◌&&◌, [], not, Any, IfOk, OnOk, Contains, is_some, length, map};
 ghost use Rattle.names.specs.declared.object.Object.{Object};
+ghost use Rattle.meaning.specs.Config.{rel_of};
+ghost use Rattle.config.specs.Valid.{is_indexed};
 ghost use Rattle.idsets.specs.Naming.{AreDistinct};
-ghost use Rattle.leopard.specs.inside.Building.{HasId, Tells};
+ghost use Rattle.leopard.specs.inside.Building.{HasId, Tells, NamesOne, AreAscending, PutsId};
 
 use crate::refusing::is_group;
+use crate::sorted::Sorted;
 use config::Config;
-use idsets::{IdSet, Ids};
+use idsets::IdSet;
 use names::{Node, Object, Tuple};
 use std::alloc::{AllocError, Global};
 
-/// Users with an id each, and at that place the ids of the groups that name the user by a tuple of their own.
-#[derive(Drop)]
-pub(crate) struct Members {
-    pub(crate) users: Ids<Object>,
-    pub(crate) sets: Vec<IdSet>,
+/// Whether the tuple is of a group and names a user.
+fn names_user(config: &Config, tuple: &Tuple) -> bool
+    ensures { result ≡ (is_indexed config.now (rel_of tuple.now.node) && not (is_some tuple.now.subject.relation)) }
+{
+    is_group(config, &tuple.node) && tuple.subject.relation.is_none()
 }
 
-/// The direct groups of the users that tuples of groups name.
-pub(crate) fn members_of(
+/// The users that tuples of groups name.
+pub(crate) fn users_of(
     alloc: Global,
     config: &Config,
-    names: &Ids<Node>,
     tuples: &[Tuple],
-) -> Result<Members, AllocError>
-    requires { AreDistinct names.now }
-    ensures { IfOk result (λ m. (u : Object) (id : ℕ) → HasId m.users m.sets.items u id ↔ Any (Tells config.now names.now u id) tuples.now) }
+) -> Result<Sorted<Object>, AllocError>
+    ensures { IfOk result (λ users. (u : Object) → Contains users u ↔ Any (NamesOne config.now u) tuples.now) }
 {
-    let mut members = Members {
-        users: Ids::new(alloc),
-        sets: Vec::new(alloc),
-    };
+    let mut users = Vec::new(alloc);
     for tuple in tuples {
-        note(alloc, config, names, &mut members, tuple)?;
+        if names_user(config, tuple) {
+            users.push(tuple.subject.object.again())?;
+        }
     }
-    Ok(members)
+    Ok(Sorted::of(users))
+}
+
+/// A set that has nothing for each user.
+fn empty_sets(alloc: Global, users: &[Object]) -> Result<Vec<IdSet>, AllocError>
+    ensures { IfOk result (λ sets. sets.items ≡ map (λ _. []) users.now) }
+{
+    users.iter().map(|_| IdSet::new(alloc)).collect(alloc)
+}
+
+/// The ids of the groups that name each user, at the user's place.
+pub(crate) fn direct_of(
+    alloc: Global,
+    config: &Config,
+    tuples: &[Tuple],
+    groups: &Sorted<Node>,
+    users: &Sorted<Object>,
+) -> Result<Vec<IdSet>, AllocError>
+    requires distinct { AreDistinct groups.now }
+    requires listed { (u : Object) → Any (NamesOne config.now u) tuples.now → Contains users.now u }
+    ensures even { IfOk result (λ sets. length sets.items ≡ length users.now) }
+    ensures ascending { IfOk result (λ sets. AreAscending sets.items) }
+    ensures told { IfOk result (λ sets. (u : Object) (id : ℕ) → HasId users.now sets.items u id ↔ Any (Tells config.now groups.now u id) tuples.now) }
+{
+    let mut sets = empty_sets(alloc, users.as_slice())?;
+    for tuple in tuples {
+        note(config, groups, users, &mut sets, tuple)?;
+    }
+    Ok(sets)
 }
 
 /// Notes the tuple, if it is of a group that has an id and names a user.
 fn note(
-    alloc: Global,
     config: &Config,
-    names: &Ids<Node>,
-    members: &mut Members,
+    groups: &Sorted<Node>,
+    users: &Sorted<Object>,
+    sets: &mut Vec<IdSet>,
     tuple: &Tuple,
 ) -> Result<(), AllocError>
-    requires distinct { AreDistinct names.now }
-    requires even { length members.old.sets.items ≡ length members.old.users }
-    ensures even { OnOk result (length members.new.sets.items ≡ length members.new.users) }
-    ensures gains { OnOk result ((u : Object) (id : ℕ) → HasId members.new.users members.new.sets.items u id
-        ↔ (HasId members.old.users members.old.sets.items u id ⊎ Tells config.now names.now u id tuple.now)) }
+    requires distinct { AreDistinct groups.now }
+    requires even { length sets.old.items ≡ length users.now }
+    requires ascending { AreAscending sets.old.items }
+    requires listed { (u : Object) → NamesOne config.now u tuple.now → Contains users.now u }
+    ensures even { OnOk result (length sets.new.items ≡ length users.now) }
+    ensures ascending { OnOk result (AreAscending sets.new.items) }
+    ensures gains { OnOk result ((u : Object) (id : ℕ) → HasId users.now sets.new.items u id
+        ↔ (HasId users.now sets.old.items u id ⊎ Tells config.now groups.now u id tuple.now)) }
 {
-    if tuple.subject.relation.is_some() || !is_group(config, &tuple.node) {
+    if !names_user(config, tuple) {
         return Ok(());
     }
-    let Some(group) = names.id_of(&tuple.node) else {
+    let Some(group) = groups.id_of(&tuple.node) else {
         return Ok(());
     };
-    add(alloc, members, tuple.subject.object.clone()?, group)
+    let Some(at) = users.id_of(&tuple.subject.object) else {
+        return Ok(());
+    };
+    put_id(sets, at as usize, group)?;
+    Ok(())
 }
 
-/// Puts a group into the user's set.
-fn add(alloc: Global, members: &mut Members, user: Object, group: u64) -> Result<(), AllocError>
-    requires { length members.old.sets.items ≡ length members.old.users }
-    ensures even { OnOk result (length members.new.sets.items ≡ length members.new.users) }
-    ensures gains { OnOk result ((u : Object) (id : ℕ) → HasId members.new.users members.new.sets.items u id
-        ↔ (HasId members.old.users members.old.sets.items u id ⊎ ((u ≡ user) × (id ≡ group)))) }
+/// Puts an id into the set at a place.
+fn put_id(sets: &mut Vec<IdSet>, at: usize, id: u64) -> Result<(), AllocError>
+    requires within { at < length sets.old.items }
+    requires ascending { AreAscending sets.old.items }
+    ensures even { OnOk result (length sets.new.items ≡ length sets.old.items) }
+    ensures ascending { OnOk result (AreAscending sets.new.items) }
+    ensures gains { OnOk result (PutsId at id sets.old.items sets.new.items) }
 {
-    let at = members.users.see(user)? as usize;
-    if at == members.sets.len() {
-        members.sets.push(IdSet::new(alloc))?;
-    }
-    let set = &mut members.sets[at];
-    set.insert(group)?;
+    let set = &mut sets[at];
+    set.insert(id)?;
     Ok(())
 }

@@ -1,5 +1,5 @@
 -- What a commit makes of sets, and what it notes.
-use Rattle.std.specs.Prelude.{ℕ, ◌≡◌, ◌++◌, Bool, true, false, List, Some, Contains, is_some, map, nat_eq}
+use Rattle.std.specs.Prelude.{ℕ, ◌≡◌, ◌⊎◌, ◌++◌, Bool, true, false, List, Some, Contains, is_some, map, nat_eq}
 use Rattle.std.specs.List.{slice_get, IsDistinct}
 use Rattle.std.specs.Ordering.{nat_cmp}
 use Rattle.std.specs.BTreeMap.{BTreeMap, get}
@@ -25,9 +25,11 @@ set_or renewed sets user = ids_or (get nat_cmp renewed user) (set_in sets user)
 abbrev pub IsNumberOf : Configured → Memberships → Event → ℕ → Type 0
 IsNumberOf config kept e user = IsDirect config e.tuple × (slice_get kept.users user ≡ Some e.tuple.subject.object)
 
--- at the end something was noted with a revision, of each user once, and of none whose set is not renewed
-pub record IsNoted (rev : ℕ) (renewed : BTreeMap ℕ (List ℕ)) (es es' : List EarlierGroups) : Type 0 where
+-- at the end it was noted with a revision, of each user once, whose set is renewed and differs, and what it was
+pub record IsNoted (rev : ℕ) (renewed : BTreeMap ℕ (List ℕ)) (old new : List (List ℕ)) (es es' : List EarlierGroups) : Type 0 where
   pub more : List EarlierGroups
   pub noted : es' ≡ es ++ more
   pub once : IsDistinct nat_eq (map (λ (e : EarlierGroups). e.user) more)
   pub each : (e : EarlierGroups) → Contains more e → (e.rev ≡ rev) × (is_some (get nat_cmp renewed e.user) ≡ true)
+  pub was : (e : EarlierGroups) → Contains more e → (e.groups ≡ set_in old e.user) × ¬ (set_in new e.user ≡ e.groups)
+  pub others : (user : ℕ) → ((e : EarlierGroups) × Contains more e × (e.user ≡ user)) ⊎ (set_in new user ≡ set_in old user)

@@ -14,7 +14,7 @@ invariant-loop-user l = record {
   left : (user : ℕ) → is_some (get nat_cmp l.renewed user) ≡ true → is_some (get nat_cmp l.initial.renewed user) ≡ true;
   sets : (user : ℕ) → set_or l.renewed l.sets.items user ≡ set_or l.initial.renewed l.initial.sets.items user;
   up_to : AreUpTo l.rev l.earlier.items;
-  noted : IsNotedYet l.rev l.initial.renewed l.renewed l.initial.earlier.items l.earlier.items;
+  noted : IsNotedYet l.rev l.initial.renewed l.renewed l.initial.sets.items l.sets.items l.initial.earlier.items l.earlier.items;
   before : (user at : ℕ) → at < l.rev → set_at l.earlier.items l.sets.items user at ≡ set_at l.initial.earlier.items l.initial.sets.items user at;
 }
 

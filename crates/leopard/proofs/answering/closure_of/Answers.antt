@@ -1,6 +1,7 @@
 use Rattle.std.proofs.Common.{List, sym, subst}
 use Rattle.std.specs.Prelude.{◌↔◌, Any}
 use Rattle.names.specs.declared.node.Node.{Node}
+use Rattle.meaning.specs.Config.{Configured}
 use Rattle.graphs.specs.Groups.{GroupWalk}
 use Rattle.idsets.specs.Naming.{AreDistinct}
 use Rattle.leopard.specs.Index.{Index, bare, IsKeptOf, LeadsTo}
@@ -15,7 +16,7 @@ pub loop-node-init : goal.loop-node-init
 loop-node-init c =
     let x = c.args.built.now in
     let reach : AreAll (GroupWalk (bare x.config) c.args.group.now) c.in_ok-nodes.nodes.keys =
-    subst (λ (y : Index). AreAll (GroupWalk (bare y.config) c.args.group.now) c.in_ok-nodes.nodes.keys) c.built.view_is c.in_ok-nodes.ensures in
+    subst (λ (k : Configured). AreAll (GroupWalk (bare k) c.args.group.now) c.in_ok-nodes.nodes.keys) c.config.ensures c.in_ok-nodes.ensures in
     let iterator = c.into_iter-node-iterator.ensures.into_iter_gives.0 in
     record {
       unnamed = c.nothing-found.ensures.unnamed x.groups;

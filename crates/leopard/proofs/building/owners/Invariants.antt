@@ -5,4 +5,4 @@ use Rattle.leopard.specs.inside.Building.{Owns}
 use Rattle.leopard.proofs.building.owners.Given as goal
 
 abbrev pub invariant-loop-tuple : goal.invariant-loop-tuple
-invariant-loop-tuple l = (n : Node) → (Contains l.groups.keys n ⊎ Any (Owns l.config n) (drop l.tuple-index l.tuples)) ↔ Any (Owns l.config n) l.tuples
+invariant-loop-tuple l = (n : Node) → (Contains l.groups.items n ⊎ Any (Owns l.config n) (drop l.tuple-index l.tuples)) ↔ Any (Owns l.config n) l.tuples

@@ -3,7 +3,7 @@ use Rattle.std.proofs.lemmas.Option.{slice_get_within}
 use Rattle.direct.specs.Before.{set_at, AreUpTo}
 use Rattle.direct.specs.inside.Renewing.{IsNoted}
 use Rattle.direct.proofs.Past.{up_to_later}
-use Rattle.direct.proofs.Revised.{direct_more, direct_next, noted_few, err_any}
+use Rattle.direct.proofs.Revised.{direct_more, direct_next, noted_changed, err_any}
 use Rattle.direct.proofs.direct.Direct.take.Goals as goal
 
 pub replace_all-requires : goal.replace_all-requires
@@ -25,8 +25,9 @@ returns-clause-direct c = λ snaps is next. direct_next c.args.self.now _ c.numb
     c.in_ok-number_all.ensures.numbers c.in_ok-renewed.ensures.sets snaps is next
 
 pub returns-clause-noted : goal.returns-clause-noted
-returns-clause-noted c = noted_few c.args.self.now _ c.number_all.new.kept c.args.events.now c.in_ok-renewed.renewed refl refl
-    (subst (λ es. IsNoted (c.args.self.now.cursor + 1) c.in_ok-renewed.renewed es c.replace_all.new.earlier.items) c.in_ok-reserve.ensures.items c.replace_all.ensures.noted)
+returns-clause-noted c = noted_changed c.args.self.now _ c.number_all.new.kept c.args.events.now c.in_ok-renewed.renewed refl refl
+    c.in_ok-number_all.ensures.more.sets
+    (subst (λ es. IsNoted (c.args.self.now.cursor + 1) c.in_ok-renewed.renewed c.number_all.new.kept.sets.items c.replace_all.new.sets.items es c.replace_all.new.earlier.items) c.in_ok-reserve.ensures.items c.replace_all.ensures.noted)
     c.in_ok-renewed.ensures.users
 
 pub returns-in_err-number_all-clause-err : goal.returns-in_err-number_all-clause-err

@@ -15,8 +15,8 @@ returns-clause-groups c S is =
     let x = c.args.self.now in
     let q = query_of c.args.expr.now in
     let found = c.in_ok-found.found in
-    let distinct : AreDistinct x.groups = subst (λ (y : Index). AreDistinct y.groups) c.self.view_is (sorted_distinct c.self.inside.groups c.self.invariant) in
-    let mine : names_unindexed x.config q ≡ false = subst (λ (y : Index). names_unindexed y.config q ≡ false) c.self.view_is c.in_default.ensures.none.indexed in
+    let distinct : AreDistinct x.groups = subst (λ (y : Index). AreDistinct y.groups) c.self.view_is (sorted_distinct c.self.inside.groups c.self.invariant.groups_ascend) in
+    let mine : names_unindexed x.config q ≡ false = subst (λ (k : Configured). names_unindexed k q ≡ false) c.config.ensures c.in_default.ensures.none.indexed in
     let indexed : names_unindexed S.config q ≡ false = subst (λ (k : Configured). names_unindexed k q ≡ false) is.config mine in
     first_as c.args.limit (Finds x.groups found.ids found.others.keys) (Means S q) c.in_ok-answer_of.field-0.items
     (c.in_ok-found.ensures S (is, distinct) indexed).all c.in_ok-answer_of.ensures
