@@ -47,6 +47,7 @@ pub(crate) fn renew(
     earlier.reserve(before.len())?;
     fill(alloc, sets, &region)?;
     leave_changed(&mut before, sets);
+    // There is room for these.
     earlier.append(&mut before)?;
     Ok(asked)
 }
