@@ -1,14 +1,12 @@
 -- What is sent to another thread together.
 use mathlib.Core.List.{[], ◌∷◌}
-use denote.Param.Send.{IsSend, IsSync, recorded_send, sendable, struct_send, enum_send, view_send}
+use denote.Param.Send.{IsSend, recorded_send, struct_send, enum_send}
 use denote.RattleType.{RattleType}
 use denote.Struct.Declared as S
 use denote.Struct.Tuple.{TupleAt, type_at}
 use denote.Enum.Declared as E
 use Rattle.std.specs.Prelude.{ℕ, List}
 use Rattle.std.specs.contracts.option.Option as Option
-use Rattle.keeper.proofs.Crossing.{Session-send}
-use Rattle.keeper_tests.specs.contracts.threads.Reader as Reader
 
 pub Option-send : (A : RattleType) → IsSend A → IsSend (Option.the_row A)
 Option-send A s = let T = Option.the_type A in recorded_send _ _ T.to T.to_one (enum_send (E.shape T) (tt, ((s, tt), tt)))
@@ -23,11 +21,3 @@ pub three_send : (name : List ℕ) (A B C : RattleType) → IsSend A → IsSend 
 three_send name A B C a b c =
     let T = type_at name (A ∷ B ∷ C ∷ []) in
     recorded_send _ _ T.to T.to_one (struct_send (S.shape T) (a, (b, (c, tt))))
-
-Reader-inside-send : (A : RattleType) (j : _) → IsSend A → IsSync A → IsSend (Reader.TheInside.the_row A j)
-Reader-inside-send A j s y =
-    let R = Reader.TheInside.the_type A j in
-    recorded_send _ _ R.to R.to_one (struct_send (S.shape R) ((Session-send A _ s y), tt))
-
-pub Reader-send : (A : RattleType) (j : _) → IsSend A → IsSync A → IsSend (Reader.the_row A j)
-Reader-send A j s y = view_send _ _ _ _ _ (Reader-inside-send A j s y)
