@@ -15,11 +15,9 @@ const CONFIG: &str = r#"{"namespaces":{"user":{},
 /// How many groups there may be, and as many users.
 const NAMES: u64 = 16;
 
-// The number after another, in no order that shows.
+// The number after another, in no order that shows: each below 512 comes before one comes again.
 fn next_of(number: u64) -> u64 {
-    number
-        .wrapping_mul(6_364_136_223_846_793_005)
-        .wrapping_add(1_442_695_040_888_963_407)
+    number.wrapping_mul(141).wrapping_add(77) % 512
 }
 
 // A tuple by which a group has a user or another group.
@@ -38,7 +36,7 @@ fn drawn(alloc: Global, count: u32) -> Result<String, AllocError> {
     let mut number = 1;
     for _ in 0..count {
         number = next_of(number);
-        let word = word_of(alloc, number / 65_536)?;
+        let word = word_of(alloc, number)?;
         line.push_str(word.as_str())?;
     }
     Ok(line)
