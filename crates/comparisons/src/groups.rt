@@ -5,6 +5,7 @@ ghost use Rattle.rows.specs.Retained.{Retained, newest, snap_at};
 ghost use Rattle.group_index.specs.Indices.{base_of, cursor_of};
 ghost use Rattle.comparisons.specs.Following.{IsIndexIn};
 
+use delta::ViewArcs;
 use group_index::GroupIndex;
 use rows::{Rows, View};
 use std::alloc::{AllocError, Global};
@@ -40,7 +41,8 @@ fn after(
     match commit.events() {
         Some(events) => {
             let events = events.events(alloc)?;
-            index.take(alloc, &events, view)
+            let mut arcs = ViewArcs::of(alloc, view);
+            index.take(alloc, &events, &mut arcs)
         }
         None => GroupIndex::restart(alloc, view, rev),
     }

@@ -29,7 +29,9 @@ use Rattle.leopard.specs.Groups.{IsGroup}
 use Rattle.delta.specs.Telling.{IsMore, MayTell}
 use Rattle.delta.specs.Layers.{AreKept, AreRoots, IsAbove, IsIn}
 use Rattle.delta.specs.Layers as layers
+use Rattle.delta.specs.Asked.{HasEvent}
 use Rattle.delta.specs.inside.Changing.{AreOfEvents}
+use Rattle.delta.specs.inside.Handing.{IsAnew}
 use Rattle.delta.proofs.After.{after, arcs_stay, told_reached, may_tell}
 use Rattle.delta.proofs.Bare.{bare_walk}
 use Rattle.delta.proofs.Closures.{along, arc_kept, ends_of, kept_named, walked}
@@ -121,8 +123,9 @@ module _ (S T : Snap) (events : List Event) (next : T ≡ after_commit S (Tuples
           let one : found.0 ≡ i = distinct found.0 i n (grew_get nodes1 nodes' found.0 n then.grew (grew_get nodes nodes1 found.0 n first.grew found.2)) at in
           off (subst (λ j. kept old j ≡ true) one there)
 
-  pub asked_few : (i : ℕ) → has asked i ≡ true → (n : Node) × (slice_get nodes' i ≡ Some n) × (layers.IsTouched S T events n ⊎ layers.IsNewlyLedTo S T events n)
-  asked_few i h =
+  -- a kept group that has changed has an event
+  pub asked_few : (i : ℕ) → has asked i ≡ true → IsAnew old changed i → (n : Node) × (slice_get nodes' i ≡ Some n) × (HasEvent events n ⊎ layers.IsNewlyLedTo S T events n)
+  asked_few i h anew =
       let t = told i h in
       let may = may_tell S T nodes1 nodes' old new roots roots' turned changed [] asked k
       (stays S T events next nodes nodes1 nodes' roots turned roots' changed asked old new first then above are all was had r)
@@ -131,9 +134,8 @@ module _ (S T : Snap) (events : List Event) (next : T ≡ after_commit S (Tuples
         may.named,
         ⊎_elim
             (λ q. (
-            let was = kept_named S nodes1 roots old k i q in
-            let same : was.0 ≡ may.group = same_Some was.0 may.group (sym (grew_get nodes1 nodes' i was.0 then.grew was.1) ∙ may.named) in
-            inl (subst (λ x. layers.IsTouched S T events x) same (touched_by i was.0 q was.1 ((r.few i t).1 q)))))
+            let e = are.sound i (anew q) in
+            inl (e.0, e.1, e.2, same_Some e.0.tuple.node may.group (sym (grew_get nodes1 nodes' i e.0.tuple.node then.grew e.3) ∙ may.named))))
             (λ q. inr (newly i may.group t may.named (λ e. false≢true (sym q ∙ e))))
             (cases_Bool (kept old i)),
       )

@@ -8,6 +8,7 @@ mod Replayed
 mod Told
 mod Taken
 mod Asked
+mod Handed
 mod Taking
 mod Outcomes
 mod Renewed

@@ -15,7 +15,7 @@ use Rattle.least_sets.proofs.Gives.{has-append}
 use Rattle.facts.specs.Numbers.{Grew, AreNumbersOf}
 use Rattle.facts.specs.inside.Tables.{grew_none, grew_get, numbers_none, numbers_keep, numbers_push}
 use Rattle.leopard.specs.Index.{bare}
-use Rattle.leopard.specs.inside.Asking.{AreAll}
+use Rattle.delta.specs.Arcs.{AreEndsOf}
 use Rattle.delta.specs.Layers.{IsAbove, IsOfSet}
 use Rattle.delta.specs.Telling.{MayTell}
 use Rattle.delta.specs.inside.Leading.{LeadsTo}
@@ -85,7 +85,7 @@ fact shape own = record { level = 0; shape = shape; own = own }
 
 -- what is told of a group from the ends of its arcs
 pub told_of : (S : Snap) (nodes nodes' : List Node) (i : ℕ) (group : Node) (ends : List Node) (ids own : List ℕ) (shape : Shape) → Grew nodes nodes' → slice_get nodes i ≡ Some group
-    → AreAll (IsGroupArc S group) ends → AreNumbersOf nodes' ids (Contains ends) → shape ≡ Either Own (AnyOf ids) → own ≡ i ∷ [] → MayTell S nodes' i (fact shape own)
+    → AreEndsOf S group ends → AreNumbersOf nodes' ids (Contains ends) → shape ≡ Either Own (AnyOf ids) → own ≡ i ∷ [] → MayTell S nodes' i (fact shape own)
 told_of S nodes nodes' i group ends ids own shape grew at all are shape_is own_is = record {
   group = group;
   named = grew_get nodes nodes' i group grew at;

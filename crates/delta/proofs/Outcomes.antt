@@ -26,3 +26,7 @@ if_some_as f (Some x) same P is k = k x is
 pub if_none_as : {A B Q : Type 0} (f : A → B) (r : Option A) (same : Option B) → option_map f r ≡ same → (None ≡ same → Q) → IfNone r Q
 if_none_as f None same is k = k is
 if_none_as f (Some x) same is k = tt
+
+pub ok_any : {T E P : Type 0} (r : Result T E) → P → OnOk r P
+ok_any (Ok x) p = p
+ok_any (Err e) p = tt

@@ -73,10 +73,6 @@ pub record IsNext (snaps : ℕ → Snap) (rev : ℕ) (events : List Event) (view
   pub now : snaps (rev + 1) ≡ view
   pub after : view ≡ after_commit (snaps rev) (Tuples events)
 
--- the number stands for the group
-abbrev pub HasNumber : Layer → Node → ℕ → Type 0
-HasNumber layer n i = slice_get layer.nodes i ≡ Some n
-
 -- a walk of arcs leads from the group to the node of an event, before or after
 abbrev pub IsTouched : Snap → Snap → List Event → Node → Type 0
 IsTouched S T events g = (e : Event) × Contains events e × (GroupWalk S g e.tuple.node ⊎ GroupWalk T g e.tuple.node)
@@ -84,8 +80,3 @@ IsTouched S T events g = (e : Event) × Contains events e × (GroupWalk S g e.tu
 -- a walk leads to it after the commit from a group that is touched, and no tuple of a group named it before
 abbrev pub IsNewlyLedTo : Snap → Snap → List Event → Node → Type 0
 IsNewlyLedTo S T events n = ((g : Node) × IsTouched S T events g × GroupWalk T g n) × ((g : Node) → IsGroup S.config g → HasSet S g n → ⊥)
-
--- The groups that were asked, by their numbers: each once, and each is touched or newly led to.
-pub record WasAskedFew (new : Layer) (S T : Snap) (events : List Event) (asked : List ℕ) : Type 0 where
-  pub once : IsDistinct nat_eq asked
-  pub few : (i : ℕ) → has asked i ≡ true → (n : Node) × HasNumber new n i × (IsTouched S T events n ⊎ IsNewlyLedTo S T events n)

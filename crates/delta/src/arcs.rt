@@ -1,54 +1,70 @@
-//! The arcs of groups.
-ghost use Rattle.std.specs.Prelude.{IfOk};
-ghost use Rattle.graphs.specs.Groups.{IsGroupArc};
-ghost use Rattle.leopard.specs.inside.Asking.{AreAll};
+//! The arcs of groups, and who is asked for them.
+ghost use Rattle.std.specs.Prelude.{◌≡◌, []};
+ghost use Rattle.delta.specs.Arcs.{asked_of, snap_of};
 
-use crate::computed::push_computed;
-use config::Config;
+use crate::has_arcs::HasArcs;
 use names::Node;
 use rows::View;
 use std::alloc::{AllocError, Global};
 
-/// What tells where the arcs of groups lead.
-pub(crate) trait Arcs {
+/// What tells where the arcs of groups lead, and counts whom it was asked for.
+pub trait CountedArcs {
+    ghost use Rattle.std.specs.Prelude.{◌≡◌, ◌++◌, ◌∷◌, [], List, IfOk, OnOk, OnErr};
+    ghost use Rattle.names.specs.declared.node.Node.{Node as NodeValue};
     ghost use Rattle.meaning.specs.Snap.{Snap};
+    ghost use Rattle.delta.specs.Arcs.{AreEndsOf};
 
     /// The snapshot that has the arcs.
     ghost snap: { Self → Snap };
 
-    /// The nodes to which arcs lead from the node.
-    fn ends_of(&self, alloc: Global, node: &Node) -> Result<Vec<Node>, AllocError>
-        ensures { IfOk result (λ v. AreAll (IsGroupArc (snap self.now) node.now) v.items) };
+    /// The groups that it was asked for, in order.
+    ghost asked: { Self → List NodeValue };
+
+    /// The nodes to which arcs lead from the group.
+    fn ends_of(&mut self, alloc: Global, group: &Node) -> Result<Vec<Node>, AllocError>
+        ensures ends { IfOk result (λ v. AreEndsOf (snap self.old) group.now v.items) }
+        ensures stays { snap self.new ≡ snap self.old }
+        ensures counted { OnOk result (asked self.new ≡ asked self.old ++ group.now ∷ []) }
+        ensures refused { OnErr result (asked self.new ≡ asked self.old) };
 }
 
-impl<'a> Arcs for View<'a> {
-    ghost snap = { λ v. v };
+/// A view that is asked, and the groups that it was asked for.
+#[derive(Drop)]
+pub struct ViewArcs<'a> {
+    view: &'a View<'a>,
+    asked: Vec<Node>,
+}
 
-    fn ends_of(&self, alloc: Global, node: &Node) -> Result<Vec<Node>, AllocError> {
-        let config = self.config();
-        let relations = config.relations();
-        let mut ends = self.usersets_of(alloc, node)?;
-        let Some(place) = config.place_of(node) else {
-            return Ok(ends);
-        };
-        push_computed(&mut ends, &node.object, &relations[place].rewrite)?;
-        Ok(ends)
+impl<'a> ViewArcs<'a> {
+    /// Nobody was asked. It takes no memory.
+    pub fn of(alloc: Global, view: &'a View<'a>) -> ViewArcs<'a>
+        ensures snap { snap_of result ≡ view.now }
+        ensures asked { asked_of result ≡ [] }
+    {
+        ViewArcs {
+            view,
+            asked: Vec::new(alloc),
+        }
+    }
+
+    /// The groups that it was asked for, in order.
+    pub fn asked(&self) -> &[Node]
+        ensures { result.now ≡ asked_of self.now }
+    {
+        &self.asked
     }
 }
 
-/// A configuration by itself has the arcs to computed usersets.
-impl Arcs for Config {
-    ghost use Rattle.leopard.specs.Index.{bare};
+impl<'a> CountedArcs for ViewArcs<'a> {
+    ghost use Rattle.delta.specs.Arcs.{asked_of, snap_of};
 
-    ghost snap = { bare };
+    ghost snap = { snap_of };
 
-    fn ends_of(&self, alloc: Global, node: &Node) -> Result<Vec<Node>, AllocError> {
-        let relations = self.relations();
-        let mut computed = Vec::new(alloc);
-        let Some(place) = self.place_of(node) else {
-            return Ok(computed);
-        };
-        push_computed(&mut computed, &node.object, &relations[place].rewrite)?;
-        Ok(computed)
+    ghost asked = { asked_of };
+
+    fn ends_of(&mut self, alloc: Global, group: &Node) -> Result<Vec<Node>, AllocError> {
+        let ends = self.view.arc_ends(alloc, group)?;
+        self.asked.push(group.clone()?)?;
+        Ok(ends)
     }
 }

@@ -5,7 +5,7 @@ ghost use Rattle.leopard.specs.Index.{bare};
 ghost use Rattle.leopard.specs.inside.Asking.{AreAll};
 ghost use Rattle.delta.specs.inside.Named.{AreNamed};
 
-use crate::arcs::Arcs;
+use crate::has_arcs::HasArcs;
 use crate::telling::{GroupFacts, only};
 use config::Config;
 use idsets::Ids;
@@ -15,7 +15,11 @@ use region::{Sets, refresh};
 use std::alloc::{AllocError, Global};
 
 /// The nodes to which walks of arcs lead from the node, itself among them. Each is asked for once.
-pub(crate) fn led_to<A: Arcs>(alloc: Global, arcs: &A, from: &Node) -> Result<Vec<Node>, AllocError>
+pub(crate) fn led_to<A: HasArcs>(
+    alloc: Global,
+    arcs: &A,
+    from: &Node,
+) -> Result<Vec<Node>, AllocError>
     ensures { IfOk result (λ v. AreAll (GroupWalk (A.snap arcs.now) from.now) v.items) }
 {
     groups_are_walks();

@@ -2,6 +2,7 @@
 ghost use Rattle.region.specs.Sets.{IsWhole};
 ghost use Rattle.delta.specs.Noted.{AreUpTo};
 
+use crate::arcs::CountedArcs;
 use crate::closing::{led_to, named};
 use crate::earlier::{Earlier, led_at};
 use crate::leading::{above_events, above_tuples, changed_by};
@@ -39,7 +40,8 @@ impl Layer {
     ghost use Rattle.meaning.specs.Snap.{Snap};
     ghost use Rattle.leopard.specs.Groups.{IsGroup, GroupToGroup};
     ghost use Rattle.leopard.specs.Finding.{IsNamedBy};
-    ghost use Rattle.delta.specs.Layers.{IsLayerOf, IsNext, KeepsAt, WasAskedFew};
+    ghost use Rattle.delta.specs.Layers.{IsLayerOf, IsNext, KeepsAt};
+    ghost use Rattle.delta.specs.Asked.{WereAskedFew};
     ghost use Rattle.delta.specs.Noted.{IsNoted};
 
     /// The layer of one revision, whose view this is: base and cursor are that revision, and nothing is noted. All
@@ -88,21 +90,22 @@ impl Layer {
         self.cursor
     }
 
-    /// Takes the next commit, one of events, of which the view has the snapshot after it, and gives the numbers of the
-    /// groups that were asked for, in order; of a kept one on which there is no event what is kept is told, and not read.
-    /// For want of memory what is told is what it was.
-    pub fn take(
+    /// Takes the next commit, one of events. The arcs are those of the snapshot after it, and nothing else is read: they are
+    /// asked for groups that have an event or were not kept. Of the others what is kept is told. For want of memory what is
+    /// told is what it was.
+    pub fn take<A: CountedArcs>(
         &mut self,
         alloc: Global,
         events: &[Event],
-        view: &View,
-    ) -> Result<Vec<u64>, AllocError>
+        arcs: &mut A,
+    ) -> Result<(), AllocError>
         requires { self.old.cursor < 2 ^ 64 - 1 }
         ensures layer { OnOk result ((snaps : ℕ → Snap) → IsLayerOf self.old snaps
-            → IsNext snaps self.old.cursor events.now view.now → IsLayerOf self.new snaps) }
-        ensures asked { IfOk result (λ asked. (snaps : ℕ → Snap) → IsLayerOf self.old snaps
-            → IsNext snaps self.old.cursor events.now view.now
-            → WasAskedFew self.new (snaps self.old.cursor) view.now events.now asked.items) }
+            → IsNext snaps self.old.cursor events.now (A.snap arcs.old) → IsLayerOf self.new snaps) }
+        ensures asked { OnOk result ((snaps : ℕ → Snap) → IsLayerOf self.old snaps
+            → IsNext snaps self.old.cursor events.now (A.snap arcs.old)
+            → WereAskedFew (snaps self.old.cursor) (A.snap arcs.old) events.now (A.asked arcs.old) (A.asked arcs.new)) }
+        ensures snap { A.snap arcs.new ≡ A.snap arcs.old }
         ensures noted { OnOk result (IsNoted self.new.cursor self.old.sets.rows self.new.sets.rows self.old.earlier.items self.new.earlier.items) }
         ensures base { self.new.base ≡ self.old.base }
         ensures cursor { OnOk result (self.new.cursor ≡ self.old.cursor + 1) }
@@ -120,12 +123,12 @@ impl Layer {
         let (nodes, sets, roots) = (&mut self.nodes, &mut self.sets, &self.roots);
         let earlier = &mut self.earlier;
         let done = renew(
-            alloc, view, rev, nodes, sets, earlier, roots, turned, &changed,
+            alloc, arcs, rev, nodes, sets, earlier, roots, turned, &changed,
         );
         match done {
-            Ok(asked) => {
+            Ok(()) => {
                 self.cursor = rev;
-                Ok(asked)
+                Ok(())
             }
             Err(e) => {
                 take_each(&mut self.roots, &added);

@@ -7,6 +7,7 @@ mod arcs;
 mod closing;
 mod computed;
 mod earlier;
+mod has_arcs;
 mod layer;
 mod leading;
 mod recalling;
@@ -14,5 +15,6 @@ mod renewing;
 mod roots;
 mod telling;
 
+pub use arcs::{CountedArcs, ViewArcs};
 pub use earlier::Earlier;
 pub use layer::Layer;

@@ -5,9 +5,13 @@ ghost use Rattle.least_sets.specs.World.{Either, Own, AnyOf};
 ghost use Rattle.least_sets.specs.Groups.{groups};
 ghost use Rattle.region.specs.Rules.{fact_of, shape_of};
 ghost use Rattle.facts.specs.Numbers.{AreNumbersOf};
+ghost use Rattle.names.specs.declared.node.Node.{Node as NodeValue};
+ghost use Rattle.meaning.specs.Snap.{Snap as SnapValue};
+ghost use Rattle.delta.specs.Arcs.{AreEndsOf};
 ghost use Rattle.delta.specs.Telling.{IsMore, MayTell};
 
-use crate::arcs::Arcs;
+use crate::arcs::CountedArcs;
+use crate::has_arcs::HasArcs;
 use facts::number_of;
 use idsets::{IdSet, Ids, sets_of_the_same_ids_are_one};
 use names::Node;
@@ -16,13 +20,13 @@ use std::alloc::{AllocError, Global};
 
 /// What tells the arcs, the numbers of the nodes as far as they were seen, and who was asked for.
 #[derive(Drop)]
-pub(crate) struct GroupFacts<'a, A: Arcs> {
+pub(crate) struct GroupFacts<'a, A: HasArcs> {
     pub(crate) arcs: &'a A,
     pub(crate) nodes: Ids<Node>,
     pub(crate) asked: Vec<u64>,
 }
 
-impl<'a, A: Arcs> Facts for GroupFacts<'a, A> {
+impl<'a, A: HasArcs> Facts for GroupFacts<'a, A> {
     ghost use Rattle.std.proofs.Common.{◌∙◌, refl, sym, subst};
     ghost use Rattle.meaning.specs.Snap.{Snap};
     ghost use Rattle.delta.specs.Telling.{IsMore, MayTell};
@@ -50,7 +54,7 @@ impl<'a, A: Arcs> Facts for GroupFacts<'a, A> {
 }
 
 /// What is told of the group with a number: it holds itself, and what the ends of its arcs hold.
-fn tell<A: Arcs>(
+fn tell<A: HasArcs>(
     alloc: Global,
     arcs: &A,
     nodes: &mut Ids<Node>,
@@ -60,13 +64,53 @@ fn tell<A: Arcs>(
     ensures node { IfOk result (λ told. told.node ≡ id) }
     ensures told { IfOk result (λ told. MayTell (A.snap arcs.now) nodes.new id (fact_of told)) }
 {
-    let _ = nodes.len();
-    let Some(node) = nodes.name(id) else {
-        return Err(AllocError);
-    };
-    let node = node.clone()?;
+    let node = node_with(nodes, id)?;
+    let ends = arcs.arc_ends(alloc, &node)?;
+    told_with(alloc, nodes, id, &ends)
+}
+
+/// The same of what counts whom it is asked for.
+pub(crate) fn ask_for<A: CountedArcs>(
+    alloc: Global,
+    arcs: &mut A,
+    nodes: &mut Ids<Node>,
+    id: u64,
+) -> Result<Told, AllocError>
+    ensures snap { A.snap arcs.new ≡ A.snap arcs.old }
+    ensures more { IsMore nodes.old nodes.new }
+    ensures node { IfOk result (λ told. told.node ≡ id) }
+    ensures told { IfOk result (λ told. MayTell (A.snap arcs.old) nodes.new id (fact_of told)) }
+    ensures asked { OnOk result ((group : NodeValue) × (slice_get nodes.new id ≡ Some group) × (A.asked arcs.new ≡ A.asked arcs.old ++ group ∷ [])) }
+{
+    let node = node_with(nodes, id)?;
     let ends = arcs.ends_of(alloc, &node)?;
-    let numbers = numbers_of(alloc, nodes, &ends)?;
+    told_with(alloc, nodes, id, &ends)
+}
+
+/// The node with a number. A number that no node has is refused.
+fn node_with(nodes: &Ids<Node>, id: u64) -> Result<Node, AllocError>
+    ensures { IfOk result (λ node. slice_get nodes.now id ≡ Some node) }
+{
+    match nodes.name(id) {
+        Some(node) => node.clone(),
+        None => Err(AllocError),
+    }
+}
+
+/// What is told of a group of which these are the ends of its arcs.
+fn told_with(
+    alloc: Global,
+    nodes: &mut Ids<Node>,
+    id: u64,
+    ends: &[Node],
+) -> Result<Told, AllocError>
+    ensures more { IsMore nodes.old nodes.new }
+    ensures node { IfOk result (λ told. told.node ≡ id) }
+    ensures told { IfOk result (λ told. (S : SnapValue) (group : NodeValue) → slice_get nodes.old id ≡ Some group
+        → AreEndsOf S group ends.now → MayTell S nodes.new id (fact_of told)) }
+{
+    let _ = nodes.len();
+    let numbers = numbers_of(alloc, nodes, ends)?;
     let own = only(alloc, id)?;
     let rule = own_or(alloc, numbers)?;
     Ok(Told {

@@ -1,7 +1,7 @@
-//! To which groups a group leads, before commits and after them, and from a new base on.
+//! To which groups a group leads, before commits and after them, and from a new base on, and who is asked in a commit.
 
 use crate::groups::{add, are_nodes, events_of, fill};
-use delta::Layer;
+use delta::{Layer, ViewArcs};
 use names::{Event, Node, Refusal};
 use rows::Rows;
 use std::alloc::Global;
@@ -28,25 +28,46 @@ fn leads_to(
     are_nodes(&found, groups)
 }
 
-fn takes(alloc: Global, rows: &Rows, layer: &mut Layer, events: &[Event]) -> Result<(), Refusal> {
+// Whether it takes the events by asking for these groups and no others.
+fn takes(
+    alloc: Global,
+    rows: &Rows,
+    layer: &mut Layer,
+    events: &[Event],
+    asked: &str,
+) -> Result<bool, Refusal> {
     if layer.cursor() < u64::MAX {
-        layer.take(alloc, events, &rows.at(rows.newest()))?;
-        return Ok(());
+        let view = rows.at(rows.newest());
+        let mut arcs = ViewArcs::of(alloc, &view);
+        layer.take(alloc, events, &mut arcs)?;
+        return are_nodes(arcs.asked(), asked);
     }
     Err(Refusal::Malformed)
 }
 
 // The history and the layer take a commit of these words.
-fn take(alloc: Global, rows: &mut Rows, layer: &mut Layer, words: &str) -> Result<(), Refusal> {
+fn take(
+    alloc: Global,
+    rows: &mut Rows,
+    layer: &mut Layer,
+    words: &str,
+    asked: &str,
+) -> Result<bool, Refusal> {
     add(alloc, rows, words)?;
     let events = events_of(alloc, words)?;
-    takes(alloc, rows, layer, events.as_slice())
+    takes(alloc, rows, layer, events.as_slice(), asked)
 }
 
-// The chain is cut in its middle, and then its end is put before its beginning.
-fn follow(alloc: Global, rows: &mut Rows, layer: &mut Layer) -> Result<(), Refusal> {
-    take(alloc, rows, layer, "-group:b#member@group:c#member")?;
-    take(alloc, rows, layer, "group:c#member@group:a#member")
+// The chain is cut in its middle, and then its end is put before its beginning. Of the groups that lead there none but the
+// one with the event is asked for.
+fn follow(alloc: Global, rows: &mut Rows, layer: &mut Layer) -> Result<bool, Refusal> {
+    let (cut, put) = (
+        "-group:b#member@group:c#member",
+        "group:c#member@group:a#member",
+    );
+    let first = take(alloc, rows, layer, cut, "group:b#member")?;
+    let second = take(alloc, rows, layer, put, "group:c#member")?;
+    Ok(first && second)
 }
 
 fn tells_each_revision(alloc: Global, layer: &Layer) -> Result<bool, Refusal> {
@@ -71,8 +92,8 @@ fn begins_later(alloc: Global, rows: &Rows, layer: &mut Layer) -> Result<bool, R
 }
 
 fn keeps_closures(alloc: Global, rows: &mut Rows, layer: &mut Layer) -> Result<bool, Refusal> {
-    follow(alloc, rows, layer)?;
-    Ok(tells_each_revision(alloc, layer)? && begins_later(alloc, rows, layer)?)
+    let asked = follow(alloc, rows, layer)?;
+    Ok(asked && tells_each_revision(alloc, layer)? && begins_later(alloc, rows, layer)?)
 }
 
 fn has_a_layer(alloc: Global, rows: &mut Rows) -> Result<bool, Refusal> {

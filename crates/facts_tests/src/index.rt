@@ -3,6 +3,7 @@
 use crate::groups::{add, are_nodes, events_of, fill};
 use by_subject::ViewBySubject;
 use decide::check_at;
+use delta::ViewArcs;
 use facts::each_view_is_valid;
 use group_index::{At, GroupIndex};
 use leopard::{Expr, groups_at};
@@ -139,7 +140,10 @@ fn take(
     rev: u64,
 ) -> Result<GroupIndex, AllocError> {
     match view_at(rows, rev) {
-        Some(view) if index.cursor() < u64::MAX => index.take(alloc, events, &view),
+        Some(view) if index.cursor() < u64::MAX => {
+            let mut arcs = ViewArcs::of(alloc, &view);
+            index.take(alloc, events, &mut arcs)
+        }
         _ => Err(AllocError),
     }
 }

@@ -2,7 +2,7 @@
 ghost use Rattle.std.specs.Prelude.{◌≡◌};
 
 use crate::at::At;
-use delta::Layer;
+use delta::{CountedArcs, Layer};
 use direct::Direct;
 use names::Event;
 use rows::View;
@@ -23,6 +23,7 @@ impl GroupIndex {
     ghost use Rattle.std.specs.Prelude.{◌≡◌, ◌<◌, ◌≤◌, ◌+◌, ◌-◌, ◌^◌, ◌⊎◌, ℕ, max, OnOk, OnErr, IfOk, IfSome, IfNone};
     ghost use Rattle.meaning.specs.Snap.{Snap};
     ghost use Rattle.delta.specs.Layers.{IsNext};
+    ghost use Rattle.delta.specs.Asked.{WereAskedFew};
     ghost use Rattle.group_index.specs.Indices.{IsGroupIndexOf, TellsOf, base_of, cursor_of};
 
     /// The index of one revision, whose view this is: base and cursor are that revision. All tuples are gone over twice.
@@ -50,17 +51,21 @@ impl GroupIndex {
         self.layer.cursor()
     }
 
-    /// The index after the next commit, one of events, of which the view has the snapshot after it. It costs what the
-    /// commit touches. For want of memory there is no index any more.
-    pub fn take(
+    /// The index after the next commit, one of events. The arcs are those of the snapshot after it, and nothing else is
+    /// read. It costs what the commit touches. For want of memory there is no index any more.
+    pub fn take<A: CountedArcs>(
         self,
         alloc: Global,
         events: &[Event],
-        view: &View,
+        arcs: &mut A,
     ) -> Result<GroupIndex, AllocError>
         requires { cursor_of self < 2 ^ 64 - 1 }
         ensures index { IfOk result (λ index. (snaps : ℕ → Snap) → IsGroupIndexOf self snaps
-            → IsNext snaps (cursor_of self) events.now view.now → IsGroupIndexOf index snaps) }
+            → IsNext snaps (cursor_of self) events.now (A.snap arcs.old) → IsGroupIndexOf index snaps) }
+        ensures asked { OnOk result ((snaps : ℕ → Snap) → IsGroupIndexOf self snaps
+            → IsNext snaps (cursor_of self) events.now (A.snap arcs.old)
+            → WereAskedFew (snaps (cursor_of self)) (A.snap arcs.old) events.now (A.asked arcs.old) (A.asked arcs.new)) }
+        ensures snap { A.snap arcs.new ≡ A.snap arcs.old }
         ensures base { IfOk result (λ index. base_of index ≡ base_of self) }
         ensures cursor { IfOk result (λ index. cursor_of index ≡ cursor_of self + 1) }
     {
@@ -68,7 +73,7 @@ impl GroupIndex {
             mut layer,
             mut direct,
         } = self;
-        layer.take(alloc, events, view)?;
+        layer.take(alloc, events, arcs)?;
         direct.take(alloc, events)?;
         Ok(GroupIndex { layer, direct })
     }

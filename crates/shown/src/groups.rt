@@ -6,6 +6,7 @@ ghost use Rattle.rows.specs.Retained.{newest, snap_at};
 ghost use Rattle.group_index.specs.Indices.{cursor_of};
 ghost use Rattle.shown.specs.inside.Basing.{IsIndexIn};
 
+use delta::ViewArcs;
 use group_index::GroupIndex;
 use rows::{Rows, View};
 use std::alloc::{AllocError, Global};
@@ -104,7 +105,8 @@ fn after(
     match commit.events() {
         Some(events) => {
             let events = events.events(alloc)?;
-            index.take(alloc, &events, view)
+            let mut arcs = ViewArcs::of(alloc, view);
+            index.take(alloc, &events, &mut arcs)
         }
         None => GroupIndex::restart(alloc, view, rev),
     }

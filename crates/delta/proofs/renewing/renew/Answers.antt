@@ -1,4 +1,4 @@
-use Rattle.std.proofs.Common.{◌≡◌, ◌||◌, ◌++◌, List, ℕ, refl, ◌∙◌, ap, subst}
+use Rattle.std.proofs.Common.{◌≡◌, ◌||◌, ◌++◌, List, [], ℕ, refl, ◌∙◌, ap, subst}
 use Rattle.least_sets.specs.World.{has}
 use Rattle.delta.specs.Noted.{led_in}
 use Rattle.delta.specs.inside.Noting.{AreNotedOf}
@@ -8,20 +8,23 @@ use Rattle.delta.proofs.Recalled.{MayRecall}
 use Rattle.delta.proofs.renewing.renew.Goals as goal
 
 pub fill-requires-clause-gathered : goal.fill-requires-clause-gathered
-fill-requires-clause-gathered c =
+fill-requires-clause-gathered g c =
     let got = c.in_ok-region.ensures in
     (got.agree.0, c.args.roots.now, c.args.turned.now, c.args.changed.now, got.gathered got.agree.0 got.agree.1)
 
 pub returns-clause-refreshed : goal.returns-clause-refreshed
-returns-clause-refreshed c =
+returns-clause-refreshed g c =
     let got = c.in_ok-region.ensures in
-    let region = c.in_ok-region.field-0.region in
-    refreshed (MayRecall c.args.sets.now.rows c.args.changed.now c.args.view.now c.gathered.new.nodes) c.args.sets.now.rows c.fill.new.sets.rows c.args.roots.now c.args.turned.now c.args.changed.now
-    _ c.in_ok-region.field-0.asked.items c.in_ok-region.field-0.asked.items region.told.items region.dropped.items
-    got.told got.agree got.gathered got.asked refl c.in_ok-fill.ensures.nodes c.in_ok-fill.ensures.held
+    let region = c.in_ok-region.field-0.region in (
+      c.in_ok-region.field-0.asked.items,
+      refreshed (MayRecall c.args.sets.now.rows c.args.changed.now (g.A.CountedArcs.snap c.args.arcs.now) c.gathered.new.nodes) c.args.sets.now.rows c.fill.new.sets.rows c.args.roots.now c.args.turned.now c.args.changed.now
+          [] c.in_ok-region.field-0.asked.items c.in_ok-region.field-0.asked.items region.told.items region.dropped.items
+          got.told got.agree got.gathered got.asked refl c.in_ok-fill.ensures.nodes c.in_ok-fill.ensures.held,
+      got.handed,
+    )
 
 pub returns-clause-noted : goal.returns-clause-noted
-returns-clause-noted c =
+returns-clause-noted g c =
     let got = c.in_ok-region.ensures in
     let region = c.in_ok-region.field-0.region in
     let asked = c.in_ok-region.field-0.asked in

@@ -8,7 +8,7 @@ use Rattle.graphs.specs.Groups.{IsGroupArc}
 use Rattle.leopard.specs.Index.{bare}
 use Rattle.leopard.specs.inside.Asking.{AreAll, Gains, IsComputed}
 use Rattle.leopard.proofs.Bare.{bare_with, bare_without}
-use Rattle.delta.proofs.arcs.ConfigArcs.ends_of.Goals as goal
+use Rattle.delta.proofs.has_arcs.ConfigHasArcs.arc_ends.Goals as goal
 
 pub returns-in_default : goal.returns-in_default
 returns-in_default c = subst (λ (ns : List Node). AreAll (IsGroupArc (bare c.args.self.now) c.args.node.now) ns) (sym c.new-computed.ensures.items)

@@ -6,7 +6,7 @@ use Rattle.config_text.specs.Forms.{form_of}
 use Rattle.config_text.specs.declared.relation.Relation.{Relation}
 use Rattle.leopard.specs.inside.Asking.{Gains, IsComputed}
 use Rattle.leopard.proofs.Arcs.{set_known, arcs_with, arcs_without}
-use Rattle.delta.proofs.arcs.ViewArcs.ends_of.Goals as goal
+use Rattle.delta.proofs.has_arcs.ViewHasArcs.arc_ends.Goals as goal
 
 pub returns-in_default : goal.returns-in_default
 returns-in_default c =
