@@ -200,7 +200,14 @@ impl Followed {
         let view = self.rows.at(rev);
         each_view_is_valid(&view);
         let (hot, groups) = (self.members_at(rev), self.groups_at(rev));
-        told(check_at(self.alloc, self.keys, &view, &mut Known { hot, groups }, node, user))
+        told(check_at(
+            self.alloc,
+            self.keys,
+            &view,
+            &mut Known { hot, groups },
+            node,
+            user,
+        ))
     }
 
     /// The same by a search that asks nothing.

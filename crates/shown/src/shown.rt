@@ -740,7 +740,11 @@ impl Shown {
         ensures same { self.new ≡ self.old }
     {
         let index = self.groups.take()?;
-        index_later(self.alloc, self.keys, index, &self.rows, self.index, to).ok()
+        let (rows, from) = (&self.rows, self.index);
+        match index_later(self.alloc, self.keys, index, rows, from, to) {
+            Ok(later) => Some(later),
+            Err(_) => None,
+        }
     }
 
     fn take_hot(&mut self, commits: u32)
