@@ -4,10 +4,12 @@ ghost use Rattle.std.specs.Prelude.{◌≡◌};
 use crate::at::At;
 use delta::{CountedArcs, Layer};
 use direct::Direct;
+use leopard::Input;
 use names::Event;
 use rows::View;
 use std::alloc::{AllocError, Global};
 use std::hash::RandomState;
+use std::thread::{Threads, join};
 
 /// Which groups each group leads to (GROUP2GROUP of Zanzibar, section 3.2.4) and which groups name each user by a tuple
 /// of their own (MEMBER2GROUP), at each revision from a base to a cursor, under one configuration. With another
@@ -41,6 +43,45 @@ impl GroupIndex {
     {
         let layer = Layer::restart(alloc, keys, view, rev)?;
         let direct = Direct::restart(alloc, keys, view, rev)?;
+        Ok(GroupIndex { layer, direct })
+    }
+
+    /// The same of a snapshot that was copied, whose revision this is. No view is read, so it may be made beside whoever
+    /// takes commits.
+    pub fn of(
+        alloc: Global,
+        keys: RandomState,
+        input: &Input,
+        rev: u64,
+    ) -> Result<GroupIndex, AllocError>
+        ensures index { IfOk result (λ index. (snaps : ℕ → Snap) → snaps rev ≡ input.now → IsGroupIndexOf index snaps) }
+        ensures base { IfOk result (λ index. base_of index ≡ rev) }
+        ensures cursor { IfOk result (λ index. cursor_of index ≡ rev) }
+    {
+        let layer = Layer::of(alloc, keys, input, rev)?;
+        let direct = Direct::of(alloc, keys, input, rev)?;
+        Ok(GroupIndex { layer, direct })
+    }
+
+    /// The same, where closures and direct groups are each worked out by a thread of their own.
+    pub fn of_parallel<R: Threads + Sync>(
+        rt: &R,
+        alloc: Global,
+        keys: RandomState,
+        input: &Input,
+        rev: u64,
+    ) -> Result<GroupIndex, AllocError>
+        ensures index { IfOk result (λ index. (snaps : ℕ → Snap) → snaps rev ≡ input.now → IsGroupIndexOf index snaps) }
+        ensures base { IfOk result (λ index. base_of index ≡ rev) }
+        ensures cursor { IfOk result (λ index. cursor_of index ≡ rev) }
+    {
+        let (direct, layer) = join(
+            rt,
+            move || Direct::of(alloc, keys, input, rev),
+            move || Layer::of(alloc, keys, input, rev),
+        );
+        let layer = layer?;
+        let direct = direct?;
         Ok(GroupIndex { layer, direct })
     }
 
