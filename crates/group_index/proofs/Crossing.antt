@@ -1,6 +1,7 @@
 -- What two threads that make an index share, and what one hands back. Rattle finds this by itself for types that do not
 -- reach a rewrite, which holds rewrites; so it is said here for those that do.
 use mathlib.Core.List.{[], ◌∷◌}
+use denote.Builtin.{u64}
 use denote.Param.Send.{IsSend, IsSync, sendable, recorded_send, recorded_sync, struct_send, struct_sync, enum_send}
 use denote.RattleType.{RattleType}
 use denote.Struct.Struct.{Struct}
@@ -9,6 +10,8 @@ use denote.Struct.Tuple.{TupleAt, type_at}
 use denote.Enum.Enum.{Enum}
 use denote.Enum.Declared as E
 use Rattle.std.specs.Prelude.{ℕ, List}
+use Rattle.std.specs.contracts.alloc.AllocError as AllocError
+use Rattle.std.specs.contracts.random_state.RandomState as RandomState
 use Rattle.std.specs.contracts.result.Result as Result
 use Rattle.std.proofs.Crossing.{crosses, Vec-send, Vec-sync}
 use Rattle.names.proofs.name.Name.TheSendSync as Name
@@ -57,6 +60,15 @@ Direct-send = let T = Direct.the_type in recorded_send _ _ T.to T.to_one Direct-
 
 pub Result-send : (A B : RattleType) → IsSend A → IsSend B → IsSend (Result.the_row A B)
 Result-send A B a b = let T = Result.the_type A B in recorded_send _ _ T.to T.to_one (enum_send (E.shape T) ((a, tt), ((b, tt), tt)))
+
+pub u64-send : IsSend u64
+u64-send = search sendable
+
+pub keys_send : IsSend RandomState.the_row
+keys_send = search sendable depth 20
+
+pub error_send : IsSend AllocError.the_row
+error_send = search sendable depth 20
 
 -- a closure over four values
 pub four_send : (name : List ℕ) (A B C D : RattleType) → IsSend A → IsSend B → IsSend C → IsSend D → IsSend (TupleAt name (A ∷ B ∷ C ∷ D ∷ []))

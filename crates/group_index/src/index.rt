@@ -25,8 +25,9 @@ pub struct GroupIndex {
 impl GroupIndex {
     ghost use Rattle.std.specs.Prelude.{◌≡◌, ◌<◌, ◌≤◌, ◌+◌, ◌-◌, ◌^◌, ◌⊎◌, ℕ, max, OnOk, OnErr, IfOk, IfSome, IfNone};
     ghost use Rattle.meaning.specs.Snap.{Snap};
-    ghost use Rattle.delta.specs.Layers.{IsNext};
+    ghost use Rattle.delta.specs.Layers.{IsLayerOf, IsNext};
     ghost use Rattle.delta.specs.Asked.{WereAskedFew};
+    ghost use Rattle.direct.specs.Revisions.{IsDirectOf};
     ghost use Rattle.group_index.specs.Indices.{IsGroupIndexOf, TellsOf, base_of, cursor_of};
 
     /// The index of one revision, whose view this is: base and cursor are that revision. All tuples are gone over twice.
@@ -77,8 +78,16 @@ impl GroupIndex {
     {
         let (direct, layer) = join(
             rt,
-            move || Direct::of(alloc, keys, input, rev),
-            move || Layer::of(alloc, keys, input, rev),
+            move || -> Result<Direct, AllocError>
+                ensures direct { IfOk result (λ direct. (snaps : ℕ → Snap) → snaps rev ≡ input.entry.now → IsDirectOf direct snaps) }
+                ensures base { IfOk result (λ direct. direct.base ≡ rev) }
+                ensures cursor { IfOk result (λ direct. direct.cursor ≡ rev) }
+            { Direct::of(alloc, keys, input, rev) },
+            move || -> Result<Layer, AllocError>
+                ensures layer { IfOk result (λ layer. (snaps : ℕ → Snap) → snaps rev ≡ input.entry.now → IsLayerOf layer snaps) }
+                ensures base { IfOk result (λ layer. layer.base ≡ rev) }
+                ensures cursor { IfOk result (λ layer. layer.cursor ≡ rev) }
+            { Layer::of(alloc, keys, input, rev) },
         );
         let layer = layer?;
         let direct = direct?;

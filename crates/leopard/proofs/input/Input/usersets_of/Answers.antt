@@ -1,6 +1,4 @@
-use Rattle.std.specs.Prelude.{List, ◌↔◌, Contains}
 use Rattle.std.proofs.lemmas.Result.{IfOk-weaker}
-use Rattle.names.specs.declared.node.Node.{Node}
 use Rattle.leopard.proofs.Inputs.{sets_of}
 use Rattle.leopard.proofs.input.Input.usersets_of.Goals as goal
 
