@@ -11,6 +11,7 @@ use crate::question::Question;
 use lru::LruCache;
 use names::{Node, Object};
 use std::alloc::{AllocError, Global};
+use std::hash::RandomState;
 use std::marker::Model;
 use std::num::NonZeroUsize;
 
@@ -19,11 +20,10 @@ pub const CAPACITY: usize = 1024;
 
 /// Answers of checks, the one used last first. Each is of a revision, a node and a user.
 ///
-/// An answer is found by the hash of its question, whose seed is fixed: who asks may choose questions of one
-/// hash, and then a look-up compares all that are kept, which is 1,024 at the most.
+/// An answer is found by the hash of its question under a key that whoever makes the cache hands in.
 #[derive(Drop)]
 pub struct CachedAnswers {
-    answers: LruCache<Question, bool>,
+    answers: LruCache<Question, bool, RandomState>,
     marks: Marks,
 }
 
@@ -40,14 +40,17 @@ impl Model for CachedAnswers {
 }
 
 impl CachedAnswers {
-    /// A cache that keeps no answer. It takes little memory: room for answers is made as they come.
-    pub fn new(alloc: Global) -> Result<CachedAnswers, AllocError>
+    /// A cache that keeps no answer. Questions are hashed under this key. It takes little memory: room for answers
+    /// is made as they come.
+    pub fn new(alloc: Global, keys: RandomState) -> Result<CachedAnswers, AllocError>
         ensures { IfOk result (λ kept. kept ≡ []) }
     {
         let Some(capacity) = NonZeroUsize::new(CAPACITY) else {
             unreachable!()
         };
-        let answers = LruCache::sparse(alloc, capacity)?;
+        // Made without a bound, as that reserves no room.
+        let mut answers = LruCache::unbounded_with_hasher(alloc, keys)?;
+        answers.resize(capacity);
         Ok(CachedAnswers {
             answers,
             marks: Marks::none(),

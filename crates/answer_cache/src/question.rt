@@ -1,8 +1,7 @@
 //! Questions of checks.
-ghost use Rattle.std.specs.Prelude.{◌≡◌, fold};
+ghost use Rattle.std.specs.Prelude.{◌≡◌};
 ghost use Rattle.std.specs.Cmp.Rules.{hashing};
 ghost use Rattle.std.proofs.Common.{rules};
-ghost use Rattle.answer_cache.specs.Parts.{object_bytes};
 
 use names::{Name, Node, Object, ObjectId};
 use std::hash::{Hash, Hasher};
@@ -44,17 +43,9 @@ impl Hash for Question {
 
     fn hash<H: Hasher>(&self, state: &mut H) {
         state.write_u64(self.revision);
-        hash_object(&self.node.object, state);
-        self.node.relation.as_str().hash(state);
-        hash_object(&self.user, state);
+        self.node.hash(state);
+        self.user.hash(state);
     }
-}
-
-fn hash_object<H: Hasher>(object: &Object, state: &mut H)
-    ensures { state.new ≡ fold H.write state.old (object_bytes object.now) }
-{
-    object.namespace.as_str().hash(state);
-    object.id.as_str().hash(state);
 }
 
 fn copy_of_object(object: &Object) -> Object

@@ -16,6 +16,7 @@ use hot::Hot;
 use names::{Commit, Node, Object, Refusal};
 use rows::{Rows, View};
 use std::alloc::{AllocError, Global};
+use std::hash::RandomState;
 use std::marker::Model;
 use tuple_keys::KeptCommit;
 
@@ -24,6 +25,7 @@ use tuple_keys::KeptCommit;
 #[derive(Drop)]
 pub(crate) struct Followed {
     alloc: Global,
+    keys: RandomState,
     rows: Rows,
     hot: Hot,
     cursor: u64,
@@ -45,14 +47,15 @@ impl Model for Followed {
 }
 
 impl Followed {
-    pub(crate) fn new(alloc: Global) -> Result<Followed, AllocError> {
+    pub(crate) fn new(alloc: Global, keys: RandomState) -> Result<Followed, AllocError> {
         let rows = Rows::empty(alloc);
-        let groups = GroupIndex::restart(alloc, &rows.at(0), 0)?;
+        let groups = GroupIndex::restart(alloc, keys, &rows.at(0), 0)?;
         each_view_is_valid(&rows.at(0));
         Ok(Followed {
             alloc,
+            keys,
             rows,
-            hot: Hot::new(alloc),
+            hot: Hot::new(alloc, keys),
             cursor: 0,
             groups: Some(groups),
         })
@@ -116,7 +119,7 @@ impl Followed {
     /// The group index takes the next commit, where there is one.
     pub(crate) fn take_for_groups(&mut self) -> Result<(), AllocError> {
         if let Some(index) = self.groups.take() {
-            self.groups = Some(next(self.alloc, index, &self.rows)?);
+            self.groups = Some(next(self.alloc, self.keys, index, &self.rows)?);
         }
         Ok(())
     }
@@ -197,7 +200,14 @@ impl Followed {
         let view = self.rows.at(rev);
         each_view_is_valid(&view);
         let (hot, groups) = (self.members_at(rev), self.groups_at(rev));
-        told(check_at(self.alloc, &view, &mut Known { hot, groups }, node, user))
+        told(check_at(
+            self.alloc,
+            self.keys,
+            &view,
+            &mut Known { hot, groups },
+            node,
+            user,
+        ))
     }
 
     /// The same by a search that asks nothing.
@@ -211,7 +221,7 @@ impl Followed {
             return Ok(None);
         }
         let view = self.rows.at(rev);
-        told(check_at(self.alloc, &view, &mut Nothing, node, user))
+        told(check_at(self.alloc, self.keys, &view, &mut Nothing, node, user))
     }
 }
 

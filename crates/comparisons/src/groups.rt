@@ -9,10 +9,16 @@ use delta::ViewArcs;
 use group_index::GroupIndex;
 use rows::{Rows, View};
 use std::alloc::{AllocError, Global};
+use std::hash::RandomState;
 use tuple_keys::KeptCommit;
 
 /// The index after the next commit, where there is one.
-pub(crate) fn next(alloc: Global, index: GroupIndex, rows: &Rows) -> Result<GroupIndex, AllocError>
+pub(crate) fn next(
+    alloc: Global,
+    keys: RandomState,
+    index: GroupIndex,
+    rows: &Rows,
+) -> Result<GroupIndex, AllocError>
     requires { IsIndexIn rows.now index }
     ensures { IfOk result (IsIndexIn rows.now) }
 {
@@ -22,13 +28,14 @@ pub(crate) fn next(alloc: Global, index: GroupIndex, rows: &Rows) -> Result<Grou
     }
     let view = rows.at(from + 1);
     let commits = rows.commits(from, from + 1);
-    after(alloc, index, &commits[0], &view, from + 1)
+    after(alloc, keys, index, &commits[0], &view, from + 1)
 }
 
 /// The index after the commit of the next revision, of which the view has the snapshot. With a configuration it is begun
 /// anew.
 fn after(
     alloc: Global,
+    keys: RandomState,
     index: GroupIndex,
     commit: &KeptCommit,
     view: &View<'_>,
@@ -44,7 +51,7 @@ fn after(
             let mut arcs = ViewArcs::of(alloc, view);
             index.take(alloc, &events, &mut arcs)
         }
-        None => GroupIndex::restart(alloc, view, rev),
+        None => GroupIndex::restart(alloc, keys, view, rev),
     }
 }
 

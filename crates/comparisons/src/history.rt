@@ -12,6 +12,7 @@ use config::Config;
 use names::{Commit, Node, Object, Refusal};
 use snapshots::Snapshot;
 use std::alloc::{AllocError, Global};
+use std::hash::RandomState;
 
 /// How many times a history is changed.
 const TURNS: u64 = 12;
@@ -160,11 +161,12 @@ fn any_user(universe: &Universe, dice: &mut Dice) -> Result<Object, Refusal> {
 
 fn begun(
     alloc: Global,
+    keys: RandomState,
     universe: &Universe,
     seed: u64,
     whole: bool,
 ) -> Result<Run<'_>, AllocError> {
-    let followed = Followed::new(alloc)?;
+    let followed = Followed::new(alloc, keys)?;
     Ok(Run {
         alloc,
         universe,
@@ -180,11 +182,12 @@ fn begun(
 /// Compares a history of the seed, up to the first difference, and a whole one also at each node and user of each revision.
 pub(crate) fn compare(
     alloc: Global,
+    keys: RandomState,
     universe: &Universe,
     seed: u64,
     whole: bool,
     score: &mut Score,
 ) -> Result<(), Refusal> {
-    let mut run = begun(alloc, universe, seed, whole)?;
+    let mut run = begun(alloc, keys, universe, seed, whole)?;
     run.go_on(score)
 }

@@ -22,6 +22,7 @@ mod universe;
 use names::Refusal;
 use policies::{CYCLES, DRAWN, GROUPS, NESTED, Policy};
 use score::Score;
+use std::hash::RandomState;
 use std::process::ExitCode;
 use universe::Universe;
 
@@ -46,8 +47,11 @@ fn told(rt: &HostRuntime) -> Result<bool, Refusal> {
     let count = numbers.first().copied().unwrap_or(MANY);
     let first = numbers.get(1).copied().unwrap_or(1);
     let few = count / SHARE;
+    let Ok(keys) = RandomState::new(rt) else {
+        return Err(Refusal::Memory);
+    };
     for (policy, count) in [(DRAWN, count), (GROUPS, few), (CYCLES, few), (NESTED, few)] {
-        if !is_alike(rt, policy, first, count)? {
+        if !is_alike(rt, keys, policy, first, count)? {
             return Ok(false);
         }
     }
@@ -55,14 +59,20 @@ fn told(rt: &HostRuntime) -> Result<bool, Refusal> {
 }
 
 // Whether nothing differs in so many histories of the policy, from that of a seed on.
-fn is_alike(rt: &HostRuntime, policy: Policy, first: u64, count: u64) -> Result<bool, Refusal> {
+fn is_alike(
+    rt: &HostRuntime,
+    keys: RandomState,
+    policy: Policy,
+    first: u64,
+    count: u64,
+) -> Result<bool, Refusal> {
     let universe = Universe::new(rt.alloc(), policy)?;
     let name = policy.name;
     let mut score = Score::new();
     for number in 0..count {
         let seed = first.wrapping_add(number);
         let whole = policy.config.is_some() || number % SHARE == 0;
-        history::compare(rt.alloc(), &universe, seed, whole, &mut score)?;
+        history::compare(rt.alloc(), keys, &universe, seed, whole, &mut score)?;
         if let Some(difference) = &score.difference {
             let text = format!(in rt.alloc(); "{name}: a difference at seed {seed}, {difference}")?;
             print(rt, text.as_str())?;

@@ -14,6 +14,7 @@ use crate::search::Search;
 use names::{Node, Object, Refusal};
 use rows::View;
 use std::alloc::{AllocError, Global};
+use std::hash::{BuildHasher, Hasher, RandomState};
 use std::marker::Model;
 
 /// Checks at one view, which share what they find as long as they are of one user: a node that several of them reach is read
@@ -23,6 +24,7 @@ use std::marker::Model;
 #[derive(Drop)]
 pub struct Asker<'a> {
     alloc: Global,
+    seed: u64,
     view: &'a View<'a>,
     facts: Facts<'a>,
     reads: Reads<'a>,
@@ -54,15 +56,17 @@ impl<'a> Model for Asker<'a> {
 }
 
 impl<'a> Asker<'a> {
-    /// Nothing was asked yet.
-    pub fn of(alloc: Global, view: &'a View<'a>) -> Asker<'a>
+    /// Nothing was asked yet. Names are hashed under this key.
+    pub fn of(alloc: Global, keys: RandomState, view: &'a View<'a>) -> Asker<'a>
         ensures { result ≡ view.now }
     {
+        let seed = keys.build_hasher().finish();
         Asker {
             alloc,
+            seed,
             view,
             facts: Facts::of(alloc, view),
-            reads: Reads::none(alloc),
+            reads: Reads::none(alloc, seed),
             known: None,
         }
     }
@@ -105,8 +109,8 @@ impl<'a> Asker<'a> {
         match self.known.take() {
             Some(known) if known.user == *user && known.search.has_room_for(level) => Ok(known),
             _ => {
-                self.reads = Reads::none(self.alloc);
-                let search = Search::new(self.alloc, level)?;
+                self.reads = Reads::none(self.alloc, self.seed);
+                let search = Search::new(self.alloc, self.seed, level)?;
                 let user = user.again();
                 Ok(Known { user, search })
             }

@@ -24,11 +24,13 @@ use crate::search::Search;
 use names::{Node, Object, Refusal};
 use rows::View;
 use std::alloc::{AllocError, Global};
+use std::hash::RandomState;
 
 /// Whether the user is a member of the node. It is refused where the relation is not there, and where there
-/// is no memory. After an answer the oracle tells of the view still.
+/// is no memory. After an answer the oracle tells of the view still. Names are hashed under this key.
 pub fn check_at<O: Oracle>(
     alloc: Global,
+    keys: RandomState,
     view: &View,
     oracle: &mut O,
     node: &Node,
@@ -40,7 +42,7 @@ pub fn check_at<O: Oracle>(
     ensures err { IfErr result (CheckCause view.now node.now) }
     ensures tells { OnOk result (O.tells oracle.new view.now) }
 {
-    let mut asker = Asker::of(alloc, view);
+    let mut asker = Asker::of(alloc, keys, view);
     asker.ask(oracle, node, user)
 }
 

@@ -17,23 +17,35 @@ struct Entry {
     number: usize,
 }
 
-/// A number for each key. The key of a node, or of an object, is a hash of its texts or the next one that was
-/// free: who finds a number sees whose it is. An entry stands in the slot of its key, or in the next one that was
-/// free; at least a quarter of the slots are.
+/// A number for each key. The key of a node, or of an object, is a hash of its texts, begun with a secret seed, or the next
+/// one that was free: who finds a number sees whose it is. An entry stands in the slot of its key, or in the next one that
+/// was free; at least a quarter of the slots are.
 #[derive(Drop)]
 pub(crate) struct Numbers {
     alloc: Global,
+    seed: u64,
     slots: Vec<Entry>,
     taken: usize,
 }
 
 impl Numbers {
-    pub(crate) fn new(alloc: Global) -> Numbers {
+    pub(crate) fn new(alloc: Global, seed: u64) -> Numbers {
         Numbers {
             alloc,
+            seed,
             slots: Vec::new(alloc),
             taken: 0,
         }
+    }
+
+    /// The key of the object's node of the relation, unless another node has it.
+    pub(crate) fn key_of(&self, object: &Object, relation: &Name) -> u64 {
+        mixed(self.key_of_object(object), relation.as_str())
+    }
+
+    /// The key of an object, unless another object has it.
+    pub(crate) fn key_of_object(&self, object: &Object) -> u64 {
+        mixed(self.seed, object.id.as_str())
     }
 
     pub(crate) fn get(&self, key: u64) -> Option<usize> {
@@ -110,16 +122,6 @@ fn put(slots: &mut Vec<Entry>, entry: Entry)
     slots[at] = entry;
 }
 
-/// The key of the object's node of the relation, unless another node has it.
-pub(crate) fn key_of(object: &Object, relation: &Name) -> u64 {
-    mixed(key_of_object(object), relation.as_str())
-}
-
-/// The key of an object, unless another object has it.
-pub(crate) fn key_of_object(object: &Object) -> u64 {
-    mixed(0, object.id.as_str())
-}
-
 /// So many kinds of relations are told apart.
 pub(crate) const KINDS: usize = 64;
 
@@ -153,10 +155,14 @@ fn mixed(hash: u64, text: &str) -> u64 {
     stepped(hash, eight(bytes, count - 8))
 }
 
-/// A product's upper half has all bits of the word.
 fn stepped(hash: u64, word: u64) -> u64 {
-    let product = (hash ^ word).wrapping_mul(0x9e37_79b9_7f4a_7c15);
-    product ^ (product >> 32)
+    folded(hash ^ word, 0x9e37_79b9_7f4a_7c15)
+}
+
+/// The two halves of the product, as one: each bit depends on all bits of both numbers.
+fn folded(one: u64, other: u64) -> u64 {
+    let product = one as u128 * other as u128;
+    (product & 0xffff_ffff_ffff_ffff) as u64 ^ (product >> 64) as u64
 }
 
 /// The bytes of a text that has fewer than eight.

@@ -9,7 +9,7 @@ ghost use Rattle.tuple_keys.specs.Named.{is_at};
 ghost use Rattle.decide.specs.inside.Reading.{AreNamed, AreRead, IsReadAt, IsReadOf};
 
 use crate::facts::{Facts, named_objects, node_of};
-use crate::numbers::{Numbers, key_of_object};
+use crate::numbers::Numbers;
 use crate::read_tuple::{ReadTuple, read_tuples};
 use config_text::Rewrite;
 use names::{Name, Object};
@@ -45,13 +45,13 @@ pub(crate) struct Reads<'a> {
 
 impl<'a> Reads<'a> {
     /// Nothing was read.
-    pub(crate) fn none(alloc: Global) -> Reads<'a>
+    pub(crate) fn none(alloc: Global, seed: u64) -> Reads<'a>
         ensures { result.read.items ≡ [] }
     {
         Reads {
             alloc,
             read: Vec::new(alloc),
-            places: Numbers::new(alloc),
+            places: Numbers::new(alloc, seed),
             last: 0,
         }
     }
@@ -114,7 +114,7 @@ impl<'a> Reads<'a> {
         if self.is_read_at(self.last, object) {
             return Ok(self.last);
         }
-        let mut key = key_of_object(object);
+        let mut key = self.places.key_of_object(object);
         'keys: for _ in 0..self.read.len() {
             let Some(place) = self.places.get(key) else {
                 return Err(key);

@@ -13,7 +13,7 @@ ghost use Rattle.decide.specs.inside.Ending.{IsUnfinished, left};
 ghost use Rattle.decide.specs.inside.Reads.{AreOwn, AreParents, node_with};
 ghost use Rattle.decide.specs.inside.Running.{IsRunning};
 
-use crate::numbers::{KINDS, Numbers, key_of, kind_of};
+use crate::numbers::{KINDS, Numbers, kind_of};
 use crate::waiting::{Askers, Waiting};
 use names::{Name, Node, Object};
 use std::alloc::{AllocError, Global};
@@ -68,7 +68,7 @@ pub(crate) struct Search {
 
 impl Search {
     /// No node, of levels up to the greatest.
-    pub(crate) fn new(alloc: Global, level: usize) -> Result<Search, AllocError>
+    pub(crate) fn new(alloc: Global, seed: u64, level: usize) -> Result<Search, AllocError>
         requires { level < 2 ^ 32 }
         ensures opened { IfOk result (λ s. s.opened.items ≡ []) }
         ensures long { IfOk result (λ s. length s.stacks.items ≡ level + 1) }
@@ -78,7 +78,7 @@ impl Search {
         Ok(Search {
             alloc,
             opened: Vec::with_capacity(alloc, ROOM)?,
-            numbers: Numbers::new(alloc),
+            numbers: Numbers::new(alloc, seed),
             likely: [0; KINDS],
             stacks: empty_stacks(alloc, level)?,
             frames: Vec::new(alloc),
@@ -89,7 +89,7 @@ impl Search {
     pub(crate) fn seen(&self, object: &Object, relation: &Name) -> Result<usize, u64>
         ensures { IfOk result (IsNodeAt self.now (node_with relation.now object.now)) }
     {
-        let mut key = key_of(object, relation);
+        let mut key = self.numbers.key_of(object, relation);
         'keys: for _ in 0..self.opened.len() {
             let Some(number) = self.numbers.get(key) else {
                 return Err(key);

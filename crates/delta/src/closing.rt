@@ -13,17 +13,20 @@ use least_sets::groups_are_walks;
 use names::Node;
 use region::{Sets, refresh};
 use std::alloc::{AllocError, Global};
+use std::hash::RandomState;
 
-/// The nodes to which walks of arcs lead from the node, itself among them. Each is asked for once.
+/// The nodes to which walks of arcs lead from the node, itself among them. Each is asked for once. Names are hashed
+/// under this key.
 pub(crate) fn led_to<A: HasArcs>(
     alloc: Global,
+    keys: RandomState,
     arcs: &A,
     from: &Node,
 ) -> Result<Vec<Node>, AllocError>
     ensures { IfOk result (λ v. AreAll (GroupWalk (A.snap arcs.now) from.now) v.items) }
 {
     groups_are_walks();
-    let mut nodes = Ids::new(alloc);
+    let mut nodes = Ids::new(alloc, keys);
     let start = nodes.see(from.clone()?)?;
     let roots = only(alloc, start)?;
     let mut facts = GroupFacts {
@@ -43,13 +46,14 @@ pub(crate) fn led_to<A: HasArcs>(
 /// Whether computed usersets alone lead from one node to another.
 pub(crate) fn computes(
     alloc: Global,
+    keys: RandomState,
     config: &Config,
     from: &Node,
     to: &Node,
 ) -> Result<bool, AllocError>
     ensures { IfOk result (λ leads. IsTrue leads ↔ GroupWalk (bare config.now) from.now to.now) }
 {
-    let ends = led_to(alloc, config, from)?;
+    let ends = led_to(alloc, keys, config, from)?;
     let leads = ends.contains(to);
     Ok(leads)
 }

@@ -16,6 +16,7 @@ use names::{Event, Node};
 use region::{Sets, refresh};
 use rows::View;
 use std::alloc::{AllocError, Global};
+use std::hash::RandomState;
 
 /// Which groups each group leads to (GROUP2GROUP of Zanzibar, section 3.2.4), at each revision from a base to a cursor,
 /// under one configuration. Kept are that configuration and, for the cursor, the groups from which a tuple leads to
@@ -45,8 +46,14 @@ impl Layer {
     ghost use Rattle.delta.specs.Noted.{IsNoted};
 
     /// The layer of one revision, whose view this is: base and cursor are that revision, and nothing is noted. All
-    /// tuples are gone over, and each group from which a tuple leads on, or to which one leads, is asked for once.
-    pub fn restart(alloc: Global, view: &View, rev: u64) -> Result<Layer, AllocError>
+    /// tuples are gone over, and each group from which a tuple leads on, or to which one leads, is asked for once. Names
+    /// are hashed under this key.
+    pub fn restart(
+        alloc: Global,
+        keys: RandomState,
+        view: &View,
+        rev: u64,
+    ) -> Result<Layer, AllocError>
         ensures layer { IfOk result (λ layer. (snaps : ℕ → Snap) → snaps rev ≡ view.now → IsLayerOf layer snaps) }
         ensures base { IfOk result (λ layer. layer.base ≡ rev) }
         ensures cursor { IfOk result (λ layer. layer.cursor ≡ rev) }
@@ -54,7 +61,7 @@ impl Layer {
         groups_are_walks();
         let config = view.config().again(alloc)?;
         let tuples = view.tuples(alloc)?;
-        let mut nodes = Ids::new(alloc);
+        let mut nodes = Ids::new(alloc, keys);
         let turned = above_tuples(alloc, &config, &mut nodes, &tuples)?;
         let roots = IdSet::of(turned);
         let mut facts = GroupFacts {
@@ -171,7 +178,7 @@ impl Layer {
     {
         match self.kept_at(group, rev) {
             Some(ids) => named(alloc, &self.nodes, ids.as_slice()),
-            None => led_to(alloc, &self.config, group),
+            None => led_to(alloc, self.nodes.keys(), &self.config, group),
         }
     }
 
@@ -185,7 +192,7 @@ impl Layer {
         ensures err { OnErr result (self.new ≡ self.old) }
     {
         if self.cursor < rev {
-            *self = Layer::restart(alloc, view, rev)?;
+            *self = Layer::restart(alloc, self.nodes.keys(), view, rev)?;
             return Ok(());
         }
         self.raise(rev);

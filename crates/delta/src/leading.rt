@@ -22,16 +22,22 @@ use config_text::Relation;
 use idsets::Ids;
 use names::{Event, Node, Tuple};
 use std::alloc::{AllocError, Global};
+use std::hash::RandomState;
 
 /// The groups that by computed usersets alone lead to the node, itself among them where it is one. Each indexed
 /// relation of its namespace is tried.
-fn leading_to(alloc: Global, config: &Config, node: &Node) -> Result<Vec<Node>, AllocError>
+fn leading_to(
+    alloc: Global,
+    keys: RandomState,
+    config: &Config,
+    node: &Node,
+) -> Result<Vec<Node>, AllocError>
     ensures { IfOk result (λ v. AreAll (LeadsTo config.now node.now) v.items) }
 {
     let relations = config.relations();
     let mut groups = Vec::new(alloc);
     for relation in relations {
-        push_leading(alloc, config, relation, node, &mut groups)?;
+        push_leading(alloc, keys, config, relation, node, &mut groups)?;
     }
     Ok(groups)
 }
@@ -39,6 +45,7 @@ fn leading_to(alloc: Global, config: &Config, node: &Node) -> Result<Vec<Node>, 
 /// Adds the group with the relation and the node's object, where it leads to the node.
 fn push_leading(
     alloc: Global,
+    keys: RandomState,
     config: &Config,
     relation: &Relation,
     node: &Node,
@@ -56,7 +63,7 @@ fn push_leading(
         object: node.object.clone()?,
         relation: relation.name.relation.clone()?,
     };
-    if !computes(alloc, config, &group, node)? {
+    if !computes(alloc, keys, config, &group, node)? {
         return Ok(());
     }
     groups.push(group)?;
@@ -113,7 +120,7 @@ fn push_above(
     match &tuple.subject.relation {
         None => Ok(()),
         Some(_) => {
-            let groups = leading_to(alloc, config, &tuple.node)?;
+            let groups = leading_to(alloc, nodes.keys(), config, &tuple.node)?;
             let mut more = numbers_of(alloc, nodes, &groups)?;
             ids.append(&mut more)?;
             Ok(())

@@ -25,7 +25,7 @@ pub(crate) fn publish_first<J: Naming, R: Wait + Drop>(
     ensures judged { IfOk result (λ begun. WereJudged begun.1.posted begun.1.shown) }
     ensures seats { IfOk result (λ begun. begun.1.seats ≡ MAX_SESSIONS) }
 {
-    let mut own = Shown::without_parts(alloc);
+    let mut own = Shown::without_parts(alloc, opened.keys);
     own.apply(&first)?;
     let publication = Publication::open(alloc, rt, opened, first)?;
     Ok((own, publication))

@@ -8,6 +8,7 @@ use published::{Naming, Opened, Receipt, Session, StepPrefix};
 use rows::Loaded;
 use shown::{Question, Told};
 use std::alloc::Global;
+use std::hash::RandomState;
 use std::marker::Brand;
 use std::process::Abort;
 use std::sync::Wait;
@@ -146,7 +147,8 @@ fn closes_once<A: Abort, J: Naming, H: Wait + Drop>(
 
 #[test]
 fn after_a_fault_changes_are_refused(rt: HostRuntime) {
-    closes_once::<_, Brand, _>(&rt, rt.alloc(), &rt, Opened::new());
+    let keys = RandomState::new(&rt).expect(&rt, "a key");
+    closes_once::<_, Brand, _>(&rt, rt.alloc(), &rt, Opened::new(keys));
 }
 
 fn insert_of(alloc: Global, text: &str) -> Result<Write<Zookie>, Refusal> {
@@ -205,7 +207,8 @@ fn begins_empty<A: Abort, T: Tables + Drop, J: Naming, H: Wait + Drop>(
 #[test]
 fn receipts_have_the_list_of_shown_steps(rt: HostRuntime) {
     let tables = Listed::new(rt.alloc(), 7);
-    begins_empty::<_, _, Brand, _>(&rt, rt.alloc(), &rt, Opened::new(), tables);
+    let keys = RandomState::new(&rt).expect(&rt, "a key");
+    begins_empty::<_, _, Brand, _>(&rt, rt.alloc(), &rt, Opened::new(keys), tables);
 }
 
 // A session that learns the receipt of a write finds what was written.
@@ -268,7 +271,8 @@ fn sessions_learn<A: Abort, T: Tables + Drop, J: Naming, H: Wait + Drop>(
 #[test]
 fn sessions_know_what_they_are_told(rt: HostRuntime) {
     let tables = Listed::new(rt.alloc(), 7);
-    sessions_learn::<_, _, Brand, _>(&rt, rt.alloc(), &rt, Opened::new(), tables);
+    let keys = RandomState::new(&rt).expect(&rt, "a key");
+    sessions_learn::<_, _, Brand, _>(&rt, rt.alloc(), &rt, Opened::new(keys), tables);
 }
 
 // A node is marked once however often it is asked for, one whose relation is not there is refused with 2, and a mark is taken
@@ -336,5 +340,6 @@ fn steps_without_tables<A: Abort, T: Tables + Drop, J: Naming, H: Wait + Drop>(
 #[test]
 fn nodes_are_marked_and_the_base_is_made_anew(rt: HostRuntime) {
     let tables = Listed::new(rt.alloc(), 7);
-    steps_without_tables::<_, _, Brand, _>(&rt, rt.alloc(), &rt, Opened::new(), tables);
+    let keys = RandomState::new(&rt).expect(&rt, "a key");
+    steps_without_tables::<_, _, Brand, _>(&rt, rt.alloc(), &rt, Opened::new(keys), tables);
 }

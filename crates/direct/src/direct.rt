@@ -10,6 +10,7 @@ use idsets::{IdSet, Ids};
 use names::{Event, Node, Object};
 use rows::View;
 use std::alloc::{AllocError, Global};
+use std::hash::RandomState;
 
 /// Which groups name each user by a tuple of their own (MEMBER2GROUP of Zanzibar, section 3.2.4), at each revision from a
 /// base to a cursor, under one configuration. Kept is what they are at the cursor, and for earlier revisions what a
@@ -33,15 +34,20 @@ impl Direct {
     ghost use Rattle.direct.specs.Revisions.{IsDirectOf, IsNext, NotesChanged};
 
     /// The direct groups of one revision, whose view this is: base and cursor are that revision, and nothing is noted. All
-    /// tuples are gone over once.
-    pub fn restart(alloc: Global, view: &View, rev: u64) -> Result<Direct, AllocError>
+    /// tuples are gone over once. Names are hashed under this key.
+    pub fn restart(
+        alloc: Global,
+        keys: RandomState,
+        view: &View,
+        rev: u64,
+    ) -> Result<Direct, AllocError>
         ensures direct { IfOk result (λ direct. (snaps : ℕ → Snap) → snaps rev ≡ view.now → IsDirectOf direct snaps) }
         ensures base { IfOk result (λ direct. direct.base ≡ rev) }
         ensures cursor { IfOk result (λ direct. direct.cursor ≡ rev) }
     {
         let config = view.config().again(alloc)?;
         let tuples = view.tuples(alloc)?;
-        let kept = Memberships::of(alloc, &config, &tuples)?;
+        let kept = Memberships::of(alloc, keys, &config, &tuples)?;
         Ok(Direct {
             config,
             base: rev,
@@ -127,7 +133,7 @@ impl Direct {
         ensures err { OnErr result (self.new ≡ self.old) }
     {
         if self.cursor < rev {
-            *self = Direct::restart(alloc, view, rev)?;
+            *self = Direct::restart(alloc, self.kept.groups.keys(), view, rev)?;
             return Ok(());
         }
         self.raise(rev);

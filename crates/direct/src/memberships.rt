@@ -8,6 +8,7 @@ use config::Config;
 use idsets::{IdSet, Ids};
 use names::{Node, Object, Tuple};
 use std::alloc::{AllocError, Global};
+use std::hash::RandomState;
 
 /// Users and groups with a number each, and at the number of each user those of the groups that name it by a tuple of
 /// their own. There may be a set more than there are users, and then it has nothing.
@@ -37,15 +38,16 @@ impl Memberships {
     ghost use Rattle.direct.specs.Before.{set_in};
     ghost use Rattle.direct.specs.inside.Keeping.{IsMore, AreNumbers, AreFound, AreKept};
 
-    /// The memberships that some tuples tell.
+    /// The memberships that some tuples tell. Names are hashed under this key.
     pub(crate) fn of(
         alloc: Global,
+        keys: RandomState,
         config: &Config,
         tuples: &[Tuple],
     ) -> Result<Memberships, AllocError>
         ensures { IfOk result (AreKept config.now tuples.now) }
     {
-        let mut kept = Memberships::new(alloc);
+        let mut kept = Memberships::new(alloc, keys);
         for tuple in tuples {
             kept.add(alloc, config, tuple)?;
         }
@@ -53,11 +55,11 @@ impl Memberships {
     }
 
     /// Nobody is named. It takes no memory.
-    fn new(alloc: Global) -> Memberships
+    fn new(alloc: Global, keys: RandomState) -> Memberships
         ensures { (config : Configured) → AreKept config [] result }
     {
-        let users = Ids::new(alloc);
-        let groups = Ids::new(alloc);
+        let users = Ids::new(alloc, keys);
+        let groups = Ids::new(alloc, keys);
         let _ = (users.len(), groups.len());
         Memberships {
             users,

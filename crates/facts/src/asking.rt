@@ -8,6 +8,7 @@ use crate::valid::each_view_is_valid;
 use region::{Facts, Told};
 use rows::View;
 use std::alloc::{AllocError, Global};
+use std::hash::RandomState;
 use std::marker::Model;
 use std::mem::swap;
 
@@ -31,13 +32,13 @@ impl<'a> Model for ViewFacts<'a> {
 }
 
 impl<'a> ViewFacts<'a> {
-    /// Nothing has a number, and nobody was asked. It takes no memory.
-    pub fn of(alloc: Global, view: &'a View<'a>) -> ViewFacts<'a>
+    /// Nothing has a number, and nobody was asked. Names are hashed under this key. It takes no memory.
+    pub fn of(alloc: Global, keys: RandomState, view: &'a View<'a>) -> ViewFacts<'a>
         ensures { result ≡ record { snap = view.now; nodes = []; users = []; asked = [] } }
     {
         ViewFacts {
             view,
-            numbers: Numbers::new(alloc),
+            numbers: Numbers::new(alloc, keys),
             asked: Vec::new(alloc),
         }
     }

@@ -5,6 +5,7 @@ use delta::{Layer, ViewArcs};
 use names::{Event, Node, Refusal};
 use rows::Rows;
 use std::alloc::Global;
+use std::hash::RandomState;
 use std::test::Fail;
 
 // A chain of three groups, with a user at its end.
@@ -96,19 +97,20 @@ fn keeps_closures(alloc: Global, rows: &mut Rows, layer: &mut Layer) -> Result<b
     Ok(asked && tells_each_revision(alloc, layer)? && begins_later(alloc, rows, layer)?)
 }
 
-fn has_a_layer(alloc: Global, rows: &mut Rows) -> Result<bool, Refusal> {
+fn has_a_layer(alloc: Global, keys: RandomState, rows: &mut Rows) -> Result<bool, Refusal> {
     fill(alloc, rows, CHAIN)?;
-    let mut layer = Layer::restart(alloc, &rows.at(rows.newest()), 2)?;
+    let mut layer = Layer::restart(alloc, keys, &rows.at(rows.newest()), 2)?;
     keeps_closures(alloc, rows, &mut layer)
 }
 
-fn closures_are_kept(alloc: Global) -> Result<bool, Refusal> {
+fn closures_are_kept(alloc: Global, keys: RandomState) -> Result<bool, Refusal> {
     let mut rows = Rows::empty(alloc);
-    has_a_layer(alloc, &mut rows)
+    has_a_layer(alloc, keys, &mut rows)
 }
 
 #[test]
 fn closures_are_told_at_each_revision(rt: HostRuntime) -> Result<(), Fail> {
-    assert!(rt; closures_are_kept(rt.alloc())?);
+    let keys = RandomState::new(&rt)?;
+    assert!(rt; closures_are_kept(rt.alloc(), keys)?);
     Ok(())
 }

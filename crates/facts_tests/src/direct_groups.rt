@@ -5,6 +5,7 @@ use direct::Direct;
 use names::{Event, Object, Refusal};
 use rows::Rows;
 use std::alloc::{AllocError, Global};
+use std::hash::RandomState;
 use std::test::Fail;
 
 // A userset is no user, and an owner is in no group.
@@ -82,19 +83,20 @@ fn keeps_groups(alloc: Global, rows: &Rows, direct: &mut Direct) -> Result<bool,
     Ok(later && begins_anew(alloc, rows, direct)?)
 }
 
-fn has_direct_groups(alloc: Global, rows: &mut Rows) -> Result<bool, Refusal> {
+fn has_direct_groups(alloc: Global, keys: RandomState, rows: &mut Rows) -> Result<bool, Refusal> {
     fill(alloc, rows, TUPLES)?;
-    let mut direct = Direct::restart(alloc, &rows.at(rows.newest()), 2)?;
+    let mut direct = Direct::restart(alloc, keys, &rows.at(rows.newest()), 2)?;
     keeps_groups(alloc, rows, &mut direct)
 }
 
-fn direct_groups_are_kept(alloc: Global) -> Result<bool, Refusal> {
+fn direct_groups_are_kept(alloc: Global, keys: RandomState) -> Result<bool, Refusal> {
     let mut rows = Rows::empty(alloc);
-    has_direct_groups(alloc, &mut rows)
+    has_direct_groups(alloc, keys, &mut rows)
 }
 
 #[test]
 fn direct_groups_are_told_at_each_revision(rt: HostRuntime) -> Result<(), Fail> {
-    assert!(rt; direct_groups_are_kept(rt.alloc())?);
+    let keys = RandomState::new(&rt)?;
+    assert!(rt; direct_groups_are_kept(rt.alloc(), keys)?);
     Ok(())
 }

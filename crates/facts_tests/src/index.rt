@@ -10,6 +10,7 @@ use leopard::{Expr, groups_at};
 use names::{Event, Node, Object, Refusal};
 use rows::{Rows, View};
 use std::alloc::{AllocError, Global};
+use std::hash::RandomState;
 use std::test::Fail;
 
 // A group leads to one that names a user, whom a third one names too.
@@ -148,9 +149,14 @@ fn take(
     }
 }
 
-fn restart(alloc: Global, rows: &Rows, rev: u64) -> Result<GroupIndex, AllocError> {
+fn restart(
+    alloc: Global,
+    keys: RandomState,
+    rows: &Rows,
+    rev: u64,
+) -> Result<GroupIndex, AllocError> {
     match view_at(rows, rev) {
-        Some(view) => GroupIndex::restart(alloc, &view, rev),
+        Some(view) => GroupIndex::restart(alloc, keys, &view, rev),
         None => Err(AllocError),
     }
 }
@@ -158,65 +164,74 @@ fn restart(alloc: Global, rows: &Rows, rev: u64) -> Result<GroupIndex, AllocErro
 // The index of the first tuples, after the two commits that came then.
 fn followed(
     alloc: Global,
+    keys: RandomState,
     rows: &Rows,
     leaves: &[Event],
     leads: &[Event],
 ) -> Result<GroupIndex, AllocError> {
-    let first = restart(alloc, rows, 2)?;
+    let first = restart(alloc, keys, rows, 2)?;
     let second = take(alloc, rows, first, leaves, 3)?;
     take(alloc, rows, second, leads, 4)
 }
 
-fn follows(alloc: Global, rows: &Rows) -> Result<bool, Refusal> {
+fn follows(alloc: Global, keys: RandomState, rows: &Rows) -> Result<bool, Refusal> {
     let leaves = events_of(alloc, LEAVES)?;
     let leads = events_of(alloc, LEADS)?;
-    let mut index = followed(alloc, rows, leaves.as_slice(), leads.as_slice())?;
+    let mut index = followed(alloc, keys, rows, leaves.as_slice(), leads.as_slice())?;
     is_told(alloc, &mut index, rows)
 }
 
-fn has_an_index(alloc: Global, rows: &mut Rows) -> Result<bool, Refusal> {
+fn has_an_index(alloc: Global, keys: RandomState, rows: &mut Rows) -> Result<bool, Refusal> {
     fill(alloc, rows, TUPLES)?;
     add(alloc, rows, LEAVES)?;
     add(alloc, rows, LEADS)?;
-    follows(alloc, rows)
+    follows(alloc, keys, rows)
 }
 
-fn each_revision_is_told(alloc: Global) -> Result<bool, Refusal> {
+fn each_revision_is_told(alloc: Global, keys: RandomState) -> Result<bool, Refusal> {
     let mut rows = Rows::empty(alloc);
-    has_an_index(alloc, &mut rows)
+    has_an_index(alloc, keys, &mut rows)
 }
 
 #[test]
 fn an_index_answers_at_each_revision(rt: HostRuntime) -> Result<(), Fail> {
-    assert!(rt; each_revision_is_told(rt.alloc())?);
+    let keys = RandomState::new(&rt)?;
+    assert!(rt; each_revision_is_told(rt.alloc(), keys)?);
     Ok(())
 }
 
-fn is_asked(alloc: Global, rows: &Rows, group: &Node, user: &Object) -> Result<bool, Refusal> {
+fn is_asked(
+    alloc: Global,
+    keys: RandomState,
+    rows: &Rows,
+    group: &Node,
+    user: &Object,
+) -> Result<bool, Refusal> {
     let view = rows.at(rows.newest());
     each_view_is_valid(&view);
-    let mut index = GroupIndex::restart(alloc, &view, 2)?;
+    let mut index = GroupIndex::restart(alloc, keys, &view, 2)?;
     index.rebase(alloc, &view, 2)?;
     match index.at(alloc, 2) {
-        Some(mut at) => check_at(alloc, &view, &mut at, group, user),
+        Some(mut at) => check_at(alloc, keys, &view, &mut at, group, user),
         None => Ok(false),
     }
 }
 
-fn asks_the_index(alloc: Global, rows: &mut Rows) -> Result<bool, Refusal> {
+fn asks_the_index(alloc: Global, keys: RandomState, rows: &mut Rows) -> Result<bool, Refusal> {
     fill(alloc, rows, TUPLES)?;
     let group = Node::parse("group:a#member")?;
     let user = Object::parse("user:ann")?;
-    is_asked(alloc, rows, &group, &user)
+    is_asked(alloc, keys, rows, &group, &user)
 }
 
-fn a_check_is_told(alloc: Global) -> Result<bool, Refusal> {
+fn a_check_is_told(alloc: Global, keys: RandomState) -> Result<bool, Refusal> {
     let mut rows = Rows::empty(alloc);
-    asks_the_index(alloc, &mut rows)
+    asks_the_index(alloc, keys, &mut rows)
 }
 
 #[test]
 fn a_check_asks_the_index(rt: HostRuntime) -> Result<(), Fail> {
-    assert!(rt; a_check_is_told(rt.alloc())?);
+    let keys = RandomState::new(&rt)?;
+    assert!(rt; a_check_is_told(rt.alloc(), keys)?);
     Ok(())
 }

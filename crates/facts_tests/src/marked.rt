@@ -5,6 +5,7 @@ use hot::Hot;
 use names::{Commit, Event, EventKind, Items, Node, Object, Refusal, Tuple};
 use rows::Rows;
 use std::alloc::Global;
+use std::hash::RandomState;
 use std::test::Fail;
 
 // The viewers of a document are those who are named, and its owners, and nobody is kept out.
@@ -126,14 +127,15 @@ fn is_kept(alloc: Global, hot: &mut Hot, rows: &mut Rows) -> Result<bool, Refusa
     Ok(anew && is_unmarked(alloc, hot)?)
 }
 
-fn is_kept_till_unmarked(alloc: Global) -> Result<bool, Refusal> {
+fn is_kept_till_unmarked(alloc: Global, keys: RandomState) -> Result<bool, Refusal> {
     let mut rows = Rows::empty(alloc);
-    let mut hot = Hot::new(alloc);
+    let mut hot = Hot::new(alloc, keys);
     is_kept(alloc, &mut hot, &mut rows)
 }
 
 #[test]
 fn a_marked_document_has_its_viewers(rt: HostRuntime) -> Result<(), Fail> {
-    assert!(rt; is_kept_till_unmarked(rt.alloc())?);
+    let keys = RandomState::new(&rt)?;
+    assert!(rt; is_kept_till_unmarked(rt.alloc(), keys)?);
     Ok(())
 }

@@ -8,6 +8,7 @@ use names::{Node, Object, Refusal};
 use region::{Sets, refresh};
 use rows::{Rows, View};
 use std::alloc::{AllocError, Global};
+use std::hash::RandomState;
 use std::test::Fail;
 
 // Whether a node has a user; nothing, where it is not kept.
@@ -60,7 +61,7 @@ fn asked(
     requires { IsWhole sets.old }
 {
     let roots = IdSet::of(vec![in alloc; root]?);
-    let mut facts = ViewFacts::of(alloc, view);
+    let mut facts = ViewFacts::of(alloc, numbers.nodes.keys(), view);
     facts.exchange(numbers);
     refresh(alloc, sets, &roots, &[root], &[], &mut facts)?;
     facts.exchange(numbers);
@@ -93,15 +94,16 @@ fn tells(
     Ok(keeps(alloc, rows, numbers, sets)? && are_by_hand(numbers, sets)?)
 }
 
-fn is_told(alloc: Global) -> Result<bool, Refusal> {
+fn is_told(alloc: Global, keys: RandomState) -> Result<bool, Refusal> {
     let mut rows = Rows::empty(alloc);
-    let mut numbers = Numbers::new(alloc);
+    let mut numbers = Numbers::new(alloc, keys);
     let mut sets = Sets::new(alloc);
     tells(alloc, &mut rows, &mut numbers, &mut sets)
 }
 
 #[test]
 fn a_view_tells_who_views_a_document(rt: HostRuntime) -> Result<(), Fail> {
-    assert!(rt; is_told(rt.alloc())?);
+    let keys = RandomState::new(&rt)?;
+    assert!(rt; is_told(rt.alloc(), keys)?);
     Ok(())
 }

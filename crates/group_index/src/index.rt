@@ -7,6 +7,7 @@ use direct::Direct;
 use names::Event;
 use rows::View;
 use std::alloc::{AllocError, Global};
+use std::hash::RandomState;
 
 /// Which groups each group leads to (GROUP2GROUP of Zanzibar, section 3.2.4) and which groups name each user by a tuple
 /// of their own (MEMBER2GROUP), at each revision from a base to a cursor, under one configuration. With another
@@ -27,13 +28,19 @@ impl GroupIndex {
     ghost use Rattle.group_index.specs.Indices.{IsGroupIndexOf, TellsOf, base_of, cursor_of};
 
     /// The index of one revision, whose view this is: base and cursor are that revision. All tuples are gone over twice.
-    pub fn restart(alloc: Global, view: &View, rev: u64) -> Result<GroupIndex, AllocError>
+    /// Names are hashed under this key.
+    pub fn restart(
+        alloc: Global,
+        keys: RandomState,
+        view: &View,
+        rev: u64,
+    ) -> Result<GroupIndex, AllocError>
         ensures index { IfOk result (λ index. (snaps : ℕ → Snap) → snaps rev ≡ view.now → IsGroupIndexOf index snaps) }
         ensures base { IfOk result (λ index. base_of index ≡ rev) }
         ensures cursor { IfOk result (λ index. cursor_of index ≡ rev) }
     {
-        let layer = Layer::restart(alloc, view, rev)?;
-        let direct = Direct::restart(alloc, view, rev)?;
+        let layer = Layer::restart(alloc, keys, view, rev)?;
+        let direct = Direct::restart(alloc, keys, view, rev)?;
         Ok(GroupIndex { layer, direct })
     }
 
@@ -99,7 +106,7 @@ impl GroupIndex {
         ensures err { OnErr result (self.new ≡ self.old) }
     {
         if self.cursor() < rev {
-            *self = GroupIndex::restart(alloc, view, rev)?;
+            *self = GroupIndex::restart(alloc, self.layer.nodes().keys(), view, rev)?;
             return Ok(());
         }
         self.raise(rev);

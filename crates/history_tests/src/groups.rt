@@ -10,6 +10,7 @@ use leopard::{
 use names::{Node, Object, Refusal};
 use rows::{Rows, View};
 use std::alloc::{AllocError, Global};
+use std::hash::RandomState;
 use std::test::Fail;
 
 // Groups, and a relation that is not indexed.
@@ -259,19 +260,20 @@ fn are_named(alloc: Global, rows: &Rows, names: &mut Ids<Node>) -> Result<bool, 
     are_nodes(&nodes, "group:a#member group:b#member")
 }
 
-fn names_ids(alloc: Global, rows: &mut Rows) -> Result<bool, Refusal> {
+fn names_ids(alloc: Global, keys: RandomState, rows: &mut Rows) -> Result<bool, Refusal> {
     fill(alloc, rows, &[CONFIG, CHAIN])?;
-    let mut names = Ids::new(alloc);
+    let mut names = Ids::new(alloc, keys);
     are_named(alloc, rows, &mut names)
 }
 
-fn ids_are_named(alloc: Global) -> Result<bool, Refusal> {
+fn ids_are_named(alloc: Global, keys: RandomState) -> Result<bool, Refusal> {
     let mut rows = Rows::empty(alloc);
-    names_ids(alloc, &mut rows)
+    names_ids(alloc, keys, &mut rows)
 }
 
 #[test]
 fn groups_with_and_without_ids_are_named(rt: HostRuntime) -> Result<(), Fail> {
-    assert!(rt; ids_are_named(rt.alloc())?);
+    let keys = RandomState::new(&rt)?;
+    assert!(rt; ids_are_named(rt.alloc(), keys)?);
     Ok(())
 }

@@ -4,12 +4,19 @@ use answer_cache::{At, CachedAnswers};
 use decide::Oracle;
 use names::{Node, Object, Refusal};
 use std::alloc::Global;
+use std::hash::RandomState;
 use std::test::Fail;
 
 // What is kept of the node, the user and the revision, after answers of two users at revision 7.
-fn found(alloc: Global, node: &str, user: &str, revision: u64) -> Result<Option<bool>, Refusal> {
+fn found(
+    alloc: Global,
+    keys: RandomState,
+    node: &str,
+    user: &str,
+    revision: u64,
+) -> Result<Option<bool>, Refusal> {
     let readme = Node::parse("document:readme#viewer")?;
-    let mut kept = CachedAnswers::new(alloc)?;
+    let mut kept = CachedAnswers::new(alloc, keys)?;
     kept.keep(7, &readme, &Object::parse("user:ann")?, false)?;
     kept.keep(7, &readme, &Object::parse("user:bob")?, false)?;
     kept.keep(7, &readme, &Object::parse("user:ann")?, true)?;
@@ -18,6 +25,7 @@ fn found(alloc: Global, node: &str, user: &str, revision: u64) -> Result<Option<
 
 #[test]
 fn an_answer_is_found_again(rt: HostRuntime) -> Result<(), Fail> {
+    let keys = RandomState::new(&rt)?;
     for (node, user, revision, wanted) in [
         ("document:readme#viewer", "user:ann", 7, Some(true)),
         ("document:readme#viewer", "user:bob", 7, Some(false)),
@@ -25,16 +33,16 @@ fn an_answer_is_found_again(rt: HostRuntime) -> Result<(), Fail> {
         ("document:readme#viewer", "user:cy", 7, None),
         ("document:readme#owner", "user:ann", 7, None),
     ] {
-        let answer = found(rt.alloc(), node, user, revision)?;
+        let answer = found(rt.alloc(), keys, node, user, revision)?;
         assert!(rt; answer == wanted, "{node}@{user} at {revision}");
     }
     Ok(())
 }
 
 // What is kept of the revision, after answers of 1,025 revisions: the first was asked for again before the last came.
-fn left(alloc: Global, revision: u64) -> Result<Option<bool>, Refusal> {
+fn left(alloc: Global, keys: RandomState, revision: u64) -> Result<Option<bool>, Refusal> {
     let (node, user) = (Node::parse("group:a#member")?, Object::parse("user:ann")?);
-    let mut kept = CachedAnswers::new(alloc)?;
+    let mut kept = CachedAnswers::new(alloc, keys)?;
     for asked in 0..1024 {
         kept.keep(asked, &node, &user, asked % 2 == 0)?;
     }
@@ -45,6 +53,7 @@ fn left(alloc: Global, revision: u64) -> Result<Option<bool>, Refusal> {
 
 #[test]
 fn the_one_used_least_lately_goes(rt: HostRuntime) -> Result<(), Fail> {
+    let keys = RandomState::new(&rt)?;
     for (revision, wanted) in [
         (0, Some(true)),
         (1, None),
@@ -53,7 +62,7 @@ fn the_one_used_least_lately_goes(rt: HostRuntime) -> Result<(), Fail> {
         (1023, Some(false)),
         (1024, Some(true)),
     ] {
-        let answer = left(rt.alloc(), revision)?;
+        let answer = left(rt.alloc(), keys, revision)?;
         assert!(rt; answer == wanted, "at {revision}");
     }
     Ok(())
@@ -65,9 +74,13 @@ fn told_at(kept: &CachedAnswers, revision: u64, node: &Node, user: &Object) -> O
 }
 
 // What a check at the revision is told, after an answer at revision 7, and after the cache was cleared.
-fn told(alloc: Global, revision: u64) -> Result<(Option<bool>, Option<bool>), Refusal> {
+fn told(
+    alloc: Global,
+    keys: RandomState,
+    revision: u64,
+) -> Result<(Option<bool>, Option<bool>), Refusal> {
     let (node, user) = (Node::parse("group:a#member")?, Object::parse("user:ann")?);
-    let mut kept = CachedAnswers::new(alloc)?;
+    let mut kept = CachedAnswers::new(alloc, keys)?;
     kept.keep(7, &node, &user, true)?;
     let before = told_at(&kept, revision, &node, &user);
     kept.clear();
@@ -76,8 +89,9 @@ fn told(alloc: Global, revision: u64) -> Result<(Option<bool>, Option<bool>), Re
 
 #[test]
 fn a_check_is_told_what_is_kept(rt: HostRuntime) -> Result<(), Fail> {
+    let keys = RandomState::new(&rt)?;
     for (revision, wanted) in [(7, Some(true)), (8, None)] {
-        let answers = told(rt.alloc(), revision)?;
+        let answers = told(rt.alloc(), keys, revision)?;
         assert!(rt; answers == (wanted, None), "at {revision}");
     }
     Ok(())

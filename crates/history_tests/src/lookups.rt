@@ -9,6 +9,7 @@ use lookup::{Lookup, an_object_that_no_tuple_names_has_no_users, lookup_at, look
 use names::{Items, Name, Object, ObjectId, Refusal, RelationName};
 use rows::{Loaded, Rows, View};
 use std::alloc::{AllocError, Global};
+use std::hash::RandomState;
 use std::test::Fail;
 
 // Two groups that hold each other, and documents whose readers are their viewers, but for who is blocked. A document in a
@@ -84,6 +85,7 @@ fn index_of(alloc: Global, view: &View) -> Result<BySubject, AllocError>
 // Whether a lookup gives these ids.
 fn looks_up(
     alloc: Global,
+    keys: RandomState,
     view: &View,
     found: Option<&BySubject>,
     asked: &Lookup,
@@ -92,23 +94,24 @@ fn looks_up(
     requires { IfSome found (λ found. Covers found.now view.now.tuples) }
 {
     let by_subject = ViewBySubject::of(view, found);
-    let ids = lookup_at(alloc, &by_subject, &mut Nothing, asked)?;
+    let ids = lookup_at(alloc, keys, &by_subject, &mut Nothing, asked)?;
     Ok(are_ids(&ids, wanted))
 }
 
 // Whether both ways give these ids: over the namespace, and up from the user.
-fn gives(alloc: Global, asked: &Lookup, wanted: &str) -> Result<bool, Refusal> {
+fn gives(alloc: Global, keys: RandomState, asked: &Lookup, wanted: &str) -> Result<bool, Refusal> {
     let rows = history(alloc, &LINES)?;
     let view = rows.at(rows.newest());
     let subjects = index_of(alloc, &view)?;
-    let over = looks_up(alloc, &view, None, asked, wanted)?;
-    Ok(over && looks_up(alloc, &view, Some(&subjects), asked, wanted)?)
+    let over = looks_up(alloc, keys, &view, None, asked, wanted)?;
+    Ok(over && looks_up(alloc, keys, &view, Some(&subjects), asked, wanted)?)
 }
 
 #[test]
 fn the_objects_of_a_user_are_found_in_order(rt: HostRuntime) -> Result<(), Fail> {
     an_object_that_no_tuple_names_has_no_users();
     lookups_are_one();
+    let keys = RandomState::new(&rt)?;
     for (relation, user, after, limit, wanted) in [
         ("reader", "user:ann", "", 1000, "1 10 3 5"),
         ("reader", "user:ann", "", 2, "1 10"),
@@ -121,26 +124,28 @@ fn the_objects_of_a_user_are_found_in_order(rt: HostRuntime) -> Result<(), Fail>
         ("finder", "user:bob", "", 1000, "4"),
     ] {
         let asked = asked(relation, user, after, limit)?;
-        let right = gives(rt.alloc(), &asked, wanted)?;
+        let right = gives(rt.alloc(), keys, &asked, wanted)?;
         assert!(rt; right, "{relation} of {user} after {after}");
     }
     Ok(())
 }
 
-fn is_unknown(alloc: Global, rows: &Rows, asked: &Lookup) -> bool {
+fn is_unknown(alloc: Global, keys: RandomState, rows: &Rows, asked: &Lookup) -> bool {
     let view = rows.at(rows.newest());
-    let found = lookup_at(alloc, &ViewBySubject::of(&view, None), &mut Nothing, asked);
+    let by_subject = ViewBySubject::of(&view, None);
+    let found = lookup_at(alloc, keys, &by_subject, &mut Nothing, asked);
     matches!(found, Err(Refusal::UnknownRelation))
 }
 
-fn refuses_unknown(alloc: Global) -> Result<bool, Refusal> {
+fn refuses_unknown(alloc: Global, keys: RandomState) -> Result<bool, Refusal> {
     let rows = history(alloc, &LINES)?;
-    let member = is_unknown(alloc, &rows, &asked("member", "user:ann", "", 1)?);
-    Ok(member && !is_unknown(alloc, &rows, &asked("blocked", "user:ann", "", 1)?))
+    let member = is_unknown(alloc, keys, &rows, &asked("member", "user:ann", "", 1)?);
+    Ok(member && !is_unknown(alloc, keys, &rows, &asked("blocked", "user:ann", "", 1)?))
 }
 
 #[test]
 fn a_lookup_of_an_unknown_relation_is_refused(rt: HostRuntime) -> Result<(), Fail> {
-    assert!(rt; refuses_unknown(rt.alloc())?);
+    let keys = RandomState::new(&rt)?;
+    assert!(rt; refuses_unknown(rt.alloc(), keys)?);
     Ok(())
 }

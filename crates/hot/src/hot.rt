@@ -17,6 +17,7 @@ use region::{Sets, Told, sweep};
 use rows::View;
 use std::alloc::{AllocError, Global};
 use std::collections::BTreeMap;
+use std::hash::RandomState;
 
 /// The marked nodes, and who is a member of them and of all that they depend on, at one revision: the cursor. What was told of
 /// these nodes is remembered, as far as there was memory.
@@ -41,13 +42,13 @@ impl Hot {
     ghost use Rattle.hot.specs.Kept.{IsHot, IsMarked, marks_of, HasNumber, MarkCause};
     ghost use Rattle.hot.specs.Kept.{HasMarked, HasUnmarked, HasSameMarks, WereAsked, IsKept, IsNew, IsNewOrTouched};
 
-    /// Nothing is marked, which is so at each revision. It takes no memory.
-    pub fn new(alloc: Global) -> Hot
+    /// Nothing is marked, which is so at each revision. Names are hashed under this key. It takes no memory.
+    pub fn new(alloc: Global, keys: RandomState) -> Hot
         ensures hot { (S : Snap) → IsValid S → IsHot result S }
         ensures marked { (n : Node) → IsMarked result n → ⊥ }
     {
         Hot {
-            numbers: Numbers::new(alloc),
+            numbers: Numbers::new(alloc, keys),
             marks: IdSet::new(alloc),
             sets: Sets::new(alloc),
             told: BTreeMap::new(alloc),

@@ -9,6 +9,7 @@ use region::{Facts, Told};
 use rows::View;
 use std::alloc::{AllocError, Global};
 use std::collections::BTreeMap;
+use std::hash::RandomState;
 use std::mem::swap;
 
 /// A view, and what is remembered of its nodes: it is asked for a node of which nothing is. Those that were asked for are
@@ -21,13 +22,14 @@ pub(crate) struct Recalling<'a> {
 }
 
 impl<'a> Recalling<'a> {
-    /// Nothing has a number or is remembered, and nobody was asked. It takes no memory.
-    pub(crate) fn of(alloc: Global, view: &'a View<'a>) -> Recalling<'a>
+    /// Nothing has a number or is remembered, and nobody was asked. Names are hashed under this key. It takes
+    /// no memory.
+    pub(crate) fn of(alloc: Global, keys: RandomState, view: &'a View<'a>) -> Recalling<'a>
         ensures snap { result.facts.snap ≡ view.now }
         ensures asked { result.asked.items ≡ [] }
     {
         Recalling {
-            facts: ViewFacts::of(alloc, view),
+            facts: ViewFacts::of(alloc, keys, view),
             told: BTreeMap::new(alloc),
             asked: Vec::new(alloc),
         }

@@ -34,7 +34,7 @@ pub(crate) fn renew(
     ensures renewed { IfOk result (λ asked. IsRenewed (MayRecall view.now told.old numbers.new.nodes numbers.new.users)
         sets.old.rows sets.new.rows roots.now turned.now changed.now [] asked.items told.old told.new) }
 {
-    let mut facts = Recalling::of(alloc, view);
+    let mut facts = Recalling::of(alloc, numbers.nodes.keys(), view);
     facts.exchange(numbers, told);
     let done = renew_by(alloc, &mut facts, sets, roots, turned, changed);
     facts.exchange(numbers, told);

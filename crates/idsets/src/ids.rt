@@ -5,13 +5,14 @@ ghost use Rattle.std.specs.Option.{option_copied};
 ghost use Rattle.idsets.specs.Naming.{AreDistinct};
 ghost use Rattle.std.proofs.Common.{rules};
 
+use indexmap::IndexSet;
 use names::{Node, Object, Subject};
 use std::alloc::{AllocError, Global};
-use std::collections::BTreeMap;
+use std::hash::{Hash, RandomState};
 use std::marker::Model;
 
 /// Names that are one where their order says that they are equal, and of which a copy is the same.
-pub trait Named: Ord + Clone + Drop {
+pub trait Named: Ord + Hash + Clone + Drop {
     ghost use Rattle.std.specs.declared.cmp.Ordering.TheVariants.{Equal};
 
     ghost exact: { (a b : Self) → Self.cmp a b ≡ Equal → a ≡ b };
@@ -43,33 +44,34 @@ impl Named for Subject {
     ghost copied = { λ a b. Prim.search rules };
 }
 
-/// Names with an id each: 0, 1, 2 and so on, in the order in which they were first seen.
+/// Names with an id each: 0, 1, 2 and so on, in the order in which they were first seen. An id is found by a hash under a
+/// key that whoever makes them hands in.
 #[derive(Drop)]
 pub struct Ids<N: Named> {
-    names: Vec<N>,
-    ids: BTreeMap<N, u64>,
+    names: IndexSet<N, RandomState>,
 }
 
 impl<N: Named> Model for Ids<N> {
     ghost use Rattle.std.specs.Prelude.{List};
-    ghost use Rattle.idsets.specs.Naming.{IsIndex};
 
     ghost Value = { List N };
 
-    ghost view = { λ s. s.names.items };
-
-    ghost invariant = { λ s. IsIndex N.cmp s.names.items s.ids.entries };
+    ghost view = { λ s. s.names.keys };
 }
 
 impl<N: Named> Ids<N> {
     /// No name. It takes no memory.
-    pub fn new(alloc: Global) -> Ids<N>
+    pub fn new(alloc: Global, keys: RandomState) -> Ids<N>
         ensures { result ≡ [] }
     {
         Ids {
-            names: Vec::new(alloc),
-            ids: BTreeMap::new(alloc),
+            names: IndexSet::with_hasher(alloc, keys),
         }
+    }
+
+    /// The key of the hashes.
+    pub fn keys(&self) -> RandomState {
+        *self.names.hasher()
     }
 
     /// How many names were seen.
@@ -85,14 +87,17 @@ impl<N: Named> Ids<N> {
         ensures found { IfSome result (λ id. slice_get self.now id ≡ Some name.now) }
         ensures missing { IfNone result ((id : ℕ) → slice_get self.now id ≡ Some name.now → ⊥) }
     {
-        self.ids.get(name).copied()
+        match self.names.get_index_of(name) {
+            Some(id) => Some(id as u64),
+            None => None,
+        }
     }
 
     /// The name of an id that was given.
     pub fn name(&self, id: u64) -> Option<&N>
         ensures { option_copied result ≡ slice_get self.now id }
     {
-        self.names.get(id as usize)
+        self.names.get_index(id as usize)
     }
 
     /// The id of a name, the next one if it was not seen before. For want of memory nothing changes.
@@ -101,13 +106,9 @@ impl<N: Named> Ids<N> {
         ensures names { IfOk result (λ id. self.new ≡ (if nat_lt id (length self.old) then self.old else self.old ++ name ∷ [])) }
         ensures err { OnErr result (self.new ≡ self.old) }
     {
-        if let Some(id) = self.id_of(&name) {
-            return Ok(id);
-        }
-        self.names.reserve(1)?;
-        let id = self.names.len() as u64;
-        self.ids.insert(name.clone()?, id)?;
-        self.names.push(name)?;
-        Ok(id)
+        let Ok((id, _)) = self.names.insert_full(name) else {
+            return Err(AllocError);
+        };
+        Ok(id as u64)
     }
 }

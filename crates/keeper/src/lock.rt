@@ -27,6 +27,7 @@ use names::{Call, Part, Refusal, Reply};
 use one_history::{History, HistoryName, Log};
 use published::{Opened, Receipt, Session};
 use std::alloc::{AllocError, Global};
+use std::hash::RandomState;
 use std::marker::{Brand, Model};
 use std::sync::{Mutex, MutexGuard, Wait};
 use tables::Tables;
@@ -47,10 +48,10 @@ pub struct Opening {
 }
 
 impl Opening {
-    /// A new one.
-    pub fn new(alloc: Global) -> Result<Opening, AllocError> {
+    /// A new one. Names are hashed under this key.
+    pub fn new(alloc: Global, keys: RandomState) -> Result<Opening, AllocError> {
         Ok(Opening {
-            opened: Opened::new(),
+            opened: Opened::new(keys),
             history: one_history::Opening::new(alloc)?,
         })
     }

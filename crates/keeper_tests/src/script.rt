@@ -9,6 +9,7 @@ use keeper::{Front, Keeper, KeeperName, Opening};
 use names::{Call, Reply};
 use published::{Naming, Opened};
 use std::alloc::{AllocError, Global};
+use std::hash::RandomState;
 use std::marker::Brand;
 use std::process::Abort;
 use std::sync::Wait;
@@ -211,15 +212,16 @@ fn by_locked<J: KeeperName<T>, H: Wait + Drop, W: Abort + Wait, T: Tables + Drop
 
 #[test]
 fn a_worker_is_answered_as_one_who_holds_the_desk(rt: HostRuntime) {
+    let keys = RandomState::new(&rt).expect(&rt, "a key");
     let alloc = rt.alloc();
     let own = Listed::new(alloc, 1);
-    let lent = by_lent::<_, _, Brand, _>(&rt, &rt, alloc, Opened::new(), own);
+    let lent = by_lent::<_, _, Brand, _>(&rt, &rt, alloc, Opened::new(keys), own);
     let tables = Listed::new(alloc, 1);
     let locked = by_locked::<Brand, _, _, _>(
         &rt,
         &rt,
         alloc,
-        Opening::new(rt.alloc()).expect(&rt, "memory"),
+        Opening::new(rt.alloc(), keys).expect(&rt, "memory"),
         tables,
     );
     assert!(rt; locked.as_slice().starts_with(STORED.as_bytes()));

@@ -7,6 +7,7 @@ use keeper::{Front, Keeper, KeeperName, Opening, Place};
 use names::{Call, Node, Object};
 use published::{Naming, Receipt, Session};
 use std::alloc::{AllocError, Global};
+use std::hash::RandomState;
 use std::marker::{Brand, Model, PhantomData};
 use std::process::Abort;
 use std::sync::{Mutex, Wait};
@@ -225,12 +226,13 @@ fn beside<
 
 #[test]
 fn sessions_beside_a_worker_that_writes(rt: HostRuntime) {
+    let keys = RandomState::new(&rt).expect(&rt, "a key");
     let tables = Listed::new(rt.alloc(), 1);
     beside::<Brand, _, _, _>(
         &rt,
         &rt,
         rt.alloc(),
-        Opening::new(rt.alloc()).expect(&rt, "memory"),
+        Opening::new(rt.alloc(), keys).expect(&rt, "memory"),
         tables,
     );
 }
@@ -272,12 +274,13 @@ fn closed<
 
 #[test]
 fn a_session_beside_a_keeper_that_is_closed(rt: HostRuntime) {
+    let keys = RandomState::new(&rt).expect(&rt, "a key");
     let tables = Listed::new(rt.alloc(), 1);
     closed::<Brand, _, _, _>(
         &rt,
         &rt,
         rt.alloc(),
-        Opening::new(rt.alloc()).expect(&rt, "memory"),
+        Opening::new(rt.alloc(), keys).expect(&rt, "memory"),
         tables,
     );
 }

@@ -7,6 +7,7 @@ use keeper::{Asked, Front, Keeper, KeeperName, Opening, ask_again, ask_from};
 use names::{Call, Marking, Node, Part, Reply};
 use shown::Question;
 use std::alloc::Global;
+use std::hash::RandomState;
 use std::marker::Brand;
 use std::process::Abort;
 use std::sync::Wait;
@@ -86,12 +87,13 @@ fn beside<J: KeeperName<T>, H: Wait + Drop, W: Abort + Wait, T: Tables + Drop>(
 
 #[test]
 fn what_one_worker_writes_the_other_sees(rt: HostRuntime) {
+    let keys = RandomState::new(&rt).expect(&rt, "a key");
     let tables = Listed::new(rt.alloc(), 1);
     beside::<Brand, _, _, _>(
         &rt,
         &rt,
         rt.alloc(),
-        Opening::new(rt.alloc()).expect(&rt, "memory"),
+        Opening::new(rt.alloc(), keys).expect(&rt, "memory"),
         tables,
     );
 }
@@ -131,12 +133,13 @@ fn later<J: KeeperName<T>, H: Wait + Drop, W: Abort + Wait, T: Tables + Drop>(
 
 #[test]
 fn a_question_that_came_back_is_answered_after_a_refresh(rt: HostRuntime) {
+    let keys = RandomState::new(&rt).expect(&rt, "a key");
     let tables = Listed::new(rt.alloc(), 1);
     later::<Brand, _, _, _>(
         &rt,
         &rt,
         rt.alloc(),
-        Opening::new(rt.alloc()).expect(&rt, "memory"),
+        Opening::new(rt.alloc(), keys).expect(&rt, "memory"),
         tables,
     );
 }
@@ -163,12 +166,13 @@ fn outlives<J: KeeperName<T>, H: Wait + Drop, W: Abort + Wait, T: Tables + Drop>
 
 #[test]
 fn a_session_outlives_its_keeper(rt: HostRuntime) {
+    let keys = RandomState::new(&rt).expect(&rt, "a key");
     let tables = Listed::new(rt.alloc(), 1);
     outlives::<Brand, _, _, _>(
         &rt,
         &rt,
         rt.alloc(),
-        Opening::new(rt.alloc()).expect(&rt, "memory"),
+        Opening::new(rt.alloc(), keys).expect(&rt, "memory"),
         tables,
     );
 }
@@ -216,12 +220,13 @@ fn under_the_lock<J: KeeperName<T>, H: Wait + Drop, W: Abort + Wait, T: Tables +
 
 #[test]
 fn who_holds_the_lock_changes_what_it_guards(rt: HostRuntime) {
+    let keys = RandomState::new(&rt).expect(&rt, "a key");
     let tables = Listed::new(rt.alloc(), 1);
     under_the_lock::<Brand, _, _, _>(
         &rt,
         &rt,
         rt.alloc(),
-        Opening::new(rt.alloc()).expect(&rt, "memory"),
+        Opening::new(rt.alloc(), keys).expect(&rt, "memory"),
         tables,
     );
 }

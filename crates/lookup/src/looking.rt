@@ -15,6 +15,7 @@ use decide::{Asker, Oracle};
 use names::{Node, Object, ObjectId, Refusal, Subject, Tuple};
 use rows::{MAX_PAGE, Tupleset, View};
 use std::alloc::{AllocError, Global};
+use std::hash::RandomState;
 
 /// What was found up to the last object that was asked for.
 #[derive(Drop)]
@@ -30,9 +31,10 @@ struct Found {
 /// as many are found as are asked for: it costs what is reached from the user, and what the checks cost. Without
 /// them, or where more nodes are reached than [`most_for`] the limit, it goes over the namespace's tuples: it costs
 /// what the namespace holds, and is slow on a large store. It takes memory for the reached nodes or a page of tuples,
-/// for what the asker keeps and for the ids.
+/// for what the asker keeps and for the ids. Names are hashed under this key.
 pub fn lookup_at<O: Oracle>(
     alloc: Global,
+    keys: RandomState,
     view: &ViewBySubject,
     oracle: &mut O,
     asked: &Lookup,
@@ -43,12 +45,13 @@ pub fn lookup_at<O: Oracle>(
     ensures err { IfErr result (LookupCause view.now asked.now) }
     ensures tells { OnOk result (O.tells oracle.new view.now) }
 {
-    look_up(alloc, view.view(), oracle, view.found(), asked)
+    look_up(alloc, keys, view.view(), oracle, view.found(), asked)
 }
 
 /// The same, of a view and its tuples by their subjects.
 fn look_up<O: Oracle>(
     alloc: Global,
+    keys: RandomState,
     view: &View,
     oracle: &mut O,
     subjects: Option<&BySubject>,
@@ -66,16 +69,17 @@ fn look_up<O: Oracle>(
     }
     if let Some(subjects) = subjects {
         let most = most_for(asked.limit);
-        if let Some(ids) = candidates(alloc, view.config(), subjects, asked, most)? {
-            return look_among(alloc, view, oracle, asked, &ids);
+        if let Some(ids) = candidates(alloc, keys, view.config(), subjects, asked, most)? {
+            return look_among(alloc, keys, view, oracle, asked, &ids);
         }
     }
-    look_over(alloc, view, oracle, asked)
+    look_over(alloc, keys, view, oracle, asked)
 }
 
 /// The objects that are asked for, where all that are found are among some candidates.
 fn look_among<O: Oracle>(
     alloc: Global,
+    keys: RandomState,
     view: &View,
     oracle: &mut O,
     asked: &Lookup,
@@ -88,7 +92,7 @@ fn look_among<O: Oracle>(
     ensures err { IfErr result (LookupCause view.now asked.now) }
     ensures tells { OnOk result (O.tells oracle.new view.now) }
 {
-    let mut asker = Asker::of(alloc, view);
+    let mut asker = Asker::of(alloc, keys, view);
     let mut found = begin(alloc, asked)?;
     ask_each(&mut asker, oracle, asked, ids, &mut found)?;
     Ok(found.ids)
@@ -123,6 +127,7 @@ fn ask_each<O: Oracle>(
 /// others come after, a page at a time. One asker is asked of each object once.
 fn look_over<O: Oracle>(
     alloc: Global,
+    keys: RandomState,
     view: &View,
     oracle: &mut O,
     asked: &Lookup,
@@ -135,7 +140,7 @@ fn look_over<O: Oracle>(
     let config = view.config();
     // No configuration has an empty intersection, as this call says.
     config.relations();
-    let mut asker = Asker::of(alloc, view);
+    let mut asker = Asker::of(alloc, keys, view);
     let mut found = begin(alloc, asked)?;
     let mut tupleset = first_page(asked)?;
     'pages: loop {

@@ -12,11 +12,13 @@ use config::Config;
 use idsets::Ids;
 use names::{Node, Object, ObjectId};
 use std::alloc::{AllocError, Global};
+use std::hash::RandomState;
 
 /// The ids of objects that may be asked for, in order: all that are found are among them. Where the walk up from
 /// the user reaches more nodes than so many there is no answer.
 pub(crate) fn candidates(
     alloc: Global,
+    keys: RandomState,
     config: &Config,
     subjects: &BySubject,
     asked: &Lookup,
@@ -26,7 +28,7 @@ pub(crate) fn candidates(
 {
     // No configuration has an empty intersection, as this call says.
     config.relations();
-    let Some(reached) = walk(alloc, config, subjects, &asked.user, most)? else {
+    let Some(reached) = walk(alloc, keys, config, subjects, &asked.user, most)? else {
         return Ok(None);
     };
     let mut ids = ids_in(alloc, &reached, asked)?;
@@ -73,6 +75,7 @@ fn is_asked_for(asked: &Lookup, node: &Node) -> bool
 /// no answer.
 fn walk(
     alloc: Global,
+    keys: RandomState,
     config: &Config,
     subjects: &BySubject,
     user: &Object,
@@ -80,7 +83,7 @@ fn walk(
 ) -> Result<Option<Ids<Node>>, AllocError>
     ensures { IfOk result (λ some. IfSome some (HasReached config.now subjects.now user.now)) }
 {
-    let Some(mut reached) = begun(alloc, subjects, user, most)? else {
+    let Some(mut reached) = begun(alloc, keys, subjects, user, most)? else {
         return Ok(None);
     };
     let mut next = 0;
@@ -100,6 +103,7 @@ fn walk(
 /// The nodes with a tuple that names the user, unless too many do.
 fn begun(
     alloc: Global,
+    keys: RandomState,
     subjects: &BySubject,
     user: &Object,
     most: usize,
@@ -110,7 +114,7 @@ fn begun(
     let Some(nodes) = subjects.naming(alloc, user, most)? else {
         return Ok(None);
     };
-    let mut reached = Ids::new(alloc);
+    let mut reached = Ids::new(alloc, keys);
     add_all(nodes, &mut reached)?;
     Ok(Some(reached))
 }

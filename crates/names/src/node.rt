@@ -7,7 +7,7 @@ use std::fmt;
 
 /// A relation of an object, spelled `namespace:id#relation`. Nodes are ordered by object, then by
 /// relation.
-#[derive(Clone, Debug, PartialEq, Eq, PartialOrd, Ord, Drop)]
+#[derive(Clone, Debug, PartialEq, Eq, PartialOrd, Ord, Hash, Drop)]
 pub struct Node {
     pub object: Object,
     pub relation: Name,

@@ -7,7 +7,7 @@ use crate::{Name, ObjectId, Refusal};
 use std::fmt;
 
 /// An object, spelled `namespace:id`. Objects are ordered by namespace, then by id.
-#[derive(Clone, Debug, PartialEq, Eq, PartialOrd, Ord, Drop)]
+#[derive(Clone, Debug, PartialEq, Eq, PartialOrd, Ord, Hash, Drop)]
 pub struct Object {
     pub namespace: Name,
     pub id: ObjectId,

@@ -8,7 +8,7 @@ use std::fmt;
 /// Whom a tuple names: an object, or with a relation the members of a node (a userset). It is spelled
 /// as that object or node. Subjects are ordered by namespace, then by id, an object before its nodes,
 /// and these by relation.
-#[derive(Clone, Debug, PartialEq, Eq, PartialOrd, Ord, Drop)]
+#[derive(Clone, Debug, PartialEq, Eq, PartialOrd, Ord, Hash, Drop)]
 pub struct Subject {
     pub object: Object,
     pub relation: Option<Name>,

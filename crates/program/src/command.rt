@@ -21,6 +21,7 @@ use sqlite::Start;
 use std::alloc::Global;
 use std::env::Args;
 use std::fs;
+use std::hash::RandomState;
 use std::io::{Read, Write};
 use std::marker::Brand;
 use std::net::{Net, TcpListener, TcpStream};
@@ -56,9 +57,10 @@ fn report<F: Files, W: Write>(
     if report.accepted { Ok(0) } else { Ok(1) }
 }
 
-// Answers lines from the store at a place. `start` says what its file holds.
+// Answers lines from the store at a place. `start` says what its file holds. Names are hashed under this key.
 fn run_at<P: Start, H: Wait + Drop, R: Read, W: Write>(
     rt: &HostRuntime,
+    keys: RandomState,
     wait: H,
     place: &Place,
     start: P,
@@ -87,7 +89,7 @@ fn run_at<P: Start, H: Wait + Drop, R: Read, W: Write>(
             let ended = run::<Listed, Brand, H, R, W>(
                 alloc,
                 wait,
-                Opened::new(),
+                Opened::new(keys),
                 tables,
                 reader,
                 writer,
@@ -98,13 +100,14 @@ fn run_at<P: Start, H: Wait + Drop, R: Read, W: Write>(
             if !is_number(*store) {
                 return (Err(Fault::Refused(Refusal::StoreFault)), Err(None));
             }
-            run_in(rt, wait, file.as_str(), Some(*store), start, reader, writer)
+            let file = file.as_str();
+            run_in(rt, keys, wait, file, Some(*store), start, reader, writer)
         }
         Place::There { file } => {
             if let Err(fault) = is_there(fs::open(rt, file.as_str())) {
                 return (Err(fault), Err(None));
             }
-            run_in(rt, wait, file.as_str(), None, start, reader, writer)
+            run_in(rt, keys, wait, file.as_str(), None, start, reader, writer)
         }
     }
 }
@@ -143,7 +146,8 @@ pub fn obey<
 {
     match task {
         Task::Run { place } => {
-            let (ended, left) = run_at(host.rt, host.wait, &place, start, reader, writer);
+            let keys = host.opened.keys;
+            let (ended, left) = run_at(host.rt, keys, host.wait, &place, start, reader, writer);
             match ended {
                 Ok(()) => (Ok(0), left),
                 Err(fault) => (Err(fault), left),

@@ -1,8 +1,10 @@
 //! What the program stands on.
 use published::Opened;
+use std::hash::RandomState;
+use std::io;
 
 /// The process: its system, how a worker waits for another, and the network; and the book in which the steps of its desk will
-/// stand.
+/// stand, with the key under which names are hashed.
 #[derive(Drop)]
 pub struct Host<'a, H, N> {
     pub rt: &'a HostRuntime,
@@ -11,14 +13,15 @@ pub struct Host<'a, H, N> {
     pub opened: Opened,
 }
 
-impl<'a, H, N> Host<'a, H, N> {
-    /// The process, with a new book.
-    pub fn new(rt: &'a HostRuntime, wait: H, net: &'a N) -> Host<'a, H, N> {
-        Host {
+impl<'a, H: Drop, N> Host<'a, H, N> {
+    /// The process, with a new book. Its key is of the system's random source: an error says that there is none to be had.
+    pub fn new(rt: &'a HostRuntime, wait: H, net: &'a N) -> io::Result<Host<'a, H, N>> {
+        let keys = RandomState::new(rt)?;
+        Ok(Host {
             rt,
             wait,
             net,
-            opened: Opened::new(),
-        }
+            opened: Opened::new(keys),
+        })
     }
 }

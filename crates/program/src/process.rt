@@ -82,9 +82,10 @@ fn unbegun<P: Start, W: Write, E: Write>(
     (fault.status(), Err(Err(None)), untouched(output))
 }
 
-/// Does what its process was given to do: these words, or why there are none; where to read; where to write, or why
-/// there is no such place, which is for want of memory; where to tell of a fault. `start` says what the files held. It
-/// answers the status that the process ends with, what is left of the files, and the writer.
+/// Does what its process was given to do: what it stands on, or why the system gives it no key, which is told as a fault of
+/// reading; these words, or why there are none; where to read; where to write, or why there is no such place, which is for
+/// want of memory; where to tell of a fault. `start` says what the files held. It answers the status that the process ends
+/// with, what is left of the files, and the writer.
 pub fn program<
     P: Start + Send,
     H: Wait + Drop + Send,
@@ -93,7 +94,7 @@ pub fn program<
     W: Write,
     E: Write,
 >(
-    host: Host<'_, H, N>,
+    host: io::Result<Host<'_, H, N>>,
     words: io::Result<Args>,
     start: P,
     reader: &mut TrackedReader<R>,
@@ -111,23 +112,25 @@ pub fn program<
     ensures quiet { result.0 ≡ 0 → errors.new ≡ errors.old }
 
     // A task was stopped, and its file is as that left it.
-    ensures stopped { result.0 ≡ 1 → IfOk words (λ words. IfOk output (λ output. IsSomeAnd result.2 (λ writer. (left : _)
+    ensures stopped { result.0 ≡ 1 → IfOk words (λ words. IfOk output (λ output. IfOk host.entry (λ _. IsSomeAnd result.2 (λ writer. (left : _)
         × Stopped (image_at P.Start) (asks_to_serve (map string_bytes (into_iter_items words)))
         R.remaining (reader.old, unbroken (W.contents output) output) (reader.new, writer) left
         (Tells errors.old errors.new) (errors.new ≡ errors.old)
-        × EndsWith 1 left result.1))) }
+        × EndsWith 1 left result.1)))) }
 
     // The words were none of the program's. Nothing was begun.
     ensures refused { result.0 ≡ 2 → IfOk words (λ _. IfOk output (λ _.
         IsUnbegun W.contents Fault.CommandLine output result.0 result.1 result.2 reader.old reader.new errors.old errors.new)) }
 
-    // There were no words, or there was no memory for the writer. Nothing was begun.
+    // There were no words, or there was no memory for the writer, or the system gave no key. Nothing was begun.
     ensures unread { IfErr words (λ e. error_kind e ≡ ErrorKind.OutOfMemory
         → IsUnbegun W.contents (Refused Refusal.Memory) output result.0 result.1 result.2 reader.old reader.new errors.old errors.new) }
     ensures no_text { IfErr words (λ e. error_kind e ≢ ErrorKind.OutOfMemory
         → IsUnbegun W.contents Fault.CommandLine output result.0 result.1 result.2 reader.old reader.new errors.old errors.new) }
     ensures no_writer { IfOk words (λ _. IfErr output (λ _.
         IsUnbegun W.contents (Refused Refusal.Memory) output result.0 result.1 result.2 reader.old reader.new errors.old errors.new)) }
+    ensures no_key { IfOk words (λ _. IfOk output (λ _. IfErr host.entry (λ _.
+        IsUnbegun W.contents Fault.CannotRead output result.0 result.1 result.2 reader.old reader.new errors.old errors.new))) }
     ensures status { result.0 ≤ 2 }
 
     // Whatever the status, all that was written was handed on, where no write failed.
@@ -140,6 +143,10 @@ pub fn program<
     let output = match output {
         Ok(output) => output,
         Err(e) => return unbegun(errors, Fault::Refused(Refusal::Memory), Err(e)),
+    };
+    let host = match host {
+        Ok(host) => host,
+        Err(_) => return unbegun(errors, Fault::CannotRead, Ok(output)),
     };
     let mut writer = TrackedWriter::new(output);
     let (status, left) = command(host, words, start, reader, &mut writer, errors);

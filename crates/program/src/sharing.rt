@@ -85,7 +85,7 @@ pub(crate) fn share<
     ensures line { IfErr result (λ fault. fault ≢ Fault.CommandLine) }
     ensures failed { IfErr result (λ fault. StoppedServing offer.port fault writer.old writer.new) }
 {
-    let Ok(opening) = Opening::new(host.rt.alloc()) else {
+    let Ok(opening) = Opening::new(host.rt.alloc(), host.opened.keys) else {
         return Err(Fault::Refused(Refusal::Memory));
     };
     serve_by_many::<N, T, Brand, H, W>(host, opening, tables, offer, writer)

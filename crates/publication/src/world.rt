@@ -15,6 +15,7 @@ use rows::{Loaded, Rows, what_follows_has_room};
 use shown::{Question, Shown, Step};
 use std::alloc::{AllocError, Global};
 use std::collections::VecDeque;
+use std::hash::RandomState;
 use std::marker::Model;
 use tuple_keys::KeptCommit;
 
@@ -22,6 +23,7 @@ use tuple_keys::KeptCommit;
 #[derive(Drop)]
 pub struct World {
     alloc: Global,
+    keys: RandomState,
     posted: Vec<Step>,
     waiting: VecDeque<KeptCommit>,
     newest: Rows,
@@ -46,17 +48,18 @@ impl Model for World {
 impl World {
     ghost use Rattle.publication.specs.World.{start, has_begun, can_mark, can_rebase, Happens, after_event, HasOutcome};
 
-    /// The machine before the first event.
-    pub fn new(alloc: Global) -> World
+    /// The machine before the first event. Names are hashed under this key.
+    pub fn new(alloc: Global, keys: RandomState) -> World
         ensures { result ≡ start }
     {
         World {
             alloc,
+            keys,
             posted: Vec::new(alloc),
             waiting: VecDeque::new(alloc),
             newest: Rows::empty(alloc),
             shown: 0,
-            published: Shown::new(alloc),
+            published: Shown::new(alloc, keys),
         }
     }
 
@@ -188,7 +191,7 @@ impl World {
     fn standing(&self) -> Result<Shown, AllocError>
         ensures { IfOk result (λ s. s ≡ standing self.now.posted) }
     {
-        standing_of(self.alloc, &self.posted)
+        standing_of(self.alloc, self.keys, &self.posted)
     }
 
     fn publish(&mut self, steps: u32) -> Result<Outcome, AllocError>
@@ -200,7 +203,7 @@ impl World {
             return Ok(Outcome::No);
         }
         let shown = self.shown + steps;
-        self.published = standing_of(self.alloc, &self.posted[..shown])?;
+        self.published = standing_of(self.alloc, self.keys, &self.posted[..shown])?;
         self.shown = shown;
         Ok(Outcome::Done)
     }
@@ -231,11 +234,11 @@ impl World {
 }
 
 /// What the steps leave.
-fn standing_of(alloc: Global, steps: &[Step]) -> Result<Shown, AllocError>
+fn standing_of(alloc: Global, keys: RandomState, steps: &[Step]) -> Result<Shown, AllocError>
     requires { HaveRoom nothing steps.now }
     ensures { IfOk result (λ s. s ≡ standing steps.now) }
 {
-    let mut shown = Shown::new(alloc);
+    let mut shown = Shown::new(alloc, keys);
     for step in steps {
         shown.apply(step)?;
     }

@@ -5,6 +5,7 @@ ghost use Rattle.published.specs.Known.{start_of, next_of, Begins, BeginsLonger}
 
 use logbook::{Gain, Offer, Plain, Play, Rule, Seen, Start, Word};
 use shown::Step;
+use std::hash::RandomState;
 use std::marker::{Brand, Model};
 
 /// The most steps of one book.
@@ -89,21 +90,23 @@ impl Model for Book {
     ghost invariant = { λ b. b.head ≡ head_of b.head.book };
 }
 
-/// A book with an empty list, and the prefix that has seen nothing.
+/// A book with an empty list, the prefix that has seen nothing, and the key under which names are hashed where the book's steps
+/// are shown.
 #[derive(Drop)]
 pub struct Opened {
     pub book: Book,
     pub prefix: StepPrefix,
+    pub keys: RandomState,
     pub ghost empty: { prefix ≡ start_of book },
 }
 
 impl Opened {
-    /// A new book, and the prefix that has seen nothing of it.
-    pub fn new() -> Opened
+    /// A new book, and the prefix that has seen nothing of it. Names are hashed under this key.
+    pub fn new(keys: RandomState) -> Opened
         ensures { result.prefix ≡ start_of result.book }
     {
         let (book, prefix) = open();
-        Opened { book, prefix }
+        Opened { book, prefix, keys }
     }
 }
 

@@ -8,6 +8,7 @@ use crate::post::Post;
 use left_right::Absorb;
 use shown::{Shown, Step};
 use std::alloc::{AllocError, Global};
+use std::hash::RandomState;
 use std::marker::{Model, PhantomData};
 
 /// One published copy: the standing of steps of the book that `J` names, all of which were judged. Contracts see it as the state
@@ -37,6 +38,7 @@ impl<J: Naming> ShownCopy<J> {
     /// The copy after the first step.
     pub(crate) fn after_first(
         alloc: Global,
+        keys: RandomState,
         step: &Step,
         prefix: &StepPrefix,
     ) -> Result<ShownCopy<J>, AllocError>
@@ -47,7 +49,7 @@ impl<J: Naming> ShownCopy<J> {
             copy ≡ record { shown = after_step nothing step.now; prefix = prefix.now }) }
         ensures stands { IfOk result Stands }
     {
-        let mut shown = Shown::new(alloc);
+        let mut shown = Shown::new(alloc, keys);
         shown.apply(step)?;
         Ok(ShownCopy {
             shown,

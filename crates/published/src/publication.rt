@@ -20,6 +20,7 @@ use names::Refusal;
 use shown::{Shown, Step};
 use std::alloc::{AllocError, Global};
 use std::collections::VecDeque;
+use std::hash::RandomState;
 use std::marker::Model;
 use std::sync::Wait;
 
@@ -78,14 +79,14 @@ impl<J: Naming, R: Wait + Drop> Publication<J, R> {
         ensures judged { IfOk result (λ p. WereJudged p.posted p.shown) }
         ensures seats { IfOk result (λ p. p.seats ≡ MAX_SESSIONS) }
     {
-        let Opened { book, prefix } = opened;
+        let Opened { book, prefix, keys } = opened;
         let Some(entered) = prefix.add_step(&book, &first) else {
             return Err(AllocError);
         };
-        let one = ShownCopy::after_first(alloc, &first, &entered)?;
-        let other = ShownCopy::after_first(alloc, &first, &entered)?;
+        let one = ShownCopy::after_first(alloc, keys, &first, &entered)?;
+        let other = ShownCopy::after_first(alloc, keys, &first, &entered)?;
         let mut publisher = CopyPublisher::<J>::new(alloc, one, other, MAX_SESSIONS)?;
-        match begin(alloc, &rt, &mut publisher, &entered) {
+        match begin(alloc, keys, &rt, &mut publisher, &entered) {
             Ok(sessions) => Ok(Publication {
                 publisher,
                 rt,
@@ -201,6 +202,7 @@ impl<J: Naming, R: Wait + Drop> Drop for Publication<J, R> {
 // Publishes two copies that were made of the first step, and makes the sessions.
 fn begin<J: Naming, R: Wait>(
     alloc: Global,
+    keys: RandomState,
     rt: &R,
     publisher: &mut CopyPublisher<J>,
     entered: &StepPrefix,
@@ -215,11 +217,12 @@ fn begin<J: Naming, R: Wait>(
         (vec_len v ≡ 32) × All (λ s. s.book ≡ entered.now.book) v.items) }
 {
     publish(publisher, rt)?;
-    make_sessions(alloc, publisher, entered)
+    make_sessions(alloc, keys, publisher, entered)
 }
 
 fn make_sessions<J: Naming>(
     alloc: Global,
+    keys: RandomState,
     publisher: &mut CopyPublisher<J>,
     entered: &StepPrefix,
 ) -> Result<Vec<Session<J>>, AllocError>
@@ -232,7 +235,7 @@ fn make_sessions<J: Naming>(
     let mut sessions = Vec::with_capacity(alloc, MAX_SESSIONS)?;
     for _ in 0..MAX_SESSIONS {
         let reader = publisher.reader()?;
-        let known = Remembered::new(alloc, entered.again())?;
+        let known = Remembered::new(alloc, keys, entered.again())?;
         sessions.push(Session::new(reader, known))?;
     }
     Ok(sessions)

@@ -10,6 +10,7 @@ use crate::book::StepPrefix;
 use answer_cache::CachedAnswers;
 use shown::{Question, Refused, Told};
 use std::alloc::{AllocError, Global};
+use std::hash::RandomState;
 use std::marker::Model;
 
 /// What one copy tells: an answer, the number of its store, and the steps that it stands for.
@@ -42,11 +43,15 @@ impl Model for Remembered {
 
 impl Remembered {
     /// These steps, and no answer yet.
-    pub(crate) fn new(alloc: Global, known: StepPrefix) -> Result<Remembered, AllocError>
+    pub(crate) fn new(
+        alloc: Global,
+        keys: RandomState,
+        known: StepPrefix,
+    ) -> Result<Remembered, AllocError>
         requires { AreJudged known.steps }
         ensures { IfOk result (λ remembered. remembered ≡ known) }
     {
-        let kept = CachedAnswers::new(alloc)?;
+        let kept = CachedAnswers::new(alloc, keys)?;
         Ok(Remembered { known, kept })
     }
 

@@ -35,7 +35,7 @@ pub(crate) fn open<A: Abort, J: Naming, R: Wait + Drop>(
 {
     let loaded = Listed::new(alloc, 7).load(alloc).expect(rt, "tables");
     let first = Step::Open(loaded);
-    let mut own = Shown::new(alloc);
+    let mut own = Shown::new(alloc, opened.keys);
     own.apply(&first).expect(rt, "a history");
     let publication = Publication::open(alloc, handle, opened, first);
     let publication = publication.expect(rt, "a publication");

@@ -11,6 +11,7 @@ use publication::{Event, Outcome, Posting, World};
 use rows::{Loaded, Tupleset, events_of};
 use shown::{Depth, Question, Told};
 use std::alloc::Global;
+use std::hash::RandomState;
 use tuple_keys::KeptCommit;
 use watch::Namespaces;
 use zookie::{Consistency, Zookie};
@@ -82,14 +83,15 @@ fn is_put_alone(alloc: Global, world: &mut World) -> Result<bool, Refusal> {
     Ok(published && asked(alloc, world)? == Some((2, 1, false)))
 }
 
-fn is_not_seen(alloc: Global) -> bool {
-    let mut world = World::new(alloc);
+fn is_not_seen(alloc: Global, keys: RandomState) -> bool {
+    let mut world = World::new(alloc, keys);
     is_put_alone(alloc, &mut world).unwrap_or(false)
 }
 
 #[test]
 fn a_write_is_not_seen_before_the_index_takes_it(rt: HostRuntime) {
-    assert!(rt; is_not_seen(rt.alloc()));
+    let keys = RandomState::new(&rt).expect(&rt, "a key");
+    assert!(rt; is_not_seen(rt.alloc(), keys));
 }
 
 fn is_put_and_taken(alloc: Global, world: &mut World) -> Result<bool, Refusal> {
@@ -99,14 +101,15 @@ fn is_put_and_taken(alloc: Global, world: &mut World) -> Result<bool, Refusal> {
     Ok(published && asked(alloc, world)? == Some((3, 2, true)))
 }
 
-fn is_seen(alloc: Global) -> bool {
-    let mut world = World::new(alloc);
+fn is_seen(alloc: Global, keys: RandomState) -> bool {
+    let mut world = World::new(alloc, keys);
     is_put_and_taken(alloc, &mut world).unwrap_or(false)
 }
 
 #[test]
 fn a_write_is_seen_once_the_index_takes_it(rt: HostRuntime) {
-    assert!(rt; is_seen(rt.alloc()));
+    let keys = RandomState::new(&rt).expect(&rt, "a key");
+    assert!(rt; is_seen(rt.alloc(), keys));
 }
 
 fn trims(world: &mut World, floor: u64) -> Result<bool, Refusal> {
@@ -132,8 +135,8 @@ fn is_seen_above(alloc: Global, world: &mut World) -> Result<bool, Refusal> {
     Ok(published && asked(alloc, world)? == Some((6, 2, true)))
 }
 
-fn is_raised(alloc: Global) -> bool {
-    let mut world = World::new(alloc);
+fn is_raised(alloc: Global, keys: RandomState) -> bool {
+    let mut world = World::new(alloc, keys);
     let held = is_in_use(alloc, &mut world).unwrap_or(false);
     let raised = held && is_free_then(&mut world).unwrap_or(false);
     raised && is_seen_above(alloc, &mut world).unwrap_or(false)
@@ -141,7 +144,8 @@ fn is_raised(alloc: Global) -> bool {
 
 #[test]
 fn the_floor_is_raised_to_where_no_cursor_is_below(rt: HostRuntime) {
-    assert!(rt; is_raised(rt.alloc()));
+    let keys = RandomState::new(&rt).expect(&rt, "a key");
+    assert!(rt; is_raised(rt.alloc(), keys));
 }
 
 fn marks(world: &mut World, node: &str) -> Result<bool, Refusal> {
@@ -183,15 +187,16 @@ fn is_full_then(alloc: Global, world: &mut World) -> Result<bool, Refusal> {
     Ok(again && marks(world, "group:a#member")? && !marks(world, "group:0#member")?)
 }
 
-fn keeps_marks(alloc: Global) -> bool {
-    let mut world = World::new(alloc);
+fn keeps_marks(alloc: Global, keys: RandomState) -> bool {
+    let mut world = World::new(alloc, keys);
     let one = is_marked_and_not(alloc, &mut world).unwrap_or(false);
     one && is_full_then(alloc, &mut world).unwrap_or(false)
 }
 
 #[test]
 fn no_more_nodes_are_marked_than_may_be(rt: HostRuntime) {
-    assert!(rt; keeps_marks(rt.alloc()));
+    let keys = RandomState::new(&rt).expect(&rt, "a key");
+    assert!(rt; keeps_marks(rt.alloc(), keys));
 }
 
 fn rebases(world: &mut World, rev: u64) -> Result<bool, Refusal> {
@@ -205,8 +210,8 @@ fn is_rebased(alloc: Global, world: &mut World) -> Result<bool, Refusal> {
 }
 
 // The index has read as far as its base.
-fn is_seen_at_the_base(alloc: Global) -> bool {
-    let mut world = World::new(alloc);
+fn is_seen_at_the_base(alloc: Global, keys: RandomState) -> bool {
+    let mut world = World::new(alloc, keys);
     let rebased = is_rebased(alloc, &mut world).unwrap_or(false);
     let published = rebased && comes(&mut world, Event::Published(3)).unwrap_or(false);
     published && matches!(asked(alloc, &mut world), Ok(Some((4, 2, true))))
@@ -214,7 +219,8 @@ fn is_seen_at_the_base(alloc: Global) -> bool {
 
 #[test]
 fn no_base_is_below_the_last(rt: HostRuntime) {
-    assert!(rt; is_seen_at_the_base(rt.alloc()));
+    let keys = RandomState::new(&rt).expect(&rt, "a key");
+    assert!(rt; is_seen_at_the_base(rt.alloc(), keys));
 }
 
 fn told(world: &mut World, question: Question) -> Result<Option<Told>, Refusal> {
@@ -300,12 +306,13 @@ fn answers_each(alloc: Global, world: &mut World) -> Result<bool, Refusal> {
     Ok(found && has_events(world)?)
 }
 
-fn is_answered(alloc: Global) -> bool {
-    let mut world = World::new(alloc);
+fn is_answered(alloc: Global, keys: RandomState) -> bool {
+    let mut world = World::new(alloc, keys);
     answers_each(alloc, &mut world).unwrap_or(false)
 }
 
 #[test]
 fn each_question_is_answered(rt: HostRuntime) {
-    assert!(rt; is_answered(rt.alloc()));
+    let keys = RandomState::new(&rt).expect(&rt, "a key");
+    assert!(rt; is_answered(rt.alloc(), keys));
 }

@@ -10,6 +10,7 @@ use published::{Naming, Opened, Session};
 use rows::Tupleset;
 use shown::{Depth, Objects};
 use std::alloc::Global;
+use std::hash::RandomState;
 use std::marker::Brand;
 use std::process::Abort;
 use std::sync::Wait;
@@ -152,5 +153,6 @@ fn answers<A: Abort, J: Naming, R: Wait + Drop>(rt: &A, handle: R, alloc: Global
 
 #[test]
 fn a_session_answers_each_question(rt: HostRuntime) {
-    answers::<_, Brand, _>(&rt, &rt, rt.alloc(), Opened::new());
+    let keys = RandomState::new(&rt).expect(&rt, "a key");
+    answers::<_, Brand, _>(&rt, &rt, rt.alloc(), Opened::new(keys));
 }

@@ -5,6 +5,7 @@ use crate::desk::{Desk, configure, insert, open};
 use names::{Node, Object, Refusal};
 use published::{MAX_SESSIONS, Naming, Opened, Receipt, Session};
 use std::alloc::Global;
+use std::hash::RandomState;
 use std::marker::Brand;
 use std::process::Abort;
 use std::sync::Wait;
@@ -63,7 +64,8 @@ fn runs_out<A: Abort, J: Naming, R: Wait + Drop>(rt: &A, handle: R, alloc: Globa
 #[test]
 fn there_are_32_sessions(rt: HostRuntime) {
     assert!(rt; MAX_SESSIONS == 32);
-    runs_out::<_, Brand, _>(&rt, &rt, rt.alloc(), Opened::new());
+    let keys = RandomState::new(&rt).expect(&rt, "a key");
+    runs_out::<_, Brand, _>(&rt, &rt, rt.alloc(), Opened::new(keys));
 }
 
 // The relation is there to the session no earlier than it is shown.
@@ -107,7 +109,8 @@ fn waits<A: Abort, J: Naming, R: Wait + Drop>(rt: &A, handle: R, alloc: Global, 
 
 #[test]
 fn posted_steps_wait_until_they_are_published(rt: HostRuntime) {
-    waits::<_, Brand, _>(&rt, &rt, rt.alloc(), Opened::new());
+    let keys = RandomState::new(&rt).expect(&rt, "a key");
+    waits::<_, Brand, _>(&rt, &rt, rt.alloc(), Opened::new(keys));
 }
 
 /// Two sessions of one publication.
@@ -180,7 +183,8 @@ fn outlives<A: Abort, J: Naming, R: Wait + Drop>(rt: &A, handle: R, alloc: Globa
 
 #[test]
 fn a_receipt_is_learnt_by_two(rt: HostRuntime) {
-    outlives::<_, Brand, _>(&rt, &rt, rt.alloc(), Opened::new());
+    let keys = RandomState::new(&rt).expect(&rt, "a key");
+    outlives::<_, Brand, _>(&rt, &rt, rt.alloc(), Opened::new(keys));
 }
 
 // What the session answers of Ann, and at which revision.
@@ -232,5 +236,6 @@ fn repeats<A: Abort, J: Naming, R: Wait + Drop>(rt: &A, handle: R, alloc: Global
 
 #[test]
 fn a_repeated_check_is_answered_at_its_revision(rt: HostRuntime) {
-    repeats::<_, Brand, _>(&rt, &rt, rt.alloc(), Opened::new());
+    let keys = RandomState::new(&rt).expect(&rt, "a key");
+    repeats::<_, Brand, _>(&rt, &rt, rt.alloc(), Opened::new(keys));
 }

@@ -23,15 +23,17 @@ use names::Refusal;
 use published::{Naming, Opened};
 use sqlite::{Connection, Error, ErrorCode, FileFrom, FileStore, Leftover, Start};
 use sqlite_tables::is_blank;
+use std::hash::RandomState;
 use std::io::{Read, Write};
 use std::sync::Wait;
 use store::Store;
 use tracked_io::{TrackedReader, TrackedWriter};
 
 /// Answers lines from the store in the files at a path, of which `start` says what they hold, and hands on what
-/// is left of them. With a number the tables of a new store are made.
+/// is left of them. With a number the tables of a new store are made. Names are hashed under this key.
 pub fn run_in<P: Start, H: Wait + Drop, R: Read, W: Write>(
     rt: &HostRuntime,
+    keys: RandomState,
     wait: H,
     path: &str,
     store: Option<u64>,
@@ -80,7 +82,7 @@ pub fn run_in<P: Start, H: Wait + Drop, R: Read, W: Write>(
 {
     match connect(rt, path, start) {
         Ok(conn) => {
-            let ended = run_over(rt.alloc(), wait, conn, store, reader, writer);
+            let ended = run_over(rt.alloc(), keys, wait, conn, store, reader, writer);
             (ended.0, Ok(ended.1))
         }
         Err((fault, left)) => (Err(fault), Err(left)),

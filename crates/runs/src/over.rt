@@ -18,6 +18,7 @@ use names::Refusal;
 use published::{Naming, Opened};
 use sqlite::{Alter, Connection};
 use std::alloc::Global;
+use std::hash::RandomState;
 use std::io::{Read, Write};
 use std::marker::Brand;
 use std::sync::Wait;
@@ -26,9 +27,10 @@ use tables::TablesError;
 use tracked_io::{TrackedReader, TrackedWriter};
 
 /// Answers lines from the store over a connection, and gives the connection back. With a number the tables of a
-/// new store are made, where there are none; else those that are there are opened.
+/// new store are made, where there are none; else those that are there are opened. Names are hashed under this key.
 pub fn run_over<S: Alter + Drop, H: Wait + Drop, R: Read, W: Write>(
     alloc: Global,
+    keys: RandomState,
     rt: H,
     conn: Connection<S>,
     store: Option<u64>,
@@ -75,7 +77,7 @@ pub fn run_over<S: Alter + Drop, H: Wait + Drop, R: Read, W: Write>(
 {
     match start(alloc, conn, store) {
         Ok(tables) => {
-            let opened = Opened::new();
+            let opened = Opened::new(keys);
             let ended = run::<Store<S>, Brand, H, R, W>(alloc, rt, opened, tables, reader, writer);
             (ended.0, ended.1.into_connection())
         }

@@ -5,6 +5,7 @@ ghost use Rattle.desk.specs.Posts.{Posts};
 use keeper::{Keeper, KeeperName, Opening};
 use server::{Gate, run};
 use std::alloc::Global;
+use std::hash::RandomState;
 use std::io::{Read, Write};
 use std::marker::Brand;
 use std::net::{Ipv4Addr, Net, SocketAddr, TcpListener, TcpStream};
@@ -139,12 +140,13 @@ fn serve_both<
 
 #[test]
 fn a_call_may_wait_for_one_of_another_worker(rt: HostRuntime) {
+    let keys = RandomState::new(&rt).expect(&rt, "a key");
     let tables = Listed::new(rt.alloc(), 1);
     let both = serve_both::<Listed, Brand, _, _>(
         &rt,
         &rt,
         rt.alloc(),
-        Opening::new(rt.alloc()).expect(&rt, "memory"),
+        Opening::new(rt.alloc(), keys).expect(&rt, "memory"),
         tables,
     );
     assert!(rt; both);

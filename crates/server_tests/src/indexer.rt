@@ -6,6 +6,7 @@ use crate::gate::listen;
 use keeper::{Keeper, KeeperName, Opening};
 use server::{Gate, run};
 use std::alloc::Global;
+use std::hash::RandomState;
 use std::io::{Read, Write};
 use std::marker::Brand;
 use std::net::{Net, SocketAddr, TcpListener, TcpStream};
@@ -177,12 +178,13 @@ fn serve_and_write<
 
 #[test]
 fn the_parts_read_what_is_written(rt: HostRuntime) {
+    let keys = RandomState::new(&rt).expect(&rt, "a key");
     let tables = Listed::new(rt.alloc(), 1);
     let caught_up = serve_and_write::<Listed, Brand, _, _>(
         &rt,
         &rt,
         rt.alloc(),
-        Opening::new(rt.alloc()).expect(&rt, "memory"),
+        Opening::new(rt.alloc(), keys).expect(&rt, "memory"),
         tables,
     );
     assert!(rt; caught_up);

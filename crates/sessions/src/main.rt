@@ -9,6 +9,7 @@ mod asking;
 use asking::{Count, Report, Trial, run};
 use keeper::Opening;
 use names::Refusal;
+use std::hash::RandomState;
 use std::io;
 use std::marker::Brand;
 use std::process::ExitCode;
@@ -46,14 +47,17 @@ fn start<H: Wait + Drop, W: Threads + Wait + Clock + CpuClock + Sync>(
         questions: numbers.get(1).copied().unwrap_or(1_000),
         beside_a_writer,
     };
-    let Ok(lines) = io::read_to_string(rt.alloc(), rt.reader()) else {
+    let (Ok(lines), Ok(keys)) = (
+        io::read_to_string(rt.alloc(), rt.reader()),
+        RandomState::new(rt),
+    ) else {
         return Err(Refusal::Memory);
     };
     let told = run::<_, Brand, _, _>(
         threads,
         wait,
         rt.alloc(),
-        Opening::new(rt.alloc())?,
+        Opening::new(rt.alloc(), keys)?,
         Listed::new(rt.alloc(), 1),
         lines,
         asked,

@@ -1,11 +1,12 @@
 //! Names in the order in which they are first seen.
 use idsets::Ids;
 use names::{Node, Object, Subject};
+use std::hash::RandomState;
 use std::test::Fail;
 
 #[test]
 fn names_keep_their_ids(rt: HostRuntime) -> Result<(), Fail> {
-    let mut ids = Ids::new(rt.alloc());
+    let mut ids = Ids::new(rt.alloc(), RandomState::new(&rt)?);
     for (text, wanted) in [
         ("group:b#member", 0),
         ("group:a#member", 1),
@@ -24,10 +25,11 @@ fn names_keep_their_ids(rt: HostRuntime) -> Result<(), Fail> {
 
 #[test]
 fn objects_and_subjects_have_ids(rt: HostRuntime) -> Result<(), Fail> {
-    let mut users = Ids::new(rt.alloc());
+    let keys = RandomState::new(&rt)?;
+    let mut users = Ids::new(rt.alloc(), keys);
     let ann = Object::parse("user:ann").map_err(|_| "no object")?;
     assert_eq!(rt; users.see(ann)?, 0);
-    let mut subjects = Ids::new(rt.alloc());
+    let mut subjects = Ids::new(rt.alloc(), keys);
     let one = Subject::parse("user:ann").map_err(|_| "no subject")?;
     let set = Subject::parse("user:ann#friend").map_err(|_| "no subject")?;
     assert_eq!(rt; subjects.see(one)?, 0);

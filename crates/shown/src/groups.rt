@@ -10,12 +10,14 @@ use delta::ViewArcs;
 use group_index::GroupIndex;
 use rows::{Rows, View};
 use std::alloc::{AllocError, Global};
+use std::hash::RandomState;
 use tuple_keys::KeptCommit;
 
 /// The index with a new base. Where there is none and one is to be kept, it is begun there, and takes the commits up to the
 /// cursor. One whose base is above the revision stays as it is. For want of memory nothing changes.
 pub(crate) fn rebase(
     alloc: Global,
+    keys: RandomState,
     index: &mut Option<GroupIndex>,
     rows: &Rows,
     rev: u64,
@@ -35,7 +37,7 @@ pub(crate) fn rebase(
             if !is_kept {
                 return Ok(());
             }
-            let begun = begun(alloc, rows, rev, cursor.max(rev))?;
+            let begun = begun(alloc, keys, rows, rev, cursor.max(rev))?;
             *index = Some(begun);
             Ok(())
         }
@@ -57,19 +59,26 @@ fn rebased(alloc: Global, index: &mut GroupIndex, rows: &Rows, rev: u64) -> Resu
 }
 
 /// The index from one revision to another.
-fn begun(alloc: Global, rows: &Rows, from: u64, to: u64) -> Result<GroupIndex, AllocError>
+fn begun(
+    alloc: Global,
+    keys: RandomState,
+    rows: &Rows,
+    from: u64,
+    to: u64,
+) -> Result<GroupIndex, AllocError>
     requires retained { rows.now.floor ≤ from }
     requires order { from ≤ to }
     requires to { to ≤ newest rows.now }
     ensures { IfOk result (IsIndexIn (snap_at rows.now) rows.now.floor to) }
 {
-    let index = GroupIndex::restart(alloc, &rows.at(from), from)?;
-    index_later(alloc, index, rows, from, to)
+    let index = GroupIndex::restart(alloc, keys, &rows.at(from), from)?;
+    index_later(alloc, keys, index, rows, from, to)
 }
 
 /// The index at a later revision, after the commits up to it. It costs what they touch, unless one is of a configuration.
 pub(crate) fn index_later(
     alloc: Global,
+    keys: RandomState,
     mut index: GroupIndex,
     rows: &Rows,
     from: u64,
@@ -84,7 +93,7 @@ pub(crate) fn index_later(
     let commits = rows.commits(from, to);
     for i in 0..commits.len() {
         let rev = from + i as u64 + 1;
-        index = after(alloc, index, &commits[i], &rows.at(rev), rev)?;
+        index = after(alloc, keys, index, &commits[i], &rows.at(rev), rev)?;
     }
     Ok(index)
 }
@@ -93,6 +102,7 @@ pub(crate) fn index_later(
 /// anew.
 fn after(
     alloc: Global,
+    keys: RandomState,
     index: GroupIndex,
     commit: &KeptCommit,
     view: &View<'_>,
@@ -108,7 +118,7 @@ fn after(
             let mut arcs = ViewArcs::of(alloc, view);
             index.take(alloc, &events, &mut arcs)
         }
-        None => GroupIndex::restart(alloc, view, rev),
+        None => GroupIndex::restart(alloc, keys, view, rev),
     }
 }
 

@@ -15,10 +15,16 @@ use hot::Hot;
 use names::{Marking, Node};
 use rows::{Rows, View};
 use std::alloc::{AllocError, Global};
+use std::hash::RandomState;
 use tuple_keys::KeptCommit;
 
 /// The members of the marked nodes, solved anew. Nothing where no node is marked, or where there is no memory.
-pub(crate) fn members_of(alloc: Global, view: &View<'_>, marks: &[Node]) -> Option<Hot>
+pub(crate) fn members_of(
+    alloc: Global,
+    keys: RandomState,
+    view: &View<'_>,
+    marks: &[Node],
+) -> Option<Hot>
     ensures hot { IfSome result (λ hot. IsHot hot view.now) }
     ensures marked { IfSome result (λ hot. AreMarked marks.now hot) }
 {
@@ -26,7 +32,7 @@ pub(crate) fn members_of(alloc: Global, view: &View<'_>, marks: &[Node]) -> Opti
         return None;
     }
     each_view_is_valid(view);
-    let mut hot = Hot::new(alloc);
+    let mut hot = Hot::new(alloc, keys);
     for mark in marks {
         hot.mark(alloc, view, mark).ok()?;
     }
@@ -37,6 +43,7 @@ pub(crate) fn members_of(alloc: Global, view: &View<'_>, marks: &[Node]) -> Opti
 /// Nothing where there is no memory.
 pub(crate) fn members_after(
     alloc: Global,
+    keys: RandomState,
     kept: Option<Hot>,
     view: &View<'_>,
     marks: &[Node],
@@ -50,7 +57,7 @@ pub(crate) fn members_after(
 {
     match kept {
         Some(hot) => remarked(alloc, hot, view, marking),
-        None => members_of(alloc, view, marks),
+        None => members_of(alloc, keys, view, marks),
     }
 }
 

@@ -61,6 +61,7 @@ use names::limits::MAX_MARKS;
 use names::{Items, Marking, Node, Object, ObjectId, Op, Part, Refusal, State, Tuple, Write};
 use rows::{Loaded, Rows, Tupleset, what_follows_has_room};
 use std::alloc::{AllocError, Global};
+use std::hash::RandomState;
 use std::marker::Model;
 use tuple_keys::KeptCommit;
 use watch::{Namespaces, Page};
@@ -70,6 +71,7 @@ use zookie::{Consistency, Zookie};
 #[derive(Drop)]
 pub struct Shown {
     alloc: Global,
+    keys: RandomState,
     rows: Rows,
     base: u64,
     index: u64,
@@ -100,25 +102,27 @@ impl Model for Shown {
 impl Shown {
     /// The state before the first step. From the first step on tuples are kept by their subjects too, as far as there is memory.
     /// Once a base is asked for, the group index is kept from it up to the index cursor, and once a node is marked, who is a
-    /// member of it at the revision of the hot table.
-    pub fn new(alloc: Global) -> Shown
+    /// member of it at the revision of the hot table. Names are hashed under this key.
+    pub fn new(alloc: Global, keys: RandomState) -> Shown
         ensures { result ≡ nothing }
     {
-        Shown::before_all(alloc, true)
+        Shown::before_all(alloc, keys, true)
     }
 
-    /// The state before the first step, for one who judges changes alone: none of these are kept.
-    pub fn without_parts(alloc: Global) -> Shown
+    /// The state before the first step, for one who judges changes alone: none of these are kept. Names are hashed under
+    /// this key.
+    pub fn without_parts(alloc: Global, keys: RandomState) -> Shown
         ensures { result ≡ nothing }
     {
-        Shown::before_all(alloc, false)
+        Shown::before_all(alloc, keys, false)
     }
 
-    fn before_all(alloc: Global, keeps_parts: bool) -> Shown
+    fn before_all(alloc: Global, keys: RandomState, keeps_parts: bool) -> Shown
         ensures { result ≡ nothing }
     {
         Shown {
             alloc,
+            keys,
             rows: Rows::empty(alloc),
             base: 0,
             index: 0,
@@ -250,7 +254,7 @@ impl Shown {
             return Ok(());
         }
         let view = self.rows.at(self.hot);
-        self.members = members_after(self.alloc, kept, &view, &self.marks, marking);
+        self.members = members_after(self.alloc, self.keys, kept, &view, &self.marks, marking);
         Ok(())
     }
 
@@ -261,7 +265,15 @@ impl Shown {
         ensures err { OnErr result (self.new ≡ self.old) }
     {
         let (rows, is_kept) = (&self.rows, self.keeps_parts);
-        groups::rebase(self.alloc, &mut self.groups, rows, rev, self.index, is_kept)?;
+        groups::rebase(
+            self.alloc,
+            self.keys,
+            &mut self.groups,
+            rows,
+            rev,
+            self.index,
+            is_kept,
+        )?;
         self.base = rev;
         self.index = self.index.max(rev);
         Ok(())
@@ -411,7 +423,7 @@ impl Shown {
             groups,
             answers,
         };
-        decide::check_at(self.alloc, &view, &mut known, node, user)
+        decide::check_at(self.alloc, self.keys, &view, &mut known, node, user)
     }
 
     /// The members of the marked nodes, where they are those at a retained revision.
@@ -568,7 +580,7 @@ impl Shown {
             answers: None,
         };
         let view = ViewBySubject::of(&view, self.subjects_at(rev));
-        lookup::lookup_at(self.alloc, &view, &mut known, asked)
+        lookup::lookup_at(self.alloc, self.keys, &view, &mut known, asked)
     }
 
     /// The tuples by their subjects, where they are kept: all of a retained revision are among them.
@@ -728,7 +740,11 @@ impl Shown {
         ensures same { self.new ≡ self.old }
     {
         let index = self.groups.take()?;
-        index_later(self.alloc, index, &self.rows, self.index, to).ok()
+        let (rows, from) = (&self.rows, self.index);
+        match index_later(self.alloc, self.keys, index, rows, from, to) {
+            Ok(later) => Some(later),
+            Err(_) => None,
+        }
     }
 
     fn take_hot(&mut self, commits: u32)
@@ -753,7 +769,7 @@ impl Shown {
         }
         match kept {
             Some(hot) => members_later(self.alloc, hot, &self.rows, self.hot, to),
-            None => members_of(self.alloc, &self.rows.at(to), &self.marks),
+            None => members_of(self.alloc, self.keys, &self.rows.at(to), &self.marks),
         }
     }
 
