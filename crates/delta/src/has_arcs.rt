@@ -5,6 +5,7 @@ ghost use Rattle.leopard.specs.inside.Asking.{AreAll};
 
 use crate::computed::push_computed;
 use config::Config;
+use leopard::Input;
 use names::Node;
 use rows::View;
 use std::alloc::{AllocError, Global};
@@ -23,6 +24,21 @@ pub(crate) trait HasArcs {
 
 impl<'a> HasArcs for View<'a> {
     ghost snap = { λ v. v };
+
+    fn arc_ends(&self, alloc: Global, node: &Node) -> Result<Vec<Node>, AllocError> {
+        let config = self.config();
+        let relations = config.relations();
+        let mut ends = self.usersets_of(alloc, node)?;
+        let Some(place) = config.place_of(node) else {
+            return Ok(ends);
+        };
+        push_computed(&mut ends, &node.object, &relations[place].rewrite)?;
+        Ok(ends)
+    }
+}
+
+impl HasArcs for Input {
+    ghost snap = { λ s. s };
 
     fn arc_ends(&self, alloc: Global, node: &Node) -> Result<Vec<Node>, AllocError> {
         let config = self.config();

@@ -5,6 +5,7 @@ ghost use Rattle.delta.specs.Noted.{AreUpTo};
 use crate::arcs::CountedArcs;
 use crate::closing::{led_to, named};
 use crate::earlier::{Earlier, led_at};
+use crate::has_arcs::HasArcs;
 use crate::leading::{above_events, above_tuples, changed_by};
 use crate::renewing::renew;
 use crate::roots::{put_each, take_each};
@@ -12,7 +13,8 @@ use crate::telling::GroupFacts;
 use config::Config;
 use idsets::{IdSet, Ids};
 use least_sets::groups_are_walks;
-use names::{Event, Node};
+use leopard::Input;
+use names::{Event, Node, Tuple};
 use region::{Sets, refresh};
 use rows::View;
 use std::alloc::{AllocError, Global};
@@ -39,6 +41,7 @@ impl Layer {
     ghost use Rattle.std.specs.Prelude.{◌≡◌, ◌<◌, ◌≤◌, ◌+◌, ◌-◌, ◌^◌, ◌↔◌, ℕ, List, Contains, max, OnOk, OnErr, IfOk, IfSome, IfNone};
     ghost use Rattle.names.specs.declared.node.Node.{Node as NodeValue};
     ghost use Rattle.meaning.specs.Snap.{Snap};
+    ghost use Rattle.meaning.specs.TupleSet as set;
     ghost use Rattle.leopard.specs.Groups.{IsGroup, GroupToGroup};
     ghost use Rattle.leopard.specs.Finding.{IsNamedBy};
     ghost use Rattle.delta.specs.Layers.{IsLayerOf, IsNext, KeepsAt};
@@ -58,14 +61,47 @@ impl Layer {
         ensures base { IfOk result (λ layer. layer.base ≡ rev) }
         ensures cursor { IfOk result (λ layer. layer.cursor ≡ rev) }
     {
-        groups_are_walks();
-        let config = view.config().again(alloc)?;
         let tuples = view.tuples(alloc)?;
+        Layer::begun(alloc, keys, view.config(), &tuples, view, rev)
+    }
+
+    /// The same of a snapshot that was copied, whose revision this is. No view is read, so it may be made beside whoever
+    /// takes commits.
+    pub fn of(
+        alloc: Global,
+        keys: RandomState,
+        input: &Input,
+        rev: u64,
+    ) -> Result<Layer, AllocError>
+        ensures layer { IfOk result (λ layer. (snaps : ℕ → Snap) → snaps rev ≡ input.now → IsLayerOf layer snaps) }
+        ensures base { IfOk result (λ layer. layer.base ≡ rev) }
+        ensures cursor { IfOk result (λ layer. layer.cursor ≡ rev) }
+    {
+        Layer::begun(alloc, keys, input.config(), input.tuples(), input, rev)
+    }
+
+    /// The layer of one revision, of whose snapshot these are the configuration, the tuples and what has the arcs.
+    fn begun<A: HasArcs>(
+        alloc: Global,
+        keys: RandomState,
+        config: &Config,
+        tuples: &[Tuple],
+        arcs: &A,
+        rev: u64,
+    ) -> Result<Layer, AllocError>
+        requires config { config.now ≡ (A.snap arcs.now).config }
+        requires tuples { tuples.now ≡ set.items (A.snap arcs.now).tuples }
+        ensures layer { IfOk result (λ layer. (snaps : ℕ → Snap) → snaps rev ≡ A.snap arcs.now → IsLayerOf layer snaps) }
+        ensures base { IfOk result (λ layer. layer.base ≡ rev) }
+        ensures cursor { IfOk result (λ layer. layer.cursor ≡ rev) }
+    {
+        groups_are_walks();
+        let config = config.again(alloc)?;
         let mut nodes = Ids::new(alloc, keys);
-        let turned = above_tuples(alloc, &config, &mut nodes, &tuples)?;
+        let turned = above_tuples(alloc, &config, &mut nodes, tuples)?;
         let roots = IdSet::of(turned);
         let mut facts = GroupFacts {
-            arcs: view,
+            arcs,
             nodes,
             asked: Vec::new(alloc),
         };

@@ -7,7 +7,8 @@ use crate::noted::{EarlierGroups, set_at};
 use crate::replacing::{number_all, renewed, replace_all};
 use config::Config;
 use idsets::{IdSet, Ids};
-use names::{Event, Node, Object};
+use leopard::Input;
+use names::{Event, Node, Object, Tuple};
 use rows::View;
 use std::alloc::{AllocError, Global};
 use std::hash::RandomState;
@@ -29,6 +30,7 @@ impl Direct {
     ghost use Rattle.std.specs.Prelude.{◌≡◌, ◌<◌, ◌≤◌, ◌+◌, ◌-◌, ◌^◌, ◌↔◌, ℕ, Contains, max, OnOk, OnErr, IfOk, IfSome, IfNone};
     ghost use Rattle.names.specs.declared.node.Node.{Node as NodeValue};
     ghost use Rattle.meaning.specs.Snap.{Snap};
+    ghost use Rattle.meaning.specs.TupleSet as set;
     ghost use Rattle.leopard.specs.Finding.{IsNamedBy};
     ghost use Rattle.leopard.specs.Groups.{MemberToGroup};
     ghost use Rattle.direct.specs.Revisions.{IsDirectOf, IsNext, NotesChanged};
@@ -45,9 +47,40 @@ impl Direct {
         ensures base { IfOk result (λ direct. direct.base ≡ rev) }
         ensures cursor { IfOk result (λ direct. direct.cursor ≡ rev) }
     {
-        let config = view.config().again(alloc)?;
         let tuples = view.tuples(alloc)?;
-        let kept = Memberships::of(alloc, keys, &config, &tuples)?;
+        Direct::begun(alloc, keys, view.config(), &tuples, rev)
+    }
+
+    /// The same of a snapshot that was copied, whose revision this is. No view is read, so they may be made beside whoever
+    /// takes commits.
+    pub fn of(
+        alloc: Global,
+        keys: RandomState,
+        input: &Input,
+        rev: u64,
+    ) -> Result<Direct, AllocError>
+        ensures direct { IfOk result (λ direct. (snaps : ℕ → Snap) → snaps rev ≡ input.now → IsDirectOf direct snaps) }
+        ensures base { IfOk result (λ direct. direct.base ≡ rev) }
+        ensures cursor { IfOk result (λ direct. direct.cursor ≡ rev) }
+    {
+        Direct::begun(alloc, keys, input.config(), input.tuples(), rev)
+    }
+
+    /// The direct groups of one revision, of whose snapshot these are the configuration and the tuples.
+    fn begun(
+        alloc: Global,
+        keys: RandomState,
+        config: &Config,
+        tuples: &[Tuple],
+        rev: u64,
+    ) -> Result<Direct, AllocError>
+        ensures direct { IfOk result (λ direct. (snaps : ℕ → Snap) → config.now ≡ (snaps rev).config → tuples.now ≡ set.items (snaps rev).tuples
+            → IsDirectOf direct snaps) }
+        ensures base { IfOk result (λ direct. direct.base ≡ rev) }
+        ensures cursor { IfOk result (λ direct. direct.cursor ≡ rev) }
+    {
+        let config = config.again(alloc)?;
+        let kept = Memberships::of(alloc, keys, &config, tuples)?;
         Ok(Direct {
             config,
             base: rev,

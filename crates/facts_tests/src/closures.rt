@@ -2,9 +2,10 @@
 
 use crate::groups::{add, are_nodes, events_of, fill};
 use delta::{Layer, ViewArcs};
+use leopard::Input;
 use names::{Event, Node, Refusal};
-use rows::Rows;
-use std::alloc::Global;
+use rows::{Rows, View};
+use std::alloc::{AllocError, Global};
 use std::hash::RandomState;
 use std::test::Fail;
 
@@ -112,5 +113,29 @@ fn closures_are_kept(alloc: Global, keys: RandomState) -> Result<bool, Refusal> 
 fn closures_are_told_at_each_revision(rt: HostRuntime) -> Result<(), Fail> {
     let keys = RandomState::new(&rt)?;
     assert!(rt; closures_are_kept(rt.alloc(), keys)?);
+    Ok(())
+}
+
+// The layer of what the view holds, copied.
+fn copied(alloc: Global, keys: RandomState, view: &View<'_>) -> Result<Layer, AllocError> {
+    let input = Input::copy(alloc, view)?;
+    Layer::of(alloc, keys, &input, 2)
+}
+
+fn has_a_copied_layer(alloc: Global, keys: RandomState, rows: &mut Rows) -> Result<bool, Refusal> {
+    fill(alloc, rows, CHAIN)?;
+    let mut layer = copied(alloc, keys, &rows.at(rows.newest()))?;
+    keeps_closures(alloc, rows, &mut layer)
+}
+
+fn copied_closures_are_kept(alloc: Global, keys: RandomState) -> Result<bool, Refusal> {
+    let mut rows = Rows::empty(alloc);
+    has_a_copied_layer(alloc, keys, &mut rows)
+}
+
+#[test]
+fn closures_of_a_copy_are_told_as_those_of_the_view(rt: HostRuntime) -> Result<(), Fail> {
+    let keys = RandomState::new(&rt)?;
+    assert!(rt; copied_closures_are_kept(rt.alloc(), keys)?);
     Ok(())
 }

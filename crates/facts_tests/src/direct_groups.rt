@@ -2,8 +2,9 @@
 
 use crate::groups::{are_nodes, events_of, fill};
 use direct::Direct;
+use leopard::Input;
 use names::{Event, Object, Refusal};
-use rows::Rows;
+use rows::{Rows, View};
 use std::alloc::{AllocError, Global};
 use std::hash::RandomState;
 use std::test::Fail;
@@ -98,5 +99,29 @@ fn direct_groups_are_kept(alloc: Global, keys: RandomState) -> Result<bool, Refu
 fn direct_groups_are_told_at_each_revision(rt: HostRuntime) -> Result<(), Fail> {
     let keys = RandomState::new(&rt)?;
     assert!(rt; direct_groups_are_kept(rt.alloc(), keys)?);
+    Ok(())
+}
+
+// The direct groups of what the view holds, copied.
+fn copied(alloc: Global, keys: RandomState, view: &View<'_>) -> Result<Direct, AllocError> {
+    let input = Input::copy(alloc, view)?;
+    Direct::of(alloc, keys, &input, 2)
+}
+
+fn has_copied_groups(alloc: Global, keys: RandomState, rows: &mut Rows) -> Result<bool, Refusal> {
+    fill(alloc, rows, TUPLES)?;
+    let mut direct = copied(alloc, keys, &rows.at(rows.newest()))?;
+    keeps_groups(alloc, rows, &mut direct)
+}
+
+fn copied_groups_are_kept(alloc: Global, keys: RandomState) -> Result<bool, Refusal> {
+    let mut rows = Rows::empty(alloc);
+    has_copied_groups(alloc, keys, &mut rows)
+}
+
+#[test]
+fn direct_groups_of_a_copy_are_told_as_those_of_the_view(rt: HostRuntime) -> Result<(), Fail> {
+    let keys = RandomState::new(&rt)?;
+    assert!(rt; copied_groups_are_kept(rt.alloc(), keys)?);
     Ok(())
 }

@@ -6,12 +6,13 @@ use decide::check_at;
 use delta::ViewArcs;
 use facts::each_view_is_valid;
 use group_index::{At, GroupIndex};
-use leopard::{Expr, groups_at};
+use leopard::{Expr, Input, groups_at};
 use names::{Event, Node, Object, Refusal};
 use rows::{Rows, View};
 use std::alloc::{AllocError, Global};
 use std::hash::RandomState;
 use std::test::Fail;
+use std::thread::Threads;
 
 // A group leads to one that names a user, whom a third one names too.
 const TUPLES: &str =
@@ -164,28 +165,32 @@ fn restart(
 // The index of the first tuples, after the two commits that came then.
 fn followed(
     alloc: Global,
-    keys: RandomState,
     rows: &Rows,
+    first: GroupIndex,
     leaves: &[Event],
     leads: &[Event],
 ) -> Result<GroupIndex, AllocError> {
-    let first = restart(alloc, keys, rows, 2)?;
     let second = take(alloc, rows, first, leaves, 3)?;
     take(alloc, rows, second, leads, 4)
 }
 
-fn follows(alloc: Global, keys: RandomState, rows: &Rows) -> Result<bool, Refusal> {
+fn follows(alloc: Global, rows: &Rows, first: GroupIndex) -> Result<bool, Refusal> {
     let leaves = events_of(alloc, LEAVES)?;
     let leads = events_of(alloc, LEADS)?;
-    let mut index = followed(alloc, keys, rows, leaves.as_slice(), leads.as_slice())?;
+    let mut index = followed(alloc, rows, first, leaves.as_slice(), leads.as_slice())?;
     is_told(alloc, &mut index, rows)
 }
 
-fn has_an_index(alloc: Global, keys: RandomState, rows: &mut Rows) -> Result<bool, Refusal> {
+fn fill_all(alloc: Global, rows: &mut Rows) -> Result<(), Refusal> {
     fill(alloc, rows, TUPLES)?;
     add(alloc, rows, LEAVES)?;
-    add(alloc, rows, LEADS)?;
-    follows(alloc, keys, rows)
+    add(alloc, rows, LEADS)
+}
+
+fn has_an_index(alloc: Global, keys: RandomState, rows: &mut Rows) -> Result<bool, Refusal> {
+    fill_all(alloc, rows)?;
+    let first = restart(alloc, keys, rows, 2)?;
+    follows(alloc, rows, first)
 }
 
 fn each_revision_is_told(alloc: Global, keys: RandomState) -> Result<bool, Refusal> {
@@ -197,6 +202,54 @@ fn each_revision_is_told(alloc: Global, keys: RandomState) -> Result<bool, Refus
 fn an_index_answers_at_each_revision(rt: HostRuntime) -> Result<(), Fail> {
     let keys = RandomState::new(&rt)?;
     assert!(rt; each_revision_is_told(rt.alloc(), keys)?);
+    Ok(())
+}
+
+// What a revision holds, copied.
+fn copied(alloc: Global, rows: &Rows, rev: u64) -> Result<Input, AllocError> {
+    match view_at(rows, rev) {
+        Some(view) => Input::copy(alloc, &view),
+        None => Err(AllocError),
+    }
+}
+
+// Whether the indexes of the first tuples, copied, answer as the one of their view, by one thread and by two.
+fn follow_a_copy(
+    rt: &(impl Threads + Sync),
+    alloc: Global,
+    keys: RandomState,
+    rows: &Rows,
+) -> Result<bool, Refusal> {
+    let input = copied(alloc, rows, 2)?;
+    let first = GroupIndex::of(alloc, keys, &input, 2)?;
+    let by_one = follows(alloc, rows, first)?;
+    let first = GroupIndex::of_parallel(rt, alloc, keys, &input, 2)?;
+    Ok(by_one && follows(alloc, rows, first)?)
+}
+
+fn has_copied_indexes(
+    rt: &(impl Threads + Sync),
+    alloc: Global,
+    keys: RandomState,
+    rows: &mut Rows,
+) -> Result<bool, Refusal> {
+    fill_all(alloc, rows)?;
+    follow_a_copy(rt, alloc, keys, rows)
+}
+
+fn copies_are_told(
+    rt: &(impl Threads + Sync),
+    alloc: Global,
+    keys: RandomState,
+) -> Result<bool, Refusal> {
+    let mut rows = Rows::empty(alloc);
+    has_copied_indexes(rt, alloc, keys, &mut rows)
+}
+
+#[test]
+fn an_index_of_a_copy_answers_as_that_of_the_view(rt: HostRuntime) -> Result<(), Fail> {
+    let keys = RandomState::new(&rt)?;
+    assert!(rt; copies_are_told(&rt, rt.alloc(), keys)?);
     Ok(())
 }
 

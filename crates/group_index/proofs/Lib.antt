@@ -1,3 +1,4 @@
 pub mod Numbers
 pub mod Among
 pub mod Telling
+mod Crossing

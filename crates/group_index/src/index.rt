@@ -4,10 +4,12 @@ ghost use Rattle.std.specs.Prelude.{◌≡◌};
 use crate::at::At;
 use delta::{CountedArcs, Layer};
 use direct::Direct;
+use leopard::Input;
 use names::Event;
 use rows::View;
 use std::alloc::{AllocError, Global};
 use std::hash::RandomState;
+use std::thread::{Threads, join};
 
 /// Which groups each group leads to (GROUP2GROUP of Zanzibar, section 3.2.4) and which groups name each user by a tuple
 /// of their own (MEMBER2GROUP), at each revision from a base to a cursor, under one configuration. With another
@@ -23,8 +25,9 @@ pub struct GroupIndex {
 impl GroupIndex {
     ghost use Rattle.std.specs.Prelude.{◌≡◌, ◌<◌, ◌≤◌, ◌+◌, ◌-◌, ◌^◌, ◌⊎◌, ℕ, max, OnOk, OnErr, IfOk, IfSome, IfNone};
     ghost use Rattle.meaning.specs.Snap.{Snap};
-    ghost use Rattle.delta.specs.Layers.{IsNext};
+    ghost use Rattle.delta.specs.Layers.{IsLayerOf, IsNext};
     ghost use Rattle.delta.specs.Asked.{WereAskedFew};
+    ghost use Rattle.direct.specs.Revisions.{IsDirectOf};
     ghost use Rattle.group_index.specs.Indices.{IsGroupIndexOf, TellsOf, base_of, cursor_of};
 
     /// The index of one revision, whose view this is: base and cursor are that revision. All tuples are gone over twice.
@@ -41,6 +44,53 @@ impl GroupIndex {
     {
         let layer = Layer::restart(alloc, keys, view, rev)?;
         let direct = Direct::restart(alloc, keys, view, rev)?;
+        Ok(GroupIndex { layer, direct })
+    }
+
+    /// The same of a snapshot that was copied, whose revision this is. No view is read, so it may be made beside whoever
+    /// takes commits.
+    pub fn of(
+        alloc: Global,
+        keys: RandomState,
+        input: &Input,
+        rev: u64,
+    ) -> Result<GroupIndex, AllocError>
+        ensures index { IfOk result (λ index. (snaps : ℕ → Snap) → snaps rev ≡ input.now → IsGroupIndexOf index snaps) }
+        ensures base { IfOk result (λ index. base_of index ≡ rev) }
+        ensures cursor { IfOk result (λ index. cursor_of index ≡ rev) }
+    {
+        let layer = Layer::of(alloc, keys, input, rev)?;
+        let direct = Direct::of(alloc, keys, input, rev)?;
+        Ok(GroupIndex { layer, direct })
+    }
+
+    /// The same, where closures and direct groups are each worked out by a thread of their own.
+    pub fn of_parallel<R: Threads + Sync>(
+        rt: &R,
+        alloc: Global,
+        keys: RandomState,
+        input: &Input,
+        rev: u64,
+    ) -> Result<GroupIndex, AllocError>
+        ensures index { IfOk result (λ index. (snaps : ℕ → Snap) → snaps rev ≡ input.now → IsGroupIndexOf index snaps) }
+        ensures base { IfOk result (λ index. base_of index ≡ rev) }
+        ensures cursor { IfOk result (λ index. cursor_of index ≡ rev) }
+    {
+        let (direct, layer) = join(
+            rt,
+            move || -> Result<Direct, AllocError>
+                ensures direct { IfOk result (λ direct. (snaps : ℕ → Snap) → snaps rev ≡ input.entry.now → IsDirectOf direct snaps) }
+                ensures base { IfOk result (λ direct. direct.base ≡ rev) }
+                ensures cursor { IfOk result (λ direct. direct.cursor ≡ rev) }
+            { Direct::of(alloc, keys, input, rev) },
+            move || -> Result<Layer, AllocError>
+                ensures layer { IfOk result (λ layer. (snaps : ℕ → Snap) → snaps rev ≡ input.entry.now → IsLayerOf layer snaps) }
+                ensures base { IfOk result (λ layer. layer.base ≡ rev) }
+                ensures cursor { IfOk result (λ layer. layer.cursor ≡ rev) }
+            { Layer::of(alloc, keys, input, rev) },
+        );
+        let layer = layer?;
+        let direct = direct?;
         Ok(GroupIndex { layer, direct })
     }
 

@@ -8,6 +8,7 @@ ghost use Rattle.names.specs.Order.{node_cmp, tuple_cmp};
 ghost use Rattle.names.specs.declared.node.Node.{Node};
 ghost use Rattle.names.specs.declared.tuple.Tuple.{Tuple};
 ghost use Rattle.meaning.specs.Admits.{admits};
+ghost use Rattle.meaning.specs.Membership.{HasSet};
 ghost use Rattle.meaning.specs.Snap.{set_of};
 ghost use Rattle.meaning.specs.TupleSet as set;
 ghost use Rattle.rows.specs.Retained.{AreAdmitted};
@@ -85,6 +86,13 @@ impl Input {
         self.tuples.as_slice()
     }
 
+    /// The nodes whose members the node's tuples name. No order is promised.
+    pub fn usersets_of(&self, alloc: Global, node: &Node) -> Result<Vec<Node>, AllocError>
+        ensures { IfOk result (λ v. (m : Node) → Contains v.items m ↔ HasSet self.now node.now m) }
+    {
+        usersets_in(alloc, self.tuples_of(node))
+    }
+
     /// The node's tuples, found by halves.
     fn tuples_of(&self, node: &Node) -> &[Tuple]
         ensures { (t : Tuple) → Contains result.now t ↔ (Contains (set.items self.now.tuples) t × (t.node ≡ node.now)) }
@@ -99,7 +107,7 @@ impl Arcs for Input {
     fn ends_of(&self, alloc: Global, node: &Node) -> Result<Vec<Node>, AllocError> {
         let config = self.config();
         let relations = config.relations();
-        let mut ends = usersets_in(alloc, self.tuples_of(node))?;
+        let mut ends = self.usersets_of(alloc, node)?;
         let Some(place) = config.place_of(node) else {
             return Ok(ends);
         };

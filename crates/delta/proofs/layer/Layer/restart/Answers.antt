@@ -1,24 +1,11 @@
-use Rattle.std.proofs.Common.{ℕ, List, [], refl, sym, ◌∙◌, ap, subst}
-use Rattle.names.specs.declared.node.Node.{Node}
-use Rattle.meaning.specs.Snap.{Snap}
-use Rattle.idsets.specs.Naming.{AreDistinct}
-use Rattle.least_sets.specs.World.{has}
-use Rattle.region.specs.Refreshed.{IsRefreshed}
-use Rattle.delta.specs.Telling.{MayTell}
-use Rattle.delta.proofs.After.{anew}
-use Rattle.delta.proofs.Layered.{begun, roots_of}
-use Rattle.delta.proofs.Lists.{distinct_none}
+use Rattle.std.proofs.Common.{◌∙◌}
 use Rattle.delta.proofs.layer.Layer.restart.Goals as goal
 
+pub begun-requires-clause-config : goal.begun-requires-clause-config
+begun-requires-clause-config c = c.config.ensures.config
+
+pub begun-requires-clause-tuples : goal.begun-requires-clause-tuples
+begun-requires-clause-tuples c = c.deref.ensures.value ∙ c.in_ok-tuples.ensures
+
 pub returns-clause-layer : goal.returns-clause-layer
-returns-clause-layer c = λ snaps there.
-    let T : Snap = c.args.view.now in
-    let config = c.in_ok-config.ensures ∙ c.config.ensures.config in
-    let facts = c.refresh.new.facts in
-    let later = c.in_ok-refresh.ensures.later in
-    let distinct = later.1.distinct (c.in_ok-turned.ensures.more.distinct (subst (λ (ns : List Node). AreDistinct ns) (sym c.new-nodes.ensures) distinct_none)) in
-    let r = subst (λ (S : Snap). IsRefreshed (MayTell S facts.nodes) c.new-sets.result.rows c.refresh.new.sets.rows c.of-roots.result c.as_slice.result.now [] c.new.result.items facts.asked.items) later.0 c.in_ok-refresh.ensures.refreshed in
-    begun c.groups_are_walks.ensures _ snaps T there refl config distinct
-    (anew T facts.nodes c.new-sets.result.rows c.refresh.new.sets.rows c.of-roots.result c.as_slice.result.now c.new.result.items facts.asked.items c.new-sets.ensures.none (λ n. ap (λ (xs : List ℕ). has xs n) c.as_slice.ensures.ids) r)
-    (roots_of T c.in_ok-config.config c.above_tuples.new.nodes facts.nodes c.deref.result.now c.in_ok-turned.turned.items c.of-roots.result config (c.deref.ensures.value ∙ c.in_ok-tuples.ensures)
-    c.in_ok-turned.ensures.numbers c.of-roots.ensures.members later.1)
+returns-clause-layer c = c.begun.ensures.layer

@@ -1,7 +1,10 @@
-use Rattle.std.proofs.Common.{refl, ◌∙◌}
-use Rattle.direct.proofs.Revised.{direct_begins}
+use Rattle.std.proofs.Common.{sym, ◌∙◌, ap}
+use Rattle.std.proofs.lemmas.Result.{IfOk-weaker}
+use Rattle.meaning.specs.Snap.{Snap}
+use Rattle.meaning.specs.TupleSet as set
 use Rattle.direct.proofs.direct.Direct.restart.Goals as goal
 
 pub returns-clause-direct : goal.returns-clause-direct
-returns-clause-direct c = λ snaps at. direct_begins _ c.args.view.now c.args.rev (c.in_ok-config.ensures ∙ c.config.ensures.config) refl refl c.new.ensures.items
-    c.deref.result.now (c.deref.ensures.value ∙ c.in_ok-tuples.ensures) c.in_ok-kept.ensures snaps at
+returns-clause-direct c = IfOk-weaker c.begun.result _ _
+    (λ direct is snaps at. is snaps (c.config.ensures.config ∙ ap (λ (S : Snap). S.config) (sym at)) (c.deref.ensures.value ∙ c.in_ok-tuples.ensures ∙ ap (λ (S : Snap). set.items S.tuples) (sym at)))
+    c.begun.ensures.direct

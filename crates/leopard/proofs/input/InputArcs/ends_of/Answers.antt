@@ -6,7 +6,6 @@ use Rattle.config_text.specs.Forms.{form_of}
 use Rattle.config_text.specs.declared.relation.Relation.{Relation}
 use Rattle.leopard.specs.inside.Asking.{Gains, IsComputed}
 use Rattle.leopard.proofs.Arcs.{set_known, arcs_with, arcs_without}
-use Rattle.leopard.proofs.Inputs.{sets_of}
 use Rattle.leopard.proofs.input.InputArcs.ends_of.Goals as goal
 
 pub returns-in_default : goal.returns-in_default
@@ -14,7 +13,7 @@ returns-in_default c =
     let S = c.args.self.now in
     let n = c.args.node.now in
     let known = set_known S (subst valid.IsValid c.config-config.ensures.config c.relations-relations.ensures.valid) c.config-config.ensures.admitted n in
-    let sets = sets_of S n c.tuples_of.result.now c.in_ok-ends.ends.items c.tuples_of.ensures c.in_ok-ends.ensures in
+    let sets = c.in_ok-ends.ensures in
     arcs_without S n c.in_ok-ends.ends.items (λ m h. (sets m).0 h) (λ m h _. (sets m).1 h) known
     (subst (λ (k : Configured). Has k (rel_of n) → ⊥) c.config-config.ensures.config c.in_default.ensures.none)
 
@@ -23,7 +22,7 @@ returns c =
     let S = c.args.self.now in
     let n = c.args.node.now in
     let known = set_known S (subst valid.IsValid c.config-config.ensures.config c.relations-relations.ensures.valid) c.config-config.ensures.admitted n in
-    let sets = sets_of S n c.tuples_of.result.now c.in_ok-ends.ends.items c.tuples_of.ensures c.in_ok-ends.ensures in
+    let sets = c.in_ok-ends.ensures in
     let stands = c.in-Some.ensures.found in
     let config = c.config-config.result.now in
     let read = c.index-relations-place.result in
