@@ -12,12 +12,15 @@ use crate::lock::{ChangeAsked, Keeper};
 use crate::questions::{Asked, ask_again, ask_from};
 use bodies::refusals::refusal;
 use calls::{change_of, is_change};
+use desk::Change;
 use names::{Call, Refusal, Reply};
-use published::{Receipt, Session};
+use published::{MadeIndexes, Receipt, Session};
 use std::alloc::Global;
 use std::marker::Model;
 use std::sync::Wait;
+use std::thread::Threads;
 use tables::Tables;
+use zookie::Consistency;
 
 /// A keeper, and a session of it. A question is asked of the session alone, with no lock and no wait: by the type of
 /// [`ask_from`] and [`ask_again`], which no clause says. The desk is held for a change whose body was read, and for a refresh.
@@ -98,15 +101,17 @@ impl<'k, T: Tables + Drop, J: KeeperName<T>, R: Wait + Drop> Front<'k, T, J, R> 
         }
     }
 
-    /// Answers a call that changes something. The desk is held once the body is read.
-    pub fn answer_change<W: Wait>(&mut self, rt: &W, call: Call, body: &[u8]) -> Reply
+    /// Answers a call that changes something. The desk is held once the body is read, and where a base is to be made, once the
+    /// index for it is made, as far as there is memory for that.
+    pub fn answer_change<W: Wait + Threads + Sync>(&mut self, rt: &W, call: Call, body: &[u8]) -> Reply
         ensures { ChangeFrom T.Tables J.book J.starts self.old call body.now (told result) self.new }
     {
         match change_of(self.alloc, call, body) {
             Ok(change) => {
+                let made = self.make_ready(rt, &change);
                 let asked = ChangeAsked { call, body, change };
                 self.keeper
-                    .hold(rt)
+                    .hold_with(rt, made)
                     .answer(rt, self.alloc, &mut self.place, &mut self.session, asked)
             }
             Err(why) => refusal(self.alloc, &why),
@@ -114,7 +119,7 @@ impl<'k, T: Tables + Drop, J: KeeperName<T>, R: Wait + Drop> Front<'k, T, J, R> 
     }
 
     /// Answers a call, whose body is these bytes. No answer goes back on what an earlier one was told by.
-    pub fn answer<W: Wait>(&mut self, rt: &W, call: Call, body: &[u8]) -> Reply
+    pub fn answer<W: Wait + Threads + Sync>(&mut self, rt: &W, call: Call, body: &[u8]) -> Reply
         ensures { FrontStep T.Tables J.book J.starts self.old call body.now (told result) self.new }
     {
         self.see();
@@ -136,7 +141,26 @@ impl<'k, T: Tables + Drop, J: KeeperName<T>, R: Wait + Drop> Front<'k, T, J, R> 
         let _ = &self.session;
     }
 
-    fn tell<W: Wait>(&mut self, rt: &W, call: Call, body: &[u8]) -> Reply
+    // Indexes of what is shown, where a base is to be made, as far as there is memory for them.
+    fn make_ready<W: Threads + Sync>(
+        &mut self,
+        rt: &W,
+        change: &Change,
+    ) -> Option<MadeIndexes<J>>
+        ensures known { KnowsMore self.old.known self.new.known }
+        ensures deeds { self.new.hand ≡ self.old.hand }
+    {
+        self.session.knows_judged_steps();
+        let Change::Rebuild = change else {
+            return None;
+        };
+        match self.session.copy_snapshot(Consistency::Latest) {
+            Ok(copied) => copied.index(rt, self.alloc).ok(),
+            Err(_) => None,
+        }
+    }
+
+    fn tell<W: Wait + Threads + Sync>(&mut self, rt: &W, call: Call, body: &[u8]) -> Reply
         ensures { MayTell T.Tables J.book J.starts self.old call body.now (told result) self.new }
     {
         if is_change(call) {

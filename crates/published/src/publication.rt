@@ -11,6 +11,7 @@ ghost use Rattle.published.specs.Publishing.{ShowsMoreOf, IsSameBut, shown_by};
 use crate::book::{Book, Naming, Opened, StepPrefix};
 use crate::copy::ShownCopy;
 use crate::hand::{publish, publish_all};
+use crate::made::MadeIndexes;
 use crate::post::Post;
 use crate::receipt::ShownSteps;
 use crate::remembered::Remembered;
@@ -35,6 +36,7 @@ pub struct Publication<J: Naming, R: Wait + Drop> {
     book: Book,
     entered: StepPrefix,
     backlog: VecDeque<Step>,
+    made: Option<MadeIndexes<J>>,
     stuck: Option<Post<J>>,
     sessions: Vec<Session<J>>,
 }
@@ -93,6 +95,7 @@ impl<J: Naming, R: Wait + Drop> Publication<J, R> {
                 book,
                 entered,
                 backlog: VecDeque::new(alloc),
+                made: None,
                 stuck: None,
                 sessions,
             }),
@@ -127,6 +130,14 @@ impl<J: Naming, R: Wait + Drop> Publication<J, R> {
         self.backlog.push_back_reserved(step);
     }
 
+    /// Hands in indexes, or none, for the next step that moves the index. Where it has the index made anew, each copy takes one of
+    /// them, if it serves, and makes none. Those that were handed in before are let go.
+    pub fn hand_in(&mut self, made: Option<MadeIndexes<J>>)
+        ensures { self.new ≡ self.old }
+    {
+        self.made = made;
+    }
+
     /// Shows what waits, in order, as far as there is memory, and says whether nothing waits any more.
     pub fn publish(&mut self) -> bool
         ensures more { ShowsMoreOf self.old self.new }
@@ -137,6 +148,7 @@ impl<J: Naming, R: Wait + Drop> Publication<J, R> {
             &self.book,
             &mut self.entered,
             &mut self.backlog,
+            &mut self.made,
             &mut self.publisher,
             &mut self.stuck,
         )
@@ -192,6 +204,7 @@ impl<J: Naming, R: Wait + Drop> Drop for Publication<J, R> {
             book: _book,
             entered: _entered,
             backlog: _backlog,
+            made: _made,
             stuck: _stuck,
             sessions: _sessions,
         } = self;

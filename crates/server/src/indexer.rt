@@ -7,19 +7,23 @@ ghost use Rattle.server.specs.Turning.{TakesOneTurn};
 ghost use Rattle.server.specs.Turns.{IsBehind};
 
 use crate::pool::Follows;
-use crate::turn::{Turn, take_turn};
+use crate::turn::{TURN_COMMITS, Turn, take_turn};
 use crossbeam_channel::{Receiver, TryRecvError};
 use keeper::{Keeper, KeeperName, Place};
 use names::{Refusal, State};
-use published::Session;
+use published::{MadeIndexes, Session};
+use std::alloc::Global;
 use std::marker::Model;
 use std::sync::Wait;
+use std::thread::Threads;
 use tables::Tables;
+use zookie::Consistency;
 
 /// A keeper, a session and a place of its own, and what wakes it. Contracts see it as a front: what the session knows, and what
 /// it knows of the deeds under the lock.
 #[derive(Drop)]
 pub(crate) struct Indexer<'k, T: Tables + Drop, J: KeeperName<T>, H: Wait + Drop> {
+    alloc: Global,
     keeper: &'k Keeper<T, J, H>,
     session: Session<J>,
     place: Place<'k, J>,
@@ -43,6 +47,7 @@ impl<'k, T: Tables + Drop, J: KeeperName<T>, H: Wait + Drop> Model for Indexer<'
 impl<'k, T: Tables + Drop, J: KeeperName<T>, H: Wait + Drop> Indexer<'k, T, J, H> {
     /// One that looks after its keeper whenever it is woken. It is refused where all sessions have been given out.
     pub(crate) fn new<R: Wait>(
+        alloc: Global,
         rt: &R,
         keeper: &'k Keeper<T, J, H>,
         woken: Receiver<()>,
@@ -52,6 +57,7 @@ impl<'k, T: Tables + Drop, J: KeeperName<T>, H: Wait + Drop> Indexer<'k, T, J, H
     {
         let (session, place) = keeper.session(rt)?;
         Ok(Indexer {
+            alloc,
             keeper,
             session,
             place,
@@ -67,8 +73,21 @@ impl<'k, T: Tables + Drop, J: KeeperName<T>, H: Wait + Drop> Indexer<'k, T, J, H
         place
     }
 
+    // Indexes of the revision to which a turn brings the index, where it has it made anew, as far as there is memory for them.
+    // They are made with no lock.
+    fn make_ready<R: Threads + Wait + Sync>(&mut self, rt: &R) -> Option<MadeIndexes<J>>
+        ensures known { Begins self.old.known self.new.known }
+        ensures deeds { self.new.hand ≡ self.old.hand }
+    {
+        let zookie = self.keeper.hold(rt).remade_index(TURN_COMMITS as u32)?;
+        match self.session.copy_snapshot(Consistency::Exactly(zookie)) {
+            Ok(copied) => copied.index(rt, self.alloc).ok(),
+            Err(_) => None,
+        }
+    }
+
     // Takes a turn if a part is behind what is shown. Whether more may be left to take.
-    fn takes_turn<R: Wait>(&mut self, rt: &R) -> bool
+    fn takes_turn<R: Threads + Wait + Sync>(&mut self, rt: &R) -> bool
         ensures known { Begins self.old.known self.new.known }
         ensures turn { (self.new.hand ≡ self.old.hand) ⊎ TakesOneTurn T.Tables J.book J.starts self.old.hand self.new.hand }
     {
@@ -76,9 +95,10 @@ impl<'k, T: Tables + Drop, J: KeeperName<T>, H: Wait + Drop> Indexer<'k, T, J, H
             Ok(state) if is_behind(&state) => {}
             _ => return false,
         }
+        let made = self.make_ready(rt);
         let taken = take_turn(
             rt,
-            &mut self.keeper.hold(rt),
+            &mut self.keeper.hold_with(rt, made),
             &mut self.place,
             &mut self.session,
         );
@@ -95,7 +115,7 @@ impl<'k, T: Tables + Drop, J: KeeperName<T>, H: Wait + Drop> Follows for Indexer
     ghost followed = { λ s t. Begins s.known t.known
         × ((turns : ℕ) × TurnByTurn T.Tables J.book J.starts s.hand turns t.hand) };
 
-    fn follow<R: Wait>(&mut self, rt: &R) {
+    fn follow<R: Threads + Wait + Sync>(&mut self, rt: &R) {
         for _ in rt.forever() {
             let goes_on = if self.takes_turn(rt) {
                 self.woken.try_recv(rt) != Err(TryRecvError::Disconnected)

@@ -6,6 +6,7 @@ use keeper::{Front, KeeperName, Place};
 use names::{Call, Reply};
 use std::marker::Model;
 use std::sync::Wait;
+use std::thread::Threads;
 use tables::Tables;
 
 /// A front, with the handle that it waits by. Contracts see it as the front.
@@ -44,7 +45,7 @@ impl<'k, T: Tables + Drop, J: KeeperName<T>, R: Wait + Drop, W: Wait> Locked<'k,
     }
 }
 
-impl<'k, T: Tables + Drop, J: KeeperName<T>, R: Wait + Drop, W: Wait> Answers
+impl<'k, T: Tables + Drop, J: KeeperName<T>, R: Wait + Drop, W: Wait + Threads + Sync> Answers
     for Locked<'k, T, J, R, W> {
     ghost use Rattle.keeper.specs.Fronts.{FrontStep};
 

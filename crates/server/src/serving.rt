@@ -54,7 +54,7 @@ pub fn run<
     let calls = AtomicU64::new(0);
     let queue = crossbeam_channel::unbounded(alloc)?;
     let (wakes, woken) = crossbeam_channel::bounded(alloc, 1)?;
-    let indexer = Indexer::new(rt, keeper, woken)?;
+    let indexer = Indexer::new(alloc, rt, keeper, woken)?;
     let mut machines = Vec::with_capacity(alloc, workers)?;
     for _ in 0..workers {
         let answers = Counted {

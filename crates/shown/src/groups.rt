@@ -4,8 +4,10 @@ ghost use Rattle.meaning.specs.History.{after_commit};
 ghost use Rattle.meaning.specs.Snap.{Snap};
 ghost use Rattle.rows.specs.Retained.{newest, snap_at};
 ghost use Rattle.group_index.specs.Indices.{cursor_of};
+ghost use Rattle.shown.specs.Adopting.{IsMadeOf};
 ghost use Rattle.shown.specs.inside.Basing.{IsIndexIn};
 
+use crate::index_at::IndexAt;
 use delta::ViewArcs;
 use group_index::GroupIndex;
 use rows::{Rows, View};
@@ -73,6 +75,24 @@ fn begun(
 {
     let index = GroupIndex::restart(alloc, keys, &rows.at(from), from)?;
     index_later(alloc, keys, index, rows, from, to)
+}
+
+/// An index that was made of one revision, after the commits up to another.
+pub(crate) fn made_later(
+    alloc: Global,
+    keys: RandomState,
+    ready: IndexAt,
+    rows: &Rows,
+    to: u64,
+) -> Result<GroupIndex, AllocError>
+    requires retained { rows.now.floor ≤ ready.rev }
+    requires order { ready.rev ≤ to }
+    requires to { to ≤ newest rows.now }
+    requires made { IsMadeOf (snap_at rows.now ready.rev) ready.rev ready.index }
+    ensures { IfOk result (IsIndexIn (snap_at rows.now) rows.now.floor to) }
+{
+    let IndexAt { rev, index } = ready;
+    index_later(alloc, keys, index, rows, rev, to)
 }
 
 /// The index at a later revision, after the commits up to it. It costs what they touch, unless one is of a configuration.
