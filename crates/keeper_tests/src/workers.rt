@@ -12,6 +12,7 @@ use std::marker::Brand;
 use std::process::Abort;
 use std::sync::Wait;
 use std::test::*;
+use std::thread::Threads;
 use tables::{Listed, Tables};
 
 const GROUPS: &[u8] = br#"{"namespaces":{"group":{"member":{"types":["user"]}},"user":{}}}"#;
@@ -52,7 +53,7 @@ fn comes_back(asked: &Asked) -> bool {
 
 // A question of a revision that is not there yet comes back from the session, and is refused after a refresh; once the
 // other worker has written, it is answered.
-fn sees_the_other<J: KeeperName<T>, H: Wait + Drop, W: Abort + Wait, T: Tables + Drop>(
+fn sees_the_other<J: KeeperName<T>, H: Wait + Drop, W: Abort + Wait + Threads + Sync, T: Tables + Drop>(
     rt: &W,
     alloc: Global,
     keeper: &Keeper<T, J, H>,
@@ -70,7 +71,7 @@ fn sees_the_other<J: KeeperName<T>, H: Wait + Drop, W: Abort + Wait, T: Tables +
     );
 }
 
-fn beside<J: KeeperName<T>, H: Wait + Drop, W: Abort + Wait, T: Tables + Drop>(
+fn beside<J: KeeperName<T>, H: Wait + Drop, W: Abort + Wait + Threads + Sync, T: Tables + Drop>(
     rt: &W,
     handle: H,
     alloc: Global,
@@ -99,7 +100,7 @@ fn what_one_worker_writes_the_other_sees(rt: HostRuntime) {
 }
 
 // A question of a revision that is not there yet comes back, and is answered once that is written and the session refreshed.
-fn is_answered_later<J: KeeperName<T>, H: Wait + Drop, W: Abort + Wait, T: Tables + Drop>(
+fn is_answered_later<J: KeeperName<T>, H: Wait + Drop, W: Abort + Wait + Threads + Sync, T: Tables + Drop>(
     rt: &W,
     alloc: Global,
     keeper: &Keeper<T, J, H>,
@@ -116,7 +117,7 @@ fn is_answered_later<J: KeeperName<T>, H: Wait + Drop, W: Abort + Wait, T: Table
     assert!(rt; taken == 200 && written == 200 && answered == 200);
 }
 
-fn later<J: KeeperName<T>, H: Wait + Drop, W: Abort + Wait, T: Tables + Drop>(
+fn later<J: KeeperName<T>, H: Wait + Drop, W: Abort + Wait + Threads + Sync, T: Tables + Drop>(
     rt: &W,
     handle: H,
     alloc: Global,
@@ -145,7 +146,7 @@ fn a_question_that_came_back_is_answered_after_a_refresh(rt: HostRuntime) {
 }
 
 // Where the keeper is gone, a session is answered 23, and the tables hold what was written.
-fn outlives<J: KeeperName<T>, H: Wait + Drop, W: Abort + Wait, T: Tables + Drop>(
+fn outlives<J: KeeperName<T>, H: Wait + Drop, W: Abort + Wait + Threads + Sync, T: Tables + Drop>(
     rt: &W,
     handle: H,
     alloc: Global,
@@ -178,7 +179,7 @@ fn a_session_outlives_its_keeper(rt: HostRuntime) {
 }
 
 // The configuration is revision 1: a part takes it, a node of it is marked, and it is the base of the index.
-fn changes_by_hand<J: KeeperName<T>, H: Wait + Drop, W: Abort + Wait, T: Tables + Drop>(
+fn changes_by_hand<J: KeeperName<T>, H: Wait + Drop, W: Abort + Wait + Threads + Sync, T: Tables + Drop>(
     rt: &W,
     alloc: Global,
     keeper: &Keeper<T, J, H>,
@@ -203,7 +204,7 @@ fn changes_by_hand<J: KeeperName<T>, H: Wait + Drop, W: Abort + Wait, T: Tables 
     assert!(rt; matches!(marked.made, Made::Marked(1)) && matches!(rebuilt.made, Made::Base(1)));
 }
 
-fn under_the_lock<J: KeeperName<T>, H: Wait + Drop, W: Abort + Wait, T: Tables + Drop>(
+fn under_the_lock<J: KeeperName<T>, H: Wait + Drop, W: Abort + Wait + Threads + Sync, T: Tables + Drop>(
     rt: &W,
     handle: H,
     alloc: Global,

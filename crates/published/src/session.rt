@@ -169,8 +169,8 @@ impl<J: Naming> Session<J> {
             consistency: &consistency,
         };
         match replace_with(&mut self.reader, asking, copy) {
-            Some((copied, steps)) => {
-                self.known.advance(steps);
+            Some((copied, known)) => {
+                self.known.advance(known);
                 copied
             }
             None => Err(no_publication()),

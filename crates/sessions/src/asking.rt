@@ -180,7 +180,7 @@ fn visit(alloc: Global, number: u32) -> Result<String, AllocError> {
 }
 
 // Writes one tuple a commit until the sessions are done.
-fn write_until<T: Tables + Drop, J: KeeperName<T>, H: Wait + Drop, W: Wait + CpuClock>(
+fn write_until<T: Tables + Drop, J: KeeperName<T>, H: Wait + Drop, W: Threads + Wait + CpuClock + Sync>(
     rt: &W,
     alloc: Global,
     front: &mut Front<'_, T, J, H>,
@@ -207,7 +207,7 @@ fn write_until<T: Tables + Drop, J: KeeperName<T>, H: Wait + Drop, W: Wait + Cpu
 }
 
 // Has the changes among the lines made.
-fn take<T: Tables + Drop, J: KeeperName<T>, H: Wait + Drop, W: Wait>(
+fn take<T: Tables + Drop, J: KeeperName<T>, H: Wait + Drop, W: Threads + Wait + Sync>(
     rt: &W,
     front: &mut Front<'_, T, J, H>,
     lines: &str,
