@@ -103,7 +103,12 @@ impl<'k, T: Tables + Drop, J: KeeperName<T>, R: Wait + Drop> Front<'k, T, J, R> 
 
     /// Answers a call that changes something. The desk is held once the body is read, and where a base is to be made, once the
     /// index for it is made, as far as there is memory for that.
-    pub fn answer_change<W: Wait + Threads + Sync>(&mut self, rt: &W, call: Call, body: &[u8]) -> Reply
+    pub fn answer_change<W: Wait + Threads + Sync>(
+        &mut self,
+        rt: &W,
+        call: Call,
+        body: &[u8],
+    ) -> Reply
         ensures { ChangeFrom T.Tables J.book J.starts self.old call body.now (told result) self.new }
     {
         match change_of(self.alloc, call, body) {
@@ -142,11 +147,7 @@ impl<'k, T: Tables + Drop, J: KeeperName<T>, R: Wait + Drop> Front<'k, T, J, R> 
     }
 
     // Indexes of what is shown, where a base is to be made, as far as there is memory for them.
-    fn make_ready<W: Threads + Sync>(
-        &mut self,
-        rt: &W,
-        change: &Change,
-    ) -> Option<MadeIndexes<J>>
+    fn make_ready<W: Threads + Sync>(&mut self, rt: &W, change: &Change) -> Option<MadeIndexes<J>>
         ensures known { KnowsMore self.old.known self.new.known }
         ensures deeds { self.new.hand ≡ self.old.hand }
     {

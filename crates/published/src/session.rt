@@ -342,7 +342,10 @@ fn look<J: Naming>(
 fn copy<J: Naming>(
     reader: CopyReader<J>,
     asking: Copying<'_>,
-) -> (CopyReader<J>, Option<(Result<Copied<J>, Refused>, StepPrefix)>)
+) -> (
+    CopyReader<J>,
+    Option<(Result<Copied<J>, Refused>, StepPrefix)>,
+)
     requires book { (k : Known) × (view reader.place ≡ Some k) × (k.book ≡ asking.known.now.book) }
     ensures book { (k : Known) × (view result.0.place ≡ Some k) × (k.book ≡ asking.entry.known.now.book) }
     ensures later { IfSome result.1 (λ seen. Begins asking.entry.known.now seen.1) }

@@ -180,7 +180,12 @@ fn visit(alloc: Global, number: u32) -> Result<String, AllocError> {
 }
 
 // Writes one tuple a commit until the sessions are done.
-fn write_until<T: Tables + Drop, J: KeeperName<T>, H: Wait + Drop, W: Threads + Wait + CpuClock + Sync>(
+fn write_until<
+    T: Tables + Drop,
+    J: KeeperName<T>,
+    H: Wait + Drop,
+    W: Threads + Wait + CpuClock + Sync,
+>(
     rt: &W,
     alloc: Global,
     front: &mut Front<'_, T, J, H>,
