@@ -7,6 +7,7 @@ ghost use Rattle.keeper.specs.Kept.{IsKnownIn, KnowsMore};
 ghost use Rattle.keeper.specs.Questions.{IsAsked};
 ghost use Rattle.keeper.specs.Fronts.{ChangeFrom, FrontStep, IsSeated, MayTell, QuestionFrom, ToldByDesk};
 
+use crate::builds::{ToldOfBuilds, make_indexes};
 use crate::deeds::{KeeperName, Place};
 use crate::lock::{ChangeAsked, Keeper};
 use crate::questions::{Asked, ask_again, ask_from};
@@ -103,9 +104,10 @@ impl<'k, T: Tables + Drop, J: KeeperName<T>, R: Wait + Drop> Front<'k, T, J, R> 
 
     /// Answers a call that changes something. The desk is held once the body is read, and where a base is to be made, once the
     /// index for it is made, as far as there is memory for that.
-    pub fn answer_change<W: Wait + Threads + Sync>(
+    pub fn answer_change<W: Wait + Threads + Sync, B: ToldOfBuilds>(
         &mut self,
         rt: &W,
+        builds: &B,
         call: Call,
         body: &[u8],
     ) -> Reply
@@ -113,7 +115,7 @@ impl<'k, T: Tables + Drop, J: KeeperName<T>, R: Wait + Drop> Front<'k, T, J, R> 
     {
         match change_of(self.alloc, call, body) {
             Ok(change) => {
-                let made = self.make_ready(rt, &change);
+                let made = self.make_ready(rt, builds, &change);
                 let asked = ChangeAsked { call, body, change };
                 self.keeper
                     .hold_with(rt, made)
@@ -123,12 +125,19 @@ impl<'k, T: Tables + Drop, J: KeeperName<T>, R: Wait + Drop> Front<'k, T, J, R> 
         }
     }
 
-    /// Answers a call, whose body is these bytes. No answer goes back on what an earlier one was told by.
-    pub fn answer<W: Wait + Threads + Sync>(&mut self, rt: &W, call: Call, body: &[u8]) -> Reply
+    /// Answers a call, whose body is these bytes. No answer goes back on what an earlier one was told by. Of indexes that are made
+    /// for it with no lock it tells who is to be told.
+    pub fn answer<W: Wait + Threads + Sync, B: ToldOfBuilds>(
+        &mut self,
+        rt: &W,
+        builds: &B,
+        call: Call,
+        body: &[u8],
+    ) -> Reply
         ensures { FrontStep T.Tables J.book J.starts self.old call body.now (told result) self.new }
     {
         self.see();
-        self.tell(rt, call, body)
+        self.tell(rt, builds, call, body)
     }
 
     /// Gives its place back, of which it does nothing more.
@@ -147,7 +156,12 @@ impl<'k, T: Tables + Drop, J: KeeperName<T>, R: Wait + Drop> Front<'k, T, J, R> 
     }
 
     // Indexes of what is shown, where a base is to be made, as far as there is memory for them.
-    fn make_ready<W: Threads + Sync>(&mut self, rt: &W, change: &Change) -> Option<MadeIndexes<J>>
+    fn make_ready<W: Threads + Sync, B: ToldOfBuilds>(
+        &mut self,
+        rt: &W,
+        builds: &B,
+        change: &Change,
+    ) -> Option<MadeIndexes<J>>
         ensures known { KnowsMore self.old.known self.new.known }
         ensures deeds { self.new.hand ≡ self.old.hand }
     {
@@ -156,16 +170,22 @@ impl<'k, T: Tables + Drop, J: KeeperName<T>, R: Wait + Drop> Front<'k, T, J, R> 
             return None;
         };
         match self.session.copy_snapshot(Consistency::Latest) {
-            Ok(copied) => copied.index(rt, self.alloc).ok(),
+            Ok(copied) => make_indexes(rt, self.alloc, builds, &copied),
             Err(_) => None,
         }
     }
 
-    fn tell<W: Wait + Threads + Sync>(&mut self, rt: &W, call: Call, body: &[u8]) -> Reply
+    fn tell<W: Wait + Threads + Sync, B: ToldOfBuilds>(
+        &mut self,
+        rt: &W,
+        builds: &B,
+        call: Call,
+        body: &[u8],
+    ) -> Reply
         ensures { MayTell T.Tables J.book J.starts self.old call body.now (told result) self.new }
     {
         if is_change(call) {
-            self.answer_change(rt, call, body)
+            self.answer_change(rt, builds, call, body)
         } else {
             self.answer_question(rt, call, body)
         }

@@ -182,7 +182,7 @@ impl<'k, T: Tables + Drop, J: KeeperName<T>, H: Wait + Drop, W: Wait + Threads +
     ghost step = { λ _ _ _ _ _. Unit {0} };
 
     fn answer(&mut self, call: Call, body: &[u8]) -> Reply {
-        self.front.answer(self.rt, call, body)
+        self.front.answer(self.rt, &(), call, body)
     }
 }
 

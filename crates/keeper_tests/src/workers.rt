@@ -61,12 +61,12 @@ fn sees_the_other<
 >(rt: &W, alloc: Global, keeper: &Keeper<T, J, H>) {
     let mut one = Front::new(alloc, rt, keeper).expect(rt, "a front");
     let mut two = Front::new(alloc, rt, keeper).expect(rt, "a front");
-    let taken = status_of(&one.answer_change(rt, Call::Config, GROUPS));
+    let taken = status_of(&one.answer_change(rt, &(), Call::Config, GROUPS));
     let early = comes_back(&two.ask(Call::Check, NEXT));
     let refused = status_of(&two.answer_question(rt, Call::Check, NEXT));
-    let written = status_of(&one.answer_change(rt, Call::Write, INSERT));
+    let written = status_of(&one.answer_change(rt, &(), Call::Write, INSERT));
     let late = comes_back(&two.ask(Call::Check, NEXT));
-    let answered = status_of(&two.answer(rt, Call::Check, NEXT));
+    let answered = status_of(&two.answer(rt, &(), Call::Check, NEXT));
     assert!(rt;
         taken == 200 && early && refused == 409 && written == 200 && !late && answered == 200
     );
@@ -109,11 +109,11 @@ fn is_answered_later<
 >(rt: &W, alloc: Global, keeper: &Keeper<T, J, H>) {
     let mut front = Front::new(alloc, rt, keeper).expect(rt, "a front");
     let (mut session, mut place) = keeper.session(rt).expect(rt, "a session");
-    let taken = status_of(&front.answer_change(rt, Call::Config, GROUPS));
+    let taken = status_of(&front.answer_change(rt, &(), Call::Config, GROUPS));
     let Asked::NotYet(question) = ask_from(alloc, &mut session, Call::Check, NEXT) else {
         panic!(rt; "an answer");
     };
-    let written = status_of(&front.answer_change(rt, Call::Write, INSERT));
+    let written = status_of(&front.answer_change(rt, &(), Call::Write, INSERT));
     keeper.hold(rt).refresh(rt, &mut place, &mut session);
     let answered = status_of(&ask_again(alloc, &mut session, &question));
     assert!(rt; taken == 200 && written == 200 && answered == 200);
@@ -190,7 +190,7 @@ fn changes_by_hand<
     let node = Node::parse("group:a#member").expect(rt, "a node");
     let mut front = Front::new(alloc, rt, keeper).expect(rt, "a front");
     let (_, mut place) = keeper.session(rt).expect(rt, "a session");
-    let taken = status_of(&front.answer_change(rt, Call::Config, GROUPS));
+    let taken = status_of(&front.answer_change(rt, &(), Call::Config, GROUPS));
     let moved = keeper
         .hold(rt)
         .catch_up(rt, &mut place, Part::Hot, 9)

@@ -9,7 +9,7 @@ ghost use Rattle.server.specs.Turns.{IsBehind};
 use crate::pool::Follows;
 use crate::turn::{TURN_COMMITS, Turn, take_turn};
 use crossbeam_channel::{Receiver, TryRecvError};
-use keeper::{Keeper, KeeperName, Place};
+use keeper::{Keeper, KeeperName, Place, ToldOfBuilds, make_indexes};
 use names::{Refusal, State};
 use published::{MadeIndexes, Session};
 use std::alloc::Global;
@@ -19,18 +19,19 @@ use std::thread::Threads;
 use tables::Tables;
 use zookie::Consistency;
 
-/// A keeper, a session and a place of its own, and what wakes it. Contracts see it as a front: what the session knows, and what
+/// A keeper, a session and a place of its own, what wakes it, and who is told of its builds. Contracts see it as a front: what the session knows, and what
 /// it knows of the deeds under the lock.
 #[derive(Drop)]
-pub(crate) struct Indexer<'k, T: Tables + Drop, J: KeeperName<T>, H: Wait + Drop> {
+pub(crate) struct Indexer<'k, T: Tables + Drop, J: KeeperName<T>, H: Wait + Drop, B> {
     alloc: Global,
+    builds: &'k B,
     keeper: &'k Keeper<T, J, H>,
     session: Session<J>,
     place: Place<'k, J>,
     woken: Receiver<()>,
 }
 
-impl<'k, T: Tables + Drop, J: KeeperName<T>, H: Wait + Drop> Model for Indexer<'k, T, J, H> {
+impl<'k, T: Tables + Drop, J: KeeperName<T>, H: Wait + Drop, B> Model for Indexer<'k, T, J, H, B> {
     ghost use Rattle.std.specs.Prelude.{◌≡◌};
     ghost use Rattle.keeper.specs.Fronts.{FrontState};
     ghost use Rattle.keeper.specs.Coded.{coded_front};
@@ -44,20 +45,23 @@ impl<'k, T: Tables + Drop, J: KeeperName<T>, H: Wait + Drop> Model for Indexer<'
     ghost invariant = { λ i. i.session.book ≡ J.book };
 }
 
-impl<'k, T: Tables + Drop, J: KeeperName<T>, H: Wait + Drop> Indexer<'k, T, J, H> {
+impl<'k, T: Tables + Drop, J: KeeperName<T>, H: Wait + Drop, B: ToldOfBuilds>
+    Indexer<'k, T, J, H, B> {
     /// One that looks after its keeper whenever it is woken. It is refused where all sessions have been given out.
     pub(crate) fn new<R: Wait>(
         alloc: Global,
         rt: &R,
+        builds: &'k B,
         keeper: &'k Keeper<T, J, H>,
         woken: Receiver<()>,
-    ) -> Result<Indexer<'k, T, J, H>, Refusal>
+    ) -> Result<Indexer<'k, T, J, H, B>, Refusal>
         ensures seated { IfOk result (λ it. IsSeated T.Tables J.book J.starts it) }
         ensures err { IfErr result (λ why. why ≡ NoSeat) }
     {
         let (session, place) = keeper.session(rt)?;
         Ok(Indexer {
             alloc,
+            builds,
             keeper,
             session,
             place,
@@ -81,7 +85,7 @@ impl<'k, T: Tables + Drop, J: KeeperName<T>, H: Wait + Drop> Indexer<'k, T, J, H
     {
         let zookie = self.keeper.hold(rt).remade_index(TURN_COMMITS as u32)?;
         match self.session.copy_snapshot(Consistency::Exactly(zookie)) {
-            Ok(copied) => copied.index(rt, self.alloc).ok(),
+            Ok(copied) => make_indexes(rt, self.alloc, self.builds, &copied),
             Err(_) => None,
         }
     }
@@ -106,7 +110,8 @@ impl<'k, T: Tables + Drop, J: KeeperName<T>, H: Wait + Drop> Indexer<'k, T, J, H
     }
 }
 
-impl<'k, T: Tables + Drop, J: KeeperName<T>, H: Wait + Drop> Follows for Indexer<'k, T, J, H> {
+impl<'k, T: Tables + Drop, J: KeeperName<T>, H: Wait + Drop, B: ToldOfBuilds> Follows
+    for Indexer<'k, T, J, H, B> {
     ghost use Rattle.std.specs.Prelude.{ℕ};
     ghost use Rattle.published.specs.Known.{Begins};
     ghost use Rattle.server.specs.Turning.{TurnByTurn};

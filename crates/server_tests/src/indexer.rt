@@ -3,7 +3,7 @@ ghost use Rattle.std.specs.Prelude.{◌≡◌};
 ghost use Rattle.desk.specs.Posts.{Posts};
 
 use crate::gate::listen;
-use keeper::{Keeper, KeeperName, Opening};
+use keeper::{Keeper, KeeperName, Opening, ToldOfBuilds};
 use server::{Gate, run};
 use std::alloc::Global;
 use std::hash::RandomState;
@@ -48,6 +48,10 @@ const CAUGHT_UP: &[u8] =
 #[derive(Drop)]
 struct UntilDone {
     done: AtomicBool,
+}
+
+impl ToldOfBuilds for UntilDone {
+    fn built(&self, _rev: u64) {}
 }
 
 impl Gate for UntilDone {

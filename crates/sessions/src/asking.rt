@@ -198,7 +198,7 @@ fn write_until<
             break;
         }
         let body = visit(alloc, number)?;
-        if is_accepted(&front.answer(rt, Call::Write, body.as_bytes())) {
+        if is_accepted(&front.answer(rt, &(), Call::Write, body.as_bytes())) {
             accepted = accepted.saturating_add(1);
         } else {
             refused = true;
@@ -221,8 +221,8 @@ fn take<T: Tables + Drop, J: KeeperName<T>, H: Wait + Drop, W: Threads + Wait + 
         let (call, body) = line.split_once(' ').unwrap_or((line, ""));
         let body = body.as_bytes();
         let accepted = match call {
-            "config" => is_accepted(&front.answer(rt, Call::Config, body)),
-            "write" => is_accepted(&front.answer(rt, Call::Write, body)),
+            "config" => is_accepted(&front.answer(rt, &(), Call::Config, body)),
+            "write" => is_accepted(&front.answer(rt, &(), Call::Write, body)),
             "check" => true,
             _ => false,
         };
