@@ -45,8 +45,13 @@ impl<'k, T: Tables + Drop, J: KeeperName<T>, H: Wait + Drop, B> Model for Indexe
     ghost invariant = { λ i. i.session.book ≡ J.book };
 }
 
-impl<'k, T: Tables + Drop, J: KeeperName<T>, H: Wait + Drop, B: ToldOfBuilds>
-    Indexer<'k, T, J, H, B> {
+impl<'k, T: Tables + Drop, J: KeeperName<T>, H: Wait + Drop, B: ToldOfBuilds> Indexer<
+    'k,
+    T,
+    J,
+    H,
+    B,
+> {
     /// One that looks after its keeper whenever it is woken. It is refused where all sessions have been given out.
     pub(crate) fn new<R: Wait>(
         alloc: Global,

@@ -29,14 +29,9 @@ impl<'k, T: Tables + Drop, J: KeeperName<T>, R: Wait + Drop, W: Wait, B> Model
     ghost view = { λ l. l.front };
 }
 
-impl<'k, T: Tables + Drop, J: KeeperName<T>, R: Wait + Drop, W: Wait, B>
-    Locked<'k, T, J, R, W, B> {
+impl<'k, T: Tables + Drop, J: KeeperName<T>, R: Wait + Drop, W: Wait, B> Locked<'k, T, J, R, W, B> {
     /// A front that waits by this handle.
-    pub fn new(
-        rt: &'k W,
-        builds: &'k B,
-        front: Front<'k, T, J, R>,
-    ) -> Locked<'k, T, J, R, W, B>
+    pub fn new(rt: &'k W, builds: &'k B, front: Front<'k, T, J, R>) -> Locked<'k, T, J, R, W, B>
         ensures { result ≡ front.entry }
     {
         Locked { rt, builds, front }
@@ -51,8 +46,14 @@ impl<'k, T: Tables + Drop, J: KeeperName<T>, R: Wait + Drop, W: Wait, B>
     }
 }
 
-impl<'k, T: Tables + Drop, J: KeeperName<T>, R: Wait + Drop, W: Wait + Threads + Sync, B: ToldOfBuilds>
-    Answers for Locked<'k, T, J, R, W, B> {
+impl<
+    'k,
+    T: Tables + Drop,
+    J: KeeperName<T>,
+    R: Wait + Drop,
+    W: Wait + Threads + Sync,
+    B: ToldOfBuilds,
+> Answers for Locked<'k, T, J, R, W, B> {
     ghost use Rattle.keeper.specs.Fronts.{FrontStep};
 
     ghost step = { λ s call body told t. FrontStep T.Tables J.book J.starts s call body told t };
