@@ -118,7 +118,7 @@ fn index_for<J: Naming>(post: &Post<J>, steps: &StepPrefix, floor: u64) -> Optio
     requires book { steps.now.book ≡ J.book }
     requires judged { AreJudged steps.now.steps }
     requires floor { floor ≡ (standing steps.now.steps).kept.floor }
-    ensures { IfSome result (IsReady (standing steps.now.steps)) }
+    ensures { IfSome result (IsReady (standing steps.now.steps).kept) }
 {
     post.take_index()?.for_steps(steps, floor)
 }

@@ -118,7 +118,7 @@ impl<J: Naming> MadeIndex<J> {
         requires book { steps.now.book ≡ J.book }
         requires judged { AreJudged steps.now.steps }
         requires floor { floor ≡ (standing steps.now.steps).kept.floor }
-        ensures { IfSome result (IsReady (standing steps.now.steps)) }
+        ensures { IfSome result (IsReady (standing steps.now.steps).kept) }
     {
         if !self.of.begins(steps) || self.rev < floor {
             return None;

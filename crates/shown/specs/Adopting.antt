@@ -3,8 +3,7 @@ use Rattle.std.specs.Prelude.{◌≡◌, ℕ}
 use Rattle.meaning.specs.Snap.{Snap}
 use Rattle.group_index.specs.Indices.{IsGroupIndexOf, base_of, cursor_of}
 use Rattle.group_index.specs.declared.index.GroupIndex.{GroupIndex}
-use Rattle.rows.specs.Retained.{IsRetained, snap_at}
-use Rattle.shown.specs.Standing.{Standing}
+use Rattle.rows.specs.Retained.{Retained, IsRetained, snap_at}
 use Rattle.shown.specs.declared.index_at.IndexAt.{IndexAt}
 
 -- the index is that of one revision, which has this snapshot
@@ -14,6 +13,6 @@ pub record IsMadeOf (S : Snap) (rev : ℕ) (index : GroupIndex) : Type 0 where
   pub cursor : cursor_of index ≡ rev
 
 -- so it is, of a revision that is retained
-pub record IsReady (s : Standing) (ready : IndexAt) : Type 0 where
-  pub retained : IsRetained s.kept ready.rev
-  pub made : IsMadeOf (snap_at s.kept ready.rev) ready.rev ready.index
+pub record IsReady (r : Retained) (ready : IndexAt) : Type 0 where
+  pub retained : IsRetained r ready.rev
+  pub made : IsMadeOf (snap_at r ready.rev) ready.rev ready.index

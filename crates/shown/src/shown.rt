@@ -41,7 +41,7 @@ ghost use Rattle.rows.specs.Tuplesets.{page};
 ghost use Rattle.shown.specs.inside.Basing.{AreMarked, IsIndexIn};
 
 use crate::answer::{Answer, Refused};
-use crate::groups::{self, index_later, made_later};
+use crate::groups;
 use crate::index_at::IndexAt;
 use crate::known::{Known, answers_at};
 use crate::marks::{count_with, remark};
@@ -164,7 +164,7 @@ impl Shown {
     /// and comes to that revision, this one takes its place, at the cost of what later commits touch.
     pub fn apply_with(&mut self, step: &Step, ready: IndexAt) -> Result<(), AllocError>
         requires room { HasRoom self.old step.now }
-        requires ready { IsReady self.old ready }
+        requires ready { IsReady self.old.kept ready }
         ensures ok { OnOk result (self.new ≡ after_step self.old step.now) }
         ensures err { OnErr result (self.new ≡ self.old) }
     {
@@ -308,16 +308,23 @@ impl Shown {
     /// The same by an index of a revision that is not above it.
     fn adopt(&mut self, rev: u64, ready: IndexAt) -> Result<(), AllocError>
         requires base { base_cause self.old rev ≡ None }
-        requires ready { IsReady self.old ready }
+        requires ready { IsReady self.old.kept ready }
         requires order { ready.rev ≤ rev }
         ensures ok { OnOk result (self.new ≡ after_step self.old (Step.Rebase rev)) }
         ensures err { OnErr result (self.new ≡ self.old) }
     {
-        let to = self.index.max(rev);
-        let index = made_later(self.alloc, self.keys, ready, &self.rows, to)?;
-        self.groups = Some(index);
+        let rows = &self.rows;
+        groups::adopt(
+            self.alloc,
+            self.keys,
+            &mut self.groups,
+            ready,
+            rows,
+            rev,
+            self.index,
+        )?;
         self.base = rev;
-        self.index = to;
+        self.index = self.index.max(rev);
         Ok(())
     }
 
@@ -800,7 +807,7 @@ impl Shown {
     }
 
     fn take(&mut self, part: Part, commits: u32, ready: Option<IndexAt>)
-        requires { IfSome ready (IsReady self.old) }
+        requires { IfSome ready (IsReady self.old.kept) }
         ensures { self.new ≡ after_take self.old part commits }
     {
         match part {
@@ -810,7 +817,7 @@ impl Shown {
     }
 
     fn take_index(&mut self, commits: u32, ready: Option<IndexAt>)
-        requires { IfSome ready (IsReady self.old) }
+        requires { IfSome ready (IsReady self.old.kept) }
         ensures { self.new ≡ after_take self.old Part.Index commits }
     {
         let to = self.cursor_after(self.index, commits);
@@ -824,19 +831,13 @@ impl Shown {
     fn groups_up_to(&mut self, to: u64, ready: Option<IndexAt>) -> Option<GroupIndex>
         requires later { self.old.index ≤ to }
         requires there { to ≤ newest self.old.kept }
-        requires ready { IfSome ready (IsReady self.old) }
+        requires ready { IfSome ready (IsReady self.old.kept) }
         ensures index { IfSome result (IsIndexIn (snap_at self.old.kept) self.old.kept.floor to) }
         ensures same { self.new ≡ self.old }
     {
         let index = self.groups.take()?;
         let (rows, from) = (&self.rows, self.index);
-        let later = match ready {
-            Some(ready) if from < ready.rev && ready.rev <= to => {
-                made_later(self.alloc, self.keys, ready, rows, to)
-            }
-            _ => index_later(self.alloc, self.keys, index, rows, from, to),
-        };
-        match later {
+        match groups::index_by(self.alloc, self.keys, index, ready, rows, from, to) {
             Ok(later) => Some(later),
             Err(_) => None,
         }

@@ -7,5 +7,5 @@ pub index_later-requires-clause-index : goal.index_later-requires-clause-index
 index_later-requires-clause-index c =
     let r = c.args.rows.now in
     let ready = c.args.ready in
-    let made = c.requires.made in
-    begun (snap_at r) r.floor ready.rev ready.index c.requires.retained (made.index_of (snap_at r) refl) made.base made.cursor
+    let made = c.requires.ready.made in
+    begun (snap_at r) r.floor ready.rev ready.index c.requires.ready.retained.not_below (made.index_of (snap_at r) refl) made.base made.cursor
