@@ -169,7 +169,7 @@ impl<'k, T: Tables + Drop, J: KeeperName<T>, R: Wait + Drop> Front<'k, T, J, R> 
         let Change::Rebuild = change else {
             return None;
         };
-        match self.session.copy_snapshot(Consistency::Latest) {
+        match self.session.copy_snapshot(&Consistency::Latest) {
             Ok(copied) => make_indexes(rt, self.alloc, builds, &copied),
             Err(_) => None,
         }

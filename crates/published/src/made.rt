@@ -29,7 +29,11 @@ pub struct Copied<J: Naming> {
 impl<J: Naming> Model for Copied<J> {
     ghost use Rattle.published.specs.Copied.{SnapCopy, IsCopyIn};
 
+    ghost use Rattle.published.specs.inside.Codes.{coded_copied};
+
     ghost Value = { SnapCopy };
+
+    ghost coded = { coded_copied };
 
     ghost view = { λ c. record { of = c.of; rev = c.rev; snap = c.input } };
 
@@ -105,7 +109,11 @@ impl<J: Naming> Model for MadeIndex<J> {
     ghost use Rattle.published.specs.Known.{Known};
     ghost use Rattle.published.specs.Copied.{IsMadeIn};
 
+    ghost use Rattle.published.specs.inside.Codes.{coded_known};
+
     ghost Value = { Known };
+
+    ghost coded = { coded_known };
 
     ghost view = { λ m. m.of };
 

@@ -156,25 +156,23 @@ impl<J: Naming> Session<J> {
 
     /// The configuration and the tuples of the revision that the consistency chooses, copied in one entry: what is published
     /// after the next publication waits for that.
-    pub fn copy_snapshot(&mut self, consistency: Consistency) -> Result<Copied<J>, Refused>
+    pub fn copy_snapshot(&mut self, consistency: &Consistency) -> Result<Copied<J>, Refused>
         ensures ok { IfOk result (λ copied.
-            IsCopied (standing self.new.steps) consistency (record { rev = copied.rev; value = copied.snap })) }
+            IsCopied (standing self.new.steps) consistency.now (record { rev = copied.rev; value = copied.snap })) }
         ensures err { IfErr result (IsRefusedIn self.old self.new
-            (IsPageRefusal (standing self.new.steps) consistency)) }
+            (IsPageRefusal (standing self.new.steps) consistency.now)) }
         ensures judged { AreJudged self.new.steps }
         ensures later { Begins self.old self.new }
     {
         let asking = Copying {
             known: &self.known,
-            consistency: &consistency,
+            consistency,
         };
-        match replace_with(&mut self.reader, asking, copy) {
-            Some((copied, known)) => {
-                self.known.advance(known);
-                copied
-            }
-            None => Err(no_publication()),
-        }
+        let Some((copied, known)) = replace_with(&mut self.reader, asking, copy) else {
+            return Err(no_publication());
+        };
+        self.known.advance(known);
+        copied
     }
 
     /// The objects to which the user has the relation, at the revision that the consistency chooses.
@@ -358,9 +356,9 @@ fn copy<J: Naming>(
     match reader.enter_as::<Seeing>() {
         Ok(reading) => {
             let copy = reading.get();
-            if asking.known.answers_for(copy.prefix()).is_none() {
+            let Some(_kept) = asking.known.answers_for(copy.prefix()) else {
                 return (reading.leave(), None);
-            }
+            };
             let copied = copy.copy_snapshot(asking.consistency);
             let prefix = copy.prefix().again();
             (reading.leave(), Some((copied, prefix)))

@@ -249,7 +249,7 @@ fn copies<A: Abort, J: Naming, R: Wait + Drop>(rt: &A, handle: R, alloc: Global,
     insert(alloc, &mut desk, ANN).expect(rt, "a tuple");
     desk.publication.publish();
     let mut session = desk.publication.session().expect(rt, "a session");
-    let copied = session.copy_snapshot(Consistency::Latest);
+    let copied = session.copy_snapshot(&Consistency::Latest);
     let copied = copied.ok().expect(rt, "a copy");
     assert!(rt; copied.rev() == 2);
     let input = copied.input();

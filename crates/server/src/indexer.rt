@@ -89,7 +89,7 @@ impl<'k, T: Tables + Drop, J: KeeperName<T>, H: Wait + Drop, B: ToldOfBuilds> In
         ensures deeds { self.new.hand ≡ self.old.hand }
     {
         let zookie = self.keeper.hold(rt).remade_index(TURN_COMMITS as u32)?;
-        match self.session.copy_snapshot(Consistency::Exactly(zookie)) {
+        match self.session.copy_snapshot(&Consistency::Exactly(zookie)) {
             Ok(copied) => make_indexes(rt, self.alloc, self.builds, &copied),
             Err(_) => None,
         }
