@@ -28,7 +28,6 @@ pub struct Copied<J: Naming> {
 
 impl<J: Naming> Model for Copied<J> {
     ghost use Rattle.published.specs.Copied.{SnapCopy, IsCopyIn};
-
     ghost use Rattle.published.specs.inside.Codes.{coded_copied};
 
     ghost Value = { SnapCopy };
@@ -108,7 +107,6 @@ pub(crate) struct MadeIndex<J: Naming> {
 impl<J: Naming> Model for MadeIndex<J> {
     ghost use Rattle.published.specs.Known.{Known};
     ghost use Rattle.published.specs.Copied.{IsMadeIn};
-
     ghost use Rattle.published.specs.inside.Codes.{coded_known};
 
     ghost Value = { Known };

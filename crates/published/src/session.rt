@@ -356,9 +356,9 @@ fn copy<J: Naming>(
     match reader.enter_as::<Seeing>() {
         Ok(reading) => {
             let copy = reading.get();
-            let Some(_kept) = asking.known.answers_for(copy.prefix()) else {
+            if !asking.known.begins(copy.prefix()) {
                 return (reading.leave(), None);
-            };
+            }
             let copied = copy.copy_snapshot(asking.consistency);
             let prefix = copy.prefix().again();
             (reading.leave(), Some((copied, prefix)))

@@ -10,5 +10,5 @@ apply-requires g c =
 
 pub apply_with-requires-clause-room : goal.apply_with-requires-clause-room
 apply_with-requires-clause-room g c =
-    subst (HasRoom c.self.inside.shown) (sym c.step-in-Some.ensures)
+    subst (HasRoom c.self.inside.shown) (sym c.step.ensures)
     (next_room (record { shown = c.self.inside.shown; prefix = c.self.inside.prefix }) c.args.post.now c.self.invariant.1 c.is_next_of.ensures.judged (c.is_next_of.ensures.next c.if-not-is_next_of.false))
