@@ -75,9 +75,8 @@ impl<J: Naming> Copied<J> {
         rt: &R,
         alloc: Global,
     ) -> Result<MadeIndexes<J>, AllocError> {
-        let first = self.index_once(rt, alloc)?;
-        let second = self.index_once(rt, alloc)?;
-        Ok(MadeIndexes { first, second })
+        let (first, second) = (self.index_once(rt, alloc), self.index_once(rt, alloc));
+        both(first, second)
     }
 
     fn index_once<R: Threads + Sync>(
@@ -139,4 +138,17 @@ impl<J: Naming> MadeIndex<J> {
 pub struct MadeIndexes<J: Naming> {
     pub(crate) first: MadeIndex<J>,
     pub(crate) second: MadeIndex<J>,
+}
+
+fn both<J: Naming>(
+    first: Result<MadeIndex<J>, AllocError>,
+    second: Result<MadeIndex<J>, AllocError>,
+) -> Result<MadeIndexes<J>, AllocError> {
+    let Ok(first) = first else {
+        return Err(AllocError);
+    };
+    match second {
+        Ok(second) => Ok(MadeIndexes { first, second }),
+        Err(e) => Err(e),
+    }
 }
