@@ -313,7 +313,7 @@ impl Shown {
         ensures ok { OnOk result (self.new ≡ after_step self.old (Step.Rebase rev)) }
         ensures err { OnErr result (self.new ≡ self.old) }
     {
-        let rows = &self.rows;
+        let (rows, to) = (&self.rows, self.index.max(rev));
         groups::adopt(
             self.alloc,
             self.keys,
@@ -324,7 +324,7 @@ impl Shown {
             self.index,
         )?;
         self.base = rev;
-        self.index = self.index.max(rev);
+        self.index = to;
         Ok(())
     }
 
