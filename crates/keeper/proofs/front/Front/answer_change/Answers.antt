@@ -17,12 +17,12 @@ returns-in-Ok g c =
     let made = c.make_ready-made.ensures in
     let before = c.deref_mut.result.now in
     let after = c.answer.new.self in
-    let hand : c.self-2.inside.place ≡ old.hand = ap (λ (s : FrontState). s.hand) c.self-2.view_is ∙ made.deeds in
+    let hand : c.self-in-Ok.inside.place ≡ old.hand = ap (λ (s : FrontState). s.hand) c.self-in-Ok.view_is ∙ made.deeds in
     on_the_desk before after
     (subst (λ (d : Posts g.row.T.Denot). IsKept g.T.Tables g.J.Naming.book d) (sym c.deref_mut.ensures.value) c.hold_with.ensures.kept)
     c.answer.ensures.sound
     (subst (λ (h : Hand Deed). IsDoneTo g.T.Tables g.J.KeeperName.starts h before (Answered c.args.call c.args.body.now (told c.answer.result)) after c.answer.new.place) hand c.answer.ensures.noted)
-    (knows_more_trans old.known c.self-2.inside.session c.answer.new.session (subst (λ (s : FrontState). KnowsMore old.known s.known) (sym c.self-2.view_is) made.known) c.answer.ensures.kept)
+    (knows_more_trans old.known c.self-in-Ok.inside.session c.answer.new.session (subst (λ (s : FrontState). KnowsMore old.known s.known) (sym c.self-in-Ok.view_is) made.known) c.answer.ensures.kept)
     c.answer.ensures.known
 
 pub returns-in-Err : goal.returns-in-Err
