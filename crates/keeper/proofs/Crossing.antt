@@ -188,7 +188,7 @@ Session-send J n s y = search (Session-inside-send, sendable) depth 10
 MadeIndex-inside-send : (J : RattleType) (n : _) → IsSend J → IsSend (MadeIndex.TheInside.the_row J n)
 MadeIndex-inside-send J n s =
     let M = MadeIndex.TheInside.the_type J n in
-    recorded_send _ _ M.to M.to_one (struct_send (S.shape M) (StepPrefix.the_send, ((search sendable), (GroupIndex-send, ((search (s, crosses, sendable) depth 20), tt)))))
+    recorded_send _ _ M.to M.to_one (struct_send (S.shape M) (StepPrefix.the_send, ((search sendable), (GroupIndex-field-send, ((search (s, crosses, sendable) depth 20), tt)))))
 
 pub MadeIndex-send : (J : RattleType) (n : _) → IsSend J → IsSend (MadeIndex.the_row J n)
 MadeIndex-send J n s = search (MadeIndex-inside-send, sendable) depth 10
