@@ -16,7 +16,7 @@ impl ToldOfBuilds for () {
 }
 
 /// Indexes of a snapshot that was copied, as far as there is memory for them. Who is to be told of them is.
-pub fn make_indexes<J: Naming, W: Threads + Sync, B: ToldOfBuilds>(
+pub fn make_indexes<J: Naming, W: Threads, B: ToldOfBuilds>(
     rt: &W,
     alloc: Global,
     builds: &B,

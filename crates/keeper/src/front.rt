@@ -104,7 +104,7 @@ impl<'k, T: Tables + Drop, J: KeeperName<T>, R: Wait + Drop> Front<'k, T, J, R> 
 
     /// Answers a call that changes something. The desk is held once the body is read, and where a base is to be made, once the
     /// index for it is made, as far as there is memory for that.
-    pub fn answer_change<W: Wait + Threads + Sync, B: ToldOfBuilds>(
+    pub fn answer_change<W: Wait + Threads, B: ToldOfBuilds>(
         &mut self,
         rt: &W,
         builds: &B,
@@ -127,7 +127,7 @@ impl<'k, T: Tables + Drop, J: KeeperName<T>, R: Wait + Drop> Front<'k, T, J, R> 
 
     /// Answers a call, whose body is these bytes. No answer goes back on what an earlier one was told by. Of indexes that are made
     /// for it with no lock it tells who is to be told.
-    pub fn answer<W: Wait + Threads + Sync, B: ToldOfBuilds>(
+    pub fn answer<W: Wait + Threads, B: ToldOfBuilds>(
         &mut self,
         rt: &W,
         builds: &B,
@@ -156,7 +156,7 @@ impl<'k, T: Tables + Drop, J: KeeperName<T>, R: Wait + Drop> Front<'k, T, J, R> 
     }
 
     // Indexes of what is shown, where a base is to be made, as far as there is memory for them.
-    fn make_ready<W: Threads + Sync, B: ToldOfBuilds>(
+    fn make_ready<W: Threads, B: ToldOfBuilds>(
         &mut self,
         rt: &W,
         builds: &B,
@@ -175,7 +175,7 @@ impl<'k, T: Tables + Drop, J: KeeperName<T>, R: Wait + Drop> Front<'k, T, J, R> 
         }
     }
 
-    fn tell<W: Wait + Threads + Sync, B: ToldOfBuilds>(
+    fn tell<W: Wait + Threads, B: ToldOfBuilds>(
         &mut self,
         rt: &W,
         builds: &B,

@@ -176,7 +176,7 @@ struct ByFront<'k, T: Tables + Drop, J: KeeperName<T>, H: Wait + Drop, W: Wait> 
     front: Front<'k, T, J, H>,
 }
 
-impl<'k, T: Tables + Drop, J: KeeperName<T>, H: Wait + Drop, W: Wait + Threads + Sync> Answers
+impl<'k, T: Tables + Drop, J: KeeperName<T>, H: Wait + Drop, W: Wait + Threads> Answers
     for ByFront<'k, T, J, H, W> {
     // What a front may answer is in its own contract.
     ghost step = { λ _ _ _ _ _. Unit {0} };
@@ -186,7 +186,7 @@ impl<'k, T: Tables + Drop, J: KeeperName<T>, H: Wait + Drop, W: Wait + Threads +
     }
 }
 
-fn by_front<J: KeeperName<T>, H: Wait + Drop, W: Abort + Wait + Threads + Sync, T: Tables + Drop>(
+fn by_front<J: KeeperName<T>, H: Wait + Drop, W: Abort + Wait + Threads, T: Tables + Drop>(
     rt: &W,
     alloc: Global,
     keeper: &Keeper<T, J, H>,
@@ -196,7 +196,7 @@ fn by_front<J: KeeperName<T>, H: Wait + Drop, W: Abort + Wait + Threads + Sync, 
     replies_of(alloc, &mut machine).expect(rt, "replies")
 }
 
-fn by_locked<J: KeeperName<T>, H: Wait + Drop, W: Abort + Wait + Threads + Sync, T: Tables + Drop>(
+fn by_locked<J: KeeperName<T>, H: Wait + Drop, W: Abort + Wait + Threads, T: Tables + Drop>(
     rt: &W,
     handle: H,
     alloc: Global,

@@ -130,7 +130,7 @@ fn all_read<J: Naming + Send + Sync, W: Threads + Wait + Sync>(
 }
 
 // Whether every write was answered with 200. The receipt of each is handed on.
-fn writes<J: KeeperName<T>, H: Wait + Drop, W: Wait + Threads + Sync, T: Tables + Drop>(
+fn writes<J: KeeperName<T>, H: Wait + Drop, W: Wait + Threads, T: Tables + Drop>(
     rt: &W,
     front: &mut Front<'_, T, J, H>,
     keeper: &Keeper<T, J, H>,

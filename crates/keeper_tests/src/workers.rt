@@ -53,12 +53,11 @@ fn comes_back(asked: &Asked) -> bool {
 
 // A question of a revision that is not there yet comes back from the session, and is refused after a refresh; once the
 // other worker has written, it is answered.
-fn sees_the_other<
-    J: KeeperName<T>,
-    H: Wait + Drop,
-    W: Abort + Wait + Threads + Sync,
-    T: Tables + Drop,
->(rt: &W, alloc: Global, keeper: &Keeper<T, J, H>) {
+fn sees_the_other<J: KeeperName<T>, H: Wait + Drop, W: Abort + Wait + Threads, T: Tables + Drop>(
+    rt: &W,
+    alloc: Global,
+    keeper: &Keeper<T, J, H>,
+) {
     let mut one = Front::new(alloc, rt, keeper).expect(rt, "a front");
     let mut two = Front::new(alloc, rt, keeper).expect(rt, "a front");
     let taken = status_of(&one.answer_change(rt, &(), Call::Config, GROUPS));
@@ -72,7 +71,7 @@ fn sees_the_other<
     );
 }
 
-fn beside<J: KeeperName<T>, H: Wait + Drop, W: Abort + Wait + Threads + Sync, T: Tables + Drop>(
+fn beside<J: KeeperName<T>, H: Wait + Drop, W: Abort + Wait + Threads, T: Tables + Drop>(
     rt: &W,
     handle: H,
     alloc: Global,
@@ -101,12 +100,11 @@ fn what_one_worker_writes_the_other_sees(rt: HostRuntime) {
 }
 
 // A question of a revision that is not there yet comes back, and is answered once that is written and the session refreshed.
-fn is_answered_later<
-    J: KeeperName<T>,
-    H: Wait + Drop,
-    W: Abort + Wait + Threads + Sync,
-    T: Tables + Drop,
->(rt: &W, alloc: Global, keeper: &Keeper<T, J, H>) {
+fn is_answered_later<J: KeeperName<T>, H: Wait + Drop, W: Abort + Wait + Threads, T: Tables + Drop>(
+    rt: &W,
+    alloc: Global,
+    keeper: &Keeper<T, J, H>,
+) {
     let mut front = Front::new(alloc, rt, keeper).expect(rt, "a front");
     let (mut session, mut place) = keeper.session(rt).expect(rt, "a session");
     let taken = status_of(&front.answer_change(rt, &(), Call::Config, GROUPS));
@@ -119,7 +117,7 @@ fn is_answered_later<
     assert!(rt; taken == 200 && written == 200 && answered == 200);
 }
 
-fn later<J: KeeperName<T>, H: Wait + Drop, W: Abort + Wait + Threads + Sync, T: Tables + Drop>(
+fn later<J: KeeperName<T>, H: Wait + Drop, W: Abort + Wait + Threads, T: Tables + Drop>(
     rt: &W,
     handle: H,
     alloc: Global,
@@ -148,7 +146,7 @@ fn a_question_that_came_back_is_answered_after_a_refresh(rt: HostRuntime) {
 }
 
 // Where the keeper is gone, a session is answered 23, and the tables hold what was written.
-fn outlives<J: KeeperName<T>, H: Wait + Drop, W: Abort + Wait + Threads + Sync, T: Tables + Drop>(
+fn outlives<J: KeeperName<T>, H: Wait + Drop, W: Abort + Wait + Threads, T: Tables + Drop>(
     rt: &W,
     handle: H,
     alloc: Global,
@@ -181,12 +179,11 @@ fn a_session_outlives_its_keeper(rt: HostRuntime) {
 }
 
 // The configuration is revision 1: a part takes it, a node of it is marked, and it is the base of the index.
-fn changes_by_hand<
-    J: KeeperName<T>,
-    H: Wait + Drop,
-    W: Abort + Wait + Threads + Sync,
-    T: Tables + Drop,
->(rt: &W, alloc: Global, keeper: &Keeper<T, J, H>) {
+fn changes_by_hand<J: KeeperName<T>, H: Wait + Drop, W: Abort + Wait + Threads, T: Tables + Drop>(
+    rt: &W,
+    alloc: Global,
+    keeper: &Keeper<T, J, H>,
+) {
     let node = Node::parse("group:a#member").expect(rt, "a node");
     let mut front = Front::new(alloc, rt, keeper).expect(rt, "a front");
     let (_, mut place) = keeper.session(rt).expect(rt, "a session");
@@ -207,12 +204,13 @@ fn changes_by_hand<
     assert!(rt; matches!(marked.made, Made::Marked(1)) && matches!(rebuilt.made, Made::Base(1)));
 }
 
-fn under_the_lock<
-    J: KeeperName<T>,
-    H: Wait + Drop,
-    W: Abort + Wait + Threads + Sync,
-    T: Tables + Drop,
->(rt: &W, handle: H, alloc: Global, opening: Opening, tables: T)
+fn under_the_lock<J: KeeperName<T>, H: Wait + Drop, W: Abort + Wait + Threads, T: Tables + Drop>(
+    rt: &W,
+    handle: H,
+    alloc: Global,
+    opening: Opening,
+    tables: T,
+)
     requires book { opening.opened.book ≡ J.book }
     requires history { opening.history ≡ J.table }
     requires starts { (desk : Posts T) → J.starts desk }

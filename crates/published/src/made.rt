@@ -70,20 +70,12 @@ impl<J: Naming> Copied<J> {
     }
 
     /// Two group indexes of the snapshot, one for each copy that sessions ask. Two threads make each.
-    pub fn index<R: Threads + Sync>(
-        &self,
-        rt: &R,
-        alloc: Global,
-    ) -> Result<MadeIndexes<J>, AllocError> {
+    pub fn index<R: Threads>(&self, rt: &R, alloc: Global) -> Result<MadeIndexes<J>, AllocError> {
         let (first, second) = (self.index_once(rt, alloc), self.index_once(rt, alloc));
         both(first, second)
     }
 
-    fn index_once<R: Threads + Sync>(
-        &self,
-        rt: &R,
-        alloc: Global,
-    ) -> Result<MadeIndex<J>, AllocError> {
+    fn index_once<R: Threads>(&self, rt: &R, alloc: Global) -> Result<MadeIndex<J>, AllocError> {
         let index = GroupIndex::of_parallel(rt, alloc, self.keys, &self.input, self.rev)?;
         Ok(MadeIndex {
             of: self.of.again(),

@@ -84,7 +84,7 @@ impl<'k, T: Tables + Drop, J: KeeperName<T>, H: Wait + Drop, B: ToldOfBuilds> In
 
     // Indexes of the revision to which a turn brings the index, where it has it made anew, as far as there is memory for them.
     // They are made with no lock.
-    fn make_ready<R: Threads + Wait + Sync>(&mut self, rt: &R) -> Option<MadeIndexes<J>>
+    fn make_ready<R: Threads + Wait>(&mut self, rt: &R) -> Option<MadeIndexes<J>>
         ensures known { Begins self.old.known self.new.known }
         ensures deeds { self.new.hand ≡ self.old.hand }
     {
@@ -96,7 +96,7 @@ impl<'k, T: Tables + Drop, J: KeeperName<T>, H: Wait + Drop, B: ToldOfBuilds> In
     }
 
     // Takes a turn if a part is behind what is shown. Whether more may be left to take.
-    fn takes_turn<R: Threads + Wait + Sync>(&mut self, rt: &R) -> bool
+    fn takes_turn<R: Threads + Wait>(&mut self, rt: &R) -> bool
         ensures known { Begins self.old.known self.new.known }
         ensures turn { (self.new.hand ≡ self.old.hand) ⊎ TakesOneTurn T.Tables J.book J.starts self.old.hand self.new.hand }
     {
@@ -125,7 +125,7 @@ impl<'k, T: Tables + Drop, J: KeeperName<T>, H: Wait + Drop, B: ToldOfBuilds> Fo
     ghost followed = { λ s t. Begins s.known t.known
         × ((turns : ℕ) × TurnByTurn T.Tables J.book J.starts s.hand turns t.hand) };
 
-    fn follow<R: Threads + Wait + Sync>(&mut self, rt: &R) {
+    fn follow<R: Threads + Wait>(&mut self, rt: &R) {
         for _ in rt.forever() {
             let goes_on = if self.takes_turn(rt) {
                 self.woken.try_recv(rt) != Err(TryRecvError::Disconnected)

@@ -51,7 +51,7 @@ impl<
     T: Tables + Drop,
     J: KeeperName<T>,
     R: Wait + Drop,
-    W: Wait + Threads + Sync,
+    W: Wait + Threads,
     B: ToldOfBuilds,
 > Answers for Locked<'k, T, J, R, W, B> {
     ghost use Rattle.keeper.specs.Fronts.{FrontStep};

@@ -35,7 +35,7 @@ pub(crate) trait Follows {
     ghost followed: { Self → Self → Type 0 };
 
     /// Follows them until nobody is left who makes any.
-    fn follow<R: Threads + Wait + Sync>(&mut self, rt: &R)
+    fn follow<R: Threads + Wait>(&mut self, rt: &R)
         ensures { followed self.old self.new };
 }
 

@@ -180,12 +180,7 @@ fn visit(alloc: Global, number: u32) -> Result<String, AllocError> {
 }
 
 // Writes one tuple a commit until the sessions are done.
-fn write_until<
-    T: Tables + Drop,
-    J: KeeperName<T>,
-    H: Wait + Drop,
-    W: Threads + Wait + CpuClock + Sync,
->(
+fn write_until<T: Tables + Drop, J: KeeperName<T>, H: Wait + Drop, W: Threads + Wait + CpuClock>(
     rt: &W,
     alloc: Global,
     front: &mut Front<'_, T, J, H>,
@@ -212,7 +207,7 @@ fn write_until<
 }
 
 // Has the changes among the lines made.
-fn take<T: Tables + Drop, J: KeeperName<T>, H: Wait + Drop, W: Threads + Wait + Sync>(
+fn take<T: Tables + Drop, J: KeeperName<T>, H: Wait + Drop, W: Threads + Wait>(
     rt: &W,
     front: &mut Front<'_, T, J, H>,
     lines: &str,
