@@ -145,7 +145,7 @@ def calls_of(crate):
         while re.search(r"<[^<>]*>", head):
             head = re.sub(r"<[^<>]*>", "", head)
         named = re.findall(r"\w+", re.sub(r"\b(pub|impl|trait|for)\b", "", head))
-        owner = named[1] if " for " in head else named[0]
+        owner = named[1] if " for " in head and len(named) > 1 else named[0]
         for _, public, name, answer in SIGNATURE.findall(body):
             if (public or " for " in head or "trait " in head) and not inner & {named[0], owner} and ANSWERS.search(answer):
                 yield f"{owner}::{name}"

@@ -33,7 +33,7 @@ use crate::storing::{commit_change, floor_change, store};
 use config::Config;
 use names::limits::MAX_CATCH_UP;
 use names::{Commit, Marking, Part, Refusal, Write};
-use published::{Naming, Opened, Publication, Receipt, Session};
+use published::{MadeIndexes, Naming, Opened, Publication, Receipt, Session};
 use rows::{events_of, refuses_what_no_write_gives};
 use shown::{Question, Refused, Shown, Step, Told};
 use std::alloc::{AllocError, Global};
@@ -296,6 +296,22 @@ impl<T: Tables + Drop, J: Naming, R: Wait + Drop> Desk<T, J, R> {
         let receipt = self.shown_receipt(shown);
         session.learn(&receipt);
         receipt
+    }
+
+    /// Hands in indexes, or none, that were made beside the desk, for the next change that moves the index. No answer is another
+    /// for them.
+    pub fn hand_in(&mut self, made: Option<MadeIndexes<J>>)
+        ensures { self.new ≡ self.old }
+    {
+        self.publication.hand_in(made);
+    }
+
+    /// The shown revision to which so many commits more bring a group index that is kept, where that is made anew on the way,
+    /// since there is a configuration among them.
+    pub fn remade_index(&self, commits: u32) -> Option<Zookie> {
+        let rev = self.publication.shown().remade_index(commits)?;
+        let store = self.number();
+        Some(Zookie { store, rev })
     }
 
     /// Shows what waits, as far as there is memory, and says whether all that is posted is shown.

@@ -65,7 +65,7 @@ impl GroupIndex {
     }
 
     /// The same, where closures and direct groups are each worked out by a thread of their own.
-    pub fn of_parallel<R: Threads + Sync>(
+    pub fn of_parallel<R: Threads>(
         rt: &R,
         alloc: Global,
         keys: RandomState,

@@ -42,6 +42,8 @@ use Rattle.published.proofs.remembered.Remembered.TheSendSync as Remembered
 use denote.RattleType.{RattleType}
 use Rattle.left_right.proofs.reader.Reader.TheSendSync as Reader
 use Rattle.published.specs.contracts.copy.ShownCopy as ShownCopy
+use Rattle.published.specs.contracts.made.MadeIndex as MadeIndex
+use Rattle.published.specs.contracts.made.MadeIndexes as MadeIndexes
 use Rattle.published.specs.contracts.session.Session as Session
 use Rattle.published.specs.contracts.post.Post as Post
 use Rattle.published.specs.contracts.publisher.Publisher as Publisher
@@ -183,10 +185,21 @@ Session-inside-send J n s y = search (Reader.the_field_send, ShownCopy-send, Sho
 pub Session-send : (J : RattleType) (n : _) → IsSend J → IsSync J → IsSend (Session.the_row J n)
 Session-send J n s y = search (Session-inside-send, sendable) depth 10
 
+MadeIndex-inside-send : (J : RattleType) (n : _) → IsSend J → IsSend (MadeIndex.TheInside.the_row J n)
+MadeIndex-inside-send J n s =
+    let M = MadeIndex.TheInside.the_type J n in
+    recorded_send _ _ M.to M.to_one (struct_send (S.shape M) (StepPrefix.the_send, ((search sendable), (GroupIndex-field-send, ((search (s, crosses, sendable) depth 20), tt)))))
+
+pub MadeIndex-send : (J : RattleType) (n : _) → IsSend J → IsSend (MadeIndex.the_row J n)
+MadeIndex-send J n s = search (MadeIndex-inside-send, sendable) depth 10
+
+pub MadeIndexes-send : (J : RattleType) (n : _) → IsSend J → IsSend (MadeIndexes.the_row J n)
+MadeIndexes-send J n s = search (MadeIndex-send, sendable) depth 10
+
 Post-inside-send : (J : RattleType) (n : _) → IsSend J → IsSend (Post.TheInside.the_row J n)
 Post-inside-send J n s =
     let P = Post.TheInside.the_type J n in
-    recorded_send _ _ P.to P.to_one (struct_send (S.shape P) (Step-field-send, (StepPrefix.the_send, ((search (s, crosses, sendable) depth 20), tt))))
+    recorded_send _ _ P.to P.to_one (struct_send (S.shape P) (Step-field-send, (StepPrefix.the_send, ((search (MadeIndex-send, crosses, sendable) depth 20), ((search (MadeIndex-send, crosses, sendable) depth 20), tt)))))
 
 pub Post-send : (J : RattleType) (n : _) → IsSend J → IsSend (Post.the_row J n)
 Post-send J n s = search (Post-inside-send, sendable) depth 10
@@ -198,7 +211,7 @@ pub Publisher-send : (C O P : RattleType) (a b p : _) → IsSend C → IsSync C 
 Publisher-send C O P a b p s y o = search (Publisher-inside-send, sendable) depth 10
 
 Publication-inside-send : (J R : RattleType) (n : _) → IsSend J → IsSync J → IsSend R → IsSend (Publication.TheInside.the_row J R n)
-Publication-inside-send J R n s y r = search (Publisher-send, ShownCopy-send, ShownCopy-sync, Book.the_send, StepPrefix.the_send, Step-send, Post-send, Session-send, crosses, sendable) depth 40
+Publication-inside-send J R n s y r = search (Publisher-send, ShownCopy-send, ShownCopy-sync, Book.the_send, StepPrefix.the_send, Step-send, MadeIndexes-send, Post-send, Session-send, crosses, sendable) depth 40
 
 pub Publication-send : (J R : RattleType) (n : _) → IsSend J → IsSync J → IsSend R → IsSend (Publication.the_row J R n)
 Publication-send J R n s y r = search (Publication-inside-send, sendable) depth 10

@@ -7,17 +7,21 @@ ghost use Rattle.keeper.specs.Kept.{IsKnownIn, KnowsMore};
 ghost use Rattle.keeper.specs.Questions.{IsAsked};
 ghost use Rattle.keeper.specs.Fronts.{ChangeFrom, FrontStep, IsSeated, MayTell, QuestionFrom, ToldByDesk};
 
+use crate::builds::{ToldOfBuilds, make_indexes};
 use crate::deeds::{KeeperName, Place};
 use crate::lock::{ChangeAsked, Keeper};
 use crate::questions::{Asked, ask_again, ask_from};
 use bodies::refusals::refusal;
 use calls::{change_of, is_change};
+use desk::Change;
 use names::{Call, Refusal, Reply};
-use published::{Receipt, Session};
+use published::{MadeIndexes, Receipt, Session};
 use std::alloc::Global;
 use std::marker::Model;
 use std::sync::Wait;
+use std::thread::Threads;
 use tables::Tables;
+use zookie::Consistency;
 
 /// A keeper, and a session of it. A question is asked of the session alone, with no lock and no wait: by the type of
 /// [`ask_from`] and [`ask_again`], which no clause says. The desk is held for a change whose body was read, and for a refresh.
@@ -98,27 +102,42 @@ impl<'k, T: Tables + Drop, J: KeeperName<T>, R: Wait + Drop> Front<'k, T, J, R> 
         }
     }
 
-    /// Answers a call that changes something. The desk is held once the body is read.
-    pub fn answer_change<W: Wait>(&mut self, rt: &W, call: Call, body: &[u8]) -> Reply
+    /// Answers a call that changes something. The desk is held once the body is read, and where a base is to be made, once the
+    /// index for it is made, as far as there is memory for that.
+    pub fn answer_change<W: Wait + Threads, B: ToldOfBuilds>(
+        &mut self,
+        rt: &W,
+        builds: &B,
+        call: Call,
+        body: &[u8],
+    ) -> Reply
         ensures { ChangeFrom T.Tables J.book J.starts self.old call body.now (told result) self.new }
     {
         match change_of(self.alloc, call, body) {
             Ok(change) => {
+                let made = self.make_ready(rt, builds, &change);
                 let asked = ChangeAsked { call, body, change };
                 self.keeper
-                    .hold(rt)
+                    .hold_with(rt, made)
                     .answer(rt, self.alloc, &mut self.place, &mut self.session, asked)
             }
             Err(why) => refusal(self.alloc, &why),
         }
     }
 
-    /// Answers a call, whose body is these bytes. No answer goes back on what an earlier one was told by.
-    pub fn answer<W: Wait>(&mut self, rt: &W, call: Call, body: &[u8]) -> Reply
+    /// Answers a call, whose body is these bytes. No answer goes back on what an earlier one was told by. Of indexes that are made
+    /// for it with no lock it tells who is to be told.
+    pub fn answer<W: Wait + Threads, B: ToldOfBuilds>(
+        &mut self,
+        rt: &W,
+        builds: &B,
+        call: Call,
+        body: &[u8],
+    ) -> Reply
         ensures { FrontStep T.Tables J.book J.starts self.old call body.now (told result) self.new }
     {
         self.see();
-        self.tell(rt, call, body)
+        self.tell(rt, builds, call, body)
     }
 
     /// Gives its place back, of which it does nothing more.
@@ -136,11 +155,37 @@ impl<'k, T: Tables + Drop, J: KeeperName<T>, R: Wait + Drop> Front<'k, T, J, R> 
         let _ = &self.session;
     }
 
-    fn tell<W: Wait>(&mut self, rt: &W, call: Call, body: &[u8]) -> Reply
+    // Indexes of what is shown, where a base is to be made, as far as there is memory for them.
+    fn make_ready<W: Threads, B: ToldOfBuilds>(
+        &mut self,
+        rt: &W,
+        builds: &B,
+        change: &Change,
+    ) -> Option<MadeIndexes<J>>
+        ensures known { KnowsMore self.old.known self.new.known }
+        ensures deeds { self.new.hand ≡ self.old.hand }
+    {
+        self.session.knows_judged_steps();
+        let Change::Rebuild = change else {
+            return None;
+        };
+        match self.session.copy_snapshot(&Consistency::Latest) {
+            Ok(copied) => make_indexes(rt, self.alloc, builds, &copied),
+            Err(_) => None,
+        }
+    }
+
+    fn tell<W: Wait + Threads, B: ToldOfBuilds>(
+        &mut self,
+        rt: &W,
+        builds: &B,
+        call: Call,
+        body: &[u8],
+    ) -> Reply
         ensures { MayTell T.Tables J.book J.starts self.old call body.now (told result) self.new }
     {
         if is_change(call) {
-            self.answer_change(rt, call, body)
+            self.answer_change(rt, builds, call, body)
         } else {
             self.answer_question(rt, call, body)
         }

@@ -25,12 +25,13 @@ use calls::change_on;
 use desk::{Change, Changed, Desk, Posted};
 use names::{Call, Part, Refusal, Reply};
 use one_history::{History, HistoryName, Log};
-use published::{Opened, Receipt, Session};
+use published::{MadeIndexes, Opened, Receipt, Session};
 use std::alloc::{AllocError, Global};
 use std::hash::RandomState;
 use std::marker::{Brand, Model};
 use std::sync::{Mutex, MutexGuard, Wait};
 use tables::Tables;
+use zookie::Zookie;
 
 /// A call, its body, and the change that it asks for.
 #[derive(Drop)]
@@ -236,6 +237,18 @@ impl<T: Tables + Drop, J: KeeperName<T>, R: Wait + Drop> KeptDesk<T, J, R> {
         reply
     }
 
+    /// Hands in indexes, or none, that were made with no lock, for the next change that moves the index.
+    fn hand_in(&mut self, made: Option<MadeIndexes<J>>)
+        ensures { self.new ≡ self.old }
+    {
+        self.desk.hand_in(made);
+    }
+
+    /// The shown revision to which so many commits more bring a group index that is kept, where that is made anew on the way.
+    pub fn remade_index(&self, commits: u32) -> Option<Zookie> {
+        self.desk.remade_index(commits)
+    }
+
     /// Has each of these places see all that was done, which has left the desk so, and lets them go. One list of deeds is told of
     /// all: each place's own stand in it, and under its number no others.
     pub fn look<W: Wait>(&mut self, rt: &W, places: Vec<Place<'_, J>>)
@@ -287,6 +300,21 @@ impl<T: Tables + Drop, J: KeeperName<T>, R: Wait + Drop> Keeper<T, J, R> {
         ensures left { (deeds : List (Entry Deed)) × IsLeft T.Tables J.starts deeds (mutex_guard_value result) }
     {
         let desk = self.desk.lock(rt);
+        desk.see();
+        desk
+    }
+
+    /// The desk, to which these indexes were handed in, or none.
+    pub fn hold_with<W: Wait>(
+        &self,
+        rt: &W,
+        made: Option<MadeIndexes<J>>,
+    ) -> MutexGuard<'_, KeptDesk<T, J, R>>
+        ensures kept { IsKept T.Tables J.book (mutex_guard_value result) }
+        ensures left { (deeds : List (Entry Deed)) × IsLeft T.Tables J.starts deeds (mutex_guard_value result) }
+    {
+        let mut desk = self.desk.lock(rt);
+        desk.hand_in(made);
         desk.see();
         desk
     }

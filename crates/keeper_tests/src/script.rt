@@ -14,6 +14,7 @@ use std::marker::Brand;
 use std::process::Abort;
 use std::sync::Wait;
 use std::test::*;
+use std::thread::Threads;
 use tables::{Listed, Tables};
 
 // The calls of the stored script, and calls that are refused.
@@ -175,17 +176,17 @@ struct ByFront<'k, T: Tables + Drop, J: KeeperName<T>, H: Wait + Drop, W: Wait> 
     front: Front<'k, T, J, H>,
 }
 
-impl<'k, T: Tables + Drop, J: KeeperName<T>, H: Wait + Drop, W: Wait> Answers
+impl<'k, T: Tables + Drop, J: KeeperName<T>, H: Wait + Drop, W: Wait + Threads> Answers
     for ByFront<'k, T, J, H, W> {
     // What a front may answer is in its own contract.
     ghost step = { λ _ _ _ _ _. Unit {0} };
 
     fn answer(&mut self, call: Call, body: &[u8]) -> Reply {
-        self.front.answer(self.rt, call, body)
+        self.front.answer(self.rt, &(), call, body)
     }
 }
 
-fn by_front<J: KeeperName<T>, H: Wait + Drop, W: Abort + Wait, T: Tables + Drop>(
+fn by_front<J: KeeperName<T>, H: Wait + Drop, W: Abort + Wait + Threads, T: Tables + Drop>(
     rt: &W,
     alloc: Global,
     keeper: &Keeper<T, J, H>,
@@ -195,7 +196,7 @@ fn by_front<J: KeeperName<T>, H: Wait + Drop, W: Abort + Wait, T: Tables + Drop>
     replies_of(alloc, &mut machine).expect(rt, "replies")
 }
 
-fn by_locked<J: KeeperName<T>, H: Wait + Drop, W: Abort + Wait, T: Tables + Drop>(
+fn by_locked<J: KeeperName<T>, H: Wait + Drop, W: Abort + Wait + Threads, T: Tables + Drop>(
     rt: &W,
     handle: H,
     alloc: Global,

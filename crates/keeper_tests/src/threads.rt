@@ -130,7 +130,7 @@ fn all_read<J: Naming + Send + Sync, W: Threads + Wait + Sync>(
 }
 
 // Whether every write was answered with 200. The receipt of each is handed on.
-fn writes<J: KeeperName<T>, H: Wait + Drop, W: Wait, T: Tables + Drop>(
+fn writes<J: KeeperName<T>, H: Wait + Drop, W: Wait + Threads, T: Tables + Drop>(
     rt: &W,
     front: &mut Front<'_, T, J, H>,
     keeper: &Keeper<T, J, H>,
@@ -140,7 +140,7 @@ fn writes<J: KeeperName<T>, H: Wait + Drop, W: Wait, T: Tables + Drop>(
 ) -> bool {
     for number in 0..WRITES {
         let body = if number % 2 == 0 { INSERT } else { DELETE };
-        if status_of(&front.answer_change(rt, Call::Write, body)) != 200 {
+        if status_of(&front.answer_change(rt, &(), Call::Write, body)) != 200 {
             return false;
         }
         let handed = own.refresh(rt, keeper, place);
@@ -197,7 +197,7 @@ fn read_beside<
     T: Tables + Drop,
 >(rt: &W, alloc: Global, keeper: &Keeper<T, J, H>) {
     let mut front = Front::new(alloc, rt, keeper).expect(rt, "a front");
-    let taken = status_of(&front.answer_change(rt, Call::Config, GROUPS));
+    let taken = status_of(&front.answer_change(rt, &(), Call::Config, GROUPS));
     let readers = readers_of(rt, alloc, keeper);
     let (session, mut place) = keeper.session(rt).expect(rt, "a session");
     let mut own = reader_of(session);

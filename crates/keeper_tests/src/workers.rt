@@ -12,6 +12,7 @@ use std::marker::Brand;
 use std::process::Abort;
 use std::sync::Wait;
 use std::test::*;
+use std::thread::Threads;
 use tables::{Listed, Tables};
 
 const GROUPS: &[u8] = br#"{"namespaces":{"group":{"member":{"types":["user"]}},"user":{}}}"#;
@@ -52,25 +53,25 @@ fn comes_back(asked: &Asked) -> bool {
 
 // A question of a revision that is not there yet comes back from the session, and is refused after a refresh; once the
 // other worker has written, it is answered.
-fn sees_the_other<J: KeeperName<T>, H: Wait + Drop, W: Abort + Wait, T: Tables + Drop>(
+fn sees_the_other<J: KeeperName<T>, H: Wait + Drop, W: Abort + Wait + Threads, T: Tables + Drop>(
     rt: &W,
     alloc: Global,
     keeper: &Keeper<T, J, H>,
 ) {
     let mut one = Front::new(alloc, rt, keeper).expect(rt, "a front");
     let mut two = Front::new(alloc, rt, keeper).expect(rt, "a front");
-    let taken = status_of(&one.answer_change(rt, Call::Config, GROUPS));
+    let taken = status_of(&one.answer_change(rt, &(), Call::Config, GROUPS));
     let early = comes_back(&two.ask(Call::Check, NEXT));
     let refused = status_of(&two.answer_question(rt, Call::Check, NEXT));
-    let written = status_of(&one.answer_change(rt, Call::Write, INSERT));
+    let written = status_of(&one.answer_change(rt, &(), Call::Write, INSERT));
     let late = comes_back(&two.ask(Call::Check, NEXT));
-    let answered = status_of(&two.answer(rt, Call::Check, NEXT));
+    let answered = status_of(&two.answer(rt, &(), Call::Check, NEXT));
     assert!(rt;
         taken == 200 && early && refused == 409 && written == 200 && !late && answered == 200
     );
 }
 
-fn beside<J: KeeperName<T>, H: Wait + Drop, W: Abort + Wait, T: Tables + Drop>(
+fn beside<J: KeeperName<T>, H: Wait + Drop, W: Abort + Wait + Threads, T: Tables + Drop>(
     rt: &W,
     handle: H,
     alloc: Global,
@@ -99,24 +100,24 @@ fn what_one_worker_writes_the_other_sees(rt: HostRuntime) {
 }
 
 // A question of a revision that is not there yet comes back, and is answered once that is written and the session refreshed.
-fn is_answered_later<J: KeeperName<T>, H: Wait + Drop, W: Abort + Wait, T: Tables + Drop>(
+fn is_answered_later<J: KeeperName<T>, H: Wait + Drop, W: Abort + Wait + Threads, T: Tables + Drop>(
     rt: &W,
     alloc: Global,
     keeper: &Keeper<T, J, H>,
 ) {
     let mut front = Front::new(alloc, rt, keeper).expect(rt, "a front");
     let (mut session, mut place) = keeper.session(rt).expect(rt, "a session");
-    let taken = status_of(&front.answer_change(rt, Call::Config, GROUPS));
+    let taken = status_of(&front.answer_change(rt, &(), Call::Config, GROUPS));
     let Asked::NotYet(question) = ask_from(alloc, &mut session, Call::Check, NEXT) else {
         panic!(rt; "an answer");
     };
-    let written = status_of(&front.answer_change(rt, Call::Write, INSERT));
+    let written = status_of(&front.answer_change(rt, &(), Call::Write, INSERT));
     keeper.hold(rt).refresh(rt, &mut place, &mut session);
     let answered = status_of(&ask_again(alloc, &mut session, &question));
     assert!(rt; taken == 200 && written == 200 && answered == 200);
 }
 
-fn later<J: KeeperName<T>, H: Wait + Drop, W: Abort + Wait, T: Tables + Drop>(
+fn later<J: KeeperName<T>, H: Wait + Drop, W: Abort + Wait + Threads, T: Tables + Drop>(
     rt: &W,
     handle: H,
     alloc: Global,
@@ -145,7 +146,7 @@ fn a_question_that_came_back_is_answered_after_a_refresh(rt: HostRuntime) {
 }
 
 // Where the keeper is gone, a session is answered 23, and the tables hold what was written.
-fn outlives<J: KeeperName<T>, H: Wait + Drop, W: Abort + Wait, T: Tables + Drop>(
+fn outlives<J: KeeperName<T>, H: Wait + Drop, W: Abort + Wait + Threads, T: Tables + Drop>(
     rt: &W,
     handle: H,
     alloc: Global,
@@ -178,7 +179,7 @@ fn a_session_outlives_its_keeper(rt: HostRuntime) {
 }
 
 // The configuration is revision 1: a part takes it, a node of it is marked, and it is the base of the index.
-fn changes_by_hand<J: KeeperName<T>, H: Wait + Drop, W: Abort + Wait, T: Tables + Drop>(
+fn changes_by_hand<J: KeeperName<T>, H: Wait + Drop, W: Abort + Wait + Threads, T: Tables + Drop>(
     rt: &W,
     alloc: Global,
     keeper: &Keeper<T, J, H>,
@@ -186,7 +187,7 @@ fn changes_by_hand<J: KeeperName<T>, H: Wait + Drop, W: Abort + Wait, T: Tables 
     let node = Node::parse("group:a#member").expect(rt, "a node");
     let mut front = Front::new(alloc, rt, keeper).expect(rt, "a front");
     let (_, mut place) = keeper.session(rt).expect(rt, "a session");
-    let taken = status_of(&front.answer_change(rt, Call::Config, GROUPS));
+    let taken = status_of(&front.answer_change(rt, &(), Call::Config, GROUPS));
     let moved = keeper
         .hold(rt)
         .catch_up(rt, &mut place, Part::Hot, 9)
@@ -203,7 +204,7 @@ fn changes_by_hand<J: KeeperName<T>, H: Wait + Drop, W: Abort + Wait, T: Tables 
     assert!(rt; matches!(marked.made, Made::Marked(1)) && matches!(rebuilt.made, Made::Base(1)));
 }
 
-fn under_the_lock<J: KeeperName<T>, H: Wait + Drop, W: Abort + Wait, T: Tables + Drop>(
+fn under_the_lock<J: KeeperName<T>, H: Wait + Drop, W: Abort + Wait + Threads, T: Tables + Drop>(
     rt: &W,
     handle: H,
     alloc: Global,

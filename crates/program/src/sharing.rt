@@ -7,7 +7,7 @@ use crate::host::Host;
 use crate::listening::listen;
 use crate::serving::Offer;
 use command_line::Fault;
-use keeper::{Keeper, KeeperName, Opening};
+use keeper::{Keeper, KeeperName, Opening, ToldOfBuilds};
 use names::Refusal;
 use server::{Gate, run};
 use sqlite::Alter;
@@ -23,6 +23,10 @@ use tracked_io::TrackedWriter;
 
 // A gate that takes each connection, until the process is stopped.
 struct AlwaysOpen;
+
+impl ToldOfBuilds for AlwaysOpen {
+    fn built(&self, _rev: u64) {}
+}
 
 impl Gate for AlwaysOpen {
     fn more(&self, _accepted: u64) -> bool

@@ -4,6 +4,7 @@ pub mod Receipts
 pub mod Posts
 pub mod Judged
 pub mod Rising
+pub mod Copied
 pub mod Copies
 pub mod Writing
 pub mod Publishing

@@ -7,9 +7,11 @@ ghost use Rattle.published.specs.Judged.{AreJudged};
 ghost use Rattle.published.specs.Invariant.{Leads};
 
 use crate::book::{Book, Naming, StepPrefix};
+use crate::made::MadeIndexes;
 use crate::post::Post;
 use crate::rule::{CopyPublisher, Seeing};
 use core::mem::replace_with;
+use names::Part;
 use shown::Step;
 use std::alloc::AllocError;
 use std::collections::VecDeque;
@@ -21,6 +23,7 @@ pub(crate) fn publish_all<J: Naming, R: Wait>(
     book: &Book,
     entered: &mut StepPrefix,
     backlog: &mut VecDeque<Step>,
+    made: &mut Option<MadeIndexes<J>>,
     publisher: &mut CopyPublisher<J>,
     stuck: &mut Option<Post<J>>,
 ) -> bool
@@ -35,7 +38,7 @@ pub(crate) fn publish_all<J: Naming, R: Wait>(
     ensures all { IsTrue result
         ↔ (publisher.new.published.prefix.steps ≡ entered.new.steps ++ backlog.new.items) }
 {
-    hand_over(book, entered, backlog, publisher, stuck);
+    hand_over(book, entered, backlog, made, publisher, stuck);
     if !publisher.is_waiting() {
         return is_done(stuck, backlog);
     }
@@ -78,6 +81,7 @@ fn hand_over<J: Naming>(
     book: &Book,
     entered: &mut StepPrefix,
     backlog: &mut VecDeque<Step>,
+    made: &mut Option<MadeIndexes<J>>,
     publisher: &mut CopyPublisher<J>,
     stuck: &mut Option<Post<J>>,
 )
@@ -91,7 +95,7 @@ fn hand_over<J: Naming>(
     ensures same { publisher.new.published ≡ publisher.old.published }
 {
     while retry(publisher, stuck) {
-        let Some(post) = enter_next(book, entered, backlog) else {
+        let Some(post) = enter_next(book, entered, backlog, made) else {
             break;
         };
         *stuck = Some(post);
@@ -118,11 +122,12 @@ fn retry<J: Naming>(publisher: &mut CopyPublisher<J>, stuck: &mut Option<Post<J>
     }
 }
 
-// Enters the next step of the backlog in the book.
+// Enters the next step of the backlog in the book. With one that moves the index go the indexes that were made.
 fn enter_next<J: Naming>(
     book: &Book,
     entered: &mut StepPrefix,
     backlog: &mut VecDeque<Step>,
+    made: &mut Option<MadeIndexes<J>>,
 ) -> Option<Post<J>>
     requires named { book.now ≡ J.book }
     requires book { entered.old.book ≡ book.now }
@@ -141,7 +146,11 @@ fn enter_next<J: Naming>(
     let after = entered.add_step(book, next)?;
     let step = backlog.pop_front()?;
     *entered = after.again();
-    Some(Post::new(step, after))
+    let made = match &step {
+        Step::Rebase(_) | Step::Take(Part::Index, _) => made.take(),
+        _ => None,
+    };
+    Some(Post::new(step, after, made))
 }
 
 fn is_done<J: Naming>(stuck: &Option<Post<J>>, backlog: &VecDeque<Step>) -> bool

@@ -6,6 +6,7 @@ mod book;
 mod copy;
 mod hand;
 mod law;
+mod made;
 mod post;
 mod publication;
 mod publisher;
@@ -16,6 +17,7 @@ mod session;
 
 pub use book::{Book, Naming, Opened, StepPrefix};
 pub use law::revisions_rise;
+pub use made::{Copied, MadeIndexes};
 pub use publication::{MAX_SESSIONS, Publication};
 pub use receipt::{Receipt, ShownSteps};
 pub use session::Session;

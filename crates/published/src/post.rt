@@ -4,16 +4,20 @@ ghost use Rattle.published.specs.Judged.{AreJudged};
 ghost use Rattle.published.specs.Known.{Known, next_of};
 
 use crate::book::{Naming, StepPrefix};
+use crate::made::{MadeIndex, MadeIndexes};
 use shown::Step;
-use std::marker::{Model, PhantomData};
+use std::cell::Cell;
+use std::marker::Model;
 
 /// A step, and the list of the book that `J` names which it ends. All steps of that were judged: a copy that has the others need
-/// not judge it again. Contracts see it as the step and the list.
+/// not judge it again. With a step that moves the index there may come an index for each copy. Contracts see it as the step and the
+/// list.
 #[derive(Drop)]
 pub struct Post<J: Naming> {
     step: Step,
     after: StepPrefix,
-    of: PhantomData<J>,
+    first: Cell<Option<MadeIndex<J>>>,
+    second: Cell<Option<MadeIndex<J>>>,
 }
 
 impl<J: Naming> Model for Post<J> {
@@ -35,16 +39,21 @@ impl<J: Naming> Model for Post<J> {
 
 impl<J: Naming> Post<J> {
     /// The step by which one list becomes another.
-    pub(crate) fn new(step: Step, after: StepPrefix) -> Post<J>
+    pub(crate) fn new(step: Step, after: StepPrefix, made: Option<MadeIndexes<J>>) -> Post<J>
         requires book { after.book ≡ J.book }
         requires judged { AreJudged after.steps }
         requires ends { (before : Known) × (after ≡ next_of before step) }
         ensures { result ≡ record { step = step; after = after } }
     {
+        let (first, second) = match made {
+            Some(made) => (Some(made.first), Some(made.second)),
+            None => (None, None),
+        };
         Post {
             step,
             after,
-            of: PhantomData,
+            first: Cell::new(first),
+            second: Cell::new(second),
         }
     }
 
@@ -53,6 +62,14 @@ impl<J: Naming> Post<J> {
         ensures { result.now ≡ self.now.step }
     {
         &self.step
+    }
+
+    /// An index that came with it and that no copy has taken, if one is left.
+    pub(crate) fn take_index(&self) -> Option<MadeIndex<J>> {
+        match self.first.replace(None) {
+            Some(made) => Some(made),
+            None => self.second.replace(None),
+        }
     }
 
     /// The list that it ends.

@@ -3,6 +3,7 @@ ghost use Rattle.std.specs.Prelude.{◌≡◌, ◌↔◌, ◌+◌, ◌≤◌, []
 ghost use Rattle.names.specs.declared.refusal.Refusal.TheVariants.{NoSeat};
 ghost use Rattle.rows.specs.Retained.{newest};
 ghost use Rattle.shown.specs.Standing.{nothing, standing, HasRoom};
+ghost use Rattle.published.specs.Copies.{Stands};
 ghost use Rattle.published.specs.Known.{Begins};
 ghost use Rattle.published.specs.Posts.{IsLater};
 ghost use Rattle.published.specs.Judged.{AreJudged, WereJudged};
@@ -11,6 +12,7 @@ ghost use Rattle.published.specs.Publishing.{ShowsMoreOf, IsSameBut, shown_by};
 use crate::book::{Book, Naming, Opened, StepPrefix};
 use crate::copy::ShownCopy;
 use crate::hand::{publish, publish_all};
+use crate::made::MadeIndexes;
 use crate::post::Post;
 use crate::receipt::ShownSteps;
 use crate::remembered::Remembered;
@@ -35,6 +37,7 @@ pub struct Publication<J: Naming, R: Wait + Drop> {
     book: Book,
     entered: StepPrefix,
     backlog: VecDeque<Step>,
+    made: Option<MadeIndexes<J>>,
     stuck: Option<Post<J>>,
     sessions: Vec<Session<J>>,
 }
@@ -83,9 +86,8 @@ impl<J: Naming, R: Wait + Drop> Publication<J, R> {
         let Some(entered) = prefix.add_step(&book, &first) else {
             return Err(AllocError);
         };
-        let one = ShownCopy::after_first(alloc, keys, &first, &entered)?;
-        let other = ShownCopy::after_first(alloc, keys, &first, &entered)?;
-        let mut publisher = CopyPublisher::<J>::new(alloc, one, other, MAX_SESSIONS)?;
+        let mut publisher = two_copies(alloc, keys, &first, &entered)?;
+        drop(first);
         match begin(alloc, keys, &rt, &mut publisher, &entered) {
             Ok(sessions) => Ok(Publication {
                 publisher,
@@ -93,6 +95,7 @@ impl<J: Naming, R: Wait + Drop> Publication<J, R> {
                 book,
                 entered,
                 backlog: VecDeque::new(alloc),
+                made: None,
                 stuck: None,
                 sessions,
             }),
@@ -127,6 +130,14 @@ impl<J: Naming, R: Wait + Drop> Publication<J, R> {
         self.backlog.push_back_reserved(step);
     }
 
+    /// Hands in indexes, or none, for the next step that moves the index. Where it has the index made anew, each copy takes one of
+    /// them, if it serves, and makes none. Those that were handed in before are let go.
+    pub fn hand_in(&mut self, made: Option<MadeIndexes<J>>)
+        ensures { self.new ≡ self.old }
+    {
+        self.made = made;
+    }
+
     /// Shows what waits, in order, as far as there is memory, and says whether nothing waits any more.
     pub fn publish(&mut self) -> bool
         ensures more { ShowsMoreOf self.old self.new }
@@ -137,6 +148,7 @@ impl<J: Naming, R: Wait + Drop> Publication<J, R> {
             &self.book,
             &mut self.entered,
             &mut self.backlog,
+            &mut self.made,
             &mut self.publisher,
             &mut self.stuck,
         )
@@ -192,11 +204,31 @@ impl<J: Naming, R: Wait + Drop> Drop for Publication<J, R> {
             book: _book,
             entered: _entered,
             backlog: _backlog,
+            made: _made,
             stuck: _stuck,
             sessions: _sessions,
         } = self;
         publisher.end(&rt);
     }
+}
+
+// A publisher of two copies after the first step.
+fn two_copies<J: Naming>(
+    alloc: Global,
+    keys: RandomState,
+    first: &Step,
+    entered: &StepPrefix,
+) -> Result<CopyPublisher<J>, AllocError>
+    requires room { HasRoom nothing first.now }
+    requires book { entered.now.book ≡ J.book }
+    requires one { entered.now.steps ≡ first.now ∷ [] }
+    ensures prefix { IfOk result (λ p. p.published.prefix ≡ entered.now) }
+    ensures stands { IfOk result (λ p. Stands p.published) }
+    ensures waiting { IfOk result (λ p. p.waiting ≡ []) }
+{
+    let one = ShownCopy::after_first(alloc, keys, first, entered)?;
+    let other = ShownCopy::after_first(alloc, keys, first, entered)?;
+    CopyPublisher::<J>::new(alloc, one, other, MAX_SESSIONS)
 }
 
 // Publishes two copies that were made of the first step, and makes the sessions.

@@ -1,5 +1,5 @@
 //! What a session remembers.
-ghost use Rattle.std.specs.Prelude.{◌≡◌, ◌⊎◌, IfOk, IfSome};
+ghost use Rattle.std.specs.Prelude.{◌≡◌, ◌⊎◌, IsTrue, IfOk, IfSome};
 ghost use Rattle.shown.specs.Asked.{IsTold};
 ghost use Rattle.shown.specs.KeptAnswers.{AreRetainedAnswers};
 ghost use Rattle.shown.specs.Standing.{standing};
@@ -61,6 +61,14 @@ impl Remembered {
     {
         // A proof knows the invariant where a field is used.
         let _ = &self.known;
+    }
+
+    /// Whether these steps begin with what is known.
+    pub(crate) fn begins(&self, steps: &StepPrefix) -> bool
+        requires book { steps.now.book ≡ self.now.book }
+        ensures { IsTrue result → Begins self.now steps.now }
+    {
+        self.known.begins(steps)
     }
 
     /// The answers that are kept, for a check at the standing of these steps. Nothing where they do not begin with what is

@@ -9,6 +9,7 @@ ghost use Rattle.shown.specs.Expanding.{IsTree, IsTreeRefusal};
 ghost use Rattle.leopard.specs.Exprs.{query_of};
 ghost use Rattle.shown.specs.Grouping.{AreGroups, IsGroupsRefusal};
 ghost use Rattle.shown.specs.Looking.{AreObjects, IsLookupRefusal};
+ghost use Rattle.shown.specs.Copying.{IsCopied};
 ghost use Rattle.shown.specs.Paging.{IsPage, IsPageRefusal};
 ghost use Rattle.shown.specs.Watching.{IsWatched};
 ghost use Rattle.published.specs.Known.{Known, Begins};
@@ -16,6 +17,7 @@ ghost use Rattle.published.specs.Judged.{AreJudged};
 ghost use Rattle.published.specs.Answering.{IsRefusedIn, IsWatchRefusedIn};
 
 use crate::book::{Naming, StepPrefix};
+use crate::made::Copied;
 use crate::receipt::Receipt;
 use crate::remembered::{Look, Remembered};
 use crate::rule::{CopyReader, Seeing};
@@ -152,6 +154,27 @@ impl<J: Naming> Session<J> {
         }
     }
 
+    /// The configuration and the tuples of the revision that the consistency chooses, copied in one entry: what is published
+    /// after the next publication waits for that.
+    pub fn copy_snapshot(&mut self, consistency: &Consistency) -> Result<Copied<J>, Refused>
+        ensures ok { IfOk result (λ copied.
+            IsCopied (standing self.new.steps) consistency.now (record { rev = copied.rev; value = copied.snap })) }
+        ensures err { IfErr result (IsRefusedIn self.old self.new
+            (IsPageRefusal (standing self.new.steps) consistency.now)) }
+        ensures judged { AreJudged self.new.steps }
+        ensures later { Begins self.old self.new }
+    {
+        let asking = Copying {
+            known: &self.known,
+            consistency,
+        };
+        let Some((copied, known)) = replace_with(&mut self.reader, asking, copy) else {
+            return Err(no_publication());
+        };
+        self.known.advance(known);
+        copied
+    }
+
     /// The objects to which the user has the relation, at the revision that the consistency chooses.
     pub fn lookup(
         &mut self,
@@ -266,6 +289,13 @@ struct Inquiry<'a> {
     question: &'a Question,
 }
 
+// What is to be copied, and what the session that copies it remembers.
+#[derive(Drop)]
+struct Copying<'a> {
+    known: &'a Remembered,
+    consistency: &'a Consistency,
+}
+
 // The publication is gone.
 fn no_publication() -> Refused
     ensures { result ≡ record { why = Reopen; at = None } }
@@ -301,6 +331,37 @@ fn look<J: Naming>(
             let number = copy.shown().number();
             let prefix = copy.prefix().again();
             (reading.leave(), Some((answer, number, prefix)))
+        }
+        Err(reader) => (reader, None),
+    }
+}
+
+// The same, where a snapshot is copied.
+fn copy<J: Naming>(
+    reader: CopyReader<J>,
+    asking: Copying<'_>,
+) -> (
+    CopyReader<J>,
+    Option<(Result<Copied<J>, Refused>, StepPrefix)>,
+)
+    requires book { (k : Known) × (view reader.place ≡ Some k) × (k.book ≡ asking.known.now.book) }
+    ensures book { (k : Known) × (view result.0.place ≡ Some k) × (k.book ≡ asking.entry.known.now.book) }
+    ensures later { IfSome result.1 (λ seen. Begins asking.entry.known.now seen.1) }
+    ensures judged { IfSome result.1 (λ seen. AreJudged seen.1.steps) }
+    ensures ok { IfSome result.1 (λ seen. IfOk seen.0 (λ copied.
+        IsCopied (standing seen.1.steps) asking.entry.consistency.now (record { rev = copied.rev; value = copied.snap }))) }
+    ensures err { IfSome result.1 (λ seen. IfErr seen.0
+        (IsPageRefusal (standing seen.1.steps) asking.entry.consistency.now)) }
+{
+    match reader.enter_as::<Seeing>() {
+        Ok(reading) => {
+            let copy = reading.get();
+            if !asking.known.begins(copy.prefix()) {
+                return (reading.leave(), None);
+            }
+            let copied = copy.copy_snapshot(asking.consistency);
+            let prefix = copy.prefix().again();
+            (reading.leave(), Some((copied, prefix)))
         }
         Err(reader) => (reader, None),
     }

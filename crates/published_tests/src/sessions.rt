@@ -2,7 +2,7 @@
 ghost use Rattle.std.specs.Prelude.{◌≡◌};
 
 use crate::desk::{Desk, configure, insert, open};
-use names::{Node, Object, Refusal};
+use names::{Node, Object, Refusal, Tuple};
 use published::{MAX_SESSIONS, Naming, Opened, Receipt, Session};
 use std::alloc::Global;
 use std::hash::RandomState;
@@ -238,4 +238,28 @@ fn repeats<A: Abort, J: Naming, R: Wait + Drop>(rt: &A, handle: R, alloc: Global
 fn a_repeated_check_is_answered_at_its_revision(rt: HostRuntime) {
     let keys = RandomState::new(&rt).expect(&rt, "a key");
     repeats::<_, Brand, _>(&rt, &rt, rt.alloc(), Opened::new(keys));
+}
+
+// A session copies what is shown: the revision, the configuration and the tuples.
+fn copies<A: Abort, J: Naming, R: Wait + Drop>(rt: &A, handle: R, alloc: Global, opened: Opened)
+    requires { opened.book ≡ J.book }
+{
+    let mut desk = open::<A, J, R>(rt, handle, alloc, opened);
+    configure(alloc, &mut desk, GROUPS).expect(rt, "a configuration");
+    insert(alloc, &mut desk, ANN).expect(rt, "a tuple");
+    desk.publication.publish();
+    let mut session = desk.publication.session().expect(rt, "a session");
+    let copied = session.copy_snapshot(&Consistency::Latest);
+    let copied = copied.ok().expect(rt, "a copy");
+    assert!(rt; copied.rev() == 2);
+    let input = copied.input();
+    let ann = Tuple::parse(ANN).expect(rt, "a tuple");
+    assert!(rt; input.tuples().len() == 1 && input.tuples()[0] == ann);
+    assert!(rt; input.config().place_of(&ann.node).is_some());
+}
+
+#[test]
+fn a_session_copies_what_is_shown(rt: HostRuntime) {
+    let keys = RandomState::new(&rt).expect(&rt, "a key");
+    copies::<_, Brand, _>(&rt, &rt, rt.alloc(), Opened::new(keys));
 }

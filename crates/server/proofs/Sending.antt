@@ -46,13 +46,13 @@ Front-inside-send lives T J H g j k l t s y h = search (Keeper-sync, Place.the_s
 Front-send : (lives : NamedLft) (T J H : RattleType) (g : _) (j k l : _) → IsSend T → IsSend J → IsSync J → IsSend H → IsSend (Front.the_row lives T J H g j k l)
 Front-send lives T J H g j k l t s y h = view_send _ _ _ _ _ (Front-inside-send lives T J H g j k l t s y h)
 
-Locked-inside-send : (lives : NamedLft) (T J H R : RattleType) (g : _) (j k l : _) → IsSend T → IsSend J → IsSync J → IsSend H → IsSync R → IsSend (Locked.TheInside.the_row lives T J H R g j k l)
-Locked-inside-send lives T J H R g j k l t s y h r =
-    let L = Locked.TheInside.the_type lives T J H R g j k l in
-    recorded_send _ _ L.to L.to_one (struct_send (S.shape L) (shr_send _ _ _ r, (Front-send _ T J H _ _ _ _ t s y h, tt)))
+Locked-inside-send : (lives : NamedLft) (T J H R B : RattleType) (g : _) (j k l : _) → IsSend T → IsSend J → IsSync J → IsSend H → IsSync R → IsSync B → IsSend (Locked.TheInside.the_row lives T J H R B g j k l)
+Locked-inside-send lives T J H R B g j k l t s y h r b =
+    let L = Locked.TheInside.the_type lives T J H R B g j k l in
+    recorded_send _ _ L.to L.to_one (struct_send (S.shape L) (shr_send _ _ _ r, (shr_send _ _ _ b, (Front-send _ T J H _ _ _ _ t s y h, tt))))
 
-pub Locked-send : (lives : NamedLft) (T J H R : RattleType) (g : _) (j k l : _) → IsSend T → IsSend J → IsSync J → IsSend H → IsSync R → IsSend (Locked.the_row lives T J H R g j k l)
-Locked-send lives T J H R g j k l t s y h r = view_send _ _ _ _ _ (Locked-inside-send lives T J H R g j k l t s y h r)
+pub Locked-send : (lives : NamedLft) (T J H R B : RattleType) (g : _) (j k l : _) → IsSend T → IsSend J → IsSync J → IsSend H → IsSync R → IsSync B → IsSend (Locked.the_row lives T J H R B g j k l)
+Locked-send lives T J H R B g j k l t s y h r b = view_send _ _ _ _ _ (Locked-inside-send lives T J H R B g j k l t s y h r b)
 
 pub Counted-send : (lives : NamedLft) (A G : RattleType) → IsSend A → IsSync G → IsSend (Counted.the_row lives A G)
 Counted-send lives A G a s = search (crosses, sendable) depth 40
@@ -62,10 +62,11 @@ Waking-send lives A R a s =
     let W = Waking.the_type lives A R in
     recorded_send _ _ W.to W.to_one (struct_send (S.shape W) (a, (shr_send _ _ _ s, ((search (Sender.the_send, crosses, sendable) depth 40 fits 30000), tt))))
 
-Indexer-inside-send : (lives : NamedLft) (T J H : RattleType) (g : _) (j k l : _) → IsSend T → IsSend J → IsSync J → IsSend H → IsSend (Indexer.TheInside.the_row lives T J H g j k l)
-Indexer-inside-send lives T J H g j k l t s y h =
-    let I = Indexer.TheInside.the_type lives T J H g j k l in
-    recorded_send _ _ I.to I.to_one (struct_send (S.shape I) (shr_send _ _ _ (Keeper-sync T J H _ _ _ _ t s y h), ((Session-send J _ s y), ((search (Place.the_send, crosses, sendable) depth 40), ((search (Receiver.the_send, crosses, sendable) depth 40 fits 30000), tt)))))
+Indexer-inside-send : (lives : NamedLft) (T J H B : RattleType) (g : _) (j k l : _) → IsSend T → IsSend J → IsSync J → IsSend H → IsSync B → IsSend (Indexer.TheInside.the_row lives T J H B g j k l)
+Indexer-inside-send lives T J H B g j k l t s y h b =
+    let I = Indexer.TheInside.the_type lives T J H B g j k l in
+    recorded_send _ _ I.to I.to_one (struct_send (S.shape I)
+    ((search (crosses, sendable) depth 20), (shr_send _ _ _ b, (shr_send _ _ _ (Keeper-sync T J H _ _ _ _ t s y h), ((Session-send J _ s y), ((search (Place.the_send, crosses, sendable) depth 40), ((search (Receiver.the_send, crosses, sendable) depth 40 fits 30000), tt)))))))
 
-pub Indexer-send : (lives : NamedLft) (T J H : RattleType) (g : _) (j k l : _) → IsSend T → IsSend J → IsSync J → IsSend H → IsSend (Indexer.the_row lives T J H g j k l)
-Indexer-send lives T J H g j k l t s y h = view_send _ _ _ _ _ (Indexer-inside-send lives T J H g j k l t s y h)
+pub Indexer-send : (lives : NamedLft) (T J H B : RattleType) (g : _) (j k l : _) → IsSend T → IsSend J → IsSync J → IsSend H → IsSync B → IsSend (Indexer.the_row lives T J H B g j k l)
+Indexer-send lives T J H B g j k l t s y h b = view_send _ _ _ _ _ (Indexer-inside-send lives T J H B g j k l t s y h b)

@@ -7,26 +7,31 @@ ghost use Rattle.server.specs.Turning.{TakesOneTurn};
 ghost use Rattle.server.specs.Turns.{IsBehind};
 
 use crate::pool::Follows;
-use crate::turn::{Turn, take_turn};
+use crate::turn::{TURN_COMMITS, Turn, take_turn};
 use crossbeam_channel::{Receiver, TryRecvError};
-use keeper::{Keeper, KeeperName, Place};
+use keeper::{Keeper, KeeperName, Place, ToldOfBuilds, make_indexes};
 use names::{Refusal, State};
-use published::Session;
+use published::{MadeIndexes, Session};
+use std::alloc::Global;
 use std::marker::Model;
 use std::sync::Wait;
+use std::thread::Threads;
 use tables::Tables;
+use zookie::Consistency;
 
-/// A keeper, a session and a place of its own, and what wakes it. Contracts see it as a front: what the session knows, and what
+/// A keeper, a session and a place of its own, what wakes it, and who is told of its builds. Contracts see it as a front: what the session knows, and what
 /// it knows of the deeds under the lock.
 #[derive(Drop)]
-pub(crate) struct Indexer<'k, T: Tables + Drop, J: KeeperName<T>, H: Wait + Drop> {
+pub(crate) struct Indexer<'k, T: Tables + Drop, J: KeeperName<T>, H: Wait + Drop, B> {
+    alloc: Global,
+    builds: &'k B,
     keeper: &'k Keeper<T, J, H>,
     session: Session<J>,
     place: Place<'k, J>,
     woken: Receiver<()>,
 }
 
-impl<'k, T: Tables + Drop, J: KeeperName<T>, H: Wait + Drop> Model for Indexer<'k, T, J, H> {
+impl<'k, T: Tables + Drop, J: KeeperName<T>, H: Wait + Drop, B> Model for Indexer<'k, T, J, H, B> {
     ghost use Rattle.std.specs.Prelude.{◌≡◌};
     ghost use Rattle.keeper.specs.Fronts.{FrontState};
     ghost use Rattle.keeper.specs.Coded.{coded_front};
@@ -40,18 +45,28 @@ impl<'k, T: Tables + Drop, J: KeeperName<T>, H: Wait + Drop> Model for Indexer<'
     ghost invariant = { λ i. i.session.book ≡ J.book };
 }
 
-impl<'k, T: Tables + Drop, J: KeeperName<T>, H: Wait + Drop> Indexer<'k, T, J, H> {
+impl<'k, T: Tables + Drop, J: KeeperName<T>, H: Wait + Drop, B: ToldOfBuilds> Indexer<
+    'k,
+    T,
+    J,
+    H,
+    B,
+> {
     /// One that looks after its keeper whenever it is woken. It is refused where all sessions have been given out.
     pub(crate) fn new<R: Wait>(
+        alloc: Global,
         rt: &R,
+        builds: &'k B,
         keeper: &'k Keeper<T, J, H>,
         woken: Receiver<()>,
-    ) -> Result<Indexer<'k, T, J, H>, Refusal>
+    ) -> Result<Indexer<'k, T, J, H, B>, Refusal>
         ensures seated { IfOk result (λ it. IsSeated T.Tables J.book J.starts it) }
         ensures err { IfErr result (λ why. why ≡ NoSeat) }
     {
         let (session, place) = keeper.session(rt)?;
         Ok(Indexer {
+            alloc,
+            builds,
             keeper,
             session,
             place,
@@ -67,8 +82,21 @@ impl<'k, T: Tables + Drop, J: KeeperName<T>, H: Wait + Drop> Indexer<'k, T, J, H
         place
     }
 
+    // Indexes of the revision to which a turn brings the index, where it has it made anew, as far as there is memory for them.
+    // They are made with no lock.
+    fn make_ready<R: Threads + Wait>(&mut self, rt: &R) -> Option<MadeIndexes<J>>
+        ensures known { Begins self.old.known self.new.known }
+        ensures deeds { self.new.hand ≡ self.old.hand }
+    {
+        let zookie = self.keeper.hold(rt).remade_index(TURN_COMMITS as u32)?;
+        match self.session.copy_snapshot(&Consistency::Exactly(zookie)) {
+            Ok(copied) => make_indexes(rt, self.alloc, self.builds, &copied),
+            Err(_) => None,
+        }
+    }
+
     // Takes a turn if a part is behind what is shown. Whether more may be left to take.
-    fn takes_turn<R: Wait>(&mut self, rt: &R) -> bool
+    fn takes_turn<R: Threads + Wait>(&mut self, rt: &R) -> bool
         ensures known { Begins self.old.known self.new.known }
         ensures turn { (self.new.hand ≡ self.old.hand) ⊎ TakesOneTurn T.Tables J.book J.starts self.old.hand self.new.hand }
     {
@@ -76,9 +104,10 @@ impl<'k, T: Tables + Drop, J: KeeperName<T>, H: Wait + Drop> Indexer<'k, T, J, H
             Ok(state) if is_behind(&state) => {}
             _ => return false,
         }
+        let made = self.make_ready(rt);
         let taken = take_turn(
             rt,
-            &mut self.keeper.hold(rt),
+            &mut self.keeper.hold_with(rt, made),
             &mut self.place,
             &mut self.session,
         );
@@ -86,7 +115,8 @@ impl<'k, T: Tables + Drop, J: KeeperName<T>, H: Wait + Drop> Indexer<'k, T, J, H
     }
 }
 
-impl<'k, T: Tables + Drop, J: KeeperName<T>, H: Wait + Drop> Follows for Indexer<'k, T, J, H> {
+impl<'k, T: Tables + Drop, J: KeeperName<T>, H: Wait + Drop, B: ToldOfBuilds> Follows
+    for Indexer<'k, T, J, H, B> {
     ghost use Rattle.std.specs.Prelude.{ℕ};
     ghost use Rattle.published.specs.Known.{Begins};
     ghost use Rattle.server.specs.Turning.{TurnByTurn};
@@ -95,7 +125,7 @@ impl<'k, T: Tables + Drop, J: KeeperName<T>, H: Wait + Drop> Follows for Indexer
     ghost followed = { λ s t. Begins s.known t.known
         × ((turns : ℕ) × TurnByTurn T.Tables J.book J.starts s.hand turns t.hand) };
 
-    fn follow<R: Wait>(&mut self, rt: &R) {
+    fn follow<R: Threads + Wait>(&mut self, rt: &R) {
         for _ in rt.forever() {
             let goes_on = if self.takes_turn(rt) {
                 self.woken.try_recv(rt) != Err(TryRecvError::Disconnected)

@@ -35,7 +35,7 @@ pub(crate) trait Follows {
     ghost followed: { Self → Self → Type 0 };
 
     /// Follows them until nobody is left who makes any.
-    fn follow<R: Wait>(&mut self, rt: &R)
+    fn follow<R: Threads + Wait>(&mut self, rt: &R)
         ensures { followed self.old self.new };
 }
 
@@ -148,7 +148,7 @@ fn serve_to_the_end<R: Wait + Clock, S: Serves + Leaves<L>, L>(
 }
 
 // Has a thread follow what is changed, if one can be made.
-fn start_following<'s, E, R: Wait + Sync, F: Follows + Send + Drop + 's>(
+fn start_following<'s, E, R: Threads + Wait + Sync, F: Follows + Send + Drop + 's>(
     scope: &Scope<'s, E>,
     rt: &'s R,
     follower: F,

@@ -54,12 +54,12 @@ pub fn run<
     let calls = AtomicU64::new(0);
     let queue = crossbeam_channel::unbounded(alloc)?;
     let (wakes, woken) = crossbeam_channel::bounded(alloc, 1)?;
-    let indexer = Indexer::new(rt, keeper, woken)?;
+    let indexer = Indexer::new(alloc, rt, gate, keeper, woken)?;
     let mut machines = Vec::with_capacity(alloc, workers)?;
     for _ in 0..workers {
         let answers = Counted {
             answers: Waking::new(
-                Locked::new(rt, Front::new(alloc, rt, keeper)?),
+                Locked::new(rt, gate, Front::new(alloc, rt, keeper)?),
                 rt,
                 wakes.clone()?,
             ),
@@ -91,7 +91,7 @@ fn serve_seated<
     entrance: &Entrance<'k, R, G>,
     keeper: &'k Keeper<T, J, H>,
     queue: (Sender<TcpStream>, Receiver<TcpStream>),
-    indexer: Indexer<'k, T, J, H>,
+    indexer: Indexer<'k, T, J, H, G>,
     machines: Vec<Worker<'k, Machine<'k, T, J, H, R, G>>>,
 ) -> Result<(), Refusal>
     requires indexer { IsSeated T.Tables J.book J.starts indexer }

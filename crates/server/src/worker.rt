@@ -45,7 +45,11 @@ impl<'a, A: Answers> Serves for Worker<'a, A> {
 }
 
 /// A worker's machine: its front, which is counted, and wakes the indexer.
-pub(crate) type Machine<'a, T, J, H, R, G> = Counted<'a, Waking<'a, Locked<'a, T, J, H, R>, R>, G>;
+pub(crate) type Machine<'a, T, J, H, R, G> = Counted<
+    'a,
+    Waking<'a, Locked<'a, T, J, H, R, G>, R>,
+    G,
+>;
 
 impl<'a, T: Tables + Drop, J: KeeperName<T>, H: Wait + Drop, R: Wait, G> Leaves<Place<'a, J>>
     for Worker<'a, Machine<'a, T, J, H, R, G>> {

@@ -2,7 +2,7 @@
 ghost use Rattle.std.specs.Prelude.{◌≡◌};
 ghost use Rattle.desk.specs.Posts.{Posts};
 
-use keeper::{Keeper, KeeperName, Opening};
+use keeper::{Keeper, KeeperName, Opening, ToldOfBuilds};
 use server::{Gate, run};
 use std::alloc::Global;
 use std::hash::RandomState;
@@ -25,6 +25,10 @@ struct InTurn<'a, R: Clock> {
     rt: &'a R,
     second_left: AtomicBool,
     gave_up: AtomicBool,
+}
+
+impl<'a, R: Clock> ToldOfBuilds for InTurn<'a, R> {
+    fn built(&self, _rev: u64) {}
 }
 
 impl<'a, R: Clock> Gate for InTurn<'a, R> {
@@ -62,7 +66,7 @@ fn asks<R: Net<Stream = TcpStream>>(rt: &R, address: SocketAddr) -> Option<TcpSt
 }
 
 // Whether the connection is answered with 200.
-fn is_answered(alloc: Global, stream: &TcpStream) -> bool {
+pub(crate) fn is_answered(alloc: Global, stream: &TcpStream) -> bool {
     let mut from = stream;
     let mut text = Vec::new(alloc);
     if from.read_to_end(&mut text).is_err() {

@@ -3,7 +3,7 @@ ghost use Rattle.std.specs.Prelude.{◌≡◌};
 ghost use Rattle.desk.specs.Posts.{Posts};
 
 use crate::gate::listen;
-use keeper::{Keeper, KeeperName, Opening};
+use keeper::{Keeper, KeeperName, Opening, ToldOfBuilds};
 use server::{Gate, run};
 use std::alloc::Global;
 use std::hash::RandomState;
@@ -18,7 +18,7 @@ use std::thread::{Threads, join};
 use std::time::{Clock, Duration};
 use tables::{Listed, Tables};
 
-// With the configuration they are revision 41.
+// With the configurations they are revision 42.
 const WRITES: usize = 40;
 
 const TRIES: u32 = 10_000;
@@ -26,22 +26,32 @@ const TRIES: u32 = 10_000;
 const CONFIG: &[u8] = b"POST /v1/config HTTP/1.1\r\nContent-Length: 79\r\n\r\n\
 {\"namespaces\":{\"group\":{\"member\":{\"types\":[\"user\",\"group#member\"]}},\"user\":{}}}";
 
+// With it the index has to be made anew.
+const NEXT: &[u8] = b"POST /v1/config HTTP/1.1\r\nContent-Length: 88\r\n\r\n\
+{\"namespaces\":{\"group\":{\"member\":{\"types\":[\"user\",\"group#member\"]}},\"org\":{},\"user\":{}}}";
+
+const REBUILD: &[u8] = b"POST /v1/rebuild HTTP/1.1\r\nContent-Length: 2\r\n\r\n{}";
+
 const WRITE: &[u8] = b"POST /v1/write HTTP/1.1\r\nContent-Length: 58\r\n\r\n\
 {\"ops\":[{\"op\":\"touch\",\"tuple\":\"group:a#member@user:ann\"}]}";
 
 const STATE: &[u8] = b"GET /v1/state HTTP/1.1\r\nConnection: close\r\n\r\n";
 
 const TRIM: &[u8] = b"POST /v1/trim HTTP/1.1\r\nContent-Length: 35\r\nConnection: close\r\n\r\n\
-{\"floor\":\"AgAAAAAAAAABAAAAAAAAACk\"}";
+{\"floor\":\"AgAAAAAAAAABAAAAAAAAACo\"}";
 
 const CAUGHT_UP: &[u8] =
-    b"\"hot\":\"AgAAAAAAAAABAAAAAAAAACk\",\"index\":\"AgAAAAAAAAABAAAAAAAAACk\",\
-\"marked\":0,\"newest\":\"AgAAAAAAAAABAAAAAAAAACk\"";
+    b"\"hot\":\"AgAAAAAAAAABAAAAAAAAACo\",\"index\":\"AgAAAAAAAAABAAAAAAAAACo\",\
+\"marked\":0,\"newest\":\"AgAAAAAAAAABAAAAAAAAACo\"";
 
 // Takes connections until its owner is done.
 #[derive(Drop)]
 struct UntilDone {
     done: AtomicBool,
+}
+
+impl ToldOfBuilds for UntilDone {
+    fn built(&self, _rev: u64) {}
 }
 
 impl Gate for UntilDone {
@@ -86,7 +96,11 @@ fn writes<R: Net<Stream = TcpStream>>(rt: &R, alloc: Global, address: SocketAddr
     let stream = connected(rt, address)?;
     let mut to = &stream;
     to.write_all(CONFIG).ok()?;
-    for _ in 0..WRITES {
+    to.write_all(REBUILD).ok()?;
+    for number in 0..WRITES {
+        if number == WRITES / 2 {
+            to.write_all(NEXT).ok()?;
+        }
         to.write_all(WRITE).ok()?;
     }
     to.write_all(STATE).ok()?;

@@ -180,7 +180,7 @@ fn visit(alloc: Global, number: u32) -> Result<String, AllocError> {
 }
 
 // Writes one tuple a commit until the sessions are done.
-fn write_until<T: Tables + Drop, J: KeeperName<T>, H: Wait + Drop, W: Wait + CpuClock>(
+fn write_until<T: Tables + Drop, J: KeeperName<T>, H: Wait + Drop, W: Threads + Wait + CpuClock>(
     rt: &W,
     alloc: Global,
     front: &mut Front<'_, T, J, H>,
@@ -193,7 +193,7 @@ fn write_until<T: Tables + Drop, J: KeeperName<T>, H: Wait + Drop, W: Wait + Cpu
             break;
         }
         let body = visit(alloc, number)?;
-        if is_accepted(&front.answer(rt, Call::Write, body.as_bytes())) {
+        if is_accepted(&front.answer(rt, &(), Call::Write, body.as_bytes())) {
             accepted = accepted.saturating_add(1);
         } else {
             refused = true;
@@ -207,7 +207,7 @@ fn write_until<T: Tables + Drop, J: KeeperName<T>, H: Wait + Drop, W: Wait + Cpu
 }
 
 // Has the changes among the lines made.
-fn take<T: Tables + Drop, J: KeeperName<T>, H: Wait + Drop, W: Wait>(
+fn take<T: Tables + Drop, J: KeeperName<T>, H: Wait + Drop, W: Threads + Wait>(
     rt: &W,
     front: &mut Front<'_, T, J, H>,
     lines: &str,
@@ -216,8 +216,8 @@ fn take<T: Tables + Drop, J: KeeperName<T>, H: Wait + Drop, W: Wait>(
         let (call, body) = line.split_once(' ').unwrap_or((line, ""));
         let body = body.as_bytes();
         let accepted = match call {
-            "config" => is_accepted(&front.answer(rt, Call::Config, body)),
-            "write" => is_accepted(&front.answer(rt, Call::Write, body)),
+            "config" => is_accepted(&front.answer(rt, &(), Call::Config, body)),
+            "write" => is_accepted(&front.answer(rt, &(), Call::Write, body)),
             "check" => true,
             _ => false,
         };

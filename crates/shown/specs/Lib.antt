@@ -9,4 +9,6 @@ pub mod Paging
 pub mod Looking
 pub mod Grouping
 pub mod Asked
+pub mod Adopting
+pub mod Copying
 pub mod inside

@@ -4,8 +4,10 @@ ghost use Rattle.meaning.specs.History.{after_commit};
 ghost use Rattle.meaning.specs.Snap.{Snap};
 ghost use Rattle.rows.specs.Retained.{newest, snap_at};
 ghost use Rattle.group_index.specs.Indices.{cursor_of};
+ghost use Rattle.shown.specs.Adopting.{IsReady};
 ghost use Rattle.shown.specs.inside.Basing.{IsIndexIn};
 
+use crate::index_at::IndexAt;
 use delta::ViewArcs;
 use group_index::GroupIndex;
 use rows::{Rows, View};
@@ -75,8 +77,74 @@ fn begun(
     index_later(alloc, keys, index, rows, from, to)
 }
 
+/// The index with a new base, or one in its place that was made of a revision at or below that, with the commits up to the cursor.
+/// For want of memory nothing changes.
+pub(crate) fn adopt(
+    alloc: Global,
+    keys: RandomState,
+    index: &mut Option<GroupIndex>,
+    ready: IndexAt,
+    rows: &Rows,
+    rev: u64,
+    cursor: u64,
+) -> Result<(), AllocError>
+    requires ready { IsReady rows.now ready }
+    requires order { ready.rev ≤ rev }
+    requires there { rev ≤ newest rows.now }
+    requires cursor_there { cursor ≤ newest rows.now }
+    ensures ok { OnOk result (IfSome index.new (IsIndexIn (snap_at rows.now) rows.now.floor (max cursor rev))) }
+    ensures err { OnErr result (index.new ≡ index.old) }
+{
+    let later = made_later(alloc, keys, ready, rows, cursor.max(rev))?;
+    *index = Some(later);
+    Ok(())
+}
+
+/// The index after the commits up to a revision. Where one is ready that was made on the way there, it goes on from that.
+pub(crate) fn index_by(
+    alloc: Global,
+    keys: RandomState,
+    index: GroupIndex,
+    ready: Option<IndexAt>,
+    rows: &Rows,
+    from: u64,
+    to: u64,
+) -> Result<GroupIndex, AllocError>
+    requires from { rows.now.floor ≤ from }
+    requires order { from ≤ to }
+    requires to { to ≤ newest rows.now }
+    requires index { IsIndexIn (snap_at rows.now) rows.now.floor from index }
+    requires ready { IfSome ready (IsReady rows.now) }
+    ensures { IfOk result (IsIndexIn (snap_at rows.now) rows.now.floor to) }
+{
+    let Some(ready) = ready else {
+        return index_later(alloc, keys, index, rows, from, to);
+    };
+    if ready.rev <= from || to < ready.rev {
+        return index_later(alloc, keys, index, rows, from, to);
+    }
+    made_later(alloc, keys, ready, rows, to)
+}
+
+/// An index that was made of one revision, after the commits up to another.
+fn made_later(
+    alloc: Global,
+    keys: RandomState,
+    ready: IndexAt,
+    rows: &Rows,
+    to: u64,
+) -> Result<GroupIndex, AllocError>
+    requires ready { IsReady rows.now ready }
+    requires order { ready.rev ≤ to }
+    requires to { to ≤ newest rows.now }
+    ensures { IfOk result (IsIndexIn (snap_at rows.now) rows.now.floor to) }
+{
+    let IndexAt { rev, index } = ready;
+    index_later(alloc, keys, index, rows, rev, to)
+}
+
 /// The index at a later revision, after the commits up to it. It costs what they touch, unless one is of a configuration.
-pub(crate) fn index_later(
+fn index_later(
     alloc: Global,
     keys: RandomState,
     mut index: GroupIndex,

@@ -5,6 +5,7 @@
 mod answer;
 mod asking;
 mod groups;
+mod index_at;
 mod known;
 mod marks;
 mod members;
@@ -14,6 +15,7 @@ mod step;
 mod subjects;
 
 pub use answer::{Answer, Refused};
+pub use index_at::IndexAt;
 pub use question::{Depth, Objects, Question, Told};
 pub use shown::Shown;
 pub use step::Step;

@@ -23,6 +23,8 @@ ghost use Rattle.shown.specs.Answers.{IsAnswer, IsAskedAt, IsRefusal};
 ghost use Rattle.shown.specs.KeptAnswers.{AreRetainedAnswers};
 ghost use Rattle.shown.specs.Expanding.{IsTreeOf, IsTree, IsTreeRefusal};
 ghost use Rattle.shown.specs.Watching.{IsWatched, WatchRefused};
+ghost use Rattle.shown.specs.Adopting.{IsReady};
+ghost use Rattle.shown.specs.Copying.{IsCopied};
 ghost use Rattle.shown.specs.Paging.{IsPage, IsPageRefusal};
 ghost use Rattle.lookup.specs.Causes.{LookupCause};
 ghost use Rattle.lookup.specs.Found.{IsLookup};
@@ -39,7 +41,8 @@ ghost use Rattle.rows.specs.Tuplesets.{page};
 ghost use Rattle.shown.specs.inside.Basing.{AreMarked, IsIndexIn};
 
 use crate::answer::{Answer, Refused};
-use crate::groups::{self, index_later};
+use crate::groups;
+use crate::index_at::IndexAt;
 use crate::known::{Known, answers_at};
 use crate::marks::{count_with, remark};
 use crate::members::{members_after, members_later, members_of};
@@ -55,7 +58,7 @@ use expand::Tree;
 use facts::each_view_is_valid;
 use group_index::{At, GroupIndex};
 use hot::Hot;
-use leopard::Expr;
+use leopard::{Expr, Input};
 use lookup::Lookup;
 use names::limits::MAX_MARKS;
 use names::{Items, Marking, Node, Object, ObjectId, Op, Part, Refusal, State, Tuple, Write};
@@ -145,7 +148,7 @@ impl Shown {
             Step::Open(loaded) => self.open(loaded),
             Step::Commit(commit) => self.commit(commit),
             Step::Take(part, commits) => {
-                self.take(*part, *commits);
+                self.take(*part, *commits, None);
                 Ok(())
             }
             Step::Trim(floor) => {
@@ -154,6 +157,29 @@ impl Shown {
             }
             Step::Marking(marking) => self.mark(marking),
             Step::Rebase(rev) => self.build(*rev),
+        }
+    }
+
+    /// Adds a step in the same way, beside an index that was made of a retained revision. Where the step has the index made anew,
+    /// and comes to that revision, this one takes its place, at the cost of what later commits touch.
+    pub fn apply_with(&mut self, step: &Step, ready: IndexAt) -> Result<(), AllocError>
+        requires room { HasRoom self.old step.now }
+        requires ready { IsReady self.old.kept ready }
+        ensures ok { OnOk result (self.new ≡ after_step self.old step.now) }
+        ensures err { OnErr result (self.new ≡ self.old) }
+    {
+        match step {
+            Step::Take(part, commits) => {
+                self.take(*part, *commits, Some(ready));
+                Ok(())
+            }
+            Step::Rebase(rev) => {
+                if *rev < ready.rev {
+                    return self.build(*rev);
+                }
+                self.adopt(*rev, ready)
+            }
+            _ => self.apply(step),
         }
     }
 
@@ -279,6 +305,42 @@ impl Shown {
         Ok(())
     }
 
+    /// The same by an index of a revision that is not above it.
+    fn adopt(&mut self, rev: u64, ready: IndexAt) -> Result<(), AllocError>
+        requires base { base_cause self.old rev ≡ None }
+        requires ready { IsReady self.old.kept ready }
+        requires order { ready.rev ≤ rev }
+        ensures ok { OnOk result (self.new ≡ after_step self.old (Step.Rebase rev)) }
+        ensures err { OnErr result (self.new ≡ self.old) }
+    {
+        let (rows, to) = (&self.rows, self.index.max(rev));
+        groups::adopt(
+            self.alloc,
+            self.keys,
+            &mut self.groups,
+            ready,
+            rows,
+            rev,
+            self.index,
+        )?;
+        self.base = rev;
+        self.index = to;
+        Ok(())
+    }
+
+    /// The revision to which so many commits more bring a group index that is kept, where that is made anew on the way, since
+    /// there is a configuration among them.
+    pub fn remade_index(&self, commits: u32) -> Option<u64>
+        ensures { IfSome result (IsRetained self.now.kept) }
+    {
+        self.groups.as_ref()?;
+        let to = self.cursor_after(self.index, commits);
+        if self.rows.last_config(self.index, self.index, to) <= self.index {
+            return None;
+        }
+        Some(to)
+    }
+
     /// The revision of the last configuration that comes to lie at or below a higher floor, or 0.
     pub fn last_config_below(&self, floor: u64) -> u64
         requires { CanRaise self.now floor }
@@ -311,6 +373,18 @@ impl Shown {
         ensures steady { IsSteady self.now }
     {
         self.rows.newest()
+    }
+
+    /// The floor.
+    pub fn floor(&self) -> u64
+        ensures { result ≡ self.now.kept.floor }
+    {
+        self.rows.floor()
+    }
+
+    /// The key under which names are hashed.
+    pub fn keys(&self) -> RandomState {
+        self.keys
     }
 
     /// Revisions, and how large the history is.
@@ -530,6 +604,24 @@ impl Shown {
         ViewBySubject::of(&view, self.subjects_at(rev)).read(self.alloc, asked)
     }
 
+    /// The configuration and the tuples of the revision that the consistency chooses, copied.
+    pub fn copy_snapshot(&self, consistency: &Consistency) -> Result<Answer<Input>, Refused>
+        ensures ok { IfOk result (IsCopied self.now consistency.now) }
+        ensures err { IfErr result (IsPageRefusal self.now consistency.now) }
+    {
+        let rev = match self.choose(consistency) {
+            Ok(rev) => rev,
+            Err(why) => return Err(Refused { why, at: None }),
+        };
+        match Input::copy(self.alloc, &self.rows.at(rev)) {
+            Ok(value) => Ok(Answer { rev, value }),
+            Err(_) => Err(Refused {
+                why: Refusal::Memory,
+                at: None,
+            }),
+        }
+    }
+
     /// The objects to which the user has the relation, at the revision that the consistency chooses: the first so many of those
     /// asked for, in the order of their ids' bytes.
     pub fn lookup(
@@ -714,34 +806,38 @@ impl Shown {
         self.rows.absorb(commit)
     }
 
-    fn take(&mut self, part: Part, commits: u32)
+    fn take(&mut self, part: Part, commits: u32, ready: Option<IndexAt>)
+        requires { IfSome ready (IsReady self.old.kept) }
         ensures { self.new ≡ after_take self.old part commits }
     {
         match part {
-            Part::Index => self.take_index(commits),
+            Part::Index => self.take_index(commits, ready),
             Part::Hot => self.take_hot(commits),
         }
     }
 
-    fn take_index(&mut self, commits: u32)
+    fn take_index(&mut self, commits: u32, ready: Option<IndexAt>)
+        requires { IfSome ready (IsReady self.old.kept) }
         ensures { self.new ≡ after_take self.old Part.Index commits }
     {
         let to = self.cursor_after(self.index, commits);
-        self.groups = self.groups_up_to(to);
+        self.groups = self.groups_up_to(to, ready);
         self.base = self.rows.last_config(self.base, self.index, to);
         self.index = to;
     }
 
-    /// The group index with the commits up to a revision, as far as it is kept.
-    fn groups_up_to(&mut self, to: u64) -> Option<GroupIndex>
+    /// The group index with the commits up to a revision, as far as it is kept. Where one is ready that was made on the way there,
+    /// it goes on from that.
+    fn groups_up_to(&mut self, to: u64, ready: Option<IndexAt>) -> Option<GroupIndex>
         requires later { self.old.index ≤ to }
         requires there { to ≤ newest self.old.kept }
+        requires ready { IfSome ready (IsReady self.old.kept) }
         ensures index { IfSome result (IsIndexIn (snap_at self.old.kept) self.old.kept.floor to) }
         ensures same { self.new ≡ self.old }
     {
         let index = self.groups.take()?;
         let (rows, from) = (&self.rows, self.index);
-        match index_later(self.alloc, self.keys, index, rows, from, to) {
+        match groups::index_by(self.alloc, self.keys, index, ready, rows, from, to) {
             Ok(later) => Some(later),
             Err(_) => None,
         }

@@ -5,7 +5,10 @@ use Rattle.std.specs.Coded.{Coded, code_by, coded×, coded_ℕ, coded_bool, code
 use Rattle.logbook.specs.Pages.{Book}
 use Rattle.shown.specs.declared.step.Step.{Step}
 use Rattle.shown.specs.contracts.step.Step as step_row
+use Rattle.meaning.specs.Snap.{Snap}
+use Rattle.meaning.specs.inside.Codes.{coded_snap}
 use Rattle.published.specs.Known.{Known}
+use Rattle.published.specs.Copied.{SnapCopy}
 use Rattle.published.specs.Receipts.{ReceiptFacts}
 use Rattle.published.specs.Publishing.{Publishing}
 
@@ -35,3 +38,8 @@ coded_publishing =
     (coded× coded_book (coded× coded_steps (coded× coded_steps (coded× coded_ℕ coded_ℕ))))
     (λ p. (p.book, (p.posted, (p.shown, (p.seats, p.room)))))
     (λ q. record { book = q.0; posted = q.1.0; shown = q.1.1.0; seats = q.1.1.1.0; room = q.1.1.1.1 }) (λ _. refl)
+
+abbrev pub coded_copied : Coded SnapCopy
+coded_copied =
+    code_by (Known × (ℕ × Snap)) (coded× coded_known (coded× coded_ℕ coded_snap))
+    (λ c. (c.of, (c.rev, c.snap))) (λ p. record { of = p.0; rev = p.1.0; snap = p.1.1 }) (λ _. refl)

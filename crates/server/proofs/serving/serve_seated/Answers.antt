@@ -19,13 +19,13 @@ use Rattle.server.proofs.serving.serve_seated.Goals as goal
 pub serve_and_follow-requires-send-S : goal.serve_and_follow-requires-send-S
 serve_and_follow-requires-send-S g c κs within =
     let b = c.type_bounds in
-    let locked = Locked-send _ (param 1 g.row.T) (param 2 g.row.J) (param 3 g.row.H) (param 0 g.row.R) _ _ _ _ b.send-T b.send-J b.sync-J b.send-H b.sync-R in
+    let locked = Locked-send _ (param 1 g.row.T) (param 2 g.row.J) (param 3 g.row.H) (param 0 g.row.R) (param 4 g.row.G) _ _ _ _ b.send-T b.send-J b.sync-J b.send-H b.sync-R b.sync-G in
     param_send 2 _ (arg_send _ no _ (Worker-send _ _ (Counted-send _ _ (param 4 g.row.G) (Waking-send _ _ (param 0 g.row.R) locked b.sync-R) b.sync-G)))
 
 pub serve_and_follow-requires-send-F : goal.serve_and_follow-requires-send-F
 serve_and_follow-requires-send-F g c κs within =
     let b = c.type_bounds in
-    param_send 1 _ (arg_send _ no _ (Indexer-send (record { mir = named 2; lft = _ }) (param 1 g.row.T) (param 2 g.row.J) (param 3 g.row.H) _ _ _ _ b.send-T b.send-J b.sync-J b.send-H))
+    param_send 1 _ (arg_send _ no _ (Indexer-send (record { mir = named 2; lft = _ }) (param 1 g.row.T) (param 2 g.row.J) (param 3 g.row.H) (param 4 g.row.G) _ _ _ _ b.send-T b.send-J b.sync-J b.send-H b.sync-G))
 
 pub serve_and_follow-requires-send-L : goal.serve_and_follow-requires-send-L
 serve_and_follow-requires-send-L g c κs within =
