@@ -12,7 +12,7 @@ use config::Config;
 use decide::{Nothing, check_at};
 use facts::each_view_is_valid;
 use group_index::{At, GroupIndex};
-use hot::Hot;
+use hot::{Hot, ViewNodes};
 use names::{Commit, Node, Object, Refusal};
 use rows::{Rows, View};
 use std::alloc::{AllocError, Global};
@@ -239,7 +239,7 @@ fn take_commit(
     match commit.events() {
         Some(events) => {
             let events = events.events(alloc)?;
-            hot.take(alloc, &events, view)?;
+            hot.take(alloc, &events, &mut ViewNodes::of(alloc, view))?;
         }
         None => {
             hot.restart(alloc, view)?;

@@ -1,12 +1,22 @@
 //! Members of a marked document: when it is marked, after a commit and a configuration, and when its mark is taken off.
 
+use crate::groups::{are_nodes, events_of};
 use crate::history::{add, configure, fill};
-use hot::Hot;
-use names::{Commit, Event, EventKind, Items, Node, Object, Refusal, Tuple};
+use hot::{Hot, ViewNodes};
+use names::{Commit, Event, Node, Object, Refusal};
 use rows::Rows;
 use std::alloc::Global;
 use std::hash::RandomState;
 use std::test::Fail;
+
+// All that the viewers of the document depend on.
+const ALL: &str = "doc:1#viewer doc:1#owner doc:1#parent doc:1#banned folder:f#viewer \
+    group:v#member group:b#member";
+
+// Ann leaves the group of the folder; then all of another group, in which she is, join it.
+const LEAVES: &str = "-group:v#member@user:ann";
+
+const JOINS: &str = "group:v#member@group:c#member";
 
 // The viewers of a document are those who are named, and its owners, and nobody is kept out.
 const OWNERS: &str = r#"{"namespaces":{"doc":{"banned":{"types":["user","group#member"]},
@@ -48,62 +58,83 @@ fn none_are_kept(alloc: Global, hot: &Hot, node: &str) -> Result<bool, Refusal> 
     Ok(members(alloc, hot, node)?.is_none())
 }
 
-fn mark(alloc: Global, hot: &mut Hot, rows: &Rows, node: &str) -> Result<(), Refusal> {
-    let node = Node::parse(node)?;
-    hot.mark(alloc, &rows.at(rows.newest()), &node)?;
-    Ok(())
+// Whether one of the numbers is that of the word's node.
+fn has_number(hot: &Hot, numbers: &[u64], word: &str) -> Result<bool, Refusal> {
+    let node = Node::parse(word)?;
+    for number in numbers {
+        if hot.node(*number) == Some(&node) {
+            return Ok(true);
+        }
+    }
+    Ok(false)
+}
+
+// Whether the numbers are those of the words' nodes, in any order.
+fn are_numbered(hot: &Hot, numbers: &[u64], words: &str) -> Result<bool, Refusal> {
+    for word in words.split_ascii_whitespace() {
+        if !has_number(hot, numbers, word)? {
+            return Ok(false);
+        }
+    }
+    Ok(numbers.len() == words.split_ascii_whitespace().count())
+}
+
+// Marks the document by asking for all that it depends on.
+fn mark(alloc: Global, hot: &mut Hot, rows: &Rows) -> Result<bool, Refusal> {
+    let node = Node::parse("doc:1#viewer")?;
+    let asked = hot.mark(alloc, &rows.at(rows.newest()), &node)?;
+    are_numbered(hot, &asked, ALL)
 }
 
 fn is_marked(alloc: Global, hot: &mut Hot, rows: &Rows) -> Result<bool, Refusal> {
-    mark(alloc, hot, rows, "doc:1#viewer")?;
+    let all = mark(alloc, hot, rows)?;
     let viewers = are_kept(alloc, hot, "doc:1#viewer", "user:ann user:bob")?;
     let members = are_kept(alloc, hot, "group:v#member", "user:ann user:zoe")?;
-    Ok(viewers && members && none_are_kept(alloc, hot, "group:c#member")?)
+    Ok(all && viewers && members && none_are_kept(alloc, hot, "group:c#member")?)
 }
 
-// Ann leaves the group of the folder.
-fn leaving(alloc: Global) -> Result<Items<Event>, Refusal> {
-    let tuple = Tuple::parse("group:v#member@user:ann")?;
-    let event = Event {
-        kind: EventKind::Del,
-        tuple,
-    };
-    Ok(Items::of(vec![in alloc; event]?))
+// Whether it takes the events by asking for these nodes and no others.
+fn takes(
+    alloc: Global,
+    hot: &mut Hot,
+    rows: &Rows,
+    events: &[Event],
+    asked: &str,
+) -> Result<bool, Refusal> {
+    let view = rows.at(rows.newest());
+    let mut nodes = ViewNodes::of(alloc, &view);
+    hot.take(alloc, events, &mut nodes)?;
+    are_nodes(nodes.asked(), asked)
 }
 
-fn leave(alloc: Global, rows: &mut Rows) -> Result<(), Refusal> {
-    let tuples = Commit::Tuples(leaving(alloc)?);
-    add(rows, &tuples)
+// The history takes a commit of these words, and then what is kept of the document.
+fn take(
+    alloc: Global,
+    hot: &mut Hot,
+    rows: &mut Rows,
+    words: &str,
+    asked: &str,
+) -> Result<bool, Refusal> {
+    let tuples = Commit::Tuples(events_of(alloc, words)?);
+    add(rows, &tuples)?;
+    let events = events_of(alloc, words)?;
+    takes(alloc, hot, rows, events.as_slice(), asked)
 }
 
-// Whether the number is that of the word's node.
-fn is_name(hot: &Hot, number: u64, word: &str) -> Result<bool, Refusal> {
-    let node = Node::parse(word)?;
-    Ok(hot.node(number) == Some(&node))
+// A user who leaves is taken out of what was told, and nobody is asked.
+fn leaves(alloc: Global, hot: &mut Hot, rows: &mut Rows) -> Result<bool, Refusal> {
+    let few = take(alloc, hot, rows, LEAVES, "")?;
+    Ok(few && are_kept(alloc, hot, "doc:1#viewer", "user:bob")?)
 }
 
-// Whether these nodes were asked, and no others: the document, its folder and the folder's group.
-fn are_named(hot: &Hot, asked: &[u64]) -> Result<bool, Refusal> {
-    match asked {
-        [document, folder, group] => Ok(
-            is_name(hot, *document, "doc:1#viewer")?
-                && is_name(hot, *folder, "folder:f#viewer")?
-                && is_name(hot, *group, "group:v#member")?,
-        ),
-        _ => Ok(false),
-    }
-}
-
-// Only the nodes on the ways from the document to the group are asked.
-fn asks_few(alloc: Global, hot: &mut Hot, rows: &Rows) -> Result<bool, Refusal> {
-    let events = leaving(alloc)?;
-    let asked = hot.take(alloc, events.as_slice(), &rows.at(rows.newest()))?;
-    are_named(hot, &asked)
+// Of the nodes on the ways from the document only the group that others join is asked, and the one that is new.
+fn joins(alloc: Global, hot: &mut Hot, rows: &mut Rows) -> Result<bool, Refusal> {
+    let few = take(alloc, hot, rows, JOINS, "group:v#member group:c#member")?;
+    Ok(few && are_kept(alloc, hot, "doc:1#viewer", "user:ann user:bob")?)
 }
 
 fn follows(alloc: Global, hot: &mut Hot, rows: &mut Rows) -> Result<bool, Refusal> {
-    leave(alloc, rows)?;
-    Ok(asks_few(alloc, hot, rows)? && are_kept(alloc, hot, "doc:1#viewer", "user:bob")?)
+    Ok(leaves(alloc, hot, rows)? && joins(alloc, hot, rows)?)
 }
 
 // The viewers are then the owner alone, and the folder is nothing to them.

@@ -8,6 +8,7 @@ mod Marks
 mod Asked
 mod Counting
 mod Renewed
+mod Passed
 mod Outcomes
 mod Answering
 mod Lists

@@ -1,3 +1,4 @@
 pub mod Depending
 pub mod Kept
+pub mod Nodes
 pub mod inside

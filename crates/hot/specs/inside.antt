@@ -3,3 +3,4 @@ pub mod Named
 pub mod Events
 pub mod Remembering
 pub mod Following
+pub mod Passing

@@ -6,6 +6,7 @@ ghost use Rattle.region.specs.Sets.{IsWhole};
 
 use crate::changed::changed_by;
 use crate::following::follow;
+use crate::nodes::{CountedNodes, ViewNodes};
 use crate::numbering::numbered;
 use crate::remembering::forget_each;
 use crate::renewing::renew;
@@ -41,6 +42,7 @@ impl Hot {
     ghost use Rattle.meaning.specs.Reads.{IsValid};
     ghost use Rattle.hot.specs.Kept.{IsHot, IsMarked, marks_of, HasNumber, MarkCause};
     ghost use Rattle.hot.specs.Kept.{HasMarked, HasUnmarked, HasSameMarks, WereAsked, IsKept, IsNew, IsNewOrTouched};
+    ghost use Rattle.hot.specs.Nodes.{WereAskedOnly};
 
     /// Nothing is marked, which is so at each revision. Names are hashed under this key. It takes no memory.
     pub fn new(alloc: Global, keys: RandomState) -> Hot
@@ -99,33 +101,36 @@ impl Hot {
         let mut marks = self.marks.again()?;
         marks.insert(id)?;
         let (numbers, sets, told) = (&mut self.numbers, &mut self.sets, &mut self.told);
-        let asked = renew(alloc, view, numbers, sets, told, &marks, &[id], &[])?;
+        let mut facts = ViewNodes::of(alloc, view);
+        let asked = renew(alloc, &mut facts, numbers, sets, told, &marks, &[id], &[])?;
         self.marks = marks;
         Ok(asked)
     }
 
-    /// Takes a commit of events, of which the view has the snapshot after it, and gives the numbers of the nodes that
-    /// the view was asked for, in order. For want of memory what is marked and kept is what it was, at the revision at
-    /// which it was.
-    pub fn take(
+    /// Takes a commit of events. What tells the facts has the snapshot after it, and nothing else is read: it is asked only for
+    /// nodes that are new, or that depend on what the commit changed. Of those what is remembered is told. For want of memory
+    /// what is marked and kept is what it was, at the revision at which it was.
+    pub fn take<F: CountedNodes>(
         &mut self,
         alloc: Global,
         events: &[Event],
-        view: &View,
-    ) -> Result<Vec<u64>, AllocError>
-        ensures hot { OnOk result ((S : Snap) → IsHot self.old S → view.now ≡ after_commit S (Tuples events.now)
-            → IsHot self.new view.now) }
-        ensures asked { IfOk result (λ asked. (S : Snap) → IsHot self.old S → view.now ≡ after_commit S (Tuples events.now)
-            → WereAsked self.new asked.items (IsNewOrTouched self.old self.new S events.now)) }
+        facts: &mut F,
+    ) -> Result<(), AllocError>
+        ensures hot { OnOk result ((S : Snap) → IsHot self.old S → F.snap facts.old ≡ after_commit S (Tuples events.now)
+            → IsHot self.new (F.snap facts.old)) }
+        ensures asked { OnOk result ((S : Snap) → IsHot self.old S → F.snap facts.old ≡ after_commit S (Tuples events.now)
+            → WereAskedOnly (F.asked facts.old) (F.asked facts.new) (IsNewOrTouched self.old self.new S events.now)) }
+        ensures snap { F.snap facts.new ≡ F.snap facts.old }
         ensures err { OnErr result ((S : Snap) → IsHot self.old S → IsHot self.new S) }
         ensures marked { (S : Snap) → IsHot self.old S → HasSameMarks self.old self.new }
     {
         let changed = changed_by(alloc, &self.numbers.nodes, events)?;
-        each_view_is_valid(view);
+        facts.tells_what_is_valid();
         follow(&mut self.told, &mut self.numbers, &self.sets, events);
-        let (numbers, sets, told) = (&mut self.numbers, &mut self.sets, &mut self.told);
-        match renew(alloc, view, numbers, sets, told, &self.marks, &[], &changed) {
-            Ok(asked) => Ok(asked),
+        let (numbers, marks) = (&mut self.numbers, &self.marks);
+        let (sets, told) = (&mut self.sets, &mut self.told);
+        match renew(alloc, facts, numbers, sets, told, marks, &[], &changed) {
+            Ok(_) => Ok(()),
             Err(e) => {
                 forget_each(&mut self.told, &changed);
                 Err(e)
@@ -146,8 +151,10 @@ impl Hot {
         let mut kept = Sets::new(alloc);
         let mut fresh = BTreeMap::new(alloc);
         let (sets, told) = (&mut kept, &mut fresh);
-        let (numbers, marks) = (&mut self.numbers, self.marks.as_slice());
-        let asked = renew(alloc, view, numbers, sets, told, &self.marks, marks, &[])?;
+        let (numbers, marks) = (&mut self.numbers, &self.marks);
+        let turned = marks.as_slice();
+        let mut facts = ViewNodes::of(alloc, view);
+        let asked = renew(alloc, &mut facts, numbers, sets, told, marks, turned, &[])?;
         self.sets = kept;
         self.told = fresh;
         Ok(asked)

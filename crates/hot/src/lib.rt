@@ -8,6 +8,7 @@ mod following;
 mod hot;
 mod known;
 mod members;
+mod nodes;
 mod numbering;
 mod recalling;
 mod remembering;
@@ -15,3 +16,4 @@ mod renewing;
 
 pub use hot::Hot;
 pub use known::Known;
+pub use nodes::{CountedNodes, ViewNodes};

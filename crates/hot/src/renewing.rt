@@ -1,24 +1,25 @@
-//! Asking a view for what a change touches.
+//! Asking for what a change touches.
 ghost use Rattle.std.specs.Prelude.{◌≡◌, ℕ, [], IfOk, OnErr};
 ghost use Rattle.region.specs.Tables.{row_of};
 ghost use Rattle.region.specs.Sets.{IsWhole};
 ghost use Rattle.facts.specs.Telling.{IsLater};
+ghost use Rattle.hot.specs.inside.Passing.{WerePassed};
 ghost use Rattle.hot.specs.inside.Remembering.{MayRecall, IsRenewed};
 
-use crate::recalling::Recalling;
+use crate::nodes::CountedNodes;
+use crate::recalling::{Harvest, gathered};
 use crate::remembering::remember;
 use facts::Numbers;
 use idsets::IdSet;
-use region::{Sets, Told, fill, gather};
-use rows::View;
+use region::{Sets, Told, fill};
 use std::alloc::{AllocError, Global};
 use std::collections::BTreeMap;
 
-/// Refreshes what is kept by what is remembered, and by what the view tells of other nodes, and says who was asked, in order.
-/// For want of memory what is kept and remembered is what it was, and more nodes and users may have numbers.
-pub(crate) fn renew(
+/// Refreshes what is kept by what is remembered, and by what is told of other nodes, and says of whom it was, in order. For want
+/// of memory what is kept and remembered is what it was, and more nodes and users may have numbers.
+pub(crate) fn renew<F: CountedNodes>(
     alloc: Global,
-    view: &View,
+    facts: &mut F,
     numbers: &mut Numbers,
     sets: &mut Sets,
     told: &mut BTreeMap<u64, Told>,
@@ -27,41 +28,19 @@ pub(crate) fn renew(
     changed: &[u64],
 ) -> Result<Vec<u64>, AllocError>
     requires { IsWhole sets.old }
+    ensures snap { F.snap facts.new ≡ F.snap facts.old }
     ensures whole { IsWhole sets.new }
     ensures later { IsLater numbers.old.nodes numbers.new.nodes numbers.old.users numbers.new.users }
     ensures err { OnErr result ((n : ℕ) → row_of sets.new.rows n ≡ row_of sets.old.rows n) }
     ensures err_told { OnErr result (told.new ≡ told.old) }
-    ensures renewed { IfOk result (λ asked. IsRenewed (MayRecall view.now told.old numbers.new.nodes numbers.new.users)
+    ensures renewed { IfOk result (λ asked. IsRenewed (MayRecall (F.snap facts.old) told.old numbers.new.nodes numbers.new.users)
         sets.old.rows sets.new.rows roots.now turned.now changed.now [] asked.items told.old told.new) }
+    ensures passed { IfOk result (λ asked. WerePassed numbers.new.nodes [] asked.items (F.asked facts.old) (F.asked facts.new)) }
 {
-    let mut facts = Recalling::of(alloc, numbers.nodes.keys(), view);
-    facts.exchange(numbers, told);
-    let done = renew_by(alloc, &mut facts, sets, roots, turned, changed);
-    facts.exchange(numbers, told);
-    done
-}
-
-// The copy of who was asked is made before what is kept changes, since it takes memory.
-fn renew_by(
-    alloc: Global,
-    facts: &mut Recalling,
-    sets: &mut Sets,
-    roots: &IdSet,
-    turned: &[u64],
-    changed: &[u64],
-) -> Result<Vec<u64>, AllocError>
-    requires { IsWhole sets.old }
-    ensures whole { IsWhole sets.new }
-    ensures snap { facts.new.facts.snap ≡ facts.old.facts.snap }
-    ensures later { IsLater facts.old.facts.nodes facts.new.facts.nodes facts.old.facts.users facts.new.facts.users }
-    ensures err { OnErr result ((n : ℕ) → row_of sets.new.rows n ≡ row_of sets.old.rows n) }
-    ensures err_told { OnErr result (facts.new.told ≡ facts.old.told) }
-    ensures renewed { IfOk result (λ asked. IsRenewed (MayRecall facts.new.facts.snap facts.old.told facts.new.facts.nodes facts.new.facts.users)
-        sets.old.rows sets.new.rows roots.now turned.now changed.now facts.old.asked.items asked.items facts.old.told facts.new.told) }
-{
-    let region = gather(alloc, sets, roots, turned, changed, facts)?;
-    let asked = facts.asked.clone()?;
+    let Harvest { region, asked } = gathered(
+        alloc, facts, numbers, told, sets, roots, turned, changed,
+    )?;
     fill(alloc, sets, &region)?;
-    remember(&mut facts.told, sets, region);
+    remember(told, sets, region);
     Ok(asked)
 }

@@ -11,7 +11,7 @@ ghost use Rattle.shown.specs.Marks.{after_marking};
 ghost use Rattle.shown.specs.inside.Basing.{AreMarked};
 
 use facts::each_view_is_valid;
-use hot::Hot;
+use hot::{Hot, ViewNodes};
 use names::{Marking, Node};
 use rows::{Rows, View};
 use std::alloc::{AllocError, Global};
@@ -117,7 +117,7 @@ fn take_commit(
     match commit.events() {
         Some(events) => {
             let events = events.events(alloc)?;
-            hot.take(alloc, &events, view)?;
+            hot.take(alloc, &events, &mut ViewNodes::of(alloc, view))?;
         }
         None => {
             hot.restart(alloc, view)?;

@@ -1,8 +1,10 @@
 use Rattle.std.proofs.Common.{◌≡◌, true, false, [], refl, sym, ◌∙◌, subst, arith}
 use Rattle.std.specs.Prelude.{Some}
+use Rattle.meaning.specs.Snap.{Snap}
 use Rattle.facts.specs.Telling.{MayTell}
 use Rattle.facts.specs.inside.Growing.{later_further}
 use Rattle.hot.specs.Kept.{AreKept, Remembered, told_of}
+use Rattle.hot.specs.Nodes.{snap_asked}
 use Rattle.hot.specs.inside.Remembering.{MayRecall}
 use Rattle.facts.specs.inside.Tables.{grew_get}
 use Rattle.least_sets.specs.World.{has}
@@ -187,9 +189,10 @@ returns-clause-hot c = λ is.
     let end = c.renew.new.numbers in
     let last = later_further c.args.self.now.numbers.nodes c.numbered.new.numbers.nodes c.renew.new.numbers.nodes c.args.self.now.numbers.users c.numbered.new.numbers.users c.renew.new.numbers.users
     c.in_ok-id.ensures.later c.renew.ensures.later in
-    let p = renewed_by (MayRecall c.args.view.now hot.told end.nodes end.users) (MayTell c.args.view.now end.nodes end.users) hot.sets.rows c.renew.new.sets.rows c.insert.new.self _ [] [] c.in_ok-asked.asked.items
+    let p = renewed_by (MayRecall (snap_asked c.of-facts.result) hot.told end.nodes end.users) (MayTell c.args.view.now end.nodes end.users) hot.sets.rows c.renew.new.sets.rows c.insert.new.self _ [] [] c.in_ok-asked.asked.items
     hot.told c.renew.new.told
-    (recall_same c.args.view.now hot.numbers.nodes end.nodes hot.numbers.users end.users hot.marks hot.sets.rows hot.told is.all.kept is.all.remembered last) c.in_ok-asked.ensures.renewed in
+    (λ n fact may. recall_same c.args.view.now hot.numbers.nodes end.nodes hot.numbers.users end.users hot.marks hot.sets.rows hot.told is.all.kept is.all.remembered last n fact
+    (subst (λ (x : Snap). MayRecall x hot.told end.nodes end.users n fact) c.of-facts.ensures.snap may)) c.in_ok-asked.ensures.renewed in
     record {
       valid = is.valid;
       all = record {
@@ -222,9 +225,10 @@ returns-clause-asked c = λ is.
     let hot = c.args.self.now in
     let end = c.renew.new.numbers in
     let last = later_further hot.numbers.nodes c.numbered.new.numbers.nodes end.nodes hot.numbers.users c.numbered.new.numbers.users end.users c.in_ok-id.ensures.later c.renew.ensures.later in
-    let p = renewed_by (MayRecall c.args.view.now hot.told end.nodes end.users) (MayTell c.args.view.now end.nodes end.users) hot.sets.rows c.renew.new.sets.rows c.insert.new.self _ [] [] c.in_ok-asked.asked.items
+    let p = renewed_by (MayRecall (snap_asked c.of-facts.result) hot.told end.nodes end.users) (MayTell c.args.view.now end.nodes end.users) hot.sets.rows c.renew.new.sets.rows c.insert.new.self _ [] [] c.in_ok-asked.asked.items
     hot.told c.renew.new.told
-    (recall_same c.args.view.now hot.numbers.nodes end.nodes hot.numbers.users end.users hot.marks hot.sets.rows hot.told is.all.kept is.all.remembered last) c.in_ok-asked.ensures.renewed in
+    (λ n fact may. recall_same c.args.view.now hot.numbers.nodes end.nodes hot.numbers.users end.users hot.marks hot.sets.rows hot.told is.all.kept is.all.remembered last n fact
+    (subst (λ (x : Snap). MayRecall x hot.told end.nodes end.users n fact) c.of-facts.ensures.snap may)) c.in_ok-asked.ensures.renewed in
     let distinct = c.renew.ensures.later.nodes_distinct c.in_ok-id.ensures.distinct in
     let now : AreKept c.args.view.now end.nodes end.users c.insert.new.self c.renew.new.sets.rows =
     kept_marked c.args.view.now hot.numbers.nodes end.nodes hot.numbers.users end.users hot.marks c.insert.new.self _ hot.sets.rows c.renew.new.sets.rows _ _

@@ -1,5 +1,7 @@
-use Rattle.std.proofs.Common.{[], refl}
+use Rattle.std.proofs.Common.{[], refl, subst}
+use Rattle.meaning.specs.Snap.{Snap}
 use Rattle.facts.specs.Telling.{MayTell}
+use Rattle.hot.specs.Nodes.{snap_asked}
 use Rattle.hot.specs.inside.Remembering.{MayRecall}
 use Rattle.region.proofs.Listing.{on_err_all}
 use Rattle.hot.proofs.Marks.{kept_anew, anew_of_world, recall_none, renewed_by, told_none, kept_same, same_of_world, marked_same, marks_there}
@@ -33,9 +35,11 @@ returns-clause-hot c = λ S is.
     let hot = c.args.self.now in
     let now = c.renew.new.numbers in
     let later = c.renew.ensures.later in
-    let r = rw c.as_slice-marks.ensures.ids at c.in_ok-asked.ensures.renewed in
-    let p = renewed_by (MayRecall c.args.view.now c.new-fresh.result now.nodes now.users) (MayTell c.args.view.now now.nodes now.users) c.new-kept.result.rows c.renew.new.sets.rows hot.marks hot.marks [] [] c.in_ok-asked.asked.items
-    c.new-fresh.result c.renew.new.told (recall_none c.args.view.now now.nodes now.users c.new-fresh.result (told_none c.new-fresh.result c.new-fresh.ensures.empty)) r in
+    let r = rw c.as_slice-turned.ensures.ids at c.in_ok-asked.ensures.renewed in
+    let p = renewed_by (MayRecall (snap_asked c.of-facts.result) c.new-fresh.result now.nodes now.users) (MayTell c.args.view.now now.nodes now.users) c.new-kept.result.rows c.renew.new.sets.rows hot.marks hot.marks [] [] c.in_ok-asked.asked.items
+    c.new-fresh.result c.renew.new.told
+    (λ n fact may. recall_none c.args.view.now now.nodes now.users c.new-fresh.result (told_none c.new-fresh.result c.new-fresh.ensures.empty) n fact
+    (subst (λ (x : Snap). MayRecall x c.new-fresh.result now.nodes now.users n fact) c.of-facts.ensures.snap may)) r in
     record {
       valid = c.each_view_is_valid.ensures;
       all = record {
@@ -52,9 +56,11 @@ returns-clause-asked c = λ S is.
     let hot = c.args.self.now in
     let now = c.renew.new.numbers in
     let later = c.renew.ensures.later in
-    let r = rw c.as_slice-marks.ensures.ids at c.in_ok-asked.ensures.renewed in
-    let p = renewed_by (MayRecall c.args.view.now c.new-fresh.result now.nodes now.users) (MayTell c.args.view.now now.nodes now.users) c.new-kept.result.rows c.renew.new.sets.rows hot.marks hot.marks [] [] c.in_ok-asked.asked.items
-    c.new-fresh.result c.renew.new.told (recall_none c.args.view.now now.nodes now.users c.new-fresh.result (told_none c.new-fresh.result c.new-fresh.ensures.empty)) r in
+    let r = rw c.as_slice-turned.ensures.ids at c.in_ok-asked.ensures.renewed in
+    let p = renewed_by (MayRecall (snap_asked c.of-facts.result) c.new-fresh.result now.nodes now.users) (MayTell c.args.view.now now.nodes now.users) c.new-kept.result.rows c.renew.new.sets.rows hot.marks hot.marks [] [] c.in_ok-asked.asked.items
+    c.new-fresh.result c.renew.new.told
+    (λ n fact may. recall_none c.args.view.now now.nodes now.users c.new-fresh.result (told_none c.new-fresh.result c.new-fresh.ensures.empty) n fact
+    (subst (λ (x : Snap). MayRecall x c.new-fresh.result now.nodes now.users n fact) c.of-facts.ensures.snap may)) r in
     record {
       once = all_once c.args.view.now hot.numbers.nodes now.nodes hot.numbers.users now.users hot.marks c.new-kept.result.rows c.renew.new.sets.rows c.in_ok-asked.asked.items
           c.each_view_is_valid.ensures c.new-kept.ensures.none later (later.nodes_distinct is.distinct) p.refreshed;

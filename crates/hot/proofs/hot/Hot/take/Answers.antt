@@ -13,33 +13,35 @@ use Rattle.hot.specs.Depending.{IsTouchedBy}
 use Rattle.hot.specs.Kept.{AreKept, Remembered, told_of}
 use Rattle.hot.proofs.Marks.{kept_after, commit_of_world, kept_same, same_of_world, are_tellable, recall_after, renewed_by, marked_same, marks_there}
 use Rattle.hot.proofs.Asked.{asked_once, asked_exactly, touched_exactly}
+use Rattle.hot.proofs.Passed.{asked_only}
 use Rattle.hot.proofs.hot.Hot.take.Goals as goal
 
 pub returns-in_err-changed-clause-err : goal.returns-in_err-changed-clause-err
-returns-in_err-changed-clause-err c =
+returns-in_err-changed-clause-err g c =
     on_err_all c.from_residual.result (λ S is. record { valid = is.valid; all = is.all; distinct = is.distinct })
 
 pub returns-in-Ok-clause-hot : goal.returns-in-Ok-clause-hot
-returns-in-Ok-clause-hot c = λ S is view.
+returns-in-Ok-clause-hot g c = λ S is view.
     let hot = c.args.self.now in
+    let T = g.F.CountedNodes.snap c.args.facts.now in
     let now = c.renew.new.numbers in
     let follow = c.follow.new.numbers in
     let last = later_further hot.numbers.nodes follow.nodes now.nodes hot.numbers.users follow.users now.users c.follow.ensures.later c.renew.ensures.later in
     let are = subst (λ xs. AreOfEvents hot.numbers.nodes c.args.events.now xs) (sym c.deref.ensures.value) c.in_ok-changed.ensures in
-    let p = renewed_by (MayRecall c.args.view.now c.follow.new.told now.nodes now.users) (MayTell c.args.view.now now.nodes now.users) hot.sets.rows c.renew.new.sets.rows hot.marks [] _ [] c.in-Ok.asked.items
+    let p = renewed_by (MayRecall T c.follow.new.told now.nodes now.users) (MayTell T now.nodes now.users) hot.sets.rows c.renew.new.sets.rows hot.marks [] _ [] c.in-Ok.field-0.items
     c.follow.new.told c.renew.new.told
-    (recall_after c.args.view.now hot.numbers.nodes now.nodes follow.users now.users hot.sets.back c.follow.new.told
+    (recall_after T hot.numbers.nodes now.nodes follow.users now.users hot.sets.back c.follow.new.told
     (subst (λ (x : Snap). AreTellable x hot.numbers.nodes follow.users hot.sets.back c.follow.new.told) (sym view)
     (c.follow.ensures.tells S (are_tellable S hot.numbers.nodes hot.numbers.users hot.marks hot.sets.rows hot.sets.back hot.told is.all.kept is.all.remembered hot.whole.backed)))
     (subst (λ (ns : List Node). IsLater ns now.nodes follow.users now.users) c.follow.ensures.nodes c.renew.ensures.later))
     c.in-Ok.ensures.renewed in
     record {
-      valid = c.each_view_is_valid.ensures;
+      valid = c.tells_what_is_valid.ensures;
       all = record {
-        kept = kept_after S c.args.view.now c.args.events.now hot.numbers.nodes now.nodes hot.numbers.users now.users hot.marks _ hot.sets.rows c.renew.new.sets.rows _ _
-            is.valid c.each_view_is_valid.ensures view are last is.all.kept p.refreshed;
-        remembered = commit_of_world S c.args.view.now c.args.events.now hot.numbers.nodes now.nodes hot.numbers.users now.users hot.marks _ hot.sets.rows c.renew.new.sets.rows _ _
-            is.valid c.each_view_is_valid.ensures view are last is.all.kept c.follow.new.told c.renew.new.told p
+        kept = kept_after S T c.args.events.now hot.numbers.nodes now.nodes hot.numbers.users now.users hot.marks _ hot.sets.rows c.renew.new.sets.rows _ _
+            is.valid c.tells_what_is_valid.ensures view are last is.all.kept p.refreshed;
+        remembered = commit_of_world S T c.args.events.now hot.numbers.nodes now.nodes hot.numbers.users now.users hot.marks _ hot.sets.rows c.renew.new.sets.rows _ _
+            is.valid c.tells_what_is_valid.ensures view are last is.all.kept c.follow.new.told c.renew.new.told p
             (λ n t at.
             let key = c.follow.ensures.keys n t at in (
               (is.all.remembered.each n key.0 key.1).0,
@@ -50,33 +52,34 @@ returns-in-Ok-clause-hot c = λ S is view.
     }
 
 pub returns-in-Ok-clause-asked : goal.returns-in-Ok-clause-asked
-returns-in-Ok-clause-asked c = λ S is view.
+returns-in-Ok-clause-asked g c = λ S is view.
     let hot = c.args.self.now in
+    let T = g.F.CountedNodes.snap c.args.facts.now in
     let now = c.renew.new.numbers in
     let follow = c.follow.new.numbers in
     let last = later_further hot.numbers.nodes follow.nodes now.nodes hot.numbers.users follow.users now.users c.follow.ensures.later c.renew.ensures.later in
     let are = subst (λ xs. AreOfEvents hot.numbers.nodes c.args.events.now xs) (sym c.deref.ensures.value) c.in_ok-changed.ensures in
-    let p = renewed_by (MayRecall c.args.view.now c.follow.new.told now.nodes now.users) (MayTell c.args.view.now now.nodes now.users) hot.sets.rows c.renew.new.sets.rows hot.marks [] _ [] c.in-Ok.asked.items
+    let p = renewed_by (MayRecall T c.follow.new.told now.nodes now.users) (MayTell T now.nodes now.users) hot.sets.rows c.renew.new.sets.rows hot.marks [] _ [] c.in-Ok.field-0.items
     c.follow.new.told c.renew.new.told
-    (recall_after c.args.view.now hot.numbers.nodes now.nodes follow.users now.users hot.sets.back c.follow.new.told
+    (recall_after T hot.numbers.nodes now.nodes follow.users now.users hot.sets.back c.follow.new.told
     (subst (λ (x : Snap). AreTellable x hot.numbers.nodes follow.users hot.sets.back c.follow.new.told) (sym view)
     (c.follow.ensures.tells S (are_tellable S hot.numbers.nodes hot.numbers.users hot.marks hot.sets.rows hot.sets.back hot.told is.all.kept is.all.remembered hot.whole.backed)))
     (subst (λ (ns : List Node). IsLater ns now.nodes follow.users now.users) c.follow.ensures.nodes c.renew.ensures.later))
     c.in-Ok.ensures.renewed in
-    let kept : AreKept c.args.view.now now.nodes now.users hot.marks c.renew.new.sets.rows =
-    kept_after S c.args.view.now c.args.events.now hot.numbers.nodes now.nodes hot.numbers.users now.users hot.marks _ hot.sets.rows c.renew.new.sets.rows _ _
-    is.valid c.each_view_is_valid.ensures view are last is.all.kept p.refreshed in
+    let kept : AreKept T now.nodes now.users hot.marks c.renew.new.sets.rows =
+    kept_after S T c.args.events.now hot.numbers.nodes now.nodes hot.numbers.users now.users hot.marks _ hot.sets.rows c.renew.new.sets.rows _ _
+    is.valid c.tells_what_is_valid.ensures view are last is.all.kept p.refreshed in
     let distinct = last.nodes_distinct is.distinct in
-    record {
-      once = asked_once S c.args.view.now hot.numbers.nodes now.nodes hot.numbers.users now.users hot.marks hot.marks hot.marks _ _ hot.sets.rows c.renew.new.sets.rows c.in-Ok.asked.items
-          is.all.kept distinct last kept p.refreshed;
-      exactly = asked_exactly S c.args.view.now hot.numbers.nodes now.nodes hot.numbers.users now.users hot.marks hot.marks hot.marks _ _ hot.sets.rows c.renew.new.sets.rows c.in-Ok.asked.items
-          is.all.kept distinct last kept p.refreshed (λ n. IsTouchedBy S c.args.events.now n)
-          (touched_exactly S c.args.events.now hot.numbers.nodes hot.numbers.users hot.marks _ hot.sets.rows is.valid are is.all.kept);
-    }
+    asked_only now.nodes c.in-Ok.field-0.items (g.F.CountedNodes.asked c.args.facts.now) (g.F.CountedNodes.asked c.renew.new.facts) _ distinct
+    (asked_once S T hot.numbers.nodes now.nodes hot.numbers.users now.users hot.marks hot.marks hot.marks _ _ hot.sets.rows c.renew.new.sets.rows c.in-Ok.field-0.items
+    is.all.kept distinct last kept p.refreshed)
+    (λ i. (asked_exactly S T hot.numbers.nodes now.nodes hot.numbers.users now.users hot.marks hot.marks hot.marks _ _ hot.sets.rows c.renew.new.sets.rows c.in-Ok.field-0.items
+    is.all.kept distinct last kept p.refreshed (λ n. IsTouchedBy S c.args.events.now n)
+    (touched_exactly S c.args.events.now hot.numbers.nodes hot.numbers.users hot.marks _ hot.sets.rows is.valid are is.all.kept) i).0)
+    c.in-Ok.ensures.passed
 
 pub returns-clause-err : goal.returns-clause-err
-returns-clause-err c = λ S is.
+returns-clause-err g c = λ S is.
     let hot = c.args.self.now in
     let now = c.renew.new.numbers in
     let follow = c.follow.new.numbers in
@@ -96,7 +99,7 @@ returns-clause-err c = λ S is.
     }
 
 pub returns-in-Ok-clause-marked : goal.returns-in-Ok-clause-marked
-returns-in-Ok-clause-marked c = λ S is.
+returns-in-Ok-clause-marked g c = λ S is.
     let hot = c.args.self.now in
     let now = c.renew.new.numbers in
     let follow = c.follow.new.numbers in
@@ -107,7 +110,7 @@ returns-in-Ok-clause-marked c = λ S is.
     }
 
 pub returns-clause-marked : goal.returns-clause-marked
-returns-clause-marked c = λ S is.
+returns-clause-marked g c = λ S is.
     let hot = c.args.self.now in
     let now = c.renew.new.numbers in
     let follow = c.follow.new.numbers in
