@@ -4,8 +4,8 @@ ghost use Rattle.std.specs.Prelude.{◌≡◌};
 use crate::changes::{insert_of, number_of, open};
 use config::Config;
 use desk::{Desk, Posted};
-use leopard::Expr;
-use names::{Node, Object, Part, Refusal, State};
+use leopard::{Expr, Input};
+use names::{Node, Object, Part, Refusal, State, Tuple};
 use published::{MadeIndexes, Naming, Opened, Session};
 use std::alloc::Global;
 use std::hash::RandomState;
@@ -114,7 +114,31 @@ fn installs<A: Abort + Threads, T: Tables + Drop, J: Naming, H: Wait + Drop>(
     answers(rt, alloc, &mut later);
 }
 
-// A base below the floor is refused with 18, and one above the newest revision with 19.
+fn given(alloc: Global, tuples: &[&str]) -> Result<Input, Refusal> {
+    let config = Config::from_json(alloc, NESTED.as_bytes())?;
+    let mut parsed = Vec::new(alloc);
+    for tuple in tuples {
+        parsed.push(Tuple::parse(tuple)?)?;
+    }
+    Input::of(config, parsed).ok_or(Refusal::Malformed)
+}
+
+// The number of what refuses the tuples as those of revision 2, or 0.
+fn vouched<A: Abort, J: Naming>(
+    rt: &A,
+    alloc: Global,
+    session: &mut Session<J>,
+    tuples: &[&str],
+) -> u8 {
+    let given = given(alloc, tuples).expect(rt, "an input");
+    match session.vouch(alloc, &Zookie { store: 7, rev: 2 }, &given) {
+        Ok(_) => 0,
+        Err(refused) => refused.why.number(),
+    }
+}
+
+// A base below the floor is refused with 18, and one above the newest revision with 19; so are tuples that are not those of the
+// revision, of which no index is made then.
 fn refuses<A: Abort + Threads, T: Tables + Drop, J: Naming, H: Wait + Drop>(
     rt: &A,
     alloc: Global,
@@ -126,6 +150,9 @@ fn refuses<A: Abort + Threads, T: Tables + Drop, J: Naming, H: Wait + Drop>(
     let ahead = made(rt, alloc, &mut session, 2).expect(rt, "indexes");
     let fitting = made(rt, alloc, &mut session, 2).expect(rt, "indexes");
     desk.trim(Zookie { store: 7, rev: 2 }).expect(rt, "a floor");
+    let others = ["group:a#member@user:ann", "group:b#member@user:ann"];
+    assert!(rt; vouched(rt, alloc, &mut session, &others) == 19);
+    assert!(rt; vouched(rt, alloc, &mut session, &["group:a#member@user:ann"]) == 0);
     assert!(rt; number_of(desk.install(1, early)) == 18);
     assert!(rt; number_of(desk.install(3, ahead)) == 19);
     assert!(rt; desk.install(2, fitting).expect(rt, "a base").value == 2);

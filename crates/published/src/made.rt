@@ -1,9 +1,10 @@
 //! Group indexes that are made beside the desk, of snapshots that sessions copied.
-ghost use Rattle.std.specs.Prelude.{◌≡◌, IfSome};
+ghost use Rattle.std.specs.Prelude.{◌≡◌, false, IfOk, IfSome, IsTrue};
 ghost use Rattle.shown.specs.Adopting.{IsReady};
 ghost use Rattle.shown.specs.Standing.{standing};
 ghost use Rattle.published.specs.Copied.{RetainIn, IsCopyIn};
 ghost use Rattle.published.specs.Judged.{AreJudged};
+ghost use Rattle.published.specs.Vouching.{IsSameSnap};
 ghost use Rattle.rows.specs.Retained.{snap_at};
 
 use crate::book::{Naming, StepPrefix};
@@ -143,4 +144,14 @@ fn both<J: Naming>(
         Ok(second) => Ok(MadeIndexes { first, second }),
         Err(e) => Err(e),
     }
+}
+
+/// Whether the inputs have the same configuration, by its text, and the same tuples.
+pub(crate) fn is_same(alloc: Global, one: &Input, other: &Input) -> Result<bool, AllocError>
+    ensures yes { IfOk result (λ same. IsTrue same → IsSameSnap one.now other.now) }
+    ensures no { IfOk result (λ same. same ≡ false → ¬ (IsSameSnap one.now other.now)) }
+{
+    let text = one.config().to_json(alloc)?;
+    let others = other.config().to_json(alloc)?;
+    Ok(text == others && one.tuples() == other.tuples())
 }
