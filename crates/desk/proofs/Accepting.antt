@@ -21,7 +21,7 @@ use Rattle.names.specs.declared.part.Part.{Part}
 use Rattle.shown.specs.declared.step.Step.TheVariants.{Commit, Take, Trim, Marking as MarkingStep, Rebase}
 use Rattle.shown.specs.Marks.{marking_cause}
 use Rattle.shown.specs.Standing.{standing, base_cause, cursor_of}
-use Rattle.shown.specs.Raising.{floor_cause, RefusesFloor, RefusesMarking}
+use Rattle.shown.specs.Raising.{floor_cause, RefusesFloor, RefusesMarking, RefusesBase}
 use Rattle.tables.specs.Device.{IsOpen, HasFailed, Lasts}
 use Rattle.tables.specs.Storing.{one_more}
 use Rattle.tables.specs.declared.tables.Tables.{Ghosts}
@@ -30,9 +30,10 @@ use Rattle.desk.specs.TableChanges.{TableChange, Adds, Raises, changed, CanChang
 use Rattle.desk.specs.Posts.{Posts, IsSettled, ShowsMore, SameTables, PostsStep, newest_posted}
 use Rattle.published.specs.Receipts.{ReceiptFacts}
 use Rattle.desk.specs.Changes.{Tells, TellsShown, IsStored, WriteAccepted, ConfigAccepted, CatchUpAccepted, TrimAccepted, MarkingAccepted, RebuildAccepted, trim_raises, CatchUpJudged, IsCommitOfWrite, IsRaiseTo, IsNoChange, MayLeave, Touches, leaves_alone, adds_one, Refuses, IsRefused, IsUnopposed}
+use Rattle.desk.specs.Installing.{InstallAccepted}
 use Rattle.desk.specs.inside.Posting.{NoCause}
 use Rattle.published.proofs.Prefixes.{prefix_trans}
-use Rattle.desk.proofs.Judged.{write_reopens, write_faults, write_wants, floor_reopens, floor_faults, floor_wants, marking_reopens, marking_faults, marking_wants}
+use Rattle.desk.proofs.Judged.{write_reopens, write_faults, write_wants, floor_reopens, floor_faults, floor_wants, marking_reopens, marking_faults, marking_wants, base_reopens, base_faults, base_wants}
 
 -- a cause is none
 pub unlike : {o : Option Refusal} → o ≡ None → IsUnopposed (λ why. o ≡ Some why)
@@ -140,6 +141,15 @@ module _ {T : Type 0} (g : Ghosts T) (old mid : Posts T) (more : ShowsMore old m
         (refused_judged IsNoChange (RefusesMarking stood marking) why (marking_reopens stood marking) (marking_faults stood marking) (marking_wants stood marking)
         (subst (λ (steps : List Step). RefusesMarking (standing steps) marking why) more.posted is))
 
+    -- a base is refused for its revision
+    pub base_refused : {A : Type 0} (r : Result A Refusal) (rev : ℕ) (why : Refusal) → IsErrAnd r (λ e. e ≡ why) → RefusesBase (standing mid.posted) rev why
+        → IfErr r (λ e. IsRefused g old IsNoChange (RefusesBase (standing old.posted) rev) e mid)
+    base_refused r rev why was is =
+        let stood = standing old.posted in
+        refused_exit (λ e. IsRefused g old IsNoChange (RefusesBase stood rev) e mid) r why was
+        (refused_judged IsNoChange (RefusesBase stood rev) why (base_reopens stood rev) (base_faults stood rev) (base_wants stood rev)
+        (subst (λ (steps : List Step). RefusesBase (standing steps) rev why) more.posted is))
+
     newest_still : (rev : ℕ) → rev ≡ newest (standing mid.posted).kept → rev ≡ newest (standing old.posted).kept
     newest_still rev is = is ∙ ap (λ (steps : List Step). newest (standing steps).kept) more.posted
 
@@ -231,20 +241,27 @@ module _ {T : Type 0} (g : Ghosts T) (old mid : Posts T) (more : ShowsMore old m
             record { works = works; accepted = marking_still; posts = posts_on (MarkingStep marking) posts; tables = tables ∙ same.0; stored = sound; told = told; tells = tells }
         marking_accepted value receipt (Err why) posts tables sound told tells = tt
 
-      module _ (rev : ℕ) (of_newest : rev ≡ newest (standing mid.posted).kept) (accepted : base_cause (standing mid.posted) rev ≡ Option.None) where
-        base_still : base_cause (standing old.posted) (newest (standing old.posted).kept) ≡ Option.None
-        base_still =
-            subst (λ (n : ℕ). base_cause (standing old.posted) n ≡ Option.None) (newest_still rev of_newest)
-            (subst (λ (steps : List Step). base_cause (standing steps) rev ≡ Option.None) more.posted accepted)
+      module _ (rev : ℕ) (accepted : base_cause (standing mid.posted) rev ≡ Option.None) where
+        pub base_still : base_cause (standing old.posted) rev ≡ Option.None
+        base_still = subst (λ (steps : List Step). base_cause (standing steps) rev ≡ Option.None) more.posted accepted
 
-        -- the base is made
+        -- the base is made of a revision
+        pub install_accepted : {A : Type 0} (value : A → ℕ) (receipt : A → ReceiptFacts) (r : Result A Refusal)
+            → OnOk r (PostsStep mid (Rebase rev) new) → new.tables ≡ mid.tables → new.failed ≡ false → IfOk r (λ p. value p ≡ (standing new.posted).base) → IfOk r (λ p. TellsShown (receipt p) new)
+            → IfOk r (λ p. InstallAccepted old rev (value p) (receipt p) new)
+        install_accepted value receipt (Ok p) posts tables sound told tells =
+            record { works = works; accepted = base_still; posts = posts_on (Rebase rev) posts; tables = tables ∙ same.0; stored = sound; told = told; tells = tells }
+        install_accepted value receipt (Err why) posts tables sound told tells = tt
+
+      module _ (rev : ℕ) (of_newest : rev ≡ newest (standing mid.posted).kept) (accepted : base_cause (standing mid.posted) rev ≡ Option.None) where
+        -- it is made of the newest one
         pub rebuild_accepted : {A : Type 0} (value : A → ℕ) (receipt : A → ReceiptFacts) (r : Result A Refusal)
             → OnOk r (PostsStep mid (Rebase rev) new) → new.tables ≡ mid.tables → new.failed ≡ false → IfOk r (λ p. value p ≡ (standing new.posted).base) → IfOk r (λ p. TellsShown (receipt p) new)
             → IfOk r (λ p. RebuildAccepted old (value p) (receipt p) new)
         rebuild_accepted value receipt (Ok p) posts tables sound told tells =
             record {
               works = works;
-              accepted = base_still;
+              accepted = subst (λ (n : ℕ). base_cause (standing old.posted) n ≡ Option.None) (newest_still rev of_newest) (base_still rev accepted);
               posts = subst (λ (n : ℕ). PostsStep old (Rebase n) new) (newest_still rev of_newest) (posts_on (Rebase rev) posts);
               tables = tables ∙ same.0;
               stored = sound;

@@ -1,4 +1,4 @@
--- No write, no floor and no marking is refused for what the tables did, or for want of memory.
+-- No write, floor, marking or base is refused for what the tables did, or for want of memory.
 use Rattle.std.proofs.Common.{◌≡◌, ℕ, Bool, true, false, not, List, map, refl, ap, sym, ◌∙◌, true≢false}
 use Rattle.std.specs.Prelude.{Option, Some, None}
 use Rattle.std.specs.List.{list_any}
@@ -7,13 +7,13 @@ use Rattle.names.specs.declared.write.Write.{Write}
 use Rattle.names.specs.declared.marking.Marking.{Marking}
 use Rattle.names.specs.declared.marking.Marking.TheVariants.{Mark, Unmark}
 use Rattle.names.specs.declared.refusal.Refusal.{Refusal}
-use Rattle.names.specs.declared.refusal.Refusal.TheVariants.{Malformed, UnknownRelation, TypeRefused, TwiceInOneWrite, ForeignZookie, Future, Expired, ConditionFailed, AlreadyThere, NotThere, Full, InUse, Memory, StoreFault, Reopen}
+use Rattle.names.specs.declared.refusal.Refusal.TheVariants.{Malformed, UnknownRelation, TypeRefused, TwiceInOneWrite, ForeignZookie, Future, Expired, ConditionFailed, AlreadyThere, NotThere, Full, InUse, StaleBuild, WrongBuild, Memory, StoreFault, Reopen}
 use Rattle.meaning.specs.Verdict.{or_else, refused_if, at_place, first_from, is_in_range, is_unknown, is_untyped, is_twice, inserts_again, deletes_nothing, is_full, event_of}
 use Rattle.zookie.specs.declared.Zookie.{Zookie}
 use Rattle.rows.specs.Retained.{Retained, newest_of}
 use Rattle.verdict.specs.Verdict.{verdict, condition_cause, fails, RefusesWrite}
-use Rattle.shown.specs.Standing.{Standing}
-use Rattle.shown.specs.Raising.{floor_cause, RefusesFloor, RefusesMarking}
+use Rattle.shown.specs.Standing.{Standing, base_cause}
+use Rattle.shown.specs.Raising.{floor_cause, RefusesFloor, RefusesMarking, RefusesBase}
 
 abbrev is_of_machine : Refusal → Bool
 is_of_machine Memory = true
@@ -65,6 +65,9 @@ module _ (why : Refusal) (machine : is_of_machine why ≡ true) where
   no_marking_cause s (Mark node) is = neither _ _ (if_other UnknownRelation _ refl) (if_other Full _ refl) is
   no_marking_cause s (Unmark node) is = absurd (cc is)
 
+  no_base_cause : (s : Standing) (rev : ℕ) → base_cause s rev ≡ Some why → ⊥
+  no_base_cause s rev = neither _ _ (if_other StaleBuild _ refl) (if_other WrongBuild _ refl)
+
 pub write_reopens : (r : Retained) (write : Write Zookie) → RefusesWrite r write Reopen → ⊥
 write_reopens r write is = no_verdict Reopen refl r write is
 
@@ -91,3 +94,12 @@ marking_reopens s marking is = no_marking_cause Reopen refl s marking is
 
 pub marking_faults : (s : Standing) (marking : Marking) → RefusesMarking s marking StoreFault → ⊥
 marking_faults s marking is = no_marking_cause StoreFault refl s marking is
+
+pub base_wants : (s : Standing) (rev : ℕ) → RefusesBase s rev Memory → ⊥
+base_wants s rev is = no_base_cause Memory refl s rev is
+
+pub base_reopens : (s : Standing) (rev : ℕ) → RefusesBase s rev Reopen → ⊥
+base_reopens s rev is = no_base_cause Reopen refl s rev is
+
+pub base_faults : (s : Standing) (rev : ℕ) → RefusesBase s rev StoreFault → ⊥
+base_faults s rev is = no_base_cause StoreFault refl s rev is

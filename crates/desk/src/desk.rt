@@ -12,7 +12,7 @@ ghost use Rattle.verdict.specs.Verdict.{AcceptsWrite, RefusesWrite};
 ghost use Rattle.shown.specs.declared.step.Step.TheVariants.{Commit as CommitStep, Marking as MarkingStep, Rebase, Take, Trim};
 ghost use Rattle.shown.specs.Standing.{standing, base_cause, cursor_of, CanRaise, HasRoom};
 ghost use Rattle.shown.specs.Marks.{marking_cause};
-ghost use Rattle.shown.specs.Raising.{floor_cause, RefusesFloor, RefusesMarking};
+ghost use Rattle.shown.specs.Raising.{floor_cause, RefusesBase, RefusesFloor, RefusesMarking};
 ghost use Rattle.shown.specs.Asked.{IsTold, RefusesQuestion};
 ghost use Rattle.tables.specs.Device.{IsOpen};
 ghost use Rattle.tables.specs.Opening.{CannotOpen};
@@ -23,6 +23,7 @@ ghost use Rattle.published.specs.Known.{Begins};
 ghost use Rattle.desk.specs.TableChanges.{Adds, Raises};
 ghost use Rattle.desk.specs.Posts.{Agrees, OpensWith, ComesBack, FailsToLoad, IsSettled, SameTables, ShowsMore, PostsStep, newest_posted, shown_by};
 ghost use Rattle.desk.specs.Changes.{Tells, TellsShown, IsStored, WriteAccepted, ConfigAccepted, CatchUpAccepted, TrimAccepted, MarkingAccepted, RebuildAccepted, IsRefused, IsCommitOfWrite, IsRaiseTo, IsNoChange, CatchUpJudged, RebuildJudged, receipt_at};
+ghost use Rattle.desk.specs.Installing.{InstallAccepted};
 ghost use Rattle.desk.specs.Made.{IsMade, MayStore, SpeaksAgainst};
 ghost use Rattle.desk.specs.inside.Posting.{NoCause, LeavesHistory};
 
@@ -265,6 +266,22 @@ impl<T: Tables + Drop, J: Naming, R: Wait + Drop> Desk<T, J, R> {
         self.rebase(rev)
     }
 
+    /// Makes the base of the group index of a revision. It is refused where that is below the floor or the base before, or above the
+    /// newest posted one. The indexes were made of a session's copy, so each is of the tuples and the configuration of its own
+    /// revision: a copy takes one that serves it, and else makes its own. The tables are not changed.
+    pub fn install(&mut self, base: u64, made: MadeIndexes<J>) -> Result<Posted, Refusal>
+        ensures ok { IfOk result (λ posted.
+            InstallAccepted self.old base posted.value posted.receipt self.new) }
+        ensures err { IfErr result (λ why.
+            IsRefused T.Tables self.old IsNoChange (RefusesBase (standing self.old.posted) base) why self.new) }
+        ensures seats { self.new.seats ≡ self.old.seats }
+    {
+        self.make_ready()?;
+        self.judge_base(base)?;
+        self.hand_in(Some(made));
+        self.rebase(base)
+    }
+
     /// A session that knows what is shown now. It is refused exactly where all have been given out; the place of
     /// one that is dropped is not given out again.
     pub fn session(&mut self) -> Result<Session<J>, Refusal>
@@ -422,6 +439,14 @@ impl<T: Tables + Drop, J: Naming, R: Wait + Drop> Desk<T, J, R> {
         ensures err { IfErr result (RefusesMarking (standing self.now.posted) marking.now) }
     {
         self.own.judge_marking(marking)
+    }
+
+    // Why the base of the index is not made of a revision, if it is not.
+    fn judge_base(&self, rev: u64) -> Result<(), Refusal>
+        ensures ok { OnOk result (base_cause (standing self.now.posted) rev ≡ None) }
+        ensures err { IfErr result (RefusesBase (standing self.now.posted) rev) }
+    {
+        self.own.judge_base(rev)
     }
 
     // Stores a commit, posts it, and shows it. All who keep it share it. Room is taken for its step first.

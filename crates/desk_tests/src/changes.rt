@@ -58,7 +58,7 @@ impl Tables for Broken {
 }
 
 // A desk over the tables.
-fn open<A: Abort, T: Tables + Drop, J: Naming, H: Wait + Drop>(
+pub(crate) fn open<A: Abort, T: Tables + Drop, J: Naming, H: Wait + Drop>(
     rt: &A,
     alloc: Global,
     handle: H,
@@ -84,7 +84,7 @@ fn configure<T: Tables + Drop, J: Naming, H: Wait + Drop>(
 }
 
 // The number of the refusal, or 0.
-fn number_of<A: Drop>(answer: Result<A, Refusal>) -> u8 {
+pub(crate) fn number_of<A: Drop>(answer: Result<A, Refusal>) -> u8 {
     match answer {
         Ok(_) => 0,
         Err(why) => why.number(),
@@ -151,7 +151,7 @@ fn after_a_fault_changes_are_refused(rt: HostRuntime) {
     closes_once::<_, Brand, _>(&rt, rt.alloc(), &rt, Opened::new(keys));
 }
 
-fn insert_of(alloc: Global, text: &str) -> Result<Write<Zookie>, Refusal> {
+pub(crate) fn insert_of(alloc: Global, text: &str) -> Result<Write<Zookie>, Refusal> {
     let tuple = Tuple::parse(text)?;
     let mut ops = Vec::new(alloc);
     ops.push(Op {

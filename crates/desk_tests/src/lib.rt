@@ -5,6 +5,8 @@
 #[cfg(test)]
 mod changes;
 #[cfg(test)]
+mod installing;
+#[cfg(test)]
 mod listed;
 #[cfg(test)]
 mod spans;

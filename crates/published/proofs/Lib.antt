@@ -10,3 +10,4 @@ pub mod Following
 pub mod Leading
 pub mod Opening
 pub mod Remembering
+pub mod Vouching

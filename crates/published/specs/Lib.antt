@@ -5,6 +5,7 @@ pub mod Posts
 pub mod Judged
 pub mod Rising
 pub mod Copied
+pub mod Vouching
 pub mod Copies
 pub mod Writing
 pub mod Publishing

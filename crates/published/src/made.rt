@@ -1,9 +1,10 @@
 //! Group indexes that are made beside the desk, of snapshots that sessions copied.
-ghost use Rattle.std.specs.Prelude.{◌≡◌, IfSome};
+ghost use Rattle.std.specs.Prelude.{◌≡◌, ◌↔◌, IfOk, IfSome, IsTrue};
 ghost use Rattle.shown.specs.Adopting.{IsReady};
 ghost use Rattle.shown.specs.Standing.{standing};
 ghost use Rattle.published.specs.Copied.{RetainIn, IsCopyIn};
 ghost use Rattle.published.specs.Judged.{AreJudged};
+ghost use Rattle.published.specs.Vouching.{IsSameSnap};
 ghost use Rattle.rows.specs.Retained.{snap_at};
 
 use crate::book::{Naming, StepPrefix};
@@ -71,8 +72,9 @@ impl<J: Naming> Copied<J> {
 
     /// Two group indexes of the snapshot, one for each copy that sessions ask. Two threads make each.
     pub fn index<R: Threads>(&self, rt: &R, alloc: Global) -> Result<MadeIndexes<J>, AllocError> {
-        let (first, second) = (self.index_once(rt, alloc), self.index_once(rt, alloc));
-        both(first, second)
+        let first = self.index_once(rt, alloc)?;
+        let second = self.index_once(rt, alloc)?;
+        Ok(MadeIndexes { first, second })
     }
 
     fn index_once<R: Threads>(&self, rt: &R, alloc: Global) -> Result<MadeIndex<J>, AllocError> {
@@ -132,15 +134,11 @@ pub struct MadeIndexes<J: Naming> {
     pub(crate) second: MadeIndex<J>,
 }
 
-fn both<J: Naming>(
-    first: Result<MadeIndex<J>, AllocError>,
-    second: Result<MadeIndex<J>, AllocError>,
-) -> Result<MadeIndexes<J>, AllocError> {
-    let Ok(first) = first else {
-        return Err(AllocError);
-    };
-    match second {
-        Ok(second) => Ok(MadeIndexes { first, second }),
-        Err(e) => Err(e),
-    }
+/// Whether the inputs have the same configuration, by its text, and the same tuples.
+pub(crate) fn is_same(alloc: Global, one: &Input, other: &Input) -> Result<bool, AllocError>
+    ensures { IfOk result (λ same. IsTrue same ↔ IsSameSnap one.now other.now) }
+{
+    let text = one.config().to_json(alloc)?;
+    let others = other.config().to_json(alloc)?;
+    Ok(text == others && one.tuples() == other.tuples())
 }

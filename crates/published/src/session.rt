@@ -15,19 +15,21 @@ ghost use Rattle.shown.specs.Watching.{IsWatched};
 ghost use Rattle.published.specs.Known.{Known, Begins};
 ghost use Rattle.published.specs.Judged.{AreJudged};
 ghost use Rattle.published.specs.Answering.{IsRefusedIn, IsWatchRefusedIn};
+ghost use Rattle.published.specs.Vouching.{IsSameSnap, IsVouchRefusal};
 
 use crate::book::{Naming, StepPrefix};
-use crate::made::Copied;
+use crate::made::{Copied, is_same};
 use crate::receipt::Receipt;
 use crate::remembered::{Look, Remembered};
 use crate::rule::{CopyReader, Seeing};
 use core::mem::replace_with;
 use expand::Tree;
-use leopard::Expr;
+use leopard::{Expr, Input};
 use lookup::Lookup;
 use names::{Items, Node, Object, Refusal, State, Tuple};
 use rows::Tupleset;
 use shown::{Answer, Depth, Objects, Question, Refused, Told};
+use std::alloc::Global;
 use std::marker::Model;
 use watch::{Namespaces, Page};
 use zookie::{Consistency, Zookie};
@@ -173,6 +175,30 @@ impl<J: Naming> Session<J> {
         };
         self.known.advance(known);
         copied
+    }
+
+    /// The snapshot of the zookie's revision, where one that was come by elsewhere is the same: an index may be made of it. What the
+    /// session copies is held against that with no entry open. It is refused with `WrongBuild` where they differ, and else as a page
+    /// is. Configurations are compared by their texts.
+    pub fn vouch(
+        &mut self,
+        alloc: Global,
+        zookie: &Zookie,
+        given: &Input,
+    ) -> Result<Copied<J>, Refused>
+        ensures ok { IfOk result (λ copied. (copied.rev ≡ zookie.now.rev) × IsSameSnap copied.snap given.now) }
+        ensures err { IfErr result (IsRefusedIn self.old self.new
+            (IsVouchRefusal (standing self.new.steps) zookie.now given.now)) }
+        ensures judged { AreJudged self.new.steps }
+        ensures later { Begins self.old self.new }
+    {
+        let copied = self.copy_snapshot(&Consistency::Exactly(*zookie))?;
+        let why = match is_same(alloc, copied.input(), given) {
+            Ok(true) => return Ok(copied),
+            Ok(false) => Refusal::WrongBuild,
+            Err(_) => Refusal::Memory,
+        };
+        Err(Refused { why, at: None })
     }
 
     /// The objects to which the user has the relation, at the revision that the consistency chooses.
